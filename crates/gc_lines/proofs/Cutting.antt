@@ -1,0 +1,148 @@
+-- A stream that is cut at its line feeds, piece by piece.
+use Rattle.std.proofs.Common.{◌≡◌, ℕ, ◌+◌, ◌<◌, ◌≤◌, suc, Bool, true, false, not, cond, List, [], ◌∷◌, ◌++◌, length, take, drop, Some, None, refl, sym, ap, ◌∙◌, arith, append_assoc, ◌≢◌, eqb, map}
+use Rattle.std.specs.List.{prefix_len, position, flat_map, AllByRecursion}
+use Rattle.std.proofs.lemmas.List.{append-nil, map-append}
+use Rattle.std.proofs.lemmas.Bool.{ltb-true, ltb-false, eqb-true, eq-eqb}
+use Rattle.std.proofs.Math.Dec.{ltb}
+use Rattle.std.proofs.Math.Numerals.{one-add}
+use Rattle.gc_lines.specs.Frames.{is_line_feed, pieces_behind, rest_behind, pieces, rest_of, HasNoLineFeed, IsCut, frame_of, frames}
+
+abbrev pub goes_on : ℕ → Bool
+goes_on b = not (is_line_feed b)
+
+-- what a line feed, or the end, makes of the bytes before it
+record CutAt (r xs : List ℕ) (n : ℕ) : Type 0 where
+  ends : length xs ≤ n → (pieces_behind r xs ≡ []) × (rest_behind r xs ≡ r ++ xs)
+  goes : n < length xs → (pieces_behind r xs ≡ (r ++ take n xs) ∷ pieces_behind [] (drop (n + 1) xs)) × (rest_behind r xs ≡ rest_behind [] (drop (n + 1) xs))
+
+cut_here : (r bs : List ℕ) (b : ℕ) → is_line_feed b ≡ true → CutAt r (b ∷ bs) 0
+cut_here r bs b e = record {
+  ends = λ h. absurd (omega arith);
+  goes = λ _. (rw e (rw (append-nil r) refl), rw e refl);
+}
+
+cut_later : (r bs : List ℕ) (b n : ℕ) → is_line_feed b ≡ false → CutAt (r ++ b ∷ []) bs n → CutAt r (b ∷ bs) (1 + n)
+cut_later r bs b n e c = record {
+  ends = λ h. let k = c.ends (omega arith) in (rw e k.0, rw e (k.1 ∙ append_assoc r (b ∷ []) bs));
+  goes = λ h. let k = c.goes (omega arith) in
+      let same : 1 + n + 1 ≡ suc (n + 1) = omega arith in
+      (rw (e, same, one-add n) (k.0 ∙ ap (λ p. p ∷ pieces_behind [] (drop (n + 1) bs)) (append_assoc r (b ∷ []) (take n bs))), rw (e, same) k.1);
+}
+
+is_cut : (r xs : List ℕ) → CutAt r xs (prefix_len goes_on xs)
+is_cut r [] = record { ends = λ _. (refl, sym (append-nil r)); goes = λ h. absurd (omega arith) }
+is_cut r (b ∷ bs) = elim (is_line_feed b) as (λ v. is_line_feed b ≡ v → CutAt r (b ∷ bs) (cond (not v) (1 + prefix_len goes_on bs) 0)) [
+  | true ↦ λ e. cut_here r bs b e
+  | false ↦ λ e. cut_later r bs b (prefix_len goes_on bs) e (is_cut (r ++ b ∷ []) bs)
+] refl
+
+-- with no line feed in it
+pub cut_none : (r xs : List ℕ) → position is_line_feed xs ≡ None → (pieces_behind r xs ≡ []) × (rest_behind r xs ≡ r ++ xs)
+cut_none r xs e = (is_cut r xs).ends (elim (ltb (prefix_len goes_on xs) (length xs)) as (λ v. ltb (prefix_len goes_on xs) (length xs) ≡ v → cond v (Some (prefix_len goes_on xs)) None ≡ None → length xs ≤ prefix_len goes_on xs) [
+  | true ↦ λ _ f. (cc)
+  | false ↦ λ f _. ltb-false _ _ f
+] refl e)
+
+-- with a first line feed
+pub cut_some : (r xs : List ℕ) (at : ℕ) → position is_line_feed xs ≡ Some at →
+    (pieces_behind r xs ≡ (r ++ take at xs) ∷ pieces_behind [] (drop (at + 1) xs)) × (rest_behind r xs ≡ rest_behind [] (drop (at + 1) xs))
+cut_some r xs at e = elim (ltb (prefix_len goes_on xs) (length xs)) as (λ v. ltb (prefix_len goes_on xs) (length xs) ≡ v → cond v (Some (prefix_len goes_on xs)) None ≡ Some at →
+    (pieces_behind r xs ≡ (r ++ take at xs) ∷ pieces_behind [] (drop (at + 1) xs)) × (rest_behind r xs ≡ rest_behind [] (drop (at + 1) xs))) [
+      | true ↦ λ t f. let same : prefix_len goes_on xs ≡ at = cc in rw (← same) ((is_cut r xs).goes (ltb-true _ _ t))
+      | false ↦ λ _ f. (cc)
+    ] refl e
+
+-- one stream behind another
+pub pieces-append : (r xs ys : List ℕ) → pieces_behind r (xs ++ ys) ≡ pieces_behind r xs ++ pieces_behind (rest_behind r xs) ys
+pieces-append r [] ys = refl
+pieces-append r (x ∷ xs) ys = elim (is_line_feed x) as (λ v. cond v (r ∷ pieces_behind [] (xs ++ ys)) (pieces_behind (r ++ x ∷ []) (xs ++ ys))
+    ≡ cond v (r ∷ pieces_behind [] xs) (pieces_behind (r ++ x ∷ []) xs) ++ pieces_behind (cond v (rest_behind [] xs) (rest_behind (r ++ x ∷ []) xs)) ys) [
+      | true ↦ ap (λ ps. r ∷ ps) (pieces-append [] xs ys)
+      | false ↦ pieces-append (r ++ x ∷ []) xs ys
+    ]
+
+pub rest-append : (r xs ys : List ℕ) → rest_behind r (xs ++ ys) ≡ rest_behind (rest_behind r xs) ys
+rest-append r [] ys = refl
+rest-append r (x ∷ xs) ys = elim (is_line_feed x) as (λ v. cond v (rest_behind [] (xs ++ ys)) (rest_behind (r ++ x ∷ []) (xs ++ ys))
+    ≡ rest_behind (cond v (rest_behind [] xs) (rest_behind (r ++ x ∷ []) xs)) ys) [
+      | true ↦ rest-append [] xs ys
+      | false ↦ rest-append (r ++ x ∷ []) xs ys
+    ]
+
+-- The pieces and the rest are the whole stream.
+pub cut_whole : (r xs : List ℕ) → flat_map (λ part. part ++ 10 ∷ []) (pieces_behind r xs) ++ rest_behind r xs ≡ r ++ xs
+cut_whole r [] = sym (append-nil r)
+cut_whole r (x ∷ xs) = elim (is_line_feed x) as (λ v. is_line_feed x ≡ v → flat_map (λ part. part ++ 10 ∷ []) (cond v (r ∷ pieces_behind [] xs) (pieces_behind (r ++ x ∷ []) xs)) ++ cond v (rest_behind [] xs) (rest_behind (r ++ x ∷ []) xs) ≡ r ++ x ∷ xs) [
+  | true ↦ λ e. let ten : x ≡ 10 = eqb-true x 10 e in
+      append_assoc (r ++ 10 ∷ []) (flat_map (λ part. part ++ 10 ∷ []) (pieces_behind [] xs)) (rest_behind [] xs) ∙ ap (λ zs. (r ++ 10 ∷ []) ++ zs) (cut_whole [] xs) ∙ append_assoc r (10 ∷ []) xs ∙ ap (λ n. r ++ n ∷ xs) (sym ten)
+  | false ↦ λ e. cut_whole (r ++ x ∷ []) xs ∙ append_assoc r (x ∷ []) xs
+] refl
+
+-- A stream has one such cutting.
+
+not_feed : (b : ℕ) → b ≢ 10 → is_line_feed b ≡ false
+not_feed b h = elim (eqb b 10) as (λ v. eqb b 10 ≡ v → v ≡ false) [
+  | true ↦ λ t. absurd (h (eqb-true b 10 t))
+  | false ↦ λ _. refl
+] refl
+
+-- a part without a line feed, and then one
+pub cut_first : (r part xs : List ℕ) → HasNoLineFeed part → (pieces_behind r (part ++ 10 ∷ xs) ≡ (r ++ part) ∷ pieces_behind [] xs) × (rest_behind r (part ++ 10 ∷ xs) ≡ rest_behind [] xs)
+cut_first r [] xs clean = (ap (λ p. p ∷ pieces_behind [] xs) (sym (append-nil r)), refl)
+cut_first r (b ∷ bs) xs clean =
+    let no = cut_first (r ++ b ∷ []) bs xs clean.1 in
+    let same = not_feed b clean.0 in
+    (rw same (no.0 ∙ ap (λ p. p ∷ pieces_behind [] xs) (append_assoc r (b ∷ []) bs)), rw same no.1)
+
+-- bytes without a line feed
+cut_last : (r xs : List ℕ) → HasNoLineFeed xs → (pieces_behind r xs ≡ []) × (rest_behind r xs ≡ r ++ xs)
+cut_last r [] clean = (refl, sym (append-nil r))
+cut_last r (b ∷ bs) clean =
+    let no = cut_last (r ++ b ∷ []) bs clean.1 in
+    let same = not_feed b clean.0 in
+    (rw same no.0, rw same (no.1 ∙ append_assoc r (b ∷ []) bs))
+
+cut_parts : (parts : List (List ℕ)) (rest : List ℕ) → AllByRecursion HasNoLineFeed parts → HasNoLineFeed rest
+    → (pieces_behind [] (flat_map (λ part. part ++ 10 ∷ []) parts ++ rest) ≡ parts) × (rest_behind [] (flat_map (λ part. part ++ 10 ∷ []) parts ++ rest) ≡ rest)
+cut_parts [] rest each last = cut_last [] rest last
+cut_parts (part ∷ parts) rest each last =
+    let more = cut_parts parts rest each.1 last in
+    let xs = flat_map (λ part. part ++ 10 ∷ []) parts ++ rest in
+    let here = cut_first [] part xs each.0 in
+    let same : flat_map (λ part. part ++ 10 ∷ []) (part ∷ parts) ++ rest ≡ part ++ 10 ∷ xs = append_assoc (part ++ 10 ∷ []) _ rest ∙ append_assoc part (10 ∷ []) xs in
+    (ap (pieces_behind []) same ∙ here.0 ∙ ap (λ ps. part ∷ ps) more.0, ap (rest_behind []) same ∙ here.1 ∙ more.1)
+
+-- what is cut has no line feed in it
+cut_clean : (r xs : List ℕ) → HasNoLineFeed r → AllByRecursion HasNoLineFeed (pieces_behind r xs) × HasNoLineFeed (rest_behind r xs)
+cut_clean r [] clean = (tt, clean)
+cut_clean r (b ∷ bs) clean = elim (is_line_feed b) as (λ v. is_line_feed b ≡ v → AllByRecursion HasNoLineFeed (cond v (r ∷ pieces_behind [] bs) (pieces_behind (r ++ b ∷ []) bs)) × HasNoLineFeed (cond v (rest_behind [] bs) (rest_behind (r ++ b ∷ []) bs))) [
+  | true ↦ λ _. let more = cut_clean [] bs tt in ((clean, more.0), more.1)
+  | false ↦ λ e. cut_clean (r ++ b ∷ []) bs (clean_more r b clean e)
+] refl where
+  clean_more : (r : List ℕ) (b : ℕ) → HasNoLineFeed r → is_line_feed b ≡ false → HasNoLineFeed (r ++ b ∷ [])
+  clean_more [] b clean e = ((λ same. let t = eq-eqb b 10 same in (cc)), tt)
+  clean_more (x ∷ xs) b clean e = (clean.0, clean_more xs b clean.1 e)
+
+pub one_cut : (stream : List ℕ) (parts : List (List ℕ)) (rest : List ℕ) → IsCut stream parts rest → (parts ≡ pieces stream) × (rest ≡ rest_of stream)
+one_cut stream parts rest cut =
+    let c = cut_parts parts rest cut.each cut.last in
+    (sym c.0 ∙ ap (pieces_behind []) (sym cut.whole), sym c.1 ∙ ap (rest_behind []) (sym cut.whole))
+
+pub is_cut_of : (stream : List ℕ) → IsCut stream (pieces stream) (rest_of stream)
+is_cut_of stream = let clean = cut_clean [] stream tt in record { whole = sym (cut_whole [] stream); each = clean.0; last = clean.1 }
+
+-- what stands before a stream belongs to it
+before : (r xs ys : List ℕ) → HasNoLineFeed xs → (pieces_behind r (xs ++ ys) ≡ pieces_behind (r ++ xs) ys) × (rest_behind r (xs ++ ys) ≡ rest_behind (r ++ xs) ys)
+before r [] ys clean = (ap (λ p. pieces_behind p ys) (sym (append-nil r)), ap (λ p. rest_behind p ys) (sym (append-nil r)))
+before r (b ∷ bs) ys clean =
+    let more = before (r ++ b ∷ []) bs ys clean.1 in
+    let same = not_feed b clean.0 in
+    (rw same (more.0 ∙ ap (λ p. pieces_behind p ys) (append_assoc r (b ∷ []) bs)), rw same (more.1 ∙ ap (λ p. rest_behind p ys) (append_assoc r (b ∷ []) bs)))
+
+-- the pieces do not depend on where the stream is cut
+pub however_cut : (xs ys : List ℕ) → (frames (xs ++ ys) ≡ frames xs ++ frames (rest_of xs ++ ys)) × (rest_of (xs ++ ys) ≡ rest_of (rest_of xs ++ ys))
+however_cut xs ys =
+    let b = before [] (rest_of xs) ys (cut_clean [] xs tt).1 in (
+      ap (λ ps. map frame_of ps) (pieces-append [] xs ys ∙ ap (λ ps. pieces xs ++ ps) (sym b.0)) ∙ map-append frame_of (pieces xs) (pieces (rest_of xs ++ ys)),
+      rest-append [] xs ys ∙ sym b.1,
+    )

@@ -1,0 +1,56 @@
+-- What is kept of a rest, as more comes.
+use Rattle.std.proofs.Common.{◌≡◌, ℕ, ◌+◌, ◌-◌, ◌<◌, ◌≤◌, true, List, ◌++◌, length, take, get_or, sym, ◌∙◌, ap, arith, inl, inr, length-append, eq-eqb}
+use Rattle.std.proofs.lemmas.List.{length-take, take_all, take-append-le, append-nil, get_or-append-add}
+use Rattle.std.proofs.lemmas.Bool.{cases_lt, lt-ltb, le-ltb}
+use Rattle.std.proofs.Math.Seq.{take-append-add}
+use Rattle.arrayvec.specs.ArrayVec.{ArrayVec}
+use Rattle.gc_lines.specs.Assembler.{Kept, StandsFor}
+use Rattle.gc_lines.specs.Frames.{frame_of}
+use Rattle.gc_lines.specs.declared.frame.Frame.TheVariants.{Line}
+
+pub take-append : (cap : ℕ) (rest bytes : List ℕ) → take cap (rest ++ bytes) ≡ take cap rest ++ take (cap - length rest) bytes
+take-append cap rest bytes = elim (cases_lt (length rest) cap) [
+  | inr h ↦ let none : cap - length rest ≡ 0 = omega arith in rw (none, take-append-le cap rest bytes h) (sym (append-nil (take cap rest)))
+  | inl h ↦ let sum : cap ≡ length rest + (cap - length rest) = omega arith in
+      ap (λ n. take n (rest ++ bytes)) sum ∙ take-append-add rest bytes (cap - length rest) ∙ ap (λ xs. xs ++ take (cap - length rest) bytes) (sym (take_all cap rest (omega arith)))
+]
+
+pub last-append : (rest bytes : List ℕ) → 0 < length bytes → get_or (rest ++ bytes) (length (rest ++ bytes) - 1) 0 ≡ get_or bytes (length bytes - 1) 0
+last-append rest bytes h =
+    let sum : length (rest ++ bytes) - 1 ≡ length rest + (length bytes - 1) = omega (arith, length-append rest bytes) in
+    ap (λ n. get_or (rest ++ bytes) n 0) sum ∙ get_or-append-add rest bytes (length bytes - 1) 0
+
+-- as long as there is room, nothing was left out
+pub all_kept : (old : Kept) (rest : List ℕ) → StandsFor old rest → length old.front < 513 → length rest ≡ length old.front
+all_kept old rest s room = omega (arith, ap length s.front, length-take 513 rest)
+
+pub front_length : (old : Kept) (rest : List ℕ) → StandsFor old rest → 513 - length old.front ≡ 513 - length rest
+front_length old rest s = omega (arith, ap length s.front, length-take 513 rest)
+
+-- all of it fits
+pub keeps_all : (old : Kept) (rest bytes front : List ℕ) (last : ℕ) → StandsFor old rest → 0 < length bytes → length bytes ≤ 513 - length old.front → front ≡ old.front ++ bytes → last ≡ get_or bytes (length bytes - 1) 0
+    → StandsFor (record { front = front; last = last; long = old.long }) (rest ++ bytes)
+keeps_all old rest bytes front last s some fits f l =
+    let short : length rest ≡ length old.front = all_kept old rest s (omega arith) in
+    let room : length bytes ≤ 513 - length rest = omega arith in
+    record {
+      front = f ∙ ap (λ xs. xs ++ bytes) s.front ∙ ap (λ xs. take 513 rest ++ xs) (sym (take_all (513 - length rest) bytes room)) ∙ sym (take-append 513 rest bytes);
+      last = l ∙ sym (last-append rest bytes some);
+      long = s.long ∙ le-ltb 513 (length rest) (omega arith) ∙ sym (le-ltb 513 (length (rest ++ bytes)) (omega (arith, length-append rest bytes)));
+    }
+
+-- a part of it fits
+pub keeps_part : (old : Kept) (rest bytes front : List ℕ) (last : ℕ) → StandsFor old rest → 513 - length old.front < length bytes → front ≡ old.front ++ take (513 - length old.front) bytes → last ≡ get_or bytes (length bytes - 1) 0
+    → StandsFor (record { front = front; last = last; long = true }) (rest ++ bytes)
+keeps_part old rest bytes front last s more f l =
+    let room = front_length old rest s in
+    record {
+      front = f ∙ ap (λ n. old.front ++ take n bytes) room ∙ ap (λ xs. xs ++ take (513 - length rest) bytes) s.front ∙ sym (take-append 513 rest bytes);
+      last = l ∙ sym (last-append rest bytes (omega arith));
+      long = sym (lt-ltb 513 (length (rest ++ bytes)) (omega (arith, room, length-append rest bytes)));
+    }
+
+-- a line feed behind this makes a line
+pub line_frame : (rest : List ℕ) (line : ArrayVec ℕ) → 0 < length rest → get_or rest (length rest - 1) 0 ≡ 13 → length rest ≤ 513 → line.items ≡ take (length rest - 1) rest → Line line ≡ frame_of rest
+line_frame rest line some last fits items =
+    rw (lt-ltb 0 (length rest) some, eq-eqb (get_or rest (length rest - 1) 0) 13 last, le-ltb 512 (length rest - 1) (omega arith)) (ap (λ xs. Line (record { items = xs })) items)

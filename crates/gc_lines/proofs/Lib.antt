@@ -1,0 +1,10 @@
+pub mod Keeping
+pub mod Digits
+pub mod Cutting
+pub mod Reading
+pub mod Fields
+pub mod Headers
+pub mod Requests
+pub mod Replies
+pub mod Written
+pub mod Plain

@@ -1,0 +1,80 @@
+-- Bytes without CR and LF, and the line that they make.
+use Rattle.std.proofs.Common.{◌≡◌, ◌≢◌, ℕ, ◌+◌, ◌-◌, ◌<◌, ◌≤◌, List, [], ◌∷◌, ◌++◌, length, take, get_or, Option, Some, None, refl, sym, ap, ◌∙◌, arith, length-append, append_assoc, map}
+use Rattle.std.specs.List.{AllByRecursion}
+use Rattle.std.specs.Fmt.{decimal}
+use Rattle.std.specs.Str.Parse.{AllDigits}
+use Rattle.std.proofs.lemmas.Fmt.{decimal_is_IsNumeral}
+use Rattle.std.proofs.lemmas.Str.Parse.{digit_from_value}
+use Rattle.std.proofs.lemmas.List.Elements.{recursion_from_All, All-from_recursion, All-append}
+use Rattle.std.proofs.lemmas.List.{take_at}
+use Rattle.gc_lines.specs.declared.frame.Frame.TheVariants.{Line}
+use Rattle.gc_lines.specs.Lines.{IsPlain}
+use Rattle.gc_lines.specs.Frames.{HasNoLineFeed, frame_of, frames, rest_of}
+use Rattle.gc_lines.specs.Headers.{id_text}
+use Rattle.gc_lines.specs.Requests.{RequestFields, request_text}
+use Rattle.gc_lines.specs.Replies.{ReplyFields, reply_text, params_text}
+use Rattle.gc_lines.specs.Laws.{IsRequestInRange, IsReplyInRange}
+use Rattle.gc_lines.proofs.Cutting.{cut_first}
+use Rattle.gc_lines.proofs.Keeping.{line_frame, last-append}
+
+abbrev Plain : ℕ → Type 0
+Plain b = (b ≢ 10) × (b ≢ 13)
+
+joined : (xs ys : List ℕ) → IsPlain xs → IsPlain ys → IsPlain (xs ++ ys)
+joined xs ys = All-append Plain xs ys
+
+-- what the fields are made of is plain
+
+digits_plain : (ds : List ℕ) → AllDigits 10 ds → AllByRecursion Plain ds
+digits_plain [] h = tt
+digits_plain (d ∷ ds) h = let r = digit_from_value d h.0 in ((λ e. absurd (omega arith), λ e. absurd (omega arith)), digits_plain ds h.1)
+
+decimal_plain : (n : ℕ) → n < 65536 → IsPlain (decimal n)
+decimal_plain n h = All-from_recursion Plain (decimal n) (digits_plain (decimal n) (decimal_is_IsNumeral n (omega arith)).0.1)
+
+above : (b : ℕ) → 13 < b → Plain b
+above b h = (λ e. absurd (omega arith), λ e. absurd (omega arith))
+
+id_plain : (id : Option ℕ) → IsPlain (id_text id)
+id_plain None = All-from_recursion Plain [] tt
+id_plain (Some i) = All-from_recursion Plain (44 ∷ (48 + i) ∷ []) (above 44 (omega arith), (above (48 + i) (omega arith), tt))
+
+colon_plain : (xs : List ℕ) → IsPlain xs → IsPlain (58 ∷ xs)
+colon_plain xs h = joined (58 ∷ []) xs (All-from_recursion Plain (58 ∷ []) (above 58 (omega arith), tt)) h
+
+params_plain : (params : List ℕ) → IsPlain params → IsPlain (params_text params)
+params_plain [] h = h
+params_plain (b ∷ bs) h = joined (44 ∷ []) (b ∷ bs) (All-from_recursion Plain (44 ∷ []) (above 44 (omega arith), tt)) h
+
+signature_plain : (c : ℕ) → 13 < c → IsPlain (37 ∷ 82 ∷ 49 ∷ c ∷ 44 ∷ [])
+signature_plain c h = All-from_recursion Plain (37 ∷ 82 ∷ 49 ∷ c ∷ 44 ∷ []) (above 37 (omega arith), (above 82 (omega arith), (above 49 (omega arith), (above c h, (above 44 (omega arith), tt)))))
+
+pub request_plain : (q : RequestFields) → IsRequestInRange q → IsPlain q.params → IsPlain (request_text q)
+request_plain q r h = joined (37 ∷ 82 ∷ 49 ∷ 81 ∷ 44 ∷ []) _ (signature_plain 81 (omega arith))
+    (joined (decimal q.rpc) _ (decimal_plain q.rpc r.rpc) (joined (id_text q.id) _ (id_plain q.id) (colon_plain q.params h)))
+
+pub reply_plain : (r : ReplyFields) → IsReplyInRange r → IsPlain r.params → IsPlain (reply_text r)
+reply_plain r in_range h = joined (37 ∷ 82 ∷ 49 ∷ 80 ∷ 44 ∷ []) _ (signature_plain 80 (omega arith))
+    (joined (decimal r.rc_com) _ (decimal_plain r.rc_com in_range.rc_com) (joined (id_text r.id) _ (id_plain r.id)
+    (colon_plain (decimal r.rc ++ params_text r.params) (joined (decimal r.rc) _ (decimal_plain r.rc in_range.rc) (params_plain r.params h)))))
+
+-- plain bytes and CR LF are one line
+
+feedless : (bytes : List ℕ) → AllByRecursion Plain bytes → HasNoLineFeed (bytes ++ 13 ∷ [])
+feedless [] h = ((λ e. absurd (omega arith)), tt)
+feedless (b ∷ bs) h = (h.0.0, feedless bs h.1)
+
+plain_frame : (bytes : List ℕ) → length bytes ≤ 512 → Line (record { items = bytes }) ≡ frame_of (bytes ++ 13 ∷ [])
+plain_frame bytes fits =
+    let long : length (bytes ++ 13 ∷ []) ≡ length bytes + 1 = length-append bytes (13 ∷ []) in
+    let one : length (bytes ++ 13 ∷ []) - 1 ≡ length bytes = omega arith in
+    let last : get_or (bytes ++ 13 ∷ []) (length (bytes ++ 13 ∷ []) - 1) 0 ≡ 13 = last-append bytes (13 ∷ []) (omega arith) in
+    let items : bytes ≡ take (length (bytes ++ 13 ∷ []) - 1) (bytes ++ 13 ∷ []) = sym (ap (λ n. take n (bytes ++ 13 ∷ [])) one ∙ take_at bytes (13 ∷ []) (length bytes) refl) in
+    line_frame (bytes ++ 13 ∷ []) (record { items = bytes }) (omega arith) last (omega arith) items
+
+pub plain_line : (bytes : List ℕ) → IsPlain bytes → length bytes ≤ 512
+    → (frames (bytes ++ 13 ∷ 10 ∷ []) ≡ Line (record { items = bytes }) ∷ []) × (rest_of (bytes ++ 13 ∷ 10 ∷ []) ≡ [])
+plain_line bytes h fits =
+    let cut = cut_first [] (bytes ++ 13 ∷ []) [] (feedless bytes (recursion_from_All Plain bytes h)) in
+    let whole : bytes ++ 13 ∷ 10 ∷ [] ≡ (bytes ++ 13 ∷ []) ++ 10 ∷ [] = simp append_assoc in
+    (ap frames whole ∙ ap (λ ps. map frame_of ps) cut.0 ∙ ap (λ f. f ∷ []) (sym (plain_frame bytes fits)), ap rest_of whole ∙ cut.1)

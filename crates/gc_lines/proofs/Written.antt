@@ -1,0 +1,115 @@
+-- What is written is the one line without leading zeros that has the grammar.
+use Rattle.std.proofs.Common.{◌≡◌, ◌↔◌, ℕ, ◌<◌, List, [], ◌∷◌, ◌++◌, length, Ok, refl, sym, ap, ◌∙◌, subst, arith, inl, inr}
+use Rattle.std.specs.Fmt.{decimal}
+use Rattle.std.proofs.lemmas.Fmt.{length-decimal-le, decimal_nonempty, decimal_is_IsNumeral, decimal-digits_value, decimal_digit, first_decimal}
+use Rattle.std.proofs.lemmas.Bool.{cases_lt}
+use Rattle.gc_lines.specs.Numbers.{IsNumber, NoLeadingZero}
+use Rattle.gc_lines.specs.Headers.{id_text}
+use Rattle.gc_lines.specs.Requests.{RequestFields, IsRequest, IsWrittenRequest, request_signature, request_text, request_at}
+use Rattle.gc_lines.specs.Replies.{ReplyFields, IsReply, IsWrittenReply, EndsCode, params_text, reply_signature, reply_text, reply_at}
+use Rattle.gc_lines.specs.Laws.{IsRequestInRange, IsReplyInRange}
+use Rattle.gc_lines.proofs.Digits.{plain}
+use Rattle.gc_lines.proofs.Requests.{request_again}
+use Rattle.gc_lines.proofs.Replies.{reply_again}
+
+-- a number as it is written
+pub decimal_number : (n : ℕ) → n < 65536 → IsNumber (decimal n) n
+decimal_number n h =
+    let numeral = decimal_is_IsNumeral n (omega arith) in
+    record {
+      some = decimal_nonempty n (omega arith);
+      few = length-decimal-le 5 n (omega arith) (omega arith) (omega arith);
+      digits = numeral.0.1;
+      value = numeral.1;
+      bound = h;
+    }
+
+decimal_zeros : (n : ℕ) → n < 65536 → NoLeadingZero (decimal n)
+decimal_zeros n h zero = elim (cases_lt 0 n) [
+  | inl some ↦ absurd (omega (arith, first_decimal n some (omega arith)))
+  | inr none ↦ ap length (decimal_digit n (omega arith))
+]
+
+-- only the written text of a number has no leading zero
+number_written : (text : List ℕ) (n : ℕ) → IsNumber text n → NoLeadingZero text → text ≡ decimal n
+number_written text n is zeros = sym (decimal-digits_value plain text is.digits is.some zeros (omega (arith, is.value, is.bound))) ∙ ap decimal is.value
+
+-- the parameters of a written reply
+params_end : (params : List ℕ) → EndsCode (params_text params) params
+params_end [] = inl (refl, refl)
+params_end (b ∷ bs) = inr refl
+
+params_comma : (params : List ℕ) → (params_text params ≡ []) ↔ (params ≡ [])
+params_comma [] = (λ e. refl, λ e. refl)
+params_comma (b ∷ bs) = (λ e. (cc), λ e. (cc))
+
+tail_written : (tail params : List ℕ) → EndsCode tail params → ((tail ≡ []) ↔ (params ≡ [])) → tail ≡ params_text params
+tail_written tail params (inl e) comma = e.0 ∙ ap params_text (sym e.1)
+tail_written tail [] (inr e) comma = comma.1 refl
+tail_written tail (b ∷ bs) (inr e) comma = e
+
+-- requests
+
+request_has : (q : RequestFields) → IsRequestInRange q → IsRequest (request_text q) q
+request_has q r = record { number = decimal q.rpc; is_number = decimal_number q.rpc r.rpc; is_id = r.id; whole = refl }
+
+is_written : (q : RequestFields) → IsRequestInRange q → IsWrittenRequest (request_text q) q
+is_written q r = record { is = record { number = decimal q.rpc; is_number = decimal_number q.rpc r.rpc; is_id = r.id; whole = refl }; number = decimal_zeros q.rpc r.rpc }
+
+pub request_written : (line : List ℕ) (q : RequestFields) → IsWrittenRequest line q ↔ (IsRequestInRange q × (line ≡ request_text q))
+request_written line q = (
+  λ w. (
+    record { rpc = w.is.is_number.bound; id = w.is.is_id },
+    w.is.whole ∙ ap (λ t. request_signature ++ (t ++ (id_text q.id ++ 58 ∷ q.params))) (number_written w.is.number q.rpc w.is.is_number w.number),
+  ),
+  λ r. subst (λ (l : List ℕ). IsWrittenRequest l q) (sym r.1) (is_written q r.0),
+)
+
+pub request_back : (q : RequestFields) → IsRequestInRange q → request_at (request_text q) ≡ Ok q
+request_back q r = request_again (request_text q) q (request_has q r)
+
+-- replies
+
+reply_has : (r : ReplyFields) → IsReplyInRange r → IsReply (reply_text r) r
+reply_has r in_range = record {
+  number = decimal r.rc_com;
+  code = decimal r.rc;
+  tail = params_text r.params;
+  is_number = decimal_number r.rc_com in_range.rc_com;
+  is_id = in_range.id;
+  is_code = decimal_number r.rc in_range.rc;
+  is_tail = params_end r.params;
+  whole = refl;
+}
+
+reply_is_written : (r : ReplyFields) → IsReplyInRange r → IsWrittenReply (reply_text r) r
+reply_is_written r in_range = record {
+  is = record {
+    number = decimal r.rc_com;
+    code = decimal r.rc;
+    tail = params_text r.params;
+    is_number = decimal_number r.rc_com in_range.rc_com;
+    is_id = in_range.id;
+    is_code = decimal_number r.rc in_range.rc;
+    is_tail = params_end r.params;
+    whole = refl;
+  };
+  number = decimal_zeros r.rc_com in_range.rc_com;
+  code = decimal_zeros r.rc in_range.rc;
+  comma = params_comma r.params;
+}
+
+pub reply_written : (line : List ℕ) (r : ReplyFields) → IsWrittenReply line r ↔ (IsReplyInRange r × (line ≡ reply_text r))
+reply_written line r = (
+  λ w. (
+    record { rc_com = w.is.is_number.bound; id = w.is.is_id; rc = w.is.is_code.bound },
+    w.is.whole
+        ∙ ap (λ t. reply_signature ++ (t ++ (id_text r.id ++ 58 ∷ (w.is.code ++ w.is.tail)))) (number_written w.is.number r.rc_com w.is.is_number w.number)
+        ∙ ap (λ t. reply_signature ++ (decimal r.rc_com ++ (id_text r.id ++ 58 ∷ (t ++ w.is.tail)))) (number_written w.is.code r.rc w.is.is_code w.code)
+        ∙ ap (λ t. reply_signature ++ (decimal r.rc_com ++ (id_text r.id ++ 58 ∷ (decimal r.rc ++ t)))) (tail_written w.is.tail r.params w.is.is_tail w.comma),
+  ),
+  λ e. subst (λ (l : List ℕ). IsWrittenReply l r) (sym e.1) (reply_is_written r e.0),
+)
+
+pub reply_back : (r : ReplyFields) → IsReplyInRange r → reply_at (reply_text r) ≡ Ok r
+reply_back r in_range = reply_again (reply_text r) r (reply_has r in_range)

@@ -1,0 +1,12 @@
+use Rattle.std.proofs.Common.{◌≡◌, ℕ, List, subst, sym}
+use Rattle.gc_lines.specs.Frames.{IsCut, pieces, rest_of}
+use Rattle.gc_lines.proofs.Cutting.{one_cut, is_cut_of}
+use Rattle.gc_lines.proofs.laws.one_cut.Goals as goal
+
+back : (stream : List ℕ) (parts : List (List ℕ)) (rest : List ℕ) → (parts ≡ pieces stream) × (rest ≡ rest_of stream) → IsCut stream parts rest
+back stream parts rest same =
+    let here = subst (λ (r : List ℕ). IsCut stream (pieces stream) r) (sym same.1) (is_cut_of stream) in
+    subst (λ (ps : List (List ℕ)). IsCut stream ps rest) (sym same.0) here
+
+pub returns : goal.returns
+returns c stream parts rest = (one_cut stream parts rest, back stream parts rest)

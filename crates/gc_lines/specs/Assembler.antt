@@ -1,0 +1,14 @@
+-- What an assembler keeps of the bytes since the last line feed: this project's own.
+use Rattle.std.specs.Prelude.{◌≡◌, ℕ, ◌-◌, List, Bool, length, take, nat_lt, slice_index}
+
+-- the first 513 of them, the last one, and whether there are more than 513
+pub record Kept : Type 0 where
+  pub front : List ℕ
+  pub last : ℕ
+  pub long : Bool
+
+-- an assembler stands for each rest of which this is kept: for one alone up to 513 bytes, and for many above
+pub record StandsFor (kept : Kept) (rest : List ℕ) : Type 0 where
+  pub front : kept.front ≡ take 513 rest
+  pub last : kept.last ≡ slice_index rest (length rest - 1)
+  pub long : kept.long ≡ nat_lt 513 (length rest)

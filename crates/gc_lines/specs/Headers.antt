@@ -1,0 +1,113 @@
+-- What requests and replies share: a signature, a number, an id where there is one, and a colon. The forms are the manual's, the ids from 0 to 7 are this project's own.
+use Rattle.std.specs.Prelude.{◌≡◌, ◌≢◌, ℕ, ◌+◌, ◌-◌, ◌<◌, ◌==◌, ◌&&◌, List, [], ◌∷◌, ◌++◌, length, take, drop, nat_lt, nat_eq, slice_index, if◌then◌else◌, Option, Some, None, Result, Ok, Err, IfSome}
+use Rattle.std.specs.Cmp.Lexicographic.{pointwise}
+use Rattle.std.specs.Fmt.{decimal}
+use Rattle.gc_lines.specs.declared.fault.LineFault.{LineFault}
+use Rattle.gc_lines.specs.declared.fault.LineFault.TheVariants.{Signature, Number, Id, Colon, Code, TooLong}
+use Rattle.gc_lines.specs.declared.header.Header.{Header}
+use Rattle.gc_lines.specs.Numbers.{NoDigitFirst, HasNumber, number_at, digits_len}
+
+-- what the fields up to the colon say, and what follows the colon
+pub record HeaderFields : Type 0 where
+  pub number : ℕ
+  pub id : Option ℕ
+  pub rest : List ℕ
+
+-- what a contract sees of a header
+abbrev pub header_seen : Header → HeaderFields
+header_seen h = record { number = h.number; id = h.id; rest = h.rest.now }
+
+-- an id behind a comma, or nothing
+abbrev pub id_text : Option ℕ → List ℕ
+id_text None = []
+id_text (Some id) = 44 ∷ (48 + id) ∷ []
+
+-- what may not stand behind an id: a further digit, and behind none a comma
+abbrev pub EndsId : Option ℕ → List ℕ → Type 0
+EndsId None rest = (after : List ℕ) → rest ≢ 44 ∷ after
+EndsId (Some id) rest = NoDigitFirst rest
+
+-- the bytes begin with an id from 0 to 7 behind a comma, or with no comma, and the rest follows
+pub record HasId (bytes : List ℕ) (id : Option ℕ) (rest : List ℕ) : Type 0 where
+  pub below : IfSome id (λ i. i < 8)
+  pub whole : bytes ≡ id_text id ++ rest
+  pub ends : EndsId id rest
+
+-- The first faulty field: the fields before it have their form, and it has not.
+
+-- a line's signature has its form, and the rest follows it
+abbrev pub PastSignature : List ℕ → List ℕ → List ℕ → Type 0
+PastSignature signature line rest = line ≡ signature ++ rest
+
+-- the fields through the number have their form, and the rest follows them
+pub record PastNumber (signature line rest : List ℕ) : Type 0 where
+  pub from : List ℕ
+  pub number : ℕ
+  pub before : PastSignature signature line from
+  pub here : HasNumber from number rest
+
+-- the fields through the id have their form, and the rest follows them
+pub record PastId (signature line rest : List ℕ) : Type 0 where
+  pub from : List ℕ
+  pub id : Option ℕ
+  pub before : PastNumber signature line from
+  pub here : HasId from id rest
+
+-- the fields through the colon have their form, and the rest follows them
+pub record PastColon (signature line rest : List ℕ) : Type 0 where
+  pub from : List ℕ
+  pub before : PastId signature line from
+  pub here : from ≡ 58 ∷ rest
+
+-- the first field from the left that has not its form, in a line with this signature and, behind the colon, what Body says
+abbrev pub FirstBadField : List ℕ → (List ℕ → Type 0) → List ℕ → LineFault → Type 0
+FirstBadField signature Body line Signature = (rest : List ℕ) → ¬ PastSignature signature line rest
+FirstBadField signature Body line Number = (from : List ℕ) × PastSignature signature line from × ((n : ℕ) (rest : List ℕ) → ¬ HasNumber from n rest)
+FirstBadField signature Body line Id = (from : List ℕ) × PastNumber signature line from × ((id : Option ℕ) (rest : List ℕ) → ¬ HasId from id rest)
+FirstBadField signature Body line Colon = (from : List ℕ) × PastId signature line from × ((rest : List ℕ) → from ≢ 58 ∷ rest)
+FirstBadField signature Body line Code = (from : List ℕ) × PastColon signature line from × (¬ Body from)
+FirstBadField signature Body line TooLong = ⊥
+
+-- Reading from the left: each field's value and what follows it, or the fault.
+
+-- go on where there was no fault
+infixl 10 ◌>>=◌
+abbrev pub ◌>>=◌ : {A B : Type 0} → Result A LineFault → (A → Result B LineFault) → Result B LineFault
+(Ok x) >>= f = f x
+(Err e) >>= f = Err e
+
+-- what follows the signature
+abbrev pub signature_at : List ℕ → List ℕ → Result (List ℕ) LineFault
+signature_at signature line = if pointwise nat_eq (take (length signature) line) signature then Ok (drop (length signature) line) else Err Signature
+
+-- the id at the front, where a comma is, and what follows it
+abbrev pub id_at : List ℕ → Result (Option ℕ × List ℕ) LineFault
+id_at bytes =
+    if slice_index bytes 0 == 44
+    then (if (digits_len (drop 1 bytes) == 1) && nat_lt (slice_index bytes 1) 56
+    then Ok (Some (slice_index bytes 1 - 48), drop 2 bytes) else Err Id)
+    else Ok (None, bytes)
+
+-- what follows the colon
+abbrev pub colon_at : List ℕ → Result (List ℕ) LineFault
+colon_at bytes = if slice_index bytes 0 == 58 then Ok (drop 1 bytes) else Err Colon
+
+-- the fields through the colon
+unfoldable pub header_at : List ℕ → List ℕ → Result HeaderFields LineFault
+header_at signature line = do
+  from ← signature_at signature line
+  number ← number_at Number from
+  id ← id_at number.1
+  rest ← colon_at id.1
+  Ok (record { number = number.0; id = id.0; rest = rest })
+
+-- what a function returned, seen by a view, is what reading gives
+abbrev pub Gives : {X Y : Type 0} → (X → Y) → Result X LineFault → Result Y LineFault → Type 0
+Gives view (Ok x) read = read ≡ Ok (view x)
+Gives view (Err e) read = read ≡ Err e
+
+-- The written form.
+
+-- the fields through the colon as they are written, without leading zeros
+abbrev pub header_text : List ℕ → ℕ → Option ℕ → List ℕ
+header_text signature number id = signature ++ (decimal number ++ (id_text id ++ 58 ∷ []))

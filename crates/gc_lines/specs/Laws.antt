@@ -1,0 +1,56 @@
+-- What is claimed of the definitions themselves, apart from any call.
+use Rattle.std.specs.Prelude.{◌≡◌, ◌↔◌, ℕ, ◌<◌, ◌≤◌, List, [], ◌∷◌, ◌++◌, length, IfSome, Ok, Err}
+use Rattle.gc_lines.specs.declared.fault.LineFault.{LineFault}
+use Rattle.gc_lines.specs.declared.frame.Frame.TheVariants.{Line}
+use Rattle.gc_lines.specs.Lines.{IsPlain}
+use Rattle.gc_lines.specs.Frames.{IsCut, pieces, rest_of, frames}
+use Rattle.gc_lines.specs.Requests.{RequestFields, IsRequest, IsWrittenRequest, FirstBadOfRequest, request_at, request_text}
+use Rattle.gc_lines.specs.Replies.{ReplyFields, IsReply, IsWrittenReply, FirstBadOfReply, reply_at, reply_text}
+
+-- a stream has one cutting at its line feeds, and its pieces and rest are that one
+abbrev pub OneCut : Type 0
+OneCut = (stream : List ℕ) (parts : List (List ℕ)) (rest : List ℕ) → IsCut stream parts rest ↔ ((parts ≡ pieces stream) × (rest ≡ rest_of stream))
+
+-- wherever a stream is cut in two, its frames are those of the front, and then those of the front's rest with what follows it
+abbrev pub FramesHoweverCut : Type 0
+FramesHoweverCut = (front back : List ℕ) → (frames (front ++ back) ≡ frames front ++ frames (rest_of front ++ back)) × (rest_of (front ++ back) ≡ rest_of (rest_of front ++ back))
+
+-- at most 512 bytes without CR and LF, and then CR LF, are one line of a stream
+abbrev pub PlainIsOneLine : Type 0
+PlainIsOneLine = (bytes : List ℕ) → IsPlain bytes → length bytes ≤ 512
+    → (frames (bytes ++ 13 ∷ 10 ∷ []) ≡ Line (record { items = bytes }) ∷ []) × (rest_of (bytes ++ 13 ∷ 10 ∷ []) ≡ [])
+
+-- reading gives fields exactly where the line has the grammar of a request with them, and a fault exactly where its field is the first bad one
+pub record ReadsRequests : Type 0 where
+  pub found : (line : List ℕ) (q : RequestFields) → (request_at line ≡ Ok q) ↔ IsRequest line q
+  pub fault : (line : List ℕ) (f : LineFault) → (request_at line ≡ Err f) ↔ FirstBadOfRequest line f
+  pub one : (line : List ℕ) (p q : RequestFields) → IsRequest line p → IsRequest line q → p ≡ q
+
+-- the same of replies
+pub record ReadsReplies : Type 0 where
+  pub found : (line : List ℕ) (r : ReplyFields) → (reply_at line ≡ Ok r) ↔ IsReply line r
+  pub fault : (line : List ℕ) (f : LineFault) → (reply_at line ≡ Err f) ↔ FirstBadOfReply line f
+  pub one : (line : List ℕ) (p r : ReplyFields) → IsReply line p → IsReply line r → p ≡ r
+
+-- a request with a number and an id that a line can have
+pub record IsRequestInRange (q : RequestFields) : Type 0 where
+  pub rpc : q.rpc < 65536
+  pub id : IfSome q.id (λ id. id < 8)
+
+-- a reply with numbers and an id that a line can have
+pub record IsReplyInRange (r : ReplyFields) : Type 0 where
+  pub rc_com : r.rc_com < 65536
+  pub id : IfSome r.id (λ id. id < 8)
+  pub rc : r.rc < 65536
+
+-- the text of a request is the one written line with its fields, reads back, and is plain where the parameters are
+pub record WritesRequests : Type 0 where
+  pub written : (line : List ℕ) (q : RequestFields) → IsWrittenRequest line q ↔ (IsRequestInRange q × (line ≡ request_text q))
+  pub back : (q : RequestFields) → IsRequestInRange q → request_at (request_text q) ≡ Ok q
+  pub plain : (q : RequestFields) → IsRequestInRange q → IsPlain q.params → IsPlain (request_text q)
+
+-- the same of replies
+pub record WritesReplies : Type 0 where
+  pub written : (line : List ℕ) (r : ReplyFields) → IsWrittenReply line r ↔ (IsReplyInRange r × (line ≡ reply_text r))
+  pub back : (r : ReplyFields) → IsReplyInRange r → reply_at (reply_text r) ≡ Ok r
+  pub plain : (r : ReplyFields) → IsReplyInRange r → IsPlain r.params → IsPlain (reply_text r)

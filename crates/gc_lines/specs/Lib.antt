@@ -1,0 +1,10 @@
+pub mod Ports
+pub mod Lines
+pub mod Frames
+pub mod Assembler
+pub mod Numbers
+pub mod Headers
+pub mod Requests
+pub mod Replies
+pub mod Faults
+pub mod Laws

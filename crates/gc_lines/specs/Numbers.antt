@@ -1,0 +1,41 @@
+-- The numbers of a line: the manual's, with this project's own leave to write leading zeros within five digits.
+use Rattle.std.specs.Prelude.{◌≡◌, ℕ, ◌<◌, ◌≤◌, ◌&&◌, false, List, [], ◌∷◌, ◌++◌, length, take, drop, nat_lt, slice_index, if◌then◌else◌, Result, Ok, Err}
+use Rattle.std.specs.List.{take_while}
+use Rattle.std.specs.Char.{is_ascii_digit}
+use Rattle.std.specs.Str.Parse.{digits_value, AllDigits}
+use Rattle.gc_lines.specs.declared.fault.LineFault.{LineFault}
+
+-- a text of one to five digits is worth a number, which is at most 65535
+pub record IsNumber (text : List ℕ) (n : ℕ) : Type 0 where
+  pub some : 0 < length text
+  pub few : length text ≤ 5
+  pub digits : AllDigits 10 text
+  pub value : digits_value 10 text ≡ n
+  pub bound : n < 65536
+
+-- a text of digits that is not longer than its number needs
+abbrev pub NoLeadingZero : List ℕ → Type 0
+NoLeadingZero text = slice_index text 0 ≡ 48 → length text ≡ 1
+
+-- no run of digits goes on into these bytes
+abbrev pub NoDigitFirst : List ℕ → Type 0
+NoDigitFirst [] = Unit {0}
+NoDigitFirst (b ∷ bs) = is_ascii_digit b ≡ false
+
+-- the bytes begin with a whole run of digits that is a number, and the rest follows it
+pub record HasNumber (bytes : List ℕ) (n : ℕ) (rest : List ℕ) : Type 0 where
+  pub text : List ℕ
+  pub is_number : IsNumber text n
+  pub whole : bytes ≡ text ++ rest
+  pub ends : NoDigitFirst rest
+
+-- how many digits stand at the front
+abbrev pub digits_len : List ℕ → ℕ
+digits_len bytes = length (take_while is_ascii_digit bytes)
+
+-- the number at the front and what follows it, or the fault that this place of the line has
+abbrev pub number_at : LineFault → List ℕ → Result (ℕ × List ℕ) LineFault
+number_at fault bytes =
+    let len = digits_len bytes in
+    if nat_lt 0 len && (nat_lt len 6 && nat_lt (digits_value 10 (take len bytes)) 65536)
+    then Ok (digits_value 10 (take len bytes), drop len bytes) else Err fault

@@ -1,0 +1,23 @@
+-- What a call of a source and of a sink does to what contracts see of them: this project's own.
+use Rattle.std.specs.Prelude.{◌≡◌, ℕ, ◌+◌, ◌<◌, ◌≤◌, ◌==◌, Bool, true, false, List, length, take, Option, Result, Ok, Err}
+use Rattle.std.specs.Io.KnownBytes.{Consumes, Appends, Keeps, IsAtEnd}
+
+-- a read gave the n bytes at the front of buf, none of them only where no byte is left
+abbrev pub GivesBytes : {E : Type 0} → Option (List ℕ) → Option (List ℕ) → Result ℕ E → List ℕ → Type 0
+GivesBytes old new (Ok n) buf = (n ≤ length buf) × Consumes old new (take n buf) × (n ≡ 0 → IsAtEnd new)
+GivesBytes old new (Err _) buf = Keeps old new
+
+-- how many reads were answered, and whether the last was the end
+abbrev pub CountsRead : {E : Type 0} → ℕ → ℕ → Bool → Bool → Result ℕ E → Type 0
+CountsRead old_reads new_reads old_end new_end (Ok n) = (new_reads ≡ old_reads + 1) × (new_end ≡ (n == 0))
+CountsRead old_reads new_reads old_end new_end (Err _) = (new_reads ≡ old_reads) × (new_end ≡ old_end)
+
+-- a call has failed exactly where the port has failed after it, and a port stays failed
+abbrev pub Fails : {X E : Type 0} → Bool → Bool → Result X E → Type 0
+Fails old new (Ok _) = (old ≡ false) × (new ≡ false)
+Fails old new (Err _) = new ≡ true
+
+-- a write took the first n bytes, at least one where some were offered
+abbrev pub TakesBytes : {E : Type 0} → Option (List ℕ) → Option (List ℕ) → Result ℕ E → List ℕ → Type 0
+TakesBytes old new (Ok n) bytes = (n ≤ length bytes) × (0 < length bytes → 0 < n) × Appends old new (take n bytes)
+TakesBytes old new (Err _) bytes = Keeps old new

@@ -1,0 +1,41 @@
+//! The faults of a line, one for each field, and their numbers.
+
+ghost use Rattle.std.specs.Prelude.{◌≡◌};
+ghost use Rattle.gc_lines.specs.Faults.{fault_number};
+
+/// Why a line was not read or written. A reader names the first faulty field from the left.
+///
+/// The fields are those of the GeoCOM manual's chapter on the ASCII protocol; their limits and the faults' numbers are this
+/// project's own.
+#[derive(Clone, Copy, Debug, PartialEq, Eq)]
+pub enum LineFault {
+    /// 1: the line does not begin with `%R1Q,` (a request) or `%R1P,` (a reply).
+    Signature,
+    /// 2: behind the signature there is no run of one to five digits with a value of at most 65535.
+    Number,
+    /// 3: behind the number there is a comma, and behind it no run of exactly one digit from 0 to 7.
+    Id,
+    /// 4: behind the number and the id there is no colon.
+    Colon,
+    /// 5: behind a reply's colon there is no run of one to five digits with a value of at most 65535, or behind it neither
+    /// the end of the line nor a comma.
+    Code,
+    /// 6: the line to be written would pass 512 bytes. No reader answers it.
+    TooLong,
+}
+
+impl LineFault {
+    /// The fault's number, 1 to 6.
+    pub fn number(self) -> u8
+        ensures { result ≡ fault_number self }
+    {
+        match self {
+            LineFault::Signature => 1,
+            LineFault::Number => 2,
+            LineFault::Id => 3,
+            LineFault::Colon => 4,
+            LineFault::Code => 5,
+            LineFault::TooLong => 6,
+        }
+    }
+}

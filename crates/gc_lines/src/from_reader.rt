@@ -1,0 +1,77 @@
+//! A source over a reader of std. Each error of the reader, an interruption too, is a failure.
+
+ghost use Rattle.std.specs.Prelude.{◌≡◌, ◌^◌, ◌-◌, ◌<◌, false, IsErr, length};
+ghost use Rattle.gc_lines.specs.Ports.{GivesBytes, CountsRead, Fails};
+
+use crate::ports::{PortFailed, Source};
+use std::io::Read;
+
+/// A source that reads from a reader of std.
+///
+/// It fails at the first error of the reader, and at the read after 2^64 - 1 answered ones.
+#[derive(Drop)]
+pub struct FromReader<R> {
+    reader: R,
+    answered: u64,
+    at_end: bool,
+    broken: bool,
+}
+
+impl<R: Read> FromReader<R> {
+    /// A source that has answered no read. Its bytes are the reader's.
+    pub fn new(reader: R) -> FromReader<R>
+        ensures bytes { ⟦<FromReader<R> as Source>⟧.remaining result ≡ R.remaining reader }
+        ensures reads { ⟦<FromReader<R> as Source>⟧.reads result ≡ 0 }
+        ensures ended { ⟦<FromReader<R> as Source>⟧.ended result ≡ false }
+        ensures failed { ⟦<FromReader<R> as Source>⟧.failed result ≡ false }
+    {
+        FromReader {
+            reader,
+            answered: 0,
+            at_end: false,
+            broken: false,
+        }
+    }
+}
+
+impl<R: Read> Source for FromReader<R> {
+    ghost remaining = { λ s. R.remaining s.reader };
+
+    ghost reads = { λ s. s.answered };
+
+    ghost ended = { λ s. s.at_end };
+
+    ghost failed = { λ s. s.broken };
+
+    fn read(&mut self, buf: &mut [u8]) -> Result<usize, PortFailed>
+        requires { 0 < length buf.old }
+        ensures bytes { GivesBytes (⟦<FromReader<R> as Source>⟧.remaining self.old)
+            (⟦<FromReader<R> as Source>⟧.remaining self.new) result buf.new }
+        ensures counts { CountsRead (⟦<FromReader<R> as Source>⟧.reads self.old)
+            (⟦<FromReader<R> as Source>⟧.reads self.new) (⟦<FromReader<R> as Source>⟧.ended self.old)
+            (⟦<FromReader<R> as Source>⟧.ended self.new) result }
+        ensures fails { Fails (⟦<FromReader<R> as Source>⟧.failed self.old)
+            (⟦<FromReader<R> as Source>⟧.failed self.new) result }
+        ensures limit { ⟦<FromReader<R> as Source>⟧.reads self.old ≡ 2 ^ 64 - 1 → IsErr result }
+    {
+        if self.broken || self.answered == u64::MAX {
+            self.broken = true;
+            return Err(PortFailed);
+        }
+        match self.reader.read(buf) {
+            Ok(n) => {
+                self.answered += 1;
+                self.at_end = n == 0;
+                Ok(n)
+            }
+            Err(_) => {
+                self.broken = true;
+                Err(PortFailed)
+            }
+        }
+    }
+
+    fn has_failed(&self) -> bool {
+        self.broken
+    }
+}

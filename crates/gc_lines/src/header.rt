@@ -1,0 +1,89 @@
+//! What requests and replies share: a signature, a number, an id where there is one, and a colon.
+
+ghost use Rattle.std.specs.Prelude.{◌≡◌, ◌+◌, ◌<◌, ◌≤◌, ◌++◌, [], length};
+ghost use Rattle.std.specs.Option.{ForSome};
+ghost use Rattle.arrayvec.specs.ArrayVec.{array_vec_len};
+ghost use Rattle.gc_lines.specs.Headers.{header_seen, signature_at, id_at, colon_at, header_at, Gives, id_text, header_text};
+
+use crate::fault::LineFault;
+use crate::line::{Line, append};
+use crate::number::{append_number, count_digits, number_of};
+
+// The fields up to the colon, and what follows the colon.
+#[derive(Clone, Copy)]
+pub(crate) struct Header<'a> {
+    pub(crate) number: u16,
+    pub(crate) id: Option<u8>,
+    pub(crate) rest: &'a [u8],
+}
+
+// Reads the fields up to the colon from the left.
+#[inline]
+#[tactic(auto, unfolding(crate::specs::Headers::header_at))]
+pub(crate) fn header_of<'a>(signature: &[u8], line: &'a [u8]) -> Result<Header<'a>, LineFault>
+    ensures { Gives header_seen result (header_at signature.now line.now) }
+{
+    let rest = after_signature(signature, line)?;
+    let (number, rest) = number_of(rest, LineFault::Number)?;
+    let (id, rest) = id_of(rest)?;
+    let rest = after_colon(rest)?;
+    Ok(Header { number, id, rest })
+}
+
+#[inline]
+fn after_signature<'a>(signature: &[u8], line: &'a [u8]) -> Result<&'a [u8], LineFault>
+    ensures { Gives (λ rest. rest.now) result (signature_at signature.now line.now) }
+{
+    line.strip_prefix(signature).ok_or(LineFault::Signature)
+}
+
+// The id behind a comma, or none, and what follows.
+#[inline]
+fn id_of(bytes: &[u8]) -> Result<(Option<u8>, &[u8]), LineFault>
+    ensures { Gives (λ x. (x.0, x.1.now)) result (id_at bytes.now) }
+{
+    let [b',', rest @ ..] = bytes else {
+        return Ok((None, bytes));
+    };
+    if count_digits(rest) != 1 || rest[0] > b'7' {
+        return Err(LineFault::Id);
+    }
+    Ok((Some(rest[0] - b'0'), &rest[1..]))
+}
+
+#[inline]
+fn after_colon(bytes: &[u8]) -> Result<&[u8], LineFault>
+    ensures { Gives (λ rest. rest.now) result (colon_at bytes.now) }
+{
+    match bytes {
+        [b':', rest @ ..] => Ok(rest),
+        _ => Err(LineFault::Colon),
+    }
+}
+
+// Writes the fields up to the colon into an empty line.
+pub(crate) fn put_header(line: &mut Line, signature: &[u8], number: u16, id: Option<u8>)
+    requires empty { line.old.items ≡ [] }
+    requires signature { length signature.now ≤ 5 }
+    requires id { ForSome id (λ i. i < 8) }
+    ensures items { line.new.items ≡ header_text signature.now number id }
+    ensures len { array_vec_len line.new ≤ 13 }
+{
+    append(line, signature);
+    append_number(line, number);
+    append_id(line, id);
+    line.push(b':');
+}
+
+// Appends an id behind a comma, if there is one.
+fn append_id(line: &mut Line, id: Option<u8>)
+    requires id { ForSome id (λ i. i < 8) }
+    requires room { array_vec_len line.old + 2 ≤ 512 }
+    ensures items { line.new.items ≡ line.old.items ++ id_text id }
+    ensures len { array_vec_len line.new ≤ array_vec_len line.old + 2 }
+{
+    if let Some(id) = id {
+        line.push(b',');
+        line.push(b'0' + id);
+    }
+}

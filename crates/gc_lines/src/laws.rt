@@ -1,0 +1,38 @@
+//! What is proved of the definitions themselves. Each function does nothing: its contract is the law.
+
+ghost use Rattle.gc_lines.specs.Laws.{OneCut, FramesHoweverCut, PlainIsOneLine, ReadsRequests, ReadsReplies, WritesRequests, WritesReplies};
+
+/// A stream has one cutting at its line feeds: the pieces, of which the frames are made, and the rest.
+pub fn one_cut()
+    ensures { OneCut }
+{}
+
+/// The frames of a stream do not depend on where it is cut.
+pub fn frames_however_cut()
+    ensures { FramesHoweverCut }
+{}
+
+/// At most 512 bytes without CR and LF, sent with CR LF behind them, arrive as one line.
+pub fn plain_is_one_line()
+    ensures { PlainIsOneLine }
+{}
+
+/// A line is read as a request exactly where it has the grammar, in one way, and refused exactly with its first bad field.
+pub fn requests_are_read()
+    ensures { ReadsRequests }
+{}
+
+/// A line is read as a reply exactly where it has the grammar, in one way, and refused exactly with its first bad field.
+pub fn replies_are_read()
+    ensures { ReadsReplies }
+{}
+
+/// A request has one written line. It reads back as that request.
+pub fn requests_are_written()
+    ensures { WritesRequests }
+{}
+
+/// A reply has one written line. It reads back as that reply.
+pub fn replies_are_written()
+    ensures { WritesReplies }
+{}

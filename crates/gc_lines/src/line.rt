@@ -1,0 +1,27 @@
+//! A line holds at most 512 bytes, without its CR LF.
+
+ghost use Rattle.std.specs.Prelude.{◌≡◌, ◌+◌, ◌≤◌, ◌++◌, ◌↔◌, length, IsTrue};
+ghost use Rattle.arrayvec.specs.ArrayVec.{array_vec_len};
+ghost use Rattle.gc_lines.specs.Lines.{IsPlain};
+
+use arrayvec::ArrayVec;
+
+/// A line without its CR LF, of at most 512 bytes. The limit is this project's own.
+pub type Line = ArrayVec<u8, 512>;
+
+/// Whether there is neither CR nor LF in these bytes, so that they may stand inside a line.
+pub fn is_plain(bytes: &[u8]) -> bool
+    ensures { IsTrue result ↔ IsPlain bytes.now }
+{
+    bytes.iter().all(|b| *b != b'\n' && *b != b'\r')
+}
+
+// Appends bytes that fit.
+#[inline]
+pub(crate) fn append<const N: usize>(to: &mut ArrayVec<u8, N>, bytes: &[u8])
+    requires { array_vec_len to.old + length bytes.now ≤ N }
+    ensures { to.new.items ≡ to.old.items ++ bytes.now }
+{
+    // The caller has shown that there is room, so this is no fault that is passed over.
+    let _ = to.try_extend_from_slice(bytes);
+}

@@ -1,0 +1,64 @@
+//! Where bytes come from and where they go. A port that has failed stays failed.
+
+ghost use Rattle.std.specs.Prelude.{◌≡◌, ℕ, List, Option, Bool, ◌<◌, length};
+ghost use Rattle.gc_lines.specs.Ports.{GivesBytes, CountsRead, Fails, TakesBytes};
+
+/// A call of a port failed, and so will each later one.
+#[derive(Clone, Copy, Debug, PartialEq, Eq)]
+pub struct PortFailed;
+
+/// Where bytes come from.
+///
+/// Who implements it says by `remaining` which bytes reads will still give, or `None` where that is not known, as of a
+/// socket. `reads` counts the answered reads and `ended` says whether the last of them was the end; both stand still where
+/// a read fails. `failed` is true from the first failed read on.
+pub trait Source {
+    /// The bytes that reads will still give, where they are known.
+    ghost remaining: { Self → Option (List ℕ) };
+
+    /// How many reads were answered.
+    ghost reads: { Self → ℕ };
+
+    /// Whether the last answered read was the end.
+    ghost ended: { Self → Bool };
+
+    /// Whether a read has failed.
+    ghost failed: { Self → Bool };
+
+    /// Reads some bytes into the front of `buf`, which is not empty, and says how many: `Ok(0)` is the end of the input.
+    ///
+    /// It fails exactly where `has_failed` is true after it, and gave no bytes then.
+    fn read(&mut self, buf: &mut [u8]) -> Result<usize, PortFailed>
+        requires { 0 < length buf.old }
+        ensures bytes { GivesBytes (remaining self.old) (remaining self.new) result buf.new }
+        ensures counts { CountsRead (reads self.old) (reads self.new) (ended self.old) (ended self.new) result }
+        ensures fails { Fails (failed self.old) (failed self.new) result };
+
+    /// Whether a read has failed.
+    fn has_failed(&self) -> bool
+        ensures { result ≡ failed self.now };
+}
+
+/// Where bytes go.
+///
+/// Who implements it says by `taken` which bytes it has taken, or `None` where that is not known, as of a socket. `failed`
+/// is true from the first failed write on.
+pub trait Sink {
+    /// The bytes that were taken, where they are known.
+    ghost taken: { Self → Option (List ℕ) };
+
+    /// Whether a write has failed.
+    ghost failed: { Self → Bool };
+
+    /// Takes the first of these bytes, of which there are some, and says how many: at least one.
+    ///
+    /// It fails exactly where `has_failed` is true after it, and took no bytes then.
+    fn write(&mut self, bytes: &[u8]) -> Result<usize, PortFailed>
+        requires { 0 < length bytes.now }
+        ensures bytes { TakesBytes (taken self.old) (taken self.new) result bytes.now }
+        ensures fails { Fails (failed self.old) (failed self.new) result };
+
+    /// Whether a write has failed.
+    fn has_failed(&self) -> bool
+        ensures { result ≡ failed self.now };
+}

@@ -1,0 +1,111 @@
+//! A reply line: `%R1P,<RC_COM>[,<TrId>]:<RC>[,<P0>,<P1>,...]`, read leniently and written in one form.
+
+ghost use Rattle.std.specs.Prelude.{◌≡◌, ◌<◌, ◌≤◌, [], length, Ok, Err, IfOk, IfErr};
+ghost use Rattle.std.specs.Option.{ForSome};
+ghost use Rattle.arrayvec.specs.ArrayVec.{array_vec_len};
+ghost use Rattle.gc_lines.specs.Headers.{Gives};
+
+use crate::fault::LineFault;
+use crate::header::{header_of, put_header};
+use crate::line::{Line, append};
+use crate::number::{append_number, number_of};
+
+/// A reply: how the communication went, the request's transaction id, how the procedure went, and the bytes of the
+/// parameters.
+///
+/// 0 is success for both codes. `params` is all that follows the comma behind `rc`, and empty where there is none. The form
+/// is that of the GeoCOM manual's chapter on the ASCII protocol; that ids are one digit from 0 to 7 is this project's own.
+#[derive(Clone, Copy, Debug, PartialEq, Eq)]
+pub struct Reply<'a> {
+    pub rc_com: u16,
+    pub id: Option<u8>,
+    pub rc: u16,
+    pub params: &'a [u8],
+}
+
+ghost use Rattle.gc_lines.specs.Replies.{ReplyFields, reply_seen, IsReply, FirstBadOfReply, params_at, code_at, reply_at, reply_text};
+ghost use Rattle.gc_lines.specs.Lines.{IsPlain};
+
+// The parameters behind a return code: none at the end of the line, else all that follows a comma.
+#[inline]
+fn params_of(bytes: &[u8]) -> Result<&[u8], LineFault>
+    ensures { Gives (λ params. params.now) result (params_at bytes.now) }
+{
+    match bytes {
+        [] => Ok(bytes),
+        [b',', params @ ..] => Ok(params),
+        _ => Err(LineFault::Code),
+    }
+}
+
+// The return code and the parameters behind it.
+#[inline]
+fn code_of(bytes: &[u8]) -> Result<(u16, &[u8]), LineFault>
+    ensures { Gives (λ x. (x.0, x.1.now)) result (code_at bytes.now) }
+{
+    let (rc, rest) = number_of(bytes, LineFault::Code)?;
+    let params = params_of(rest)?;
+    Ok((rc, params))
+}
+
+// Reads a reply from the left.
+#[inline]
+#[tactic(auto, unfolding(crate::specs::Replies::reply_at))]
+fn reply_of(line: &[u8]) -> Result<Reply<'_>, LineFault>
+    ensures { Gives reply_seen result (reply_at line.now) }
+{
+    let header = header_of(b"%R1P,", line)?;
+    let (rc, params) = code_of(header.rest)?;
+    Ok(Reply {
+        rc_com: header.number,
+        id: header.id,
+        rc,
+        params,
+    })
+}
+
+/// Reads a reply line, given without its CR LF. A refusal names the first faulty field from the left, and is never
+/// [`LineFault::TooLong`].
+#[inline]
+pub fn read_reply(line: &[u8]) -> Result<Reply<'_>, LineFault>
+    ensures found { IfOk result (λ r. IsReply line.now (reply_seen r)) }
+    ensures only { (q : ReplyFields) → IsReply line.now q → Gives reply_seen result (Ok q) }
+    ensures fault { IfErr result (λ f. FirstBadOfReply line.now f) }
+    ensures faulty { (f : LineFault) → FirstBadOfReply line.now f → result ≡ Err f }
+    ensures exact { Gives reply_seen result (reply_at line.now) }
+{
+    reply_of(line)
+}
+
+/// Begins a reply line: it is written through the return code, and parameters may be appended, each behind a comma.
+pub fn begin_reply(rc_com: u16, id: Option<u8>, rc: u16) -> Line
+    requires { ForSome id (λ i. i < 8) }
+    ensures items { result.items ≡ reply_text (record { rc_com = rc_com; id = id; rc = rc; params = [] }) }
+    ensures room { array_vec_len result ≤ 18 }
+{
+    let mut line = Line::new();
+    put_header(&mut line, b"%R1P,", rc_com, id);
+    append_number(&mut line, rc);
+    line
+}
+
+/// Writes a reply line, without its CR LF. It is refused with [`LineFault::TooLong`] exactly where it would pass 512 bytes.
+#[inline]
+pub fn write_reply(r: &Reply<'_>) -> Result<Line, LineFault>
+    requires id { ForSome r.now.id (λ i. i < 8) }
+    requires plain { IsPlain r.now.params.now }
+    ensures ok { IfOk result (λ line. (line.items ≡ reply_text (reply_seen r.now))
+        × (length (reply_text (reply_seen r.now)) ≤ 512)) }
+    ensures err { IfErr result (λ f. (f ≡ LineFault.TooLong) × (512 < length (reply_text (reply_seen r.now)))) }
+{
+    let mut line = begin_reply(r.rc_com, r.id, r.rc);
+    if r.params.is_empty() {
+        return Ok(line);
+    }
+    if r.params.len() >= line.remaining_capacity() {
+        return Err(LineFault::TooLong);
+    }
+    line.push(b',');
+    append(&mut line, r.params);
+    Ok(line)
+}

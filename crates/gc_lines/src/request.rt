@@ -1,0 +1,80 @@
+//! A request line: `%R1Q,<RPC>[,<TrId>]:[<P0>][,<P1>,...]`, read leniently and written in one form.
+
+ghost use Rattle.std.specs.Prelude.{◌≡◌, ◌<◌, ◌≤◌, [], length, Ok, Err, IfOk, IfErr};
+ghost use Rattle.std.specs.Option.{ForSome};
+ghost use Rattle.arrayvec.specs.ArrayVec.{array_vec_len};
+ghost use Rattle.gc_lines.specs.Lines.{IsPlain};
+ghost use Rattle.gc_lines.specs.Headers.{Gives};
+
+use crate::fault::LineFault;
+use crate::header::{header_of, put_header};
+use crate::line::{Line, append};
+
+/// A request: a procedure's number, a transaction id, and the bytes of its parameters.
+///
+/// `params` is all that follows the colon. The form is that of the GeoCOM manual's chapter on the ASCII protocol; that ids
+/// are one digit from 0 to 7 is this project's own.
+#[derive(Clone, Copy, Debug, PartialEq, Eq)]
+pub struct Request<'a> {
+    pub rpc: u16,
+    pub id: Option<u8>,
+    pub params: &'a [u8],
+}
+
+ghost use Rattle.gc_lines.specs.Requests.{RequestFields, request_seen, IsRequest, FirstBadOfRequest, request_at, request_text};
+
+// Reads a request from the left.
+#[inline]
+#[tactic(auto, unfolding(crate::specs::Requests::request_at))]
+fn request_of(line: &[u8]) -> Result<Request<'_>, LineFault>
+    ensures { Gives request_seen result (request_at line.now) }
+{
+    let header = header_of(b"%R1Q,", line)?;
+    Ok(Request {
+        rpc: header.number,
+        id: header.id,
+        params: header.rest,
+    })
+}
+
+/// Reads a request line, given without its CR LF. A refusal names the first faulty field from the left, and is never
+/// [`LineFault::Code`] or [`LineFault::TooLong`].
+#[inline]
+pub fn read_request(line: &[u8]) -> Result<Request<'_>, LineFault>
+    ensures found { IfOk result (λ r. IsRequest line.now (request_seen r)) }
+    ensures only { (q : RequestFields) → IsRequest line.now q → Gives request_seen result (Ok q) }
+    ensures fault { IfErr result (λ f. FirstBadOfRequest line.now f) }
+    ensures faulty { (f : LineFault) → FirstBadOfRequest line.now f → result ≡ Err f }
+    ensures exact { Gives request_seen result (request_at line.now) }
+{
+    request_of(line)
+}
+
+/// Begins a request line: it is written through the colon, and the parameters may be appended.
+pub fn begin_request(rpc: u16, id: Option<u8>) -> Line
+    requires { ForSome id (λ i. i < 8) }
+    ensures items { result.items ≡ request_text (record { rpc = rpc; id = id; params = [] }) }
+    ensures room { array_vec_len result ≤ 13 }
+{
+    let mut line = Line::new();
+    put_header(&mut line, b"%R1Q,", rpc, id);
+    line
+}
+
+/// Writes a request line, without its CR LF. It is refused with [`LineFault::TooLong`] exactly where it would pass 512
+/// bytes.
+#[inline]
+pub fn write_request(r: &Request<'_>) -> Result<Line, LineFault>
+    requires id { ForSome r.now.id (λ i. i < 8) }
+    requires plain { IsPlain r.now.params.now }
+    ensures ok { IfOk result (λ line. (line.items ≡ request_text (request_seen r.now))
+        × (length (request_text (request_seen r.now)) ≤ 512)) }
+    ensures err { IfErr result (λ f. (f ≡ LineFault.TooLong) × (512 < length (request_text (request_seen r.now)))) }
+{
+    let mut line = begin_request(r.rpc, r.id);
+    if r.params.len() > line.remaining_capacity() {
+        return Err(LineFault::TooLong);
+    }
+    append(&mut line, r.params);
+    Ok(line)
+}

@@ -1,0 +1,131 @@
+//! Outside values of the line grammar, and each port once over a reader and a writer of std.
+
+ghost use Rattle.std.specs.Prelude.{None};
+
+use crate::{
+    FromReader, Line, PortFailed, Sink, Source, ToWriter, read_reply, read_request, write_reply,
+    write_request,
+};
+use std::io::{self, ErrorKind, Read};
+use std::test::Fail;
+
+// The number of a request's fault, or 0 where it is read.
+fn request_fault(line: &[u8]) -> u8 {
+    match read_request(line) {
+        Ok(_) => 0,
+        Err(fault) => fault.number(),
+    }
+}
+
+// The number of a reply's fault, or 0 where it is read.
+fn reply_fault(line: &[u8]) -> u8 {
+    match read_reply(line) {
+        Ok(_) => 0,
+        Err(fault) => fault.number(),
+    }
+}
+
+#[test]
+fn prefixes_of_a_request(rt: HostRuntime) {
+    let line = b"%R1Q,5008,2:";
+    let faults = [1, 1, 1, 1, 1, 2, 4, 4, 4, 4, 3, 4, 0];
+    for (len, want) in faults.iter().enumerate() {
+        let prefix = line.get(..len).unwrap_or(b"");
+        assert_eq!(rt; request_fault(prefix), *want, "of the first {len} bytes");
+    }
+}
+
+#[test]
+fn headers_refused(rt: HostRuntime) {
+    for (line, want) in [
+        ("%r1q,0,0:", 1),
+        ("%R1Q, 0:", 2),
+        ("%R1Q,000000:", 2),
+        ("%R1Q,0,:", 3),
+        ("%R1Q,0,07:", 3),
+        ("%R1Q,0", 4),
+    ] {
+        assert_eq!(rt; request_fault(line.as_bytes()), want, "{line}");
+    }
+    for (line, want) in [
+        ("%R1P,0,0:", 5),
+        ("%R1P,0,0:65536", 5),
+        ("%R1P,0,0:0;1", 5),
+        ("%R1P,0,0:1 ", 5),
+        ("%R1P,00000,0:00000,", 0),
+    ] {
+        assert_eq!(rt; reply_fault(line.as_bytes()), want, "{line}");
+    }
+}
+
+#[test]
+fn lines_are_written_again(rt: HostRuntime) -> Result<(), Fail> {
+    let reply = read_reply(b"%R1P,00000,0:00000,")?;
+    assert!(rt; reply.params.is_empty());
+    let written: Line = write_reply(&reply)?;
+    assert_eq!(rt; written.as_slice(), b"%R1P,0,0:0".as_slice());
+    let request = read_request(b"%R1Q,02003,7:1,'0f'")?;
+    assert!(rt; crate::is_plain(request.params));
+    let written: Line = write_request(&request)?;
+    assert_eq!(rt; written.as_slice(), b"%R1Q,2003,7:1,'0f'".as_slice());
+    Ok(())
+}
+
+// A reader that gives two bytes and then is interrupted, time and again.
+#[derive(Drop)]
+struct Interrupted {
+    calls: u8,
+}
+
+impl Read for Interrupted {
+    ghost remaining = { λ _. None };
+
+    fn read(&mut self, buf: &mut [u8]) -> io::Result<usize> {
+        let second = self.calls == 1;
+        self.calls = 1 - self.calls.min(1);
+        if second || buf.len() < 2 {
+            return Err(ErrorKind::Interrupted.into());
+        }
+        Ok(2)
+    }
+}
+
+// Reads by the trait's bound alone.
+fn read_some<S: Source>(source: &mut S) -> (Result<usize, PortFailed>, bool) {
+    let mut buf = [0u8; 4];
+    let result = source.read(&mut buf);
+    (result, source.has_failed())
+}
+
+// Writes by the trait's bound alone.
+fn write_some<S: Sink>(sink: &mut S) -> (Result<usize, PortFailed>, bool) {
+    let result = sink.write(b"abc");
+    (result, sink.has_failed())
+}
+
+#[test]
+fn a_reader_to_its_end(rt: HostRuntime) {
+    let bytes: &[u8] = b"%R1Q,0";
+    let mut source = FromReader::new(bytes);
+    assert_eq!(rt; read_some(&mut source), (Ok(4), false));
+    assert_eq!(rt; read_some(&mut source), (Ok(2), false));
+    assert_eq!(rt; read_some(&mut source), (Ok(0), false));
+}
+
+#[test]
+fn a_reader_that_fails(rt: HostRuntime) {
+    let mut source = FromReader::new(Interrupted { calls: 0 });
+    assert_eq!(rt; read_some(&mut source), (Ok(2), false));
+    assert_eq!(rt; read_some(&mut source), (Err(PortFailed), true));
+    assert_eq!(rt; read_some(&mut source), (Err(PortFailed), true));
+}
+
+#[test]
+fn a_writer_that_fills_up(rt: HostRuntime) {
+    let mut room = [0u8; 4];
+    let mut sink = ToWriter::new(&mut room[..]);
+    assert_eq!(rt; write_some(&mut sink), (Ok(3), false));
+    assert_eq!(rt; write_some(&mut sink), (Ok(1), false));
+    assert_eq!(rt; write_some(&mut sink), (Err(PortFailed), true));
+    assert_eq!(rt; write_some(&mut sink), (Err(PortFailed), true));
+}

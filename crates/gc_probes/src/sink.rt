@@ -1,0 +1,76 @@
+//! A sink that takes a few bytes for each call, and fails at the call that the test names.
+
+ghost use Rattle.std.specs.Prelude.{◌≡◌, ◌<◌, [], Some, false};
+ghost use Rattle.gc_probes.specs.Seen.{SinkSeen};
+
+use gc_lines::{PortFailed, Sink};
+use std::alloc::Global;
+use std::marker::Model;
+
+/// Takes at most a given number of bytes for each call, and keeps them. It fails where it can't
+/// store them.
+#[derive(Drop)]
+pub struct PieceSink {
+    taken: Vec<u8>,
+    most: usize,
+    answers: u64,
+    failed: bool,
+}
+
+impl Model for PieceSink {
+    ghost use Rattle.std.specs.Prelude.{◌<◌};
+    ghost use Rattle.gc_probes.specs.Seen.{SinkSeen};
+
+    ghost Value = { SinkSeen };
+
+    ghost view = { λ s. record { taken = s.taken.items; failed = s.failed } };
+
+    ghost invariant = { λ s. 0 < s.most };
+}
+
+impl PieceSink {
+    /// A sink that takes up to `most` bytes for each call. It answers `answers` writes and fails
+    /// at the next one: so 0 fails at once, and `u64::MAX` never fails in a test but for memory.
+    pub fn new(alloc: Global, most: usize, answers: u64) -> PieceSink
+        requires { 0 < most }
+        ensures { result ≡ record { taken = []; failed = false } }
+    {
+        PieceSink {
+            taken: Vec::new(alloc),
+            most,
+            answers,
+            failed: false,
+        }
+    }
+
+    /// The bytes that were taken.
+    pub fn taken(&self) -> &[u8]
+        ensures { result.now ≡ self.now.taken }
+    {
+        self.taken.as_slice()
+    }
+}
+
+impl Sink for PieceSink {
+    ghost taken = { λ s. Some s.taken };
+
+    ghost failed = { λ s. s.failed };
+
+    fn write(&mut self, bytes: &[u8]) -> Result<usize, PortFailed> {
+        if self.failed || self.answers == 0 {
+            self.failed = true;
+            return Err(PortFailed);
+        }
+        let n = self.most.min(bytes.len());
+        if self.taken.extend_from_slice(&bytes[..n]).is_err() {
+            self.failed = true;
+            return Err(PortFailed);
+        }
+        self.answers -= 1;
+        Ok(n)
+    }
+
+    fn has_failed(&self) -> bool {
+        self.failed
+    }
+}
