@@ -1,0 +1,30 @@
+use Rattle.std.proofs.Common.{◌≡◌, ℕ, ◌≤◌, ℤ, ap, ◌∙◌, subst}
+use Rattle.std.proofs.Props.{props}
+use Rattle.gc_values.specs.Fraction.{IsCanonical, IsInRange}
+use Rattle.gc_values.specs.declared.decimal.Decimal.{Decimal}
+
+le_prop : (m n : ℕ) → IsProp (m ≤ n)
+le_prop m n = hlevel props
+
+canonical_prop : (m : ℤ) (s : ℕ) → IsProp (IsCanonical m s)
+canonical_prop m s = hlevel props
+
+range_prop : (m : ℤ) (s : ℕ) → IsProp (IsInRange m s)
+range_prop m s = hlevel props
+
+abbrev make : (m : ℤ) (s : ℕ) → s ≤ 24 → IsInRange m s → IsCanonical m s → Decimal
+make m s p r c = record { digits = m; scale = s; has_few_places = p; is_in_range = r; is_canonical = c }
+
+same_proofs : (m : ℤ) (s : ℕ) (p p' : s ≤ 24) (r r' : IsInRange m s) (c c' : IsCanonical m s) → make m s p r c ≡ make m s p' r' c'
+same_proofs m s p p' r r' c c' =
+    ap (λ x. make m s x r c) (le_prop s 24 p p') ∙ ap (λ x. make m s p' x c) (range_prop m s r r') ∙ ap (make m s p' r') (canonical_prop m s c c')
+
+same_fields : (m : ℤ) (s : ℕ) (p : s ≤ 24) (r : IsInRange m s) (c : IsCanonical m s) (n : ℤ) (t : ℕ) → m ≡ n → s ≡ t → (p' : t ≤ 24) (r' : IsInRange n t) (c' : IsCanonical n t) → make m s p r c ≡ make n t p' r' c'
+same_fields m s p r c n t e f =
+    let P : ℤ → Type 0 = λ n. (p' : t ≤ 24) (r' : IsInRange n t) (c' : IsCanonical n t) → make m s p r c ≡ make n t p' r' c' in
+    let Q : ℕ → Type 0 = λ t. (p' : t ≤ 24) (r' : IsInRange m t) (c' : IsCanonical m t) → make m s p r c ≡ make m t p' r' c' in
+    subst P e (subst Q f (λ p' r' c'. same_proofs m s p p' r r' c c'))
+
+-- decimals of equal digits and scale are equal
+pub same_decimal : (a b : Decimal) → a.digits ≡ b.digits → a.scale ≡ b.scale → a ≡ b
+same_decimal a b e f = same_fields a.digits a.scale a.has_few_places a.is_in_range a.is_canonical b.digits b.scale e f b.has_few_places b.is_in_range b.is_canonical

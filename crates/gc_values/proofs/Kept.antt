@@ -1,0 +1,188 @@
+use Rattle.std.proofs.Common.{◌≡◌, ℕ, ◌+◌, ◌-◌, ◌*◌, ◌^◌, ◌<◌, ◌≤◌, List, [], ◌∷◌, ◌++◌, length, get_or, take, drop, refl, sym, ◌∙◌, ap, subst, inl, inr, arith, add-one, length-append, drop-cons, min, zero, suc, lit<}
+use Rattle.std.proofs.Math.Nat.{mul-le-mul_right, mul-le-mul_left, one-le-pow, pow-suc, mul_comm}
+use Rattle.std.proofs.Math.Seq.{take-suc, get_or-append_right}
+use Rattle.std.proofs.Math.ListN.{get_or-append}
+use Rattle.std.proofs.lemmas.Nat.{pow-add}
+use Rattle.std.proofs.lemmas.List.{take_all, get_or_past, take-append-drop, length-take-le}
+use Rattle.std.proofs.lemmas.Bool.Decides.{nat_tests}
+use Rattle.std.proofs.lemmas.Bool.{cases_lt}
+use Rattle.gc_values.specs.Digits.{IsDigit, AreDigits, number, digit_or_zero, kept, carry, kept_and_rounded}
+use Rattle.gc_values.proofs.Powers.{ten_pow_le}
+use Rattle.gc_values.proofs.Rounding.{RoundsHalfUp, rounds_same_value, rounds_whole, rounds_down, rounds_up}
+
+pub number-append : (xs ys : List ℕ) → number (xs ++ ys) ≡ number xs * 10 ^ length ys + number ys
+number-append [] ys = omega arith
+number-append (x ∷ xs) ys =
+    let place : 10 ^ length (xs ++ ys) ≡ 10 ^ length xs * 10 ^ length ys = ap (λ n. 10 ^ n) (length-append xs ys) ∙ pow-add 10 (length xs) (length ys) in
+    omega (arith, number-append xs ys, ap (λ p. (x - 48) * p) place)
+
+pub number-lt : (ds : List ℕ) → AreDigits ds → number ds < 10 ^ length ds
+number-lt [] h = omega arith
+number-lt (b ∷ bs) h =
+    let most : (b - 48) * 10 ^ length bs ≤ 9 * 10 ^ length bs = mul-le-mul_right {m = b - 48} {n = 9} (10 ^ length bs) (omega arith) in
+    omega (arith, number-lt bs h.1, most, pow-suc 10 (length bs))
+
+pub kept_none : (ds : List ℕ) → kept ds 0 ≡ 0
+unfolding kept
+kept_none ds = omega arith
+
+kept_within : (ds : List ℕ) (i : ℕ) → i ≤ length ds → kept ds i ≡ number (take i ds)
+unfolding kept
+kept_within ds i h = let e : i - length ds ≡ 0 = omega arith in rw e (omega arith)
+
+kept_past : (ds : List ℕ) (i : ℕ) → length ds ≤ i → kept ds i ≡ number ds * 10 ^ (i - length ds)
+unfolding kept
+kept_past ds i h = rw (take_all i ds h) refl
+
+pub kept_more : (ds : List ℕ) (i : ℕ) → kept ds (i + 1) ≡ kept ds i * 10 + digit_or_zero ds i
+kept_more ds i = elim (cases_lt i (length ds)) [
+  | inl inside ↦
+      let pushed : take (i + 1) ds ≡ take i ds ++ (get_or ds i 48 ∷ []) = rw add-one (take-suc ds i 48 inside) in
+      omega (arith, kept_within ds (i + 1) (omega arith), kept_within ds i (omega arith), ap number pushed, number-append (take i ds) (get_or ds i 48 ∷ []))
+  | inr past ↦
+      let more : i + 1 - length ds ≡ suc (i - length ds) = omega arith in
+      let power : 10 ^ (i + 1 - length ds) ≡ 10 ^ (i - length ds) * 10 = ap (λ n. 10 ^ n) more ∙ pow-suc 10 (i - length ds) in
+      omega (arith, kept_past ds (i + 1) (omega arith), kept_past ds i past, ap (λ p. number ds * p) power, get_or_past ds i 48 past)
+]
+
+AreDigits-drop : (ds : List ℕ) (k : ℕ) → AreDigits ds → AreDigits (drop k ds)
+AreDigits-drop ds zero h = h
+AreDigits-drop [] (suc k) h = h
+AreDigits-drop (d ∷ ds) (suc k) h = AreDigits-drop ds k h.1
+
+-- k digits, one more, and the others
+cut_round : (xs : List ℕ) (c : ℕ) (ys : List ℕ) (m : ℕ) → AreDigits (c ∷ ys) → (c - 48 < 5 → m ≡ number xs) → (5 ≤ c - 48 → m ≡ number xs + 1) →
+    RoundsHalfUp (number (xs ++ c ∷ ys) * 10 ^ length xs) (10 ^ length (xs ++ c ∷ ys)) m
+cut_round xs c ys m digits is_low is_high =
+    let u : ℕ = 10 ^ length ys in
+    let power : 10 ^ length (c ∷ ys) ≡ 10 * u = pow-suc 10 (length ys) ∙ mul_comm u 10 in
+    let whole : number (xs ++ c ∷ ys) ≡ number xs * (10 * u) + ((c - 48) * u + number ys) = number-append xs (c ∷ ys) ∙ ap (λ p. number xs * p + ((c - 48) * u + number ys)) power in
+    let size : 10 ^ length (xs ++ c ∷ ys) ≡ 10 ^ length xs * (10 * u) = ap (λ n. 10 ^ n) (length-append xs (c ∷ ys)) ∙ pow-add 10 (length xs) (length (c ∷ ys)) ∙ ap (λ p. 10 ^ length xs * p) power in
+    let small : number ys < u = number-lt ys digits.1 in
+    let pos_u : 1 ≤ u = one-le-pow (length ys) 10 (lit< tt) in
+    let pos_x : 1 ≤ 10 ^ length xs = one-le-pow (length xs) 10 (lit< tt) in
+    let here : RoundsHalfUp (number xs * (10 * u) + ((c - 48) * u + number ys)) (10 * u) m =
+    elim (cases_lt (c - 48) 5) [
+      | inl low ↦ subst (λ m. RoundsHalfUp (number xs * (10 * u) + ((c - 48) * u + number ys)) (10 * u) m) (sym (is_low low)) (rounds_down (number xs) (c - 48) u (number ys) low small)
+      | inr high ↦ subst (λ m. RoundsHalfUp (number xs * (10 * u) + ((c - 48) * u + number ys)) (10 * u) m) (sym (is_high high)) (rounds_up (number xs) (c - 48) u (number ys) high (omega arith) small)
+    ] in
+    rounds_same_value _ (10 * u) _ _ m (omega arith) (one-le-pow (length (xs ++ c ∷ ys)) 10 (lit< tt)) (rw (size, whole) (omega arith)) here
+
+low_digit : (d : ℕ) → d < 5 → carry d ≡ 0
+low_digit d h = grind (arith, nat_tests)
+
+high_digit : (d : ℕ) → 5 ≤ d → carry d ≡ 1
+high_digit d h = grind (arith, nat_tests)
+
+-- The number that k digits keep is the rounded value of the digits, moved k places.
+pub rounds_digits : (ds : List ℕ) (k : ℕ) → AreDigits ds → RoundsHalfUp (number ds * 10 ^ k) (10 ^ length ds) (kept_and_rounded ds k)
+rounds_digits ds k digits = elim (cases_lt k (length ds)) [
+  | inl inside ↦
+      let c : ℕ = get_or ds k 48 in
+      let behind : drop k ds ≡ c ∷ drop (suc k) ds = drop-cons ds k 48 inside in
+      let split : take k ds ++ c ∷ drop (suc k) ds ≡ ds = ap (λ ys. take k ds ++ ys) (sym behind) ∙ take-append-drop k ds in
+      let front : length (take k ds) ≡ k = length-take-le k ds (omega arith) in
+      let within : kept ds k ≡ number (take k ds) = kept_within ds k (omega arith) in
+      let digits' : AreDigits (c ∷ drop (suc k) ds) = subst AreDigits behind (AreDigits-drop ds k digits) in
+      let there : RoundsHalfUp (number (take k ds ++ c ∷ drop (suc k) ds) * 10 ^ length (take k ds)) (10 ^ length (take k ds ++ c ∷ drop (suc k) ds)) (kept_and_rounded ds k) =
+      cut_round (take k ds) c (drop (suc k) ds) (kept_and_rounded ds k) digits' (λ low. omega (arith, within, low_digit (c - 48) low)) (λ high. omega (arith, within, high_digit (c - 48) high)) in
+      subst (λ n. RoundsHalfUp (number ds * 10 ^ n) (10 ^ length ds) (kept_and_rounded ds k)) front
+      (subst (λ es. RoundsHalfUp (number es * 10 ^ length (take k ds)) (10 ^ length es) (kept_and_rounded ds k)) split there)
+  | inr past ↦
+      let zero_digit : digit_or_zero ds k ≡ 0 = ap (λ b. b - 48) (get_or_past ds k 48 past) in
+      let same : kept_and_rounded ds k ≡ number ds * 10 ^ (k - length ds) = omega (arith, kept_past ds k past, low_digit (digit_or_zero ds k) (omega (arith, zero_digit))) in
+      let back : k - length ds + length ds ≡ k = omega arith in
+      let power : 10 ^ k ≡ 10 ^ (k - length ds) * 10 ^ length ds = ap (λ n. 10 ^ n) (sym back) ∙ pow-add 10 (k - length ds) (length ds) in
+      let whole : kept_and_rounded ds k * 10 ^ length ds ≡ number ds * 10 ^ k = ap (λ m. m * 10 ^ length ds) same ∙ omega (arith, ap (λ p. number ds * p) power) in
+      subst (λ a. RoundsHalfUp a (10 ^ length ds) (kept_and_rounded ds k)) whole (rounds_whole (kept_and_rounded ds k) (10 ^ length ds) (one-le-pow (length ds) 10 (lit< tt)))
+]
+
+-- each digit is one
+pub AreDigits-at : (ds : List ℕ) (i : ℕ) (d : ℕ) → AreDigits ds → i < length ds → IsDigit (get_or ds i d)
+AreDigits-at [] i d h lt = absurd (omega arith)
+AreDigits-at (b ∷ bs) zero d h lt = h.0
+AreDigits-at (b ∷ bs) (suc i) d h lt = AreDigits-at bs i d h.1 (omega arith)
+
+pub digit_or_zero-lt : (ds : List ℕ) (i : ℕ) → AreDigits ds → digit_or_zero ds i < 10
+digit_or_zero-lt ds i h = elim (cases_lt i (length ds)) [
+  | inl inside ↦ let here : IsDigit (get_or ds i 48) = AreDigits-at ds i 48 h inside in omega arith
+  | inr past ↦ omega (arith, get_or_past ds i 48 past)
+]
+
+pub AreDigits-append : (xs ys : List ℕ) → AreDigits xs → AreDigits ys → AreDigits (xs ++ ys)
+AreDigits-append [] ys h k = k
+AreDigits-append (x ∷ xs) ys h k = (h.0, AreDigits-append xs ys h.1 k)
+
+get_or_default : (xs : List ℕ) (i : ℕ) (d e : ℕ) → i < length xs → get_or xs i d ≡ get_or xs i e
+get_or_default [] i d e h = absurd (omega arith)
+get_or_default (x ∷ xs) zero d e h = refl
+get_or_default (x ∷ xs) (suc i) d e h = get_or_default xs i d e (omega arith)
+
+pub at_first : (xs ys : List ℕ) (i : ℕ) → i < length xs → get_or xs i 0 - 48 ≡ digit_or_zero (xs ++ ys) i
+at_first xs ys i h = ap (λ b. b - 48) (get_or_default xs i 0 48 h ∙ sym (get_or-append xs ys 48 i h))
+
+pub at_second : (xs ys : List ℕ) (i : ℕ) → length xs ≤ i → i - length xs < length ys → get_or ys (i - length xs) 0 - 48 ≡ digit_or_zero (xs ++ ys) i
+at_second xs ys i h h' = ap (λ b. b - 48) (get_or_default ys (i - length xs) 0 48 h' ∙ sym (get_or-append_right xs ys i 48 h))
+
+pub at_neither : (xs ys : List ℕ) (i : ℕ) → length xs ≤ i → length ys ≤ i - length xs → 0 ≡ digit_or_zero (xs ++ ys) i
+at_neither xs ys i h h' = ap (λ b. b - 48) (sym (get_or_past ys (i - length xs) 48 h') ∙ sym (get_or-append_right xs ys i 48 h))
+
+pub is_digit : (ds : List ℕ) (i : ℕ) → AreDigits ds → i < length ds → 48 ≤ get_or ds i 0
+is_digit ds i h lt = (AreDigits-at ds i 0 h lt).0
+
+-- behind the last digit zeros are written
+pub kept_behind : (ds : List ℕ) (i : ℕ) → length ds ≤ i → kept_and_rounded ds i ≡ kept ds (length ds) * 10 ^ (i - length ds)
+kept_behind ds i h =
+    let none : carry (digit_or_zero ds i) ≡ 0 = low_digit (digit_or_zero ds i) (omega (arith, get_or_past ds i 48 h)) in
+    let all : kept ds (length ds) ≡ number ds = kept_within ds (length ds) (omega arith) ∙ ap number (take_all (length ds) ds (omega arith)) in
+    let past : kept ds i ≡ number ds * 10 ^ (i - length ds) = kept_past ds i h in
+    omega (arith, ap (λ n. n * 10 ^ (i - length ds)) all)
+
+-- a product at the cap, where the factor is at the cap already
+min_mul_at : (cap n p : ℕ) → 0 < p → cap ≤ n → min cap (min cap n * p) ≡ min cap (n * p)
+min_mul_at cap n p some at =
+    let left : cap * 1 ≤ cap * p = mul-le-mul_left {m = 1} {n = p} cap some in
+    let right : cap * p ≤ n * p = mul-le-mul_right {m = cap} {n = n} p at in
+    let factor : min cap n * p ≡ cap * p = ap (λ x. x * p) (let e : min cap n ≡ cap = omega arith in e) in
+    omega arith
+
+pub min_mul : (cap n p : ℕ) → 0 < p → min cap (min cap n * p) ≡ min cap (n * p)
+min_mul cap n p some = elim (cases_lt n cap) [
+  | inl below ↦ ap (λ x. min cap (x * p)) (let e : min cap n ≡ n = omega arith in e)
+  | inr at ↦ min_mul_at cap n p some at
+]
+
+-- past a power that is at the cap itself, more zeros make no difference
+min_pow_many : (cap n top z : ℕ) → cap ≤ 10 ^ top → top < z → min cap (n * 10 ^ min z top) ≡ min cap (n * 10 ^ z)
+min_pow_many cap zero top z large past = omega arith
+min_pow_many cap (suc n) top z large past =
+    let up : 10 ^ top ≤ 10 ^ z = ten_pow_le top z (omega arith) in
+    let same : 10 ^ min z top ≡ 10 ^ top = ap (λ e. 10 ^ e) (let e : min z top ≡ top = omega arith in e) in
+    let low : 1 * 10 ^ top ≤ suc n * 10 ^ top = mul-le-mul_right {m = 1} {n = suc n} (10 ^ top) (omega arith) in
+    let high : 1 * 10 ^ z ≤ suc n * 10 ^ z = mul-le-mul_right {m = 1} {n = suc n} (10 ^ z) (omega arith) in
+    omega (arith, ap (λ x. suc n * x) same)
+
+pub min_pow : (cap n top z : ℕ) → cap ≤ 10 ^ top → min cap (n * 10 ^ min z top) ≡ min cap (n * 10 ^ z)
+min_pow cap n top z large = elim (cases_lt top z) [
+  | inl past ↦ min_pow_many cap n top z large past
+  | inr within ↦ ap (λ e. min cap (n * 10 ^ e)) (let e : min z top ≡ z = omega arith in e)
+]
+
+-- one digit more, below the cap
+pub kept_more_capped : (ds : List ℕ) (i cap kept_so_far : ℕ) → kept_so_far ≡ min cap (kept ds i) → min (kept_so_far * 10 + digit_or_zero ds i) cap ≡ min cap (kept ds (i + 1))
+kept_more_capped ds i cap so_far h = omega (arith, kept_more ds i)
+
+AreDigits-take_suc : (ds : List ℕ) (i : ℕ) → AreDigits (take i ds) → i < length ds → IsDigit (get_or ds i 0) → AreDigits (take (suc i) ds)
+AreDigits-take_suc [] i h lt d = tt
+AreDigits-take_suc (b ∷ bs) zero h lt d = (d, tt)
+AreDigits-take_suc (b ∷ bs) (suc i) h lt d = (h.0, AreDigits-take_suc bs i h.1 (omega arith) d)
+
+-- one digit more
+pub AreDigits-take_more : (ds : List ℕ) (i : ℕ) → AreDigits (take i ds) → i < length ds → IsDigit (get_or ds i 0) → AreDigits (take (i + 1) ds)
+AreDigits-take_more ds i h lt d = rw add-one (AreDigits-take_suc ds i h lt d)
+
+-- one digit more of a number
+pub number-take_more : (ds : List ℕ) (i : ℕ) → i < length ds → number (take (i + 1) ds) ≡ number (take i ds) * 10 + (get_or ds i 0 - 48)
+number-take_more ds i inside =
+    let pushed : take (i + 1) ds ≡ take i ds ++ (get_or ds i 0 ∷ []) = rw add-one (take-suc ds i 0 inside) in
+    omega (arith, ap number pushed, number-append (take i ds) (get_or ds i 0 ∷ []))

@@ -1,0 +1,209 @@
+use Rattle.std.proofs.Common.{◌≡◌, ℕ, zero, suc, ◌+◌, ◌%◌, ◌<◌, List, [], ◌∷◌, ◌++◌, length, replicate, Some, None, refl, sym, ap, ◌∙◌, subst, inl, inr, arith, length-append, append_assoc}
+use Rattle.std.proofs.lemmas.List.{append-nil}
+use Rattle.std.proofs.lemmas.Bool.{cases_eq}
+use Rattle.std.specs.List.{AllByRecursion}
+use Rattle.gc_values.specs.Params.{quotes, AreSpaces, IsParam, IsPadded, ArePieces, joined, AreJoined, IsParams}
+use Rattle.gc_values.specs.Pieces.{KeepsCommas, CutsPiece, IsTrimmed}
+use Rattle.gc_values.proofs.Quotes.{quotes-append, quotes_same, quotes-spaces, KeepsCommas-nil, KeepsCommas-push, not_inside, one_cut}
+use Rattle.gc_values.proofs.Trimming.{front_off, back_off, padded_keeps, quotes-padded, trimmed_is_param, param_is_trimmed, one_trimmed, trimmed_exists}
+
+-- a piece between commas outside quotes
+pub record IsPiece (piece : List ℕ) : Type 0 where
+  pub keeps : KeepsCommas piece
+  pub even : quotes piece % 2 ≡ 0
+
+padded_piece : (piece item : List ℕ) → IsPadded piece item → IsParam item → IsPiece piece
+padded_piece piece item p h = record { keeps = padded_keeps piece item p h; even = let same = quotes-padded piece item p in let even = h.pairs in omega (arith, same, even) }
+
+pub pieces_of : (ps is : List (List ℕ)) → ArePieces ps is → AllByRecursion IsPiece ps
+pieces_of [] [] h = tt
+pieces_of [] (i ∷ is) h = absurd h
+pieces_of (p ∷ ps) [] h = absurd h
+pieces_of (p ∷ ps) (i ∷ is) h = (padded_piece p i h.0 h.1, pieces_of ps is h.2)
+
+pub ArePieces-append : (ps is qs js : List (List ℕ)) → ArePieces ps is → ArePieces qs js → ArePieces (ps ++ qs) (is ++ js)
+ArePieces-append [] [] qs js h k = k
+ArePieces-append [] (i ∷ is) qs js h k = absurd h
+ArePieces-append (p ∷ ps) [] qs js h k = absurd h
+ArePieces-append (p ∷ ps) (i ∷ is) qs js h k = (h.0, h.1, ArePieces-append ps is qs js h.2 k)
+
+-- pieces, each with the comma behind it, and then the rest
+abbrev pub led : List (List ℕ) → List ℕ → List ℕ
+led [] rest = rest
+led (p ∷ ps) rest = p ++ 44 ∷ led ps rest
+
+pub joined-append : (ps : List (List ℕ)) (q : List ℕ) (qs : List (List ℕ)) → joined (ps ++ q ∷ qs) ≡ led ps (joined (q ∷ qs))
+joined-append [] q qs = refl
+joined-append (p ∷ []) q qs = refl
+joined-append (p ∷ r ∷ rs) q qs = ap (λ xs. p ++ 44 ∷ xs) (joined-append (r ∷ rs) q qs)
+
+pub led-push : (ps : List (List ℕ)) (p rest : List ℕ) → led (ps ++ p ∷ []) rest ≡ led ps (p ++ 44 ∷ rest)
+led-push [] p rest = refl
+led-push (q ∷ qs) p rest = ap (λ xs. q ++ 44 ∷ xs) (led-push qs p rest)
+
+-- the quotes round a comma
+quotes-comma : (xs ys : List ℕ) → quotes (xs ++ 44 ∷ ys) ≡ quotes xs + quotes ys
+quotes-comma xs ys = quotes-append xs (44 ∷ ys) ∙ ap (λ n. quotes xs + n) (quotes_same 44 ys refl)
+
+-- joined pieces have their quotes in pairs
+joined_even : (ps : List (List ℕ)) → AllByRecursion IsPiece ps → quotes (joined ps) % 2 ≡ 0
+joined_even [] h = refl
+joined_even (p ∷ []) h = ap (λ xs. quotes xs % 2) (append-nil p) ∙ h.0.even
+joined_even (p ∷ q ∷ qs) h =
+    let rest = joined_even (q ∷ qs) h.1 in
+    let first = h.0.even in
+    let both = quotes-comma p (joined (q ∷ qs)) in
+    omega (arith, rest, first, both)
+
+-- a parameter list has its quotes in pairs
+pub params_even : (bytes : List ℕ) (items : List (List ℕ)) → IsParams bytes items → quotes bytes % 2 ≡ 0
+params_even bytes [] h = ap (λ xs. quotes xs % 2) h.1 ∙ ap (λ n. n % 2) (quotes-spaces h.0)
+params_even bytes (i ∷ is) h = ap (λ xs. quotes xs % 2) h.bytes_are ∙ joined_even h.pieces (pieces_of h.pieces (i ∷ is) h.pieces_are)
+
+-- a text is joined of its pieces in one way
+same_pieces : (p q : List ℕ) (ps qs : List (List ℕ)) → AllByRecursion IsPiece (p ∷ ps) → AllByRecursion IsPiece (q ∷ qs) → joined (p ∷ ps) ≡ joined (q ∷ qs) → p ∷ ps ≡ q ∷ qs
+same_pieces p q [] [] hp hq e = ap (λ xs. xs ∷ []) (sym (append-nil p) ∙ e ∙ append-nil q)
+same_pieces p q [] (r ∷ rs) hp hq e = absurd (not_inside p q (joined (r ∷ rs)) hp.0.keeps hq.0.even (sym (append-nil p) ∙ e))
+same_pieces p q (r ∷ rs) [] hp hq e = absurd (not_inside q p (joined (r ∷ rs)) hq.0.keeps hp.0.even (sym (append-nil q) ∙ sym e))
+same_pieces p q (r ∷ rs) (s ∷ ss) hp hq e =
+    let cut = one_cut p q (joined (r ∷ rs)) (joined (s ∷ ss)) hp.0.keeps hp.0.even hq.0.keeps hq.0.even e in
+    let first = cut.0 in
+    let rest = same_pieces r s rs ss hp.1 hq.1 cut.1 in
+    cc
+
+same_items : (ps is js : List (List ℕ)) → ArePieces ps is → ArePieces ps js → is ≡ js
+same_items [] [] [] h k = refl
+same_items [] [] (j ∷ js) h k = absurd k
+same_items [] (i ∷ is) js h k = absurd h
+same_items (p ∷ ps) [] js h k = absurd h
+same_items (p ∷ ps) (i ∷ is) [] h k = absurd k
+same_items (p ∷ ps) (i ∷ is) (j ∷ js) h k =
+    let first = one_trimmed p i j (param_is_trimmed p i h.0 h.1) (param_is_trimmed p j k.0 k.1) in
+    let rest = same_items ps is js h.2 k.2 in
+    cc
+
+one_joined : (ps is qs js : List (List ℕ)) (i j : List ℕ) → ArePieces ps (i ∷ is) → ArePieces qs (j ∷ js) → joined ps ≡ joined qs → i ∷ is ≡ j ∷ js
+one_joined [] is qs js i j h k e = absurd h
+one_joined (p ∷ ps) is [] js i j h k e = absurd k
+one_joined (p ∷ ps) is (q ∷ qs) js i j h k e =
+    let same = same_pieces p q ps qs (pieces_of (p ∷ ps) (i ∷ is) h) (pieces_of (q ∷ qs) (j ∷ js) k) e in
+    same_items (p ∷ ps) (i ∷ is) (j ∷ js) h (subst (λ rs. ArePieces rs (j ∷ js)) (sym same) k)
+
+-- a text is one list of parameters
+pub one_list : (bytes : List ℕ) (xs ys : List (List ℕ)) → IsParams bytes xs → IsParams bytes ys → xs ≡ ys
+one_list bytes [] [] h k = refl
+one_list bytes [] (y ∷ ys) h k = absurd (k.some h)
+one_list bytes (x ∷ xs) [] h k = absurd (h.some k)
+one_list bytes (x ∷ xs) (y ∷ ys) h k = one_joined h.pieces xs k.pieces ys x y h.pieces_are k.pieces_are (sym h.bytes_are ∙ k.bytes_are)
+
+-- a text with one piece and others
+pub record HasPieces (text : List ℕ) : Type 0 where
+  pub first : List ℕ
+  pub others : List (List ℕ)
+  pub item : List ℕ
+  pub items : List (List ℕ)
+  pub text_is : text ≡ joined (first ∷ others)
+  pub are : ArePieces (first ∷ others) (item ∷ items)
+
+one_piece : (piece : List ℕ) → KeepsCommas piece → quotes piece % 2 ≡ 0 → HasPieces piece
+one_piece piece keeps even =
+    let t = trimmed_exists piece in
+    record { first = piece; others = []; item = back_off (front_off piece); items = []; text_is = sym (append-nil piece); are = (t.padded, trimmed_is_param piece _ t keeps even, tt) }
+
+more_pieces : (piece rest : List ℕ) → KeepsCommas piece → quotes piece % 2 ≡ 0 → HasPieces rest → HasPieces (piece ++ 44 ∷ rest)
+more_pieces piece rest keeps even r =
+    let t = trimmed_exists piece in
+    record { first = piece; others = r.first ∷ r.others; item = back_off (front_off piece); items = r.item ∷ r.items; text_is = ap (λ xs. piece ++ 44 ∷ xs) r.text_is; are = (t.padded, trimmed_is_param piece _ t keeps even, r.are) }
+
+even_behind : (xs ys : List ℕ) → quotes xs % 2 ≡ 0 → quotes (xs ++ 44 ∷ ys) % 2 ≡ 0 → quotes ys % 2 ≡ 0
+even_behind xs ys first both = let sum = quotes-comma xs ys in omega (arith, first, both, sum)
+
+odd_or : (n : ℕ) → (n % 2 ≡ 0 → ⊥) → n % 2 ≡ 1
+odd_or n h = omega (arith, h)
+
+-- a text with its quotes in pairs has pieces
+has_pieces_from : (front bytes : List ℕ) → KeepsCommas front → quotes (front ++ bytes) % 2 ≡ 0 → HasPieces (front ++ bytes)
+has_pieces_from front [] keeps even = subst HasPieces (sym (append-nil front)) (one_piece front keeps (ap (λ xs. quotes xs % 2) (sym (append-nil front)) ∙ even))
+has_pieces_from front (b ∷ bs) keeps even =
+    let step : (b ≡ 44 → quotes front % 2 ≡ 1) → HasPieces (front ++ b ∷ bs) = λ comma.
+    subst HasPieces (append_assoc front (b ∷ []) bs)
+    (has_pieces_from (front ++ b ∷ []) bs (KeepsCommas-push front b keeps comma) (ap (λ xs. quotes xs % 2) (append_assoc front (b ∷ []) bs) ∙ even)) in
+    elim (cases_eq b 44) [
+      | inr other ↦ step (λ h. absurd (other h))
+      | inl comma ↦ elim (cases_eq (quotes front % 2) 0) [
+        | inr inside ↦ step (λ _. odd_or (quotes front) inside)
+        | inl outside ↦
+            let after : quotes (front ++ 44 ∷ bs) % 2 ≡ 0 = ap (λ x. quotes (front ++ x ∷ bs) % 2) (sym comma) ∙ even in
+            subst (λ x. HasPieces (front ++ x ∷ bs)) (sym comma) (more_pieces front bs keeps outside (has_pieces_from [] bs KeepsCommas-nil (even_behind front bs outside after)))
+      ]
+    ]
+
+pub has_pieces : (text : List ℕ) → quotes text % 2 ≡ 0 → HasPieces text
+has_pieces text even = has_pieces_from [] text KeepsCommas-nil even
+
+-- the items so far, and the rest of the text
+pub record SplitSoFar (text : List ℕ) (items : List (List ℕ)) (rest : List ℕ) : Type 0 where
+  pub pieces : List (List ℕ)
+  pub text_is : text ≡ led pieces rest
+  pub are : ArePieces pieces items
+  pub even : quotes rest % 2 ≡ 0
+
+pub split_none : (text : List ℕ) → quotes text % 2 ≡ 0 → SplitSoFar text [] text
+split_none text even = record { pieces = []; text_is = refl; are = tt; even = even }
+
+-- one item more
+pub split_more : (text rest piece next item : List ℕ) (items : List (List ℕ)) → SplitSoFar text items rest → CutsPiece rest piece (Some next) → IsTrimmed piece item → SplitSoFar text (items ++ item ∷ []) next
+split_more text rest piece next item items s cut t = record {
+  pieces = s.pieces ++ piece ∷ [];
+  text_is = s.text_is ∙ ap (led s.pieces) cut.0 ∙ sym (led-push s.pieces piece next);
+  are = ArePieces-append s.pieces items (piece ∷ []) (item ∷ []) s.are (t.padded, trimmed_is_param piece item t cut.1 cut.2, tt);
+  even = even_behind piece next cut.2 (ap (λ xs. quotes xs % 2) (sym cut.0) ∙ s.even);
+}
+
+params_from : (bytes : List ℕ) (items : List (List ℕ)) → 0 < length items → AreJoined bytes items → IsParams bytes items
+params_from bytes [] some h = absurd (omega arith)
+params_from bytes (i ∷ is) some h = h
+
+-- the last item
+pub split_last : (text rest piece item : List ℕ) (items : List (List ℕ)) → SplitSoFar text items rest → CutsPiece rest piece None → IsTrimmed piece item → (AreSpaces text → ⊥) → IsParams text (items ++ item ∷ [])
+split_last text rest piece item items s cut t some =
+    let even : quotes piece % 2 ≡ 0 = ap (λ xs. quotes xs % 2) (sym cut.0) ∙ s.even in
+    params_from text (items ++ item ∷ []) (omega (arith, length-append items (item ∷ []))) (record {
+      pieces = s.pieces ++ piece ∷ [];
+      bytes_are = s.text_is ∙ ap (led s.pieces) (cut.0 ∙ sym (append-nil piece)) ∙ sym (joined-append s.pieces piece []);
+      pieces_are = ArePieces-append s.pieces items (piece ∷ []) (item ∷ []) s.are (t.padded, trimmed_is_param piece item t cut.1 even, tt);
+      some = some;
+    })
+
+-- where some text is left behind the items, a longer list stands for the whole
+pub split_longer : (text rest : List ℕ) (items : List (List ℕ)) → SplitSoFar text items rest → (AreSpaces text → ⊥) → (all : List (List ℕ)) × IsParams text all × (length items < length all)
+split_longer text rest items s some =
+    let r = has_pieces rest s.even in
+    let longer : length items < length (items ++ r.item ∷ r.items) = omega (arith, length-append items (r.item ∷ r.items)) in (
+      items ++ r.item ∷ r.items,
+      params_from text (items ++ r.item ∷ r.items) (omega arith) (record {
+        pieces = s.pieces ++ r.first ∷ r.others;
+        bytes_are = s.text_is ∙ ap (led s.pieces) r.text_is ∙ sym (joined-append s.pieces r.first r.others);
+        pieces_are = ArePieces-append s.pieces items (r.first ∷ r.others) (r.item ∷ r.items) s.are r.are;
+        some = some;
+      }),
+      longer,
+    )
+
+-- texts of parameters are pieces without spaces
+plain_pieces : (ts : List (List ℕ)) → AllByRecursion IsParam ts → ArePieces ts ts
+plain_pieces [] h = tt
+plain_pieces (t ∷ ts) h = (record { before = 0; behind = 0; piece_is = sym (append-nil t) }, h.0, plain_pieces ts h.1)
+
+not_spaces : (b : ℕ) (bs ts : List ℕ) (n : ℕ) → (b ≡ 32 → ⊥) → b ∷ (bs ++ ts) ≡ replicate n 32 → ⊥
+not_spaces b bs ts zero h e = cc
+not_spaces b bs ts (suc n) h e = h (let first : b ≡ 32 = cc in first)
+
+some_first : (t rest : List ℕ) → IsParam t → 0 < length t → AreSpaces (t ++ rest) → ⊥
+some_first [] rest h some s = omega arith
+some_first (b ∷ bs) rest h some s = not_spaces b bs rest s.0 (λ e. h.first bs (ap (λ x. x ∷ bs) e)) s.1
+
+-- texts of parameters, joined by commas, split back into these texts
+pub joined_params : (ts : List (List ℕ)) → AllByRecursion IsParam ts → AllByRecursion (λ t. 0 < length t) ts → IsParams (joined ts) ts
+joined_params [] h some = (0, refl)
+joined_params (t ∷ ts) h some = record { pieces = t ∷ ts; bytes_are = refl; pieces_are = plain_pieces (t ∷ ts) h; some = some_first t _ h.0 some.0 }

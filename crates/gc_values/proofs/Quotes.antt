@@ -1,0 +1,78 @@
+use Rattle.std.proofs.Common.{◌≡◌, ℕ, zero, suc, ◌+◌, ◌%◌, ◌<◌, ◌⊎◌, false, cond, eqb, List, [], ◌∷◌, ◌++◌, length, get_or, take, replicate, refl, sym, ap, ◌∙◌, subst, inl, inr, arith, zero-add}
+use Rattle.std.proofs.lemmas.List.Sums.{sum_by-append, sum_by-cons, sum_by_more}
+use Rattle.gc_values.specs.Params.{quotes}
+use Rattle.gc_values.specs.Pieces.{KeepsCommas}
+
+-- what a byte adds
+abbrev counted : ℕ → ℕ
+counted b = cond (eqb b 34) 1 0
+
+pub quotes-append : (xs ys : List ℕ) → quotes (xs ++ ys) ≡ quotes xs + quotes ys
+quotes-append xs ys = sum_by-append counted xs ys
+
+pub quotes-cons : (b : ℕ) (bs : List ℕ) → quotes (b ∷ bs) ≡ cond (eqb b 34) 1 0 + quotes bs
+quotes-cons b bs = sum_by-cons counted b bs
+
+pub quotes_more : (xs : List ℕ) (i : ℕ) → i < length xs → quotes (take (i + 1) xs) ≡ quotes (take i xs) + cond (eqb (get_or xs i 0) 34) 1 0
+quotes_more xs i h = sum_by_more counted xs i 0 h
+
+-- another byte adds none
+pub quotes_same : (b : ℕ) (bs : List ℕ) → eqb b 34 ≡ false → quotes (b ∷ bs) ≡ quotes bs
+quotes_same b bs e = quotes-cons b bs ∙ ap (λ c. cond c 1 0 + quotes bs) e ∙ zero-add (quotes bs)
+
+pub quotes-spaces : (n : ℕ) → quotes (replicate n 32) ≡ 0
+quotes-spaces zero = refl
+quotes-spaces (suc n) = quotes_same 32 (replicate n 32) refl ∙ quotes-spaces n
+
+no_cut : (fs rest : List ℕ) → [] ≡ fs ++ 44 ∷ rest → ⊥
+no_cut [] rest e = cc
+no_cut (f ∷ fs) rest e = cc
+
+-- a list and one byte more, cut at a comma: the comma is that byte, or stands before it
+pub push_cut : (xs front rest : List ℕ) (b : ℕ) → xs ++ b ∷ [] ≡ front ++ 44 ∷ rest → ((b ≡ 44) × (front ≡ xs)) ⊎ ((r : List ℕ) × (xs ≡ front ++ 44 ∷ r))
+push_cut [] [] rest b e = let h : b ≡ 44 = cc in inl (h, refl)
+push_cut [] (f ∷ fs) rest b e = let t : [] ≡ fs ++ 44 ∷ rest = cc in absurd (no_cut fs rest t)
+push_cut (x ∷ xs) [] rest b e = let h : x ∷ xs ≡ 44 ∷ xs = cc in inr (xs, h)
+push_cut (x ∷ xs) (f ∷ fs) rest b e =
+    let head : x ≡ f = cc in
+    let tail : xs ++ b ∷ [] ≡ fs ++ 44 ∷ rest = cc in
+    elim (push_cut xs fs rest b tail) [
+      | inl h ↦ inl (h.0, let s = h.1 in cc)
+      | inr h ↦ inr (h.0, let s = h.1 in cc)
+    ]
+
+pub KeepsCommas-nil : KeepsCommas []
+KeepsCommas-nil front rest e = absurd (no_cut front rest e)
+
+-- one byte more, which is no comma outside quotes
+pub KeepsCommas-push : (xs : List ℕ) (b : ℕ) → KeepsCommas xs → (b ≡ 44 → quotes xs % 2 ≡ 1) → KeepsCommas (xs ++ b ∷ [])
+KeepsCommas-push xs b keeps comma front rest e = elim (push_cut xs front rest b e) [
+  | inl h ↦ subst (λ ys. quotes ys % 2 ≡ 1) (sym h.1) (comma h.0)
+  | inr h ↦ keeps front h.0 h.1
+]
+
+-- two cuts of one text at a comma
+pub cuts_compare : (xs ys us vs : List ℕ) → xs ++ 44 ∷ us ≡ ys ++ 44 ∷ vs → ((xs ≡ ys) × (us ≡ vs)) ⊎ (((r : List ℕ) × (xs ≡ ys ++ 44 ∷ r)) ⊎ ((r : List ℕ) × (ys ≡ xs ++ 44 ∷ r)))
+cuts_compare [] [] us vs e = let h : us ≡ vs = cc in inl (refl, h)
+cuts_compare [] (y ∷ ys) us vs e = let h : y ∷ ys ≡ 44 ∷ ys = cc in inr (inr (ys, h))
+cuts_compare (x ∷ xs) [] us vs e = let h : x ∷ xs ≡ 44 ∷ xs = cc in inr (inl (xs, h))
+cuts_compare (x ∷ xs) (y ∷ ys) us vs e =
+    let head : x ≡ y = cc in
+    let tail : xs ++ 44 ∷ us ≡ ys ++ 44 ∷ vs = cc in
+    elim (cuts_compare xs ys us vs tail) [
+      | inl h ↦ inl (let s = h.0 in cc, h.1)
+      | inr (inl h) ↦ inr (inl (h.0, let s = h.1 in cc))
+      | inr (inr h) ↦ inr (inr (h.0, let s = h.1 in cc))
+    ]
+
+-- a piece with its quotes in pairs doesn't end at a comma of another piece
+pub not_inside : (xs ys vs : List ℕ) → KeepsCommas xs → quotes ys % 2 ≡ 0 → xs ≡ ys ++ 44 ∷ vs → ⊥
+not_inside xs ys vs keeps even e = let odd = keeps ys vs e in omega (arith, odd, even)
+
+-- the first comma outside quotes is one
+pub one_cut : (xs ys us vs : List ℕ) → KeepsCommas xs → quotes xs % 2 ≡ 0 → KeepsCommas ys → quotes ys % 2 ≡ 0 → xs ++ 44 ∷ us ≡ ys ++ 44 ∷ vs → (xs ≡ ys) × (us ≡ vs)
+one_cut xs ys us vs kx ex ky ey e = elim (cuts_compare xs ys us vs e) [
+  | inl h ↦ h
+  | inr (inl h) ↦ absurd (not_inside xs ys h.0 kx ey h.1)
+  | inr (inr h) ↦ absurd (not_inside ys xs h.0 ky ex h.1)
+]

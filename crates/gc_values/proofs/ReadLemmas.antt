@@ -1,0 +1,84 @@
+use Rattle.std.proofs.Common.{◌≡◌, ℕ, ◌+◌, ◌-◌, ◌*◌, ◌^◌, ◌<◌, ◌≤◌, Bool, List, ◌++◌, length, ℤ, unsigned_abs, sym, ap, ◌∙◌, subst, arith}
+use Rattle.std.proofs.Math.Nat.{mul-lt-mul_of_pos_left, lt_of_mul-lt-mul_left}
+use Rattle.std.proofs.lemmas.Nat.{pow-add}
+use Rattle.gc_values.specs.Cut.{ReadsNumeral}
+use Rattle.gc_values.specs.Digits.{number}
+use Rattle.gc_values.specs.Fraction.{Fraction, signed, IsRounded, IsInRange}
+use Rattle.gc_values.specs.Nearest.{RoundsHalfUp, IsCapped, MadeOf}
+use Rattle.gc_values.specs.Spelling.{value, Names, Spells, SpellsBeyond, is_minus, fraction_digits, ups}
+use Rattle.gc_values.specs.Zeros.{WithoutZeros}
+use Rattle.gc_values.proofs.Powers.{ten_pow_pos, bound_fits}
+use Rattle.gc_values.proofs.Rounded.{zeros_off, rounded_from, rounds_to_one}
+use Rattle.gc_values.proofs.Signs.{unsigned_abs-signed}
+use Rattle.gc_values.proofs.Unique.{names_once}
+
+-- the fraction of the parts that the code holds
+abbrev pub fraction_of : Bool → List ℕ → List ℕ → ℕ → ℕ → Fraction
+fraction_of negative whole fraction up down = record { n = signed negative (number (whole ++ fraction) * 10 ^ up); k = length fraction + down }
+
+same_fraction : (text : List ℕ) (negative : Bool) (whole fraction : List ℕ) (up down : ℕ) (r : ReadsNumeral text negative whole fraction up down) → fraction_of negative whole fraction up down ≡ value r.parts
+same_fraction text negative whole fraction up down r =
+    ap (λ b. fraction_of b whole fraction up down) r.negative_is
+    ∙ ap (λ w. fraction_of (is_minus r.parts.sign) w fraction up down) r.whole_is
+    ∙ ap (λ f. fraction_of (is_minus r.parts.sign) r.parts.whole f up down) r.fraction_is
+    ∙ ap (λ u. fraction_of (is_minus r.parts.sign) r.parts.whole (fraction_digits r.parts.fraction) u down) r.up_is
+    ∙ ap (λ d. fraction_of (is_minus r.parts.sign) r.parts.whole (fraction_digits r.parts.fraction) (ups r.parts.exponent) d) r.down_is
+
+pub reads_names : (text : List ℕ) (negative : Bool) (whole fraction : List ℕ) (up down : ℕ) → ReadsNumeral text negative whole fraction up down → Names text (fraction_of negative whole fraction up down)
+reads_names text negative whole fraction up down r = (r.parts, r.form, r.text_is, same_fraction text negative whole fraction up down r)
+
+-- the zeros at the end of m / 10^p are those of the number of 10^-24 that it is
+zeros_at_last : (m p n s : ℕ) → p ≤ 24 → WithoutZeros m p n s → WithoutZeros (m * 10 ^ (24 - p)) 24 n s
+zeros_at_last m p n s places w =
+    let back : p + (24 - p) ≡ 24 = omega arith in
+    let power : 10 ^ p * 10 ^ (24 - p) ≡ 10 ^ 24 = sym (pow-add 10 p (24 - p)) ∙ ap (λ e. 10 ^ e) back in
+    record {
+      same = omega (arith, ap (λ x. x * 10 ^ (24 - p)) w.same, ap (λ x. n * x) power);
+      fewer = let f = w.fewer in omega (arith, f);
+      canonical = w.canonical;
+    }
+
+-- where the units are in range they are the rounded value
+pub reads_value : (text : List ℕ) (negative : Bool) (whole fraction : List ℕ) (up down units p : ℕ) (m : ℤ) (s : ℕ) → ReadsNumeral text negative whole fraction up down →
+    IsCapped (number (whole ++ fraction) * 10 ^ up) (length fraction + down) (10 ^ 37 + 1) units p → units ≤ 10 ^ 13 * 10 ^ p → MadeOf negative units p m s → Spells text m s
+reads_value text negative whole fraction up down units p m s r c within made =
+    let same : c.m ≡ units = let e = c.capped in omega (arith, bound_fits p c.places) in (
+      fraction_of negative whole fraction up down,
+      reads_names text negative whole fraction up down r,
+      subst (λ z. IsRounded (fraction_of negative whole fraction up down) 24 z s) (sym made.m_is)
+          (rounded_from negative (number (whole ++ fraction) * 10 ^ up) (length fraction + down) 24 (units * 10 ^ (24 - p)) made.n s
+          (subst (λ u. RoundsHalfUp (number (whole ++ fraction) * 10 ^ up * 10 ^ 24) (10 ^ (length fraction + down)) (u * 10 ^ (24 - p))) same c.rounds)
+          (zeros_at_last units p made.n s c.places made.zeros)),
+    )
+
+beyond : (m p n s : ℕ) → 10 ^ 13 * 10 ^ p < m → WithoutZeros m p n s → 10 ^ 13 * 10 ^ s < n
+beyond m p n s large w =
+    let same = w.same in
+    lt_of_mul-lt-mul_left (10 ^ p) (omega (arith, same, mul-lt-mul_of_pos_left {m = 10 ^ 13 * 10 ^ p} {n = m} {k = 10 ^ s} large (ten_pow_pos s)))
+
+-- and where they aren't, it is out of range
+pub reads_beyond : (text : List ℕ) (negative : Bool) (whole fraction : List ℕ) (up down units p : ℕ) → ReadsNumeral text negative whole fraction up down →
+    IsCapped (number (whole ++ fraction) * 10 ^ up) (length fraction + down) (10 ^ 37 + 1) units p → 10 ^ 13 * 10 ^ p < units → SpellsBeyond text
+reads_beyond text negative whole fraction up down units p r c above =
+    let large : 10 ^ 13 * 10 ^ p < c.m = let e = c.capped in omega arith in
+    let z = zeros_off c.m p in (
+      signed negative z.0,
+      z.1,
+      (
+        fraction_of negative whole fraction up down,
+        reads_names text negative whole fraction up down r,
+        rounded_from negative (number (whole ++ fraction) * 10 ^ up) (length fraction + down) 24 (c.m * 10 ^ (24 - p)) z.0 z.1 c.rounds (zeros_at_last c.m p z.0 z.1 c.places z.2),
+      ),
+      subst (λ n. 10 ^ 13 * 10 ^ z.1 < n) (sym (unsigned_abs-signed negative z.0)) (beyond c.m p z.0 z.1 large z.2),
+    )
+
+-- a text spells one decimal
+pub spells_once : (text : List ℕ) (m : ℤ) (s : ℕ) (n : ℤ) (t : ℕ) → Spells text m s → Spells text n t → (m ≡ n) × (s ≡ t)
+spells_once text m s n t x y = rounds_to_one x.0 24 m s n t x.2 (subst (λ q. IsRounded q 24 n t) (names_once text y.0 x.0 y.1 x.1) y.2)
+
+-- in range and beyond at once it can't be
+pub in_range_only : (text : List ℕ) (m : ℤ) (s : ℕ) → Spells text m s → IsInRange m s → SpellsBeyond text → ⊥
+in_range_only text m s x within b =
+    let same = spells_once text m s b.0 b.1 x b.2 in
+    let far = b.3 in
+    omega (arith, within, far, ap unsigned_abs same.0, ap (λ t. 10 ^ 13 * 10 ^ t) same.1)

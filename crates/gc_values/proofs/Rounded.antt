@@ -1,0 +1,173 @@
+use Rattle.std.proofs.Common.{◌≡◌, ℕ, zero, suc, ◌+◌, ◌-◌, ◌*◌, ◌%◌, ◌^◌, ◌<◌, ◌≤◌, Bool, true, false, ℤ, pos, negsuc, neg_ℤ, ◌*ℤ◌, ◌-ℤ◌, unsigned_abs, refl, sym, ap, ◌∙◌, subst, arith}
+use Rattle.std.proofs.Math.Nat.{mul-le-mul_right, le_of_mul-le-mul_right, lt_of_mul-lt-mul_left, eq_of_mul-eq-mul_left, mul-lt-mul_of_pos_left}
+use Rattle.std.proofs.lemmas.Nat.{pow-add}
+use Rattle.std.proofs.lemmas.Int.{ints}
+use Rattle.gc_values.specs.Fraction.{Fraction, signed, distance, IsCanonical, IsRounded}
+use Rattle.gc_values.specs.Zeros.{WithoutZeros, stripped}
+pub use Rattle.gc_values.specs.RoundedFacts.{places_in_range, stripped_is}
+pub use Rattle.gc_values.specs.DecimalOrder.{zeros_once}
+use Rattle.gc_values.proofs.Powers.{ten_pow_pos, ten_pow_le}
+use Rattle.gc_values.proofs.Rounding.{gap, gap-mul, RoundsHalfUp, rounds_once, rounds_same_value}
+use Rattle.gc_values.proofs.Signs.{signed-mul, gap_signed, unsigned_abs-signed}
+
+-- the zeros at the end can be taken off
+pub zeros_off : (m s : ℕ) → (n : ℕ) × (t : ℕ) × WithoutZeros m s n t
+zeros_off m s = ((stripped m s).digits, (stripped m s).places, stripped_is m s)
+
+gap_comm : (a b : ℕ) → gap a b ≡ gap b a
+gap_comm a b = omega arith
+
+distance_signed : (neg : Bool) (n s a k : ℕ) → distance (signed neg n) s (signed neg a) k ≡ gap (n * 10 ^ k) (a * 10 ^ s)
+distance_signed neg n s a k =
+    ap (λ x. unsigned_abs (x -ℤ signed neg a *ℤ pos (10 ^ s))) (signed-mul neg n (10 ^ k))
+    ∙ ap (λ x. unsigned_abs (signed neg (n * 10 ^ k) -ℤ x)) (signed-mul neg a (10 ^ s))
+    ∙ gap_signed neg (n * 10 ^ k) (a * 10 ^ s)
+
+-- the distance, over 10^p and not over 10^s
+moved : (a k p m n s : ℕ) → m * 10 ^ s ≡ n * 10 ^ p → gap (n * 10 ^ k) (a * 10 ^ s) * 10 ^ p ≡ gap (a * 10 ^ p) (m * 10 ^ k) * 10 ^ s
+moved a k p m n s same =
+    let left : n * 10 ^ k * 10 ^ p ≡ m * 10 ^ k * 10 ^ s = omega (arith, ap (λ x. x * 10 ^ k) same) in
+    let right : a * 10 ^ s * 10 ^ p ≡ a * 10 ^ p * 10 ^ s = omega arith in
+    sym (gap-mul (n * 10 ^ k) (a * 10 ^ s) (10 ^ p)) ∙ ap (λ x. gap x (a * 10 ^ s * 10 ^ p)) left ∙ ap (gap (m * 10 ^ k * 10 ^ s)) right
+    ∙ gap_comm (m * 10 ^ k * 10 ^ s) (a * 10 ^ p * 10 ^ s) ∙ gap-mul (a * 10 ^ p) (m * 10 ^ k) (10 ^ s)
+
+-- what the whole numbers of 10^-p say of the decimal without its zeros
+pub rounded_from : (neg : Bool) (a k p m n s : ℕ) → RoundsHalfUp (a * 10 ^ p) (10 ^ k) m → WithoutZeros m p n s → IsRounded (record { n = signed neg a; k = k }) p (signed neg n) s
+rounded_from neg a k p m n s r w =
+    let far = distance_signed neg n s a k in
+    let move = moved a k p m n s w.same in
+    record {
+      canonical = λ some h. w.canonical some (ap (λ x. x % 10) (sym (unsigned_abs-signed neg n)) ∙ h);
+      places = w.fewer;
+      near = omega (arith, ap (λ x. x * 10 ^ p) far, move, mul-le-mul_right {m = 2 * gap (a * 10 ^ p) (m * 10 ^ k)} {n = 10 ^ k} (10 ^ s) r.near);
+      tie = λ h.
+          let half : 2 * gap (a * 10 ^ p) (m * 10 ^ k) ≡ 10 ^ k =
+          eq_of_mul-eq-mul_left (10 ^ s) (ten_pow_pos s) _ _ (omega (arith, h, ap (λ x. x * 10 ^ p) far, move)) in
+          let less : a * 10 ^ s < n * 10 ^ k =
+          lt_of_mul-lt-mul_left (10 ^ p) (omega (arith, ap (λ x. x * 10 ^ k) w.same, mul-lt-mul_of_pos_left {m = a * 10 ^ p} {n = m * 10 ^ k} {k = 10 ^ s} (r.tie half) (ten_pow_pos s))) in
+          omega (arith, less, ap (λ x. x * 10 ^ s) (unsigned_abs-signed neg a), ap (λ x. x * 10 ^ k) (unsigned_abs-signed neg n));
+    }
+
+-- a number with a sign, and 0 where the other sign would be needed
+far_apart : (x k p a s : ℕ) → s ≤ p → 2 * ((suc x) * 10 ^ k + a * 10 ^ s) * 10 ^ p ≤ 10 ^ s * 10 ^ k → ⊥
+far_apart x k p a s places near =
+    let wide : 10 ^ s * 10 ^ k ≤ 10 ^ p * 10 ^ k = mul-le-mul_right {m = 10 ^ s} {n = 10 ^ p} (10 ^ k) (ten_pow_le s p places) in
+    let pos : 0 < 10 ^ p * 10 ^ k = omega (arith, pow-add 10 p k, ten_pow_pos (p + k)) in
+    omega arith
+
+pub abs_pos_neg : (x y : ℕ) → unsigned_abs (pos x -ℤ neg_ℤ (pos y)) ≡ x + y
+abs_pos_neg x y = omega (arith, ints)
+
+pub abs_neg_pos : (x y : ℕ) → unsigned_abs (neg_ℤ (pos x) -ℤ pos y) ≡ x + y
+abs_neg_pos x y = omega (arith, ints)
+
+opposite_false : (x s a k : ℕ) → distance (negsuc x) s (pos a) k ≡ suc x * 10 ^ k + a * 10 ^ s
+opposite_false x s a k =
+    ap (λ z. unsigned_abs (z -ℤ pos a *ℤ pos (10 ^ s))) (signed-mul true (suc x) (10 ^ k))
+    ∙ ap (λ z. unsigned_abs (signed true (suc x * 10 ^ k) -ℤ z)) (signed-mul false a (10 ^ s))
+    ∙ abs_neg_pos (suc x * 10 ^ k) (a * 10 ^ s)
+
+opposite_true : (x s a k : ℕ) → distance (pos (suc x)) s (signed true a) k ≡ suc x * 10 ^ k + a * 10 ^ s
+opposite_true x s a k =
+    ap (λ z. unsigned_abs (z -ℤ signed true a *ℤ pos (10 ^ s))) (signed-mul false (suc x) (10 ^ k))
+    ∙ ap (λ z. unsigned_abs (pos (suc x * 10 ^ k) -ℤ z)) (signed-mul true a (10 ^ s))
+    ∙ abs_pos_neg (suc x * 10 ^ k) (a * 10 ^ s)
+
+-- what is rounded keeps the sign
+pub keeps_sign : (neg : Bool) (a k p : ℕ) (m : ℤ) (s : ℕ) → IsRounded (record { n = signed neg a; k = k }) p m s → (n : ℕ) × (m ≡ signed neg n)
+keeps_sign false a k p (pos n) s r = (n, refl)
+keeps_sign false a k p (negsuc x) s r = absurd (far_apart x k p a s r.places (subst (λ d. 2 * d * 10 ^ p ≤ 10 ^ s * 10 ^ k) (opposite_false x s a k) r.near))
+keeps_sign true a k p (negsuc x) s r = (suc x, refl)
+keeps_sign true a k p (pos zero) s r = (0, refl)
+keeps_sign true a k p (pos (suc x)) s r = absurd (far_apart x k p a s r.places (subst (λ d. 2 * d * 10 ^ p ≤ 10 ^ s * 10 ^ k) (opposite_true x s a k) r.near))
+
+-- the whole number of 10^-p
+pub record Units (neg : Bool) (a k p : ℕ) (m : ℤ) (s : ℕ) : Type 0 where
+  pub n : ℕ
+  pub u : ℕ
+  pub m_is : m ≡ signed neg n
+  pub zeros : WithoutZeros u p n s
+  pub rounds : RoundsHalfUp (a * 10 ^ p) (10 ^ k) u
+
+with_sign_known : (neg : Bool) (a k p n s : ℕ) → IsRounded (record { n = signed neg a; k = k }) p (signed neg n) s → Units neg a k p (signed neg n) s
+with_sign_known neg a k p n s r =
+    let u : ℕ = n * 10 ^ (p - s) in
+    let places : s ≤ p = r.places in
+    let back : p - s + s ≡ p = omega arith in
+    let power : 10 ^ (p - s) * 10 ^ s ≡ 10 ^ p = sym (pow-add 10 (p - s) s) ∙ ap (λ e. 10 ^ e) back in
+    let same : u * 10 ^ s ≡ n * 10 ^ p = omega (arith, ap (λ x. n * x) power) in
+    let far = distance_signed neg n s a k in
+    let move = moved a k p u n s same in
+    record {
+      n = n;
+      u = u;
+      m_is = refl;
+      zeros = record { same = same; fewer = places; canonical = λ some h. r.canonical some (ap (λ x. x % 10) (unsigned_abs-signed neg n) ∙ h) };
+      rounds = record {
+        near = le_of_mul-le-mul_right {m = 2 * gap (a * 10 ^ p) (u * 10 ^ k)} {n = 10 ^ k} {k = 10 ^ s} (let near = r.near in omega (arith, near, ap (λ x. x * 10 ^ p) far, move)) (ten_pow_pos s);
+        tie = λ h.
+            let half : 2 * distance (signed neg n) s (signed neg a) k * 10 ^ p ≡ 10 ^ s * 10 ^ k = omega (arith, ap (λ x. x * 10 ^ s) h, ap (λ x. x * 10 ^ p) far, move) in
+            let less = r.tie half in
+            let less' : a * 10 ^ s < n * 10 ^ k = omega (arith, less, ap (λ x. x * 10 ^ s) (unsigned_abs-signed neg a), ap (λ x. x * 10 ^ k) (unsigned_abs-signed neg n)) in
+            lt_of_mul-lt-mul_left (10 ^ s) (omega (arith, ap (λ x. x * 10 ^ k) same, mul-lt-mul_of_pos_left {m = a * 10 ^ s} {n = n * 10 ^ k} {k = 10 ^ p} less' (ten_pow_pos p)));
+      };
+    }
+
+pub rounded_to : (neg : Bool) (a k p : ℕ) (m : ℤ) (s : ℕ) → IsRounded (record { n = signed neg a; k = k }) p m s → Units neg a k p m s
+rounded_to neg a k p m s r =
+    let sign = keeps_sign neg a k p m s r in
+    let there : IsRounded (record { n = signed neg a; k = k }) p (signed neg sign.0) s = subst (λ z. IsRounded (record { n = signed neg a; k = k }) p z s) sign.1 r in
+    subst (λ z. Units neg a k p z s) (sym sign.1) (with_sign_known neg a k p sign.0 s there)
+
+-- a fraction rounds to one decimal
+pub rounded_once : (neg : Bool) (a k p : ℕ) (m : ℤ) (s : ℕ) (n : ℤ) (t : ℕ) → IsRounded (record { n = signed neg a; k = k }) p m s → IsRounded (record { n = signed neg a; k = k }) p n t → (m ≡ n) × (s ≡ t)
+rounded_once neg a k p m s n t r q =
+    let x = rounded_to neg a k p m s r in
+    let y = rounded_to neg a k p n t q in
+    let same : x.u ≡ y.u = rounds_once (a * 10 ^ p) (10 ^ k) x.u y.u (ten_pow_pos k) x.rounds y.rounds in
+    let one = zeros_once x.u p x.n s y.n t x.zeros (subst (λ u. WithoutZeros u p y.n t) (sym same) y.zeros) in
+    (x.m_is ∙ ap (signed neg) one.0 ∙ sym y.m_is, one.1)
+
+-- a fraction has a sign
+pub sign_of : (z : ℤ) → (neg : Bool) × (a : ℕ) × (z ≡ signed neg a)
+sign_of (pos n) = (false, n, refl)
+sign_of (negsuc n) = (true, suc n, refl)
+
+pub rounds_to_one : (q : Fraction) (p : ℕ) (m : ℤ) (s : ℕ) (n : ℤ) (t : ℕ) → IsRounded q p m s → IsRounded q p n t → (m ≡ n) × (s ≡ t)
+rounds_to_one q p m s n t r r' =
+    let z = sign_of q.n in
+    let same : q ≡ record { n = signed z.0 z.1; k = q.k } = ap (λ (x : ℤ). let f : Fraction = record { n = x; k = q.k } in f) z.2 in
+    rounded_once z.0 z.1 q.k p m s n t (subst (λ f. IsRounded f p m s) same r) (subst (λ f. IsRounded f p n t) same r')
+
+same_place : (x : ℤ) → unsigned_abs (x -ℤ x) ≡ 0
+same_place x = omega (arith, ints)
+
+nothing : (x : ℕ) → 2 * 0 * x ≡ 0
+nothing x = omega arith
+
+-- a value that needs no rounding
+pub exact_rounds : (q : Fraction) (p : ℕ) (m : ℤ) (s : ℕ) → IsCanonical m s → s ≤ p → m *ℤ pos (10 ^ q.k) ≡ q.n *ℤ pos (10 ^ s) → IsRounded q p m s
+exact_rounds q p m s canonical places same =
+    let near : distance m s q.n q.k ≡ 0 = ap (λ x. unsigned_abs (x -ℤ q.n *ℤ pos (10 ^ s))) same ∙ same_place (q.n *ℤ pos (10 ^ s)) in
+    let none : 2 * distance m s q.n q.k * 10 ^ p ≡ 0 = ap (λ d. 2 * d * 10 ^ p) near ∙ nothing (10 ^ p) in
+    let some : 0 < 10 ^ s * 10 ^ q.k = let e = pow-add 10 s q.k in let h = ten_pow_pos (s + q.k) in omega arith in
+    record {
+      canonical = canonical;
+      places = places;
+      near = subst (λ x. x ≤ 10 ^ s * 10 ^ q.k) (sym none) (omega arith);
+      tie = λ h. let e : 0 ≡ 10 ^ s * 10 ^ q.k = sym none ∙ h in absurd (omega (arith, e, some));
+    }
+
+-- a decimal of s places, rounded to p of them
+pub rounds_places : (a s p m : ℕ) → p ≤ s → RoundsHalfUp a (10 ^ (s - p)) m → RoundsHalfUp (a * 10 ^ p) (10 ^ s) m
+rounds_places a s p m places r =
+    let back : s - p + p ≡ s = omega arith in
+    let power : 10 ^ (s - p) * 10 ^ p ≡ 10 ^ s = sym (pow-add 10 (s - p) p) ∙ ap (λ e. 10 ^ e) back in
+    let same : a * 10 ^ s ≡ a * 10 ^ p * 10 ^ (s - p) = omega (arith, ap (λ x. a * x) power) in
+    rounds_same_value a (10 ^ (s - p)) (a * 10 ^ p) (10 ^ s) m (ten_pow_pos (s - p)) (ten_pow_pos s) same r
+
+pub units_in_range : (a s : ℕ) → s ≤ 24 → a ≤ 10 ^ 13 * 10 ^ s → a * 10 ^ (24 - s) ≤ 10 ^ 37
+units_in_range a s places h =
+    let back : s + (24 - s) ≡ 24 = omega arith in
+    let power : 10 ^ s * 10 ^ (24 - s) ≡ 10 ^ 24 = sym (pow-add 10 s (24 - s)) ∙ ap (λ e. 10 ^ e) back in
+    omega (arith, power, mul-le-mul_right {m = a} {n = 10 ^ 13 * 10 ^ s} (10 ^ (24 - s)) h)

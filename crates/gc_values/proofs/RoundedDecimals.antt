@@ -1,0 +1,55 @@
+use Rattle.std.proofs.Common.{◌≡◌, ℕ, ◌-◌, ◌*◌, ◌^◌, ◌<◌, ◌≤◌, Bool, min, ℤ, pos, negsuc, unsigned_abs, refl, sym, ap, ◌∙◌, subst, inl, inr, arith}
+use Rattle.std.proofs.lemmas.Bool.{cases_lt}
+use Rattle.gc_values.specs.Decimals.{fraction, rounded}
+use Rattle.gc_values.specs.Fraction.{signed, is_negative, IsRounded}
+use Rattle.gc_values.specs.Nearest.{half_up, rounded_to}
+use Rattle.gc_values.specs.RoundedFacts.{half_up_rounds, rounded_canonical, rounded_to_zeros, ten_pow_pos}
+use Rattle.gc_values.specs.Zeros.{WithoutZeros}
+use Rattle.gc_values.specs.declared.decimal.Decimal.{Decimal}
+use Rattle.gc_values.proofs.DecimalLemmas.{same_decimal}
+use Rattle.gc_values.proofs.Rounded.{exact_rounds, rounded_from, rounds_places, rounds_to_one}
+use Rattle.gc_values.proofs.Signs.{signed-mul}
+
+half_up-one : (m : ℕ) → half_up m 1 ≡ m
+half_up-one m = omega arith
+
+-- at its own places or more a number stays
+stays : (b : Bool) (m s p : ℕ) → s ≤ p → IsRounded (record { n = signed b m; k = s }) p (signed b (rounded_to m s p).digits) (rounded_to m s p).places
+stays b m s p h =
+    let r = rounded_to m s p in
+    let zeros = rounded_to_zeros m s p in
+    let none : s - p ≡ 0 = omega arith in
+    let own : min s p ≡ s = omega arith in
+    let whole : half_up m (10 ^ (s - p)) ≡ m = ap (λ e. half_up m (10 ^ e)) none ∙ half_up-one m in
+    let same : r.digits * 10 ^ s ≡ m * 10 ^ r.places = ap (λ e. r.digits * 10 ^ e) (sym own) ∙ sym zeros.same ∙ ap (λ n. n * 10 ^ r.places) whole in
+    exact_rounds (record { n = signed b m; k = s }) p (signed b r.digits) r.places (rounded_canonical b m s p) (let f = zeros.fewer in omega (arith, f))
+    (signed-mul b r.digits (10 ^ s) ∙ ap (signed b) same ∙ sym (signed-mul b m (10 ^ r.places)))
+
+-- at fewer it goes to the nearest
+nears : (b : Bool) (m s p : ℕ) → p < s → IsRounded (record { n = signed b m; k = s }) p (signed b (rounded_to m s p).digits) (rounded_to m s p).places
+nears b m s p h =
+    let r = rounded_to m s p in
+    let few : min s p ≡ p = omega arith in
+    let zeros : WithoutZeros (half_up m (10 ^ (s - p))) p r.digits r.places = subst (λ e. WithoutZeros (half_up m (10 ^ (s - p))) e r.digits r.places) few (rounded_to_zeros m s p) in
+    rounded_from b m s p (half_up m (10 ^ (s - p))) r.digits r.places
+    (rounds_places m s p (half_up m (10 ^ (s - p))) (omega arith) (half_up_rounds m (10 ^ (s - p)) (ten_pow_pos (s - p)))) zeros
+
+pub rounded_to_rounds : (b : Bool) (m s p : ℕ) → IsRounded (record { n = signed b m; k = s }) p (signed b (rounded_to m s p).digits) (rounded_to m s p).places
+rounded_to_rounds b m s p = elim (cases_lt p s) [ inl fewer ↦ nears b m s p fewer | inr own ↦ stays b m s p own ]
+
+signed-unsigned_abs : (z : ℤ) → signed (is_negative z) (unsigned_abs z) ≡ z
+signed-unsigned_abs (pos n) = refl
+signed-unsigned_abs (negsuc n) = refl
+
+-- the rounded decimal is the rounding
+pub rounded_rounds : (d : Decimal) (p : ℕ) → IsRounded (fraction d) p (rounded d p).digits (rounded d p).scale
+unfolding rounded
+rounded_rounds d p =
+    subst (λ z. IsRounded (record { n = z; k = d.scale }) p (rounded d p).digits (rounded d p).scale) (signed-unsigned_abs d.digits)
+    (rounded_to_rounds (is_negative d.digits) (unsigned_abs d.digits) d.scale p)
+
+-- and the only one
+pub rounded_only : (d e : Decimal) (p : ℕ) → IsRounded (fraction d) p e.digits e.scale → e ≡ rounded d p
+rounded_only d e p r =
+    let same = rounds_to_one (fraction d) p e.digits e.scale (rounded d p).digits (rounded d p).scale r (rounded_rounds d p) in
+    same_decimal e (rounded d p) same.0 same.1

@@ -1,0 +1,47 @@
+use Rattle.std.proofs.Common.{◌≡◌, ℕ, ◌+◌, ◌%◌, ◌<◌, ◌≤◌, Bool, true, false, not, cond, eqb, List, ◌∷◌, ◌++◌, length, get_or, take, drop, Some, refl, sym, ap, ◌∙◌, subst, arith}
+use Rattle.std.proofs.lemmas.List.{take_more, take_all, take-append-drop, drop_more}
+use Rattle.gc_values.specs.Params.{quotes}
+use Rattle.gc_values.specs.Pieces.{KeepsCommas, CutsPiece}
+use Rattle.gc_values.proofs.Quotes.{quotes_more, KeepsCommas-nil, KeepsCommas-push}
+
+-- the first i bytes hold no comma outside quotes, and end inside quotes or not
+pub record Scanned (text : List ℕ) (i : ℕ) (quoted : Bool) : Type 0 where
+  pub keeps : KeepsCommas (take i text)
+  pub parity : quotes (take i text) % 2 ≡ cond quoted 1 0
+
+-- inside quotes or not, behind the byte
+abbrev pub turned : ℕ → Bool → Bool
+turned b quoted = cond (eqb b 34) (not quoted) quoted
+
+pub scanned_none : (text : List ℕ) → Scanned text 0 false
+scanned_none text = record { keeps = KeepsCommas-nil; parity = refl }
+
+parity_step : (n : ℕ) (quoted same : Bool) → n % 2 ≡ cond quoted 1 0 → (n + cond same 1 0) % 2 ≡ cond (cond same (not quoted) quoted) 1 0
+parity_step n true true h = omega arith
+parity_step n true false h = omega arith
+parity_step n false true h = omega arith
+parity_step n false false h = omega arith
+
+odd_inside : (n : ℕ) (quoted : Bool) → quoted ≡ true → n % 2 ≡ cond quoted 1 0 → n % 2 ≡ 1
+odd_inside n quoted e h = h ∙ ap (λ b. cond b 1 0) e
+
+-- one byte more
+pub scanned_more : (text : List ℕ) (i : ℕ) (quoted now : Bool) → Scanned text i quoted → i < length text → (get_or text i 0 ≡ 44 → quoted ≡ true) → now ≡ turned (get_or text i 0) quoted → Scanned text (i + 1) now
+scanned_more text i quoted now s within comma step =
+    let b : ℕ = get_or text i 0 in
+    record {
+      keeps = subst KeepsCommas (sym (take_more text i 0 within)) (KeepsCommas-push (take i text) b s.keeps (λ h. odd_inside (quotes (take i text)) quoted (comma h) s.parity));
+      parity = ap (λ n. n % 2) (quotes_more text i within) ∙ parity_step (quotes (take i text)) quoted (eqb b 34) s.parity ∙ ap (λ q. cond q 1 0) (sym step);
+    }
+
+-- a comma outside quotes ends the piece
+pub scanned_cut : (text : List ℕ) (i : ℕ) (quoted : Bool) → Scanned text i quoted → i < length text → get_or text i 0 ≡ 44 → quoted ≡ false → CutsPiece text (take i text) (Some (drop (i + 1) text))
+scanned_cut text i quoted s within comma outside = (
+  sym (take-append-drop i text) ∙ ap (λ xs. take i text ++ xs) (drop_more text i 0 within ∙ ap (λ b. b ∷ drop (i + 1) text) comma),
+  s.keeps,
+  s.parity ∙ ap (λ q. cond q 1 0) outside,
+)
+
+-- and so does the end
+pub scanned_all : (text : List ℕ) (i : ℕ) (quoted : Bool) → Scanned text i quoted → length text ≤ i → KeepsCommas text
+scanned_all text i quoted s all = subst KeepsCommas (take_all i text all) s.keeps

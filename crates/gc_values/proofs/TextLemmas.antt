@@ -1,0 +1,50 @@
+use Rattle.std.proofs.Common.{◌≡◌, ℕ, zero, suc, ◌+◌, ◌-◌, ◌<◌, ◌≤◌, List, [], ◌∷◌, ◌++◌, length, get_or, take, drop, replicate, refl, sym, ap, ◌∙◌, subst, arith, length-append}
+use Rattle.std.proofs.lemmas.List.{take_more, take_all, length-replicate}
+use Rattle.std.proofs.Math.Seq.{take-append_seam, drop-append_seam}
+use Rattle.gc_values.specs.Padding.{IsKept}
+use Rattle.gc_values.specs.declared.text.Text.TheInside.{Inside}
+use Rattle.gc_values.specs.Text.{IsStringByte, AreStringBytes, quoted, IsString}
+
+pub AreStringBytes-append : (xs ys : List ℕ) → AreStringBytes xs → AreStringBytes ys → AreStringBytes (xs ++ ys)
+AreStringBytes-append [] ys h k = k
+AreStringBytes-append (x ∷ xs) ys h k = (h.0, AreStringBytes-append xs ys h.1 k)
+
+pub string_bytes_more : (bytes : List ℕ) (i : ℕ) → i < length bytes → AreStringBytes (take i bytes) → IsStringByte (get_or bytes i 0) → AreStringBytes (take (i + 1) bytes)
+string_bytes_more bytes i within so_far here = subst AreStringBytes (sym (take_more bytes i 0 within)) (AreStringBytes-append (take i bytes) (get_or bytes i 0 ∷ []) so_far (here, tt))
+
+pub string_bytes_all : (bytes : List ℕ) (i : ℕ) → length bytes ≤ i → AreStringBytes (take i bytes) → AreStringBytes bytes
+string_bytes_all bytes i all h = subst AreStringBytes (take_all i bytes all) h
+
+pub string_byte_at : (bytes : List ℕ) (i : ℕ) → i < length bytes → AreStringBytes bytes → IsStringByte (get_or bytes i 0)
+string_byte_at [] i within h = absurd (omega arith)
+string_byte_at (b ∷ bs) zero within h = h.0
+string_byte_at (b ∷ bs) (suc i) within h = string_byte_at bs i (omega arith) h.1
+
+end_same : (xs ys : List ℕ) → xs ++ 34 ∷ [] ≡ ys ++ 34 ∷ [] → xs ≡ ys
+end_same [] [] e = refl
+end_same [] (y ∷ []) e = cc
+end_same [] (y ∷ z ∷ ys) e = cc
+end_same (x ∷ []) [] e = cc
+end_same (x ∷ z ∷ xs) [] e = cc
+end_same (x ∷ xs) (y ∷ ys) e = let t : xs ++ 34 ∷ [] ≡ ys ++ 34 ∷ [] = cc in let same = end_same xs ys t in cc
+
+-- quotes stand round one list of bytes
+pub one_quoted : (xs ys : List ℕ) → quoted xs ≡ quoted ys → xs ≡ ys
+one_quoted xs ys e = let t : xs ++ 34 ∷ [] ≡ ys ++ 34 ∷ [] = cc in end_same xs ys t
+
+pub one_string : (item xs ys : List ℕ) → IsString item xs → IsString item ys → xs ≡ ys
+one_string item xs ys x y = one_quoted xs ys (sym x.item_is ∙ y.item_is)
+
+-- bytes with zeros behind them are what a text keeps
+pub filled_is_kept : (bytes all : List ℕ) → all ≡ bytes ++ replicate (64 - length bytes) 0 → length bytes ≤ 64 → AreStringBytes bytes → (let t : Inside = record { bytes = all; len = length bytes } in IsKept t)
+filled_is_kept bytes all e few plain =
+    let front : take (length bytes) all ≡ bytes = ap (take (length bytes)) e ∙ take-append_seam bytes (replicate (64 - length bytes) 0) in
+    record {
+      few = few;
+      zeros = ap (drop (length bytes)) e ∙ drop-append_seam bytes (replicate (64 - length bytes) 0);
+      long = ap length e ∙ omega (arith, length-append bytes (replicate (64 - length bytes) 0), length-replicate {A = ℕ} (64 - length bytes) 0);
+      plain = subst AreStringBytes (sym front) plain;
+    }
+
+pub filled_front : (bytes all : List ℕ) → all ≡ bytes ++ replicate (64 - length bytes) 0 → take (length bytes) all ≡ bytes
+filled_front bytes all e = ap (take (length bytes)) e ∙ take-append_seam bytes (replicate (64 - length bytes) 0)

@@ -1,0 +1,216 @@
+use Rattle.std.proofs.Common.{◌≡◌, ◌≢◌, ℕ, zero, suc, ◌+◌, ◌/◌, ◌%◌, ◌<◌, ◌≤◌, ◌^◌, Bool, true, false, eqb, ltb, ℤ, pos, negsuc, unsigned_abs, List, [], ◌∷◌, ◌++◌, length, map, refl, sym, ap, ◌∙◌, inl, inr, arith, lit<, lit≤, length-append}
+use Rattle.std.proofs.lemmas.Bool.{ne_eqb, ltb-true, agree_below_at, cond_both}
+use Rattle.std.proofs.lemmas.Nat.{div_below}
+use Rattle.std.specs.List.{All, AllByRecursion}
+use Rattle.std.specs.Prelude.{slice_index}
+use Rattle.hex.specs.Hex.{lower_digits}
+use Rattle.gc_values.specs.Digits.{AreDigits}
+use Rattle.gc_values.specs.Item.{IsValue, text}
+use Rattle.gc_values.specs.Params.{quotes, IsParam, joined, IsParams}
+use Rattle.gc_values.specs.Text.{AreStringBytes, quoted}
+use Rattle.gc_values.specs.Whole.{signed_text}
+use Rattle.gc_values.specs.Boolean.{boolean_text}
+use Rattle.gc_values.specs.Byte.{byte_text}
+use Rattle.gc_values.specs.Fraction.{IsInRange}
+use Rattle.gc_values.specs.Written.{minus_text, whole_text, last_digits, behind_text, written}
+use Rattle.gc_values.specs.declared.value.Value.{Value}
+use Rattle.gc_values.specs.declared.value.Value.TheVariants as value
+use Rattle.gc_values.proofs.Quotes.{quotes-append, quotes-cons, quotes_same, push_cut}
+use Rattle.gc_values.proofs.Powers.{ten_pow_pos}
+use Rattle.gc_values.proofs.Trimming.{last_of}
+use Rattle.gc_values.proofs.WholeText.{length-whole_text, length-minus_text, length-long, length-short}
+use Rattle.gc_values.proofs.WrittenLemmas.{length-last_digits}
+use Rattle.gc_values.proofs.ParamLists.{joined_params}
+use Rattle.gc_values.proofs.WrittenSpells.{writes_whole, behind}
+
+-- a byte of a number or of a byte parameter: no space, double quote, comma, CR or LF
+pub record IsBare (b : ℕ) : Type 0 where
+  pub space : b ≢ 32
+  pub quote : b ≢ 34
+  pub comma : b ≢ 44
+  pub cr : b ≢ 13
+  pub lf : b ≢ 10
+
+abbrev pub AreBare : List ℕ → Type 0
+AreBare bs = AllByRecursion IsBare bs
+
+bare_above : (b : ℕ) → 44 < b → IsBare b
+bare_above b h = record { space = λ e. omega (arith, e); quote = λ e. omega (arith, e); comma = λ e. omega (arith, e); cr = λ e. omega (arith, e); lf = λ e. omega (arith, e) }
+
+bare_quote : IsBare 39
+bare_quote = record { space = λ e. omega (arith, e); quote = λ e. omega (arith, e); comma = λ e. omega (arith, e); cr = λ e. omega (arith, e); lf = λ e. omega (arith, e) }
+
+AreBare-append : (xs ys : List ℕ) → AreBare xs → AreBare ys → AreBare (xs ++ ys)
+AreBare-append [] ys h k = k
+AreBare-append (x ∷ xs) ys h k = (h.0, AreBare-append xs ys h.1 k)
+
+bare_digits : (ds : List ℕ) → AreDigits ds → AreBare ds
+bare_digits [] h = tt
+bare_digits (d ∷ ds) h = (bare_above d (let low = h.0.0 in omega (arith, low)), bare_digits ds h.1)
+
+quotes-bare : (xs : List ℕ) → AreBare xs → quotes xs ≡ 0
+quotes-bare [] h = refl
+quotes-bare (x ∷ xs) h = quotes_same x xs (ne_eqb x 34 h.0.quote) ∙ quotes-bare xs h.1
+
+bare_comma : (xs front rest : List ℕ) → AreBare xs → xs ≡ front ++ 44 ∷ rest → ⊥
+bare_comma [] [] rest h e = cc
+bare_comma [] (f ∷ fs) rest h e = cc
+bare_comma (x ∷ xs) [] rest h e = h.0.comma (let first : x ≡ 44 = cc in first)
+bare_comma (x ∷ xs) (f ∷ fs) rest h e = let t : xs ≡ fs ++ 44 ∷ rest = cc in bare_comma xs fs rest h.1 t
+
+bare_last : (xs front : List ℕ) → AreBare xs → xs ≡ front ++ 32 ∷ [] → ⊥
+bare_last [] [] h e = cc
+bare_last [] (f ∷ fs) h e = cc
+bare_last (x ∷ xs) [] h e = h.0.space (let first : x ≡ 32 = cc in first)
+bare_last (x ∷ xs) (f ∷ fs) h e = let t : xs ≡ fs ++ 32 ∷ [] = cc in bare_last xs fs h.1 t
+
+bare_first : (xs rest : List ℕ) → AreBare xs → xs ≡ 32 ∷ rest → ⊥
+bare_first [] rest h e = cc
+bare_first (x ∷ xs) rest h e = h.0.space (let first : x ≡ 32 = cc in first)
+
+-- bare bytes are a parameter
+pub bare_param : (xs : List ℕ) → AreBare xs → IsParam xs
+bare_param xs h = record {
+  first = λ rest e. bare_first xs rest h e;
+  last = λ front e. bare_last xs front h e;
+  pairs = ap (λ n. n % 2) (quotes-bare xs h);
+  commas = λ front rest e. absurd (bare_comma xs front rest h e);
+}
+
+-- a byte that ends no line
+abbrev pub EndsNoLine : ℕ → Type 0
+EndsNoLine b = (b ≢ 10) × (b ≢ 13)
+
+bare_plain : (xs : List ℕ) → AreBare xs → AllByRecursion EndsNoLine xs
+bare_plain [] h = tt
+bare_plain (x ∷ xs) h = ((h.0.lf, h.0.cr), bare_plain xs h.1)
+
+-- the texts of numbers and bytes are bare, and not empty
+bare_minus : (z : ℤ) → AreBare (minus_text z)
+bare_minus (pos n) = tt
+bare_minus (negsuc n) = (bare_above 45 (lit< tt), tt)
+
+bare_whole : (n : ℕ) → AreBare (whole_text n)
+bare_whole n = bare_digits (whole_text n) (writes_whole n).digits
+
+bare_signed : (z : ℤ) → AreBare (signed_text z)
+bare_signed z = AreBare-append (minus_text z) (whole_text (unsigned_abs z)) (bare_minus z) (bare_whole (unsigned_abs z))
+
+bare_written : (m : ℤ) (s : ℕ) → AreBare (written m s)
+bare_written m s =
+    let n = unsigned_abs m in
+    AreBare-append (minus_text m) (whole_text (n / 10 ^ s) ++ (46 ∷ behind_text s (n % 10 ^ s))) (bare_minus m)
+    (AreBare-append (whole_text (n / 10 ^ s)) (46 ∷ behind_text s (n % 10 ^ s)) (bare_whole (n / 10 ^ s)) (bare_above 46 (lit< tt), bare_digits (behind_text s (n % 10 ^ s)) (behind n s).digits))
+
+digit_above : (d : ℕ) → d < 16 → 44 < slice_index lower_digits d
+digit_above d h = ltb-true 44 (slice_index lower_digits d) (agree_below_at (λ k. ltb 44 (slice_index lower_digits k)) (λ _. true) 16 d refl h)
+
+bare_byte : (n : ℕ) → n < 256 → AreBare (byte_text n)
+bare_byte n h = (bare_quote, (bare_above (slice_index lower_digits (n / 16)) (digit_above (n / 16) (omega arith)), (bare_above (slice_index lower_digits (n % 16)) (digit_above (n % 16) (omega arith)), (bare_quote, tt))))
+
+bare_boolean : (b : Bool) → AreBare (boolean_text b)
+bare_boolean false = (bare_above 48 (lit< tt), tt)
+bare_boolean true = (bare_above 49 (lit< tt), tt)
+
+-- a string's bytes hold no quote
+quotes-string : (bytes : List ℕ) → AreStringBytes bytes → quotes bytes ≡ 0
+quotes-string [] h = refl
+quotes-string (b ∷ bs) h = quotes_same b bs (ne_eqb b 34 h.0.0) ∙ quotes-string bs h.1
+
+quoted_commas : (bytes front rest : List ℕ) → AreStringBytes bytes → quoted bytes ≡ front ++ 44 ∷ rest → quotes front % 2 ≡ 1
+quoted_commas bytes [] rest h e = let first : ◌≡◌ {A = ℕ} 34 44 = cc in absurd (omega (arith, first))
+quoted_commas bytes (f ∷ fs) rest h e =
+    let first : f ≡ 34 = cc in
+    let t : bytes ++ 34 ∷ [] ≡ fs ++ 44 ∷ rest = cc in
+    elim (push_cut bytes fs rest 34 t) [
+      | inl last ↦ let bad = last.0 in absurd (omega (arith, bad))
+      | inr inside ↦
+          let none : quotes (fs ++ 44 ∷ inside.0) ≡ 0 = ap quotes (sym inside.1) ∙ quotes-string bytes h in
+          let one : quotes (f ∷ fs) ≡ 1 + quotes fs = ap (λ b. quotes (b ∷ fs)) first ∙ quotes-cons 34 fs in
+          omega (arith, none, one, quotes-append fs (44 ∷ inside.0))
+    ]
+
+quoted_param : (bytes : List ℕ) → AreStringBytes bytes → IsParam (quoted bytes)
+quoted_param bytes h = record {
+  first = λ rest e. let bad : ◌≡◌ {A = ℕ} 34 32 = cc in omega (arith, bad);
+  last = λ front e. let bad = last_of (34 ∷ bytes) front 34 32 e in omega (arith, bad);
+  pairs = let one = quotes-cons 34 (bytes ++ 34 ∷ []) in let two = quotes-append bytes (34 ∷ []) in let none = quotes-string bytes h in let both : quotes (34 ∷ []) ≡ 1 = refl in omega (arith, one, two, none, both);
+  commas = λ front rest e. quoted_commas bytes front rest h e;
+}
+
+string_plain : (bytes : List ℕ) → AreStringBytes bytes → AllByRecursion EndsNoLine (bytes ++ 34 ∷ [])
+string_plain [] h = ((λ e. omega (arith, e), λ e. omega (arith, e)), tt)
+string_plain (b ∷ bs) h = ((h.0.2, h.0.1), string_plain bs h.1)
+
+-- the text of a value is a parameter
+pub text_is_param : (v : Value) → IsValue v → IsParam (text v)
+text_is_param (value.Double d) h = bare_param _ (bare_written d.digits d.scale)
+text_is_param (value.Long z) h = bare_param _ (bare_signed z)
+text_is_param (value.Short z) h = bare_param _ (bare_signed z)
+text_is_param (value.Byte n) h = bare_param _ (bare_byte n h)
+text_is_param (value.Bool b) h = bare_param _ (bare_boolean b)
+text_is_param (value.Text bytes) h = quoted_param bytes h.plain
+
+whole_some : (before behind : List ℕ) (n : ℕ) → 0 < length (before ++ (whole_text n ++ behind))
+whole_some before behind n = omega (arith, length-append before (whole_text n ++ behind), length-append (whole_text n) behind, (writes_whole n).some)
+
+signed_some : (z : ℤ) → 0 < length (signed_text z)
+signed_some z = omega (arith, length-append (minus_text z) (whole_text (unsigned_abs z)), (writes_whole (unsigned_abs z)).some)
+
+-- and it isn't empty
+pub text_is_some : (v : Value) → 0 < length (text v)
+text_is_some (value.Double d) = whole_some (minus_text d.digits) _ (unsigned_abs d.digits / 10 ^ d.scale)
+text_is_some (value.Long z) = signed_some z
+text_is_some (value.Short z) = signed_some z
+text_is_some (value.Byte n) = omega arith
+text_is_some (value.Bool false) = omega arith
+text_is_some (value.Bool true) = omega arith
+text_is_some (value.Text bytes) = omega arith
+
+ends_no_line : (v : Value) → IsValue v → AllByRecursion EndsNoLine (text v)
+ends_no_line (value.Double d) h = bare_plain _ (bare_written d.digits d.scale)
+ends_no_line (value.Long z) h = bare_plain _ (bare_signed z)
+ends_no_line (value.Short z) h = bare_plain _ (bare_signed z)
+ends_no_line (value.Byte n) h = bare_plain (byte_text n) (bare_byte n h)
+ends_no_line (value.Bool b) h = bare_plain _ (bare_boolean b)
+ends_no_line (value.Text bytes) h = ((λ e. omega (arith, e), λ e. omega (arith, e)), string_plain bytes h.plain)
+
+all_from : (P : ℕ → Type 0) (xs : List ℕ) → AllByRecursion P xs → All P xs
+all_from P [] h k d within = absurd (omega arith)
+all_from P (x ∷ xs) h zero d within = h.0
+all_from P (x ∷ xs) h (suc k) d within = all_from P xs h.1 k d (omega arith)
+
+-- the text of a value has no CR and no LF
+pub text_is_plain : (v : Value) → IsValue v → All EndsNoLine (text v)
+text_is_plain v h = all_from EndsNoLine (text v) (ends_no_line v h)
+
+length-behind_text : (s n : ℕ) → s ≤ 24 → length (behind_text s n) ≤ 24
+length-behind_text s n few = cond_both (eqb s 0) (48 ∷ []) (last_digits s n) (λ ds. length ds ≤ 24) (λ _. lit≤ tt) (λ _. omega (arith, length-last_digits s n))
+
+length-written : (m : ℤ) (s : ℕ) → IsInRange m s → s ≤ 24 → length (written m s) ≤ 40
+length-written m s small few =
+    let n = unsigned_abs m in
+    let top : n / 10 ^ s < 10 ^ 14 = div_below n (10 ^ s) (10 ^ 14) (ten_pow_pos s) (omega (arith, small, ten_pow_pos s)) in
+    omega (arith, length-append (minus_text m) (whole_text (n / 10 ^ s) ++ (46 ∷ behind_text s (n % 10 ^ s))), length-append (whole_text (n / 10 ^ s)) (46 ∷ behind_text s (n % 10 ^ s)), length-minus_text m, length-whole_text (n / 10 ^ s) 14 (lit< tt) top, length-behind_text s (n % 10 ^ s) few)
+
+-- the text of a value has at most 66 bytes
+pub text_is_short : (v : Value) → IsValue v → length (text v) ≤ 66
+text_is_short (value.Double d) h = let l = length-written d.digits d.scale d.is_in_range d.has_few_places in omega (arith, l)
+text_is_short (value.Long z) h = let l = length-long z h in omega (arith, l)
+text_is_short (value.Short z) h = let l = length-short z h in omega (arith, l)
+text_is_short (value.Byte n) h = lit≤ tt
+text_is_short (value.Bool false) h = lit≤ tt
+text_is_short (value.Bool true) h = lit≤ tt
+text_is_short (value.Text bytes) h = let few = h.few in omega (arith, few, length-append bytes (34 ∷ []))
+
+texts_are_params : (vs : List Value) → AllByRecursion IsValue vs → AllByRecursion IsParam (map text vs)
+texts_are_params [] h = tt
+texts_are_params (v ∷ vs) h = (text_is_param v h.0, texts_are_params vs h.1)
+
+texts_are_some : (vs : List Value) → AllByRecursion (λ t. 0 < length t) (map text vs)
+texts_are_some [] = tt
+texts_are_some (v ∷ vs) = (text_is_some v, texts_are_some vs)
+
+-- texts of values, joined by commas, split back into these texts
+pub joined_splits : (vs : List Value) → AllByRecursion IsValue vs → IsParams (joined (map text vs)) (map text vs)
+joined_splits vs h = joined_params (map text vs) (texts_are_params vs h) (texts_are_some vs)

@@ -1,0 +1,81 @@
+use Rattle.std.proofs.Common.{◌≡◌, ℕ, ◌+◌, ◌-◌, ◌*◌, ◌^◌, ◌<◌, ◌≤◌, List, length, min, sym, ap, ◌∙◌, subst, arith, lit≤}
+use Rattle.std.proofs.Math.Nat.{mul-lt-mul_of_pos_left}
+use Rattle.std.proofs.lemmas.Nat.{pow-add}
+use Rattle.gc_values.specs.Digits.{AreDigits, number, kept, kept_and_rounded}
+use Rattle.gc_values.specs.Nearest.{IsCapped}
+use Rattle.gc_values.proofs.Kept.{number-lt, rounds_digits, kept_behind, min_mul}
+use Rattle.gc_values.proofs.Powers.{ten_pow_pos, ten_pow_le}
+use Rattle.gc_values.proofs.Rounding.{RoundsHalfUp, rounds_same_value, rounds_to_zero}
+
+times_one : (n : ℕ) → n ≡ n * 10 ^ (24 - 24)
+times_one n = omega arith
+
+product : (n a b c : ℕ) → b ≡ a * c → n * b ≡ n * a * c
+product n a b c e = omega (arith, ap (λ x. n * x) e)
+
+-- k digits are kept, where the exponent and the places leave that many
+pub units_kept : (ds : List ℕ) (w f up down p k : ℕ) → AreDigits ds → length ds ≡ w + f → k + down ≡ w + up + p →
+    RoundsHalfUp (number ds * 10 ^ up * 10 ^ p) (10 ^ (f + down)) (kept_and_rounded ds k)
+units_kept ds w f up down p k digits size places =
+    let d = number ds in
+    let exponents : k + (f + down) ≡ up + p + length ds = omega arith in
+    let powers : 10 ^ k * 10 ^ (f + down) ≡ 10 ^ up * 10 ^ p * 10 ^ length ds =
+    sym (pow-add 10 k (f + down)) ∙ ap (λ e. 10 ^ e) exponents ∙ pow-add 10 (up + p) (length ds) ∙ ap (λ x. x * 10 ^ length ds) (pow-add 10 up p) in
+    let same : number ds * 10 ^ k * 10 ^ (f + down) ≡ number ds * 10 ^ up * 10 ^ p * 10 ^ length ds = omega (arith, ap (λ x. number ds * x) powers) in
+    rounds_same_value (number ds * 10 ^ k) (10 ^ length ds) (number ds * 10 ^ up * 10 ^ p) (10 ^ (f + down)) (kept_and_rounded ds k) (ten_pow_pos (length ds)) (ten_pow_pos (f + down)) same (rounds_digits ds k digits)
+
+-- and none where they leave less than none
+pub units_none : (ds : List ℕ) (w f up down p : ℕ) → AreDigits ds → length ds ≡ w + f → w + up + p < down →
+    RoundsHalfUp (number ds * 10 ^ up * 10 ^ p) (10 ^ (f + down)) 0
+units_none ds w f up down p digits size places =
+    let small : number ds * 10 ^ (up + p) < 10 ^ length ds * 10 ^ (up + p) =
+    omega (arith, mul-lt-mul_of_pos_left {m = number ds} {n = 10 ^ length ds} {k = 10 ^ (up + p)} (number-lt ds digits) (ten_pow_pos (up + p))) in
+    let whole : 10 ^ (length ds + (up + p)) ≡ 10 ^ length ds * 10 ^ (up + p) = pow-add 10 (length ds) (up + p) in
+    let ten : 10 ^ (length ds + (up + p) + 1) ≡ 10 ^ (length ds + (up + p)) * 10 = pow-add 10 (length ds + (up + p)) 1 in
+    let under : 10 ^ (length ds + (up + p) + 1) ≤ 10 ^ (f + down) = ten_pow_le _ _ (omega arith) in
+    let shape : number ds * 10 ^ (up + p) ≡ number ds * 10 ^ up * 10 ^ p = omega (arith, ap (λ x. number ds * x) (pow-add 10 up p)) in
+    rounds_to_zero (number ds * 10 ^ up * 10 ^ p) (10 ^ (f + down)) (ten_pow_pos (f + down)) (omega arith)
+
+-- with the digits that the count leaves, and the next one rounded in
+pub capped_few : (ds : List ℕ) (w f up down cap k units : ℕ) → AreDigits ds → length ds ≡ w + f → k + down ≡ w + up + 24 → units ≡ min cap (kept_and_rounded ds k) →
+    IsCapped (number ds * 10 ^ up) (f + down) cap units 24
+capped_few ds w f up down cap k units digits size places e = record {
+  m = kept_and_rounded ds k;
+  rounds = subst (λ n. RoundsHalfUp (number ds * 10 ^ up * 10 ^ 24) (10 ^ (f + down)) n) (times_one (kept_and_rounded ds k)) (units_kept ds w f up down 24 k digits size places);
+  capped = e;
+  places = lit≤ tt;
+}
+
+-- with all the digits, and at the last place so many zeros behind them
+pub capped_zeros : (ds : List ℕ) (w f up down cap k size more units p : ℕ) → AreDigits ds → length ds ≡ size → size ≡ w + f → k + down ≡ w + up + 24 → size + more ≡ k → more + p ≡ 24 → units ≡ min cap (kept ds size) →
+    IsCapped (number ds * 10 ^ up) (f + down) cap units p
+capped_zeros ds w f up down cap k size more units p digits is_size sum places behind all e =
+    let own : k - length ds ≡ 24 - p = omega arith in
+    let value : kept_and_rounded ds k ≡ kept ds size * 10 ^ (24 - p) =
+    kept_behind ds k (omega arith) ∙ ap (λ n. kept ds n * 10 ^ (k - length ds)) is_size ∙ ap (λ z. kept ds size * 10 ^ z) own in
+    record {
+      m = kept ds size;
+      rounds = subst (λ n. RoundsHalfUp (number ds * 10 ^ up * 10 ^ 24) (10 ^ (f + down)) n) value (units_kept ds w f up down 24 k digits (omega arith) places);
+      capped = e;
+      places = omega arith;
+    }
+
+-- with all the digits, and zeros in front of the point too
+pub capped_many : (ds : List ℕ) (w f up down cap k size more x units : ℕ) → AreDigits ds → length ds ≡ size → size ≡ w + f → k + down ≡ w + up + 24 → size + (24 + more) ≡ k → x ≡ min cap (kept ds size) → units ≡ min cap (x * 10 ^ more) →
+    IsCapped (number ds * 10 ^ up) (f + down) cap units 0
+capped_many ds w f up down cap k size more x units digits is_size sum places behind all e =
+    let own : k - length ds ≡ more + 24 = omega arith in
+    let power : 10 ^ (more + 24) ≡ 10 ^ more * 10 ^ 24 = pow-add 10 more 24 in
+    let value : kept_and_rounded ds k ≡ kept ds size * 10 ^ (more + 24) =
+    kept_behind ds k (omega arith) ∙ ap (λ n. kept ds n * 10 ^ (k - length ds)) is_size ∙ ap (λ z. kept ds size * 10 ^ z) own in
+    let whole : kept_and_rounded ds k ≡ kept ds size * 10 ^ more * 10 ^ 24 = value ∙ product (kept ds size) (10 ^ more) (10 ^ (more + 24)) (10 ^ 24) power in
+    record {
+      m = kept ds size * 10 ^ more;
+      rounds = subst (λ n. RoundsHalfUp (number ds * 10 ^ up * 10 ^ 24) (10 ^ (f + down)) n) whole (units_kept ds w f up down 24 k digits (omega arith) places);
+      capped = e ∙ ap (λ y. min cap (y * 10 ^ more)) all ∙ min_mul cap (kept ds size) (10 ^ more) (ten_pow_pos more);
+      places = lit≤ tt;
+    }
+
+-- with no digit
+pub capped_none : (ds : List ℕ) (w f up down cap : ℕ) → AreDigits ds → length ds ≡ w + f → w + up + 24 < down → IsCapped (number ds * 10 ^ up) (f + down) cap 0 24
+capped_none ds w f up down cap digits size places = record { m = 0; rounds = units_none ds w f up down 24 digits size places; capped = omega arith; places = lit≤ tt }

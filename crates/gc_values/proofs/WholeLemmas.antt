@@ -1,0 +1,94 @@
+use Rattle.std.proofs.Common.{◌≡◌, ℕ, ◌+◌, ◌-◌, ◌*◌, ◌<◌, ◌≤◌, min, Bool, true, false, cond, ℤ, List, [], ◌∷◌, length, get_or, take, refl, sym, ap, ◌∙◌, subst, inl, inr, arith}
+use Rattle.std.proofs.lemmas.Int.{ints}
+use Rattle.std.proofs.lemmas.List.{take_all}
+use Rattle.gc_values.specs.Cut.{StartsNoSign, CutsSign}
+use Rattle.gc_values.specs.Digits.{IsDigit, AreDigits, number}
+use Rattle.gc_values.specs.Fraction.{signed}
+use Rattle.gc_values.specs.Spelling.{is_minus}
+use Rattle.gc_values.specs.Whole.{NamesNumber, IsNumberFault, NamesWhole, IsBetween, IsWholeFault}
+use Rattle.gc_values.specs.declared.fault.ValueFault.{ValueFault}
+use Rattle.gc_values.proofs.Kept.{AreDigits-at, AreDigits-take_more, number-take_more}
+use Rattle.gc_values.proofs.Unique.{sign_once}
+
+-- the first i digits, up to a cap
+pub record CountedSoFar (text : List ℕ) (i cap value : ℕ) : Type 0 where
+  pub digits : AreDigits (take i text)
+  pub value_is : value ≡ min cap (number (take i text))
+
+pub counted_none : (text : List ℕ) (cap : ℕ) → CountedSoFar text 0 cap 0
+counted_none text cap = record { digits = tt; value_is = omega arith }
+
+capped_step : (n d cap value more whole : ℕ) → value ≡ min cap n → whole ≡ n * 10 + d → more ≡ min (value * 10 + d) cap → more ≡ min cap whole
+capped_step n d cap value more whole e f g = omega arith
+
+pub counted_more : (text : List ℕ) (i cap value more : ℕ) → CountedSoFar text i cap value → i < length text → IsDigit (get_or text i 0) → more ≡ min (value * 10 + (get_or text i 0 - 48)) cap → CountedSoFar text (i + 1) cap more
+counted_more text i cap value more c within here e = record {
+  digits = AreDigits-take_more text i c.digits within here;
+  value_is = capped_step (number (take i text)) (get_or text i 0 - 48) cap value more (number (take (i + 1) text)) c.value_is (number-take_more text i within) e;
+}
+
+pub record Counted (text : List ℕ) (cap value : ℕ) : Type 0 where
+  pub names : NamesNumber text (number text)
+  pub value_is : value ≡ min cap (number text)
+
+pub counted_all : (text : List ℕ) (i cap value : ℕ) → CountedSoFar text i cap value → length text ≤ i → 0 < length text → Counted text cap value
+counted_all text i cap value c all some =
+    let whole = take_all i text all in
+    record {
+      names = record { digits = subst AreDigits whole c.digits; some = some; value = refl };
+      value_is = c.value_is ∙ ap (λ ds. min cap (number ds)) whole;
+    }
+
+-- a byte that is no digit
+pub not_number : (text : List ℕ) (i n : ℕ) → i < length text → (IsDigit (get_or text i 0) → ⊥) → NamesNumber text n → ⊥
+not_number text i n within other names = other (AreDigits-at text i 0 names.digits within)
+
+pub one_number : (text : List ℕ) (m n : ℕ) → NamesNumber text m → NamesNumber text n → m ≡ n
+one_number text m n x y = x.value ∙ sym y.value
+
+digits_no_sign : (ds : List ℕ) → AreDigits ds → 0 < length ds → StartsNoSign ds
+digits_no_sign [] h some = absurd (omega arith)
+digits_no_sign (b ∷ bs) h some = (λ e. let d = h.0 in omega (arith, e, d.0), λ e. let d = h.0 in omega (arith, e, d.0))
+
+-- a sign cut off, and the number behind it
+pub cut_names : (text rest : List ℕ) (negative : Bool) (n : ℕ) → CutsSign text negative rest → NamesNumber rest n → NamesWhole text (signed negative n)
+cut_names text rest negative n cut names = record {
+  sign = cut.sign;
+  digits = rest;
+  n = n;
+  text_is = cut.text_is;
+  number_is = names;
+  value = ap (λ b. signed b n) cut.negative_is;
+}
+
+pub names_cut : (text rest : List ℕ) (negative : Bool) (z : ℤ) → CutsSign text negative rest → NamesWhole text z → (n : ℕ) × NamesNumber rest n × (z ≡ signed negative n)
+names_cut text rest negative z cut w =
+    let same = sign_once cut.sign w.sign rest w.digits cut.first (digits_no_sign w.digits w.number_is.digits w.number_is.some) (sym cut.text_is ∙ w.text_is) in
+    (w.n, subst (λ ds. NamesNumber ds w.n) (sym same.1) w.number_is, w.value ∙ ap (λ b. signed b w.n) (sym (cut.negative_is ∙ same.0)))
+
+cut_of : (text : List ℕ) (z : ℤ) (w : NamesWhole text z) → CutsSign text (is_minus w.sign) w.digits
+cut_of text z w = record { sign = w.sign; text_is = w.text_is; negative_is = refl; first = λ _. digits_no_sign w.digits w.number_is.digits w.number_is.some }
+
+-- a text writes one whole number
+pub one_whole : (text : List ℕ) (y z : ℤ) → NamesWhole text y → NamesWhole text z → y ≡ z
+one_whole text y z v w =
+    let r = names_cut text v.digits (is_minus v.sign) z (cut_of text y v) w in
+    v.value ∙ ap (signed (is_minus v.sign)) (one_number v.digits v.n r.0 v.number_is r.1) ∙ sym r.2
+
+-- a number with its sign is between the two exactly where its size is
+pub between_from : (negative : Bool) (n below above : ℕ) → n ≤ cond negative below above → IsBetween below above (signed negative n)
+between_from false n below above h = (omega (arith, ints), omega (arith, ints))
+between_from true n below above h = (omega (arith, ints), omega (arith, ints))
+
+pub size_from : (negative : Bool) (n below above : ℕ) → IsBetween below above (signed negative n) → n ≤ cond negative below above
+size_from false n below above h = let u = h.1 in omega (arith, ints, u)
+size_from true n below above h = let l = h.0 in omega (arith, ints, l)
+
+beyond_size : (negative : Bool) (n most below above : ℕ) → most ≡ cond negative below above → most < n → IsBetween below above (signed negative n) → ⊥
+beyond_size negative n most below above e far between = let few = size_from negative n below above between in omega (arith, e, few)
+
+-- the fault of the number behind a sign is that of the whole
+pub whole_fault : (text rest : List ℕ) (negative : Bool) (most below above : ℕ) (e : ValueFault) → CutsSign text negative rest → most ≡ cond negative below above → IsNumberFault most rest e → IsWholeFault below above text e
+whole_fault text rest negative most below above e cut size (inl none) = inl (none.0, λ z w. let r = names_cut text rest negative z cut w in none.1 r.0 r.1)
+whole_fault text rest negative most below above e cut size (inr far) =
+    inr (far.0, (signed negative far.1.0, cut_names text rest negative far.1.0 cut far.1.1, beyond_size negative far.1.0 most below above size far.1.2))

@@ -1,0 +1,123 @@
+use Rattle.std.proofs.Common.{◌≡◌, ℕ, zero, suc, ◌+◌, ◌-◌, ◌*◌, ◌/◌, ◌%◌, ◌^◌, ◌<◌, ◌≤◌, cond, List, [], ◌∷◌, ◌++◌, length, map, None, Some, ℤ, pos, negsuc, ◌*ℤ◌, refl, sym, ap, ◌∙◌, subst, inl, inr, arith, lit<, lit≤, length-append}
+use Rattle.std.proofs.Math.Nat.{pow-suc, mod-lt, div-add-mod', div-one, pos_of_ne-zero}
+use Rattle.std.proofs.lemmas.List.{length-map, append-nil}
+use Rattle.std.proofs.lemmas.Nat.{div_below}
+use Rattle.std.proofs.lemmas.Bool.Decides.{eqb_tells}
+use Rattle.std.specs.Int.Digits.{digits_of, number_from_digits_after, AllBelowBase}
+use Rattle.std.proofs.lemmas.Int.Digits.{number_digits_of, all_below_base_digits_of}
+use Rattle.gc_values.specs.Digits.{IsDigit, AreDigits, number}
+use Rattle.gc_values.specs.Fraction.{signed, IsCanonical}
+use Rattle.gc_values.specs.Spelling.{Sign, Absent, Minus, sign_text, is_minus, Parts, value, Spells}
+use Rattle.gc_values.specs.Written.{digits_text, whole_text, last_digits, behind_text, written}
+use Rattle.gc_values.proofs.Kept.{number-append, AreDigits-append}
+use Rattle.gc_values.proofs.Powers.{ten_pow_pos}
+use Rattle.gc_values.proofs.Rounded.{exact_rounds}
+use Rattle.gc_values.proofs.Signs.{signed-mul}
+use Rattle.gc_values.proofs.WrittenLemmas.{digits_text_step, length-last_digits}
+
+a_digit : (d : ℕ) → d < 10 → IsDigit (48 + d)
+a_digit d h = (omega arith, omega arith)
+
+AreDigits-last_digits : (k n : ℕ) → AreDigits (last_digits k n)
+AreDigits-last_digits zero n = tt
+AreDigits-last_digits (suc k) n = AreDigits-append (last_digits k (n / 10)) _ (AreDigits-last_digits k (n / 10)) (a_digit (n % 10) (mod-lt n (lit< tt)), tt)
+
+number-last_digits : (k n : ℕ) → n < 10 ^ k → number (last_digits k n) ≡ n
+number-last_digits zero n h = omega arith
+number-last_digits (suc k) n h =
+    let small : n / 10 < 10 ^ k = div_below n 10 (10 ^ k) (lit< tt) (subst (λ x. n < x) (pow-suc 10 k) h) in
+    let front = number-last_digits k (n / 10) small in
+    omega (arith, number-append (last_digits k (n / 10)) ((48 + n % 10) ∷ []), front)
+
+digits_step : (n d p q v w x : ℕ) → v ≡ (n * 10 + d) * p + w → q ≡ p * 10 → x ≡ p → v ≡ n * q + (d * x + w)
+digits_step n d p q v w x e f g = omega (arith, e, ap (λ y. n * y) f, ap (λ y. d * y) g)
+
+digits_after : (n : ℕ) (ds : List ℕ) → number_from_digits_after 10 n ds ≡ n * 10 ^ length ds + number (map (λ d. 48 + d) ds)
+digits_after n [] = omega arith
+digits_after n (d ∷ ds) =
+    let back : (48 + d - 48) * 10 ^ length (map (λ d. 48 + d) ds) ≡ d * 10 ^ length (map (λ d. 48 + d) ds) = ap (λ e. e * 10 ^ length (map (λ d. 48 + d) ds)) (let e : 48 + d - 48 ≡ d = omega arith in e) in
+    digits_step n d (10 ^ length ds) (10 ^ length (d ∷ ds)) (number_from_digits_after 10 (n * 10 + d) ds) (number (map (λ d. 48 + d) ds)) (10 ^ length (map (λ d. 48 + d) ds))
+    (digits_after (n * 10 + d) ds) (pow-suc 10 (length ds)) (ap (λ e. 10 ^ e) (length-map ds (λ d. 48 + d)))
+    ∙ ap (λ y. n * 10 ^ length (d ∷ ds) + (y + number (map (λ d. 48 + d) ds))) (sym back)
+
+number-digits_text : (n : ℕ) → number (digits_text n) ≡ n
+number-digits_text n = omega (arith, digits_after 0 (digits_of 10 n), number_digits_of 10 n (lit≤ tt))
+
+map_digits : (ds : List ℕ) → AllBelowBase 10 ds → AreDigits (map (λ d. 48 + d) ds)
+map_digits [] h = tt
+map_digits (d ∷ ds) h = (a_digit d h.0, map_digits ds h.1)
+
+AreDigits-digits_text : (n : ℕ) → AreDigits (digits_text n)
+AreDigits-digits_text n = map_digits (digits_of 10 n) (all_below_base_digits_of 10 n (lit≤ tt))
+
+-- a whole number is one digit or more, and they write it
+pub record Writes (n : ℕ) (text : List ℕ) : Type 0 where
+  pub digits : AreDigits text
+  pub some : 0 < length text
+  pub number_is : number text ≡ n
+
+pub writes_whole : (n : ℕ) → Writes n (whole_text n)
+writes_whole n = elim (eqb_tells n 0) [
+  | inl none ↦ subst (λ xs. Writes n xs) (ap (λ b. cond b (48 ∷ []) (digits_text n)) (sym none.0)) (record { digits = (a_digit 0 (lit< tt), tt); some = lit< tt; number_is = sym none.1 })
+  | inr some ↦ subst (λ xs. Writes n xs) (ap (λ b. cond b (48 ∷ []) (digits_text n)) (sym some.0)) (record {
+    digits = AreDigits-digits_text n;
+    some = let h : 0 < n = pos_of_ne-zero some.1 in omega (arith, ap length (digits_text_step n h), length-append (digits_text (n / 10)) ((48 + n % 10) ∷ []));
+    number_is = number-digits_text n;
+  })
+]
+
+writes_behind : (s n : ℕ) → n < 10 ^ s → 0 < s → Writes n (last_digits s n)
+writes_behind s n h some = record { digits = AreDigits-last_digits s n; some = omega (arith, length-last_digits s n); number_is = number-last_digits s n h }
+
+-- what stands behind the point: digits, which with the whole number in front write the value
+pub record Behind (a s : ℕ) (text : List ℕ) : Type 0 where
+  pub digits : AreDigits text
+  pub same : a * 10 ^ length text ≡ (a / 10 ^ s * 10 ^ length text + number text) * 10 ^ s
+
+behind_none : (a : ℕ) → Behind a 0 (48 ∷ [])
+behind_none a = record { digits = (a_digit 0 (lit< tt), tt); same = let e : a / 10 ^ 0 ≡ a = div-one a in let f : (a / 10 ^ 0 * 10 + 0) * 1 ≡ a * 10 = omega (arith, e) in sym f }
+
+behind_some : (a s : ℕ) → 0 < s → Behind a s (last_digits s (a % 10 ^ s))
+behind_some a s some =
+    let w = writes_behind s (a % 10 ^ s) (mod-lt a (ten_pow_pos s)) some in
+    let size = length-last_digits s (a % 10 ^ s) in
+    let whole : a / 10 ^ s * 10 ^ s + a % 10 ^ s ≡ a = div-add-mod' a (10 ^ s) in
+    record {
+      digits = w.digits;
+      same = ap (λ k. a * 10 ^ k) size ∙ ap (λ x. x * 10 ^ s) (sym whole) ∙ ap (λ x. (a / 10 ^ s * 10 ^ s + x) * 10 ^ s) (sym w.number_is)
+          ∙ ap (λ k. (a / 10 ^ s * 10 ^ k + number (last_digits s (a % 10 ^ s))) * 10 ^ s) (sym size);
+    }
+
+pub behind : (a s : ℕ) → Behind a s (behind_text s (a % 10 ^ s))
+behind a s = elim (eqb_tells s 0) [
+  | inl none ↦ subst (λ xs. Behind a s xs) (ap (λ b. cond b (48 ∷ []) (last_digits s (a % 10 ^ s))) (sym none.0)) (subst (λ t. Behind a t (48 ∷ [])) (sym none.1) (behind_none a))
+  | inr some ↦ subst (λ xs. Behind a s xs) (ap (λ b. cond b (48 ∷ []) (last_digits s (a % 10 ^ s))) (sym some.0)) (behind_some a s (pos_of_ne-zero some.1))
+]
+
+with_sign : (sign : Sign) (m : ℤ) (s : ℕ) (a : ℕ) → m ≡ signed (is_minus sign) a → IsCanonical m s → s ≤ 24 →
+    Spells (sign_text sign ++ (whole_text (a / 10 ^ s) ++ (46 ∷ behind_text s (a % 10 ^ s)))) m s
+with_sign sign m s a m_is canonical places =
+    let w = writes_whole (a / 10 ^ s) in
+    let b = behind a s in
+    let whole : List ℕ = whole_text (a / 10 ^ s) in
+    let frac : List ℕ = behind_text s (a % 10 ^ s) in
+    let parts : Parts = record { sign = sign; whole = whole; fraction = Some frac; exponent = None } in
+    let digits : number (whole ++ frac) ≡ a / 10 ^ s * 10 ^ length frac + number frac = number-append whole frac ∙ ap (λ n. n * 10 ^ length frac + number frac) w.number_is in
+    let size : a * 10 ^ (length frac + 0) ≡ number (whole ++ frac) * 10 ^ 0 * 10 ^ s =
+    ap (λ k. a * 10 ^ k) (let e : length frac + 0 ≡ length frac = omega arith in e) ∙ b.same ∙ ap (λ n. n * 10 ^ s) (sym digits) ∙ ap (λ n. n * 10 ^ s) (let e : number (whole ++ frac) ≡ number (whole ++ frac) * 10 ^ 0 = omega arith in e) in
+    let same : m *ℤ pos (10 ^ (length frac + 0)) ≡ signed (is_minus sign) (number (whole ++ frac) * 10 ^ 0) *ℤ pos (10 ^ s) =
+    ap (λ z. z *ℤ pos (10 ^ (length frac + 0))) m_is ∙ signed-mul (is_minus sign) a (10 ^ (length frac + 0)) ∙ ap (signed (is_minus sign)) size ∙ sym (signed-mul (is_minus sign) (number (whole ++ frac) * 10 ^ 0) (10 ^ s)) in (
+      value parts,
+      (
+        parts,
+        record { whole = w.digits; fraction = b.digits; some = let h = w.some in omega arith; exponent = tt },
+        ap (λ xs. sign_text sign ++ (whole ++ (46 ∷ xs))) (sym (append-nil frac)),
+        refl,
+      ),
+      exact_rounds (value parts) 24 m s canonical places same,
+    )
+
+-- what is written is read back
+pub written_spells : (m : ℤ) (s : ℕ) → IsCanonical m s → s ≤ 24 → Spells (written m s) m s
+written_spells (pos n) s canonical places = with_sign Absent (pos n) s n refl canonical places
+written_spells (negsuc n) s canonical places = with_sign Minus (negsuc n) s (suc n) refl canonical places

@@ -1,0 +1,38 @@
+use Rattle.std.proofs.Common.{subst, sym}
+use Rattle.gc_values.specs.Spelling.{Spells}
+use Rattle.gc_values.specs.Written.{written}
+use Rattle.gc_values.specs.declared.decimal.Decimal.{Decimal}
+use Rattle.gc_values.proofs.DecimalLaws.{written_spells_decimal}
+use Rattle.gc_values.proofs.Reading.{IsReading, reads_parts}
+use Rattle.gc_values.proofs.decimal.Decimal.read.Goals as goal
+use Rattle.gc_values.proofs.decimal.Decimal.read.Goals.{After-in_range}
+
+reading : (c : After-in_range) → IsReading c.args.text.now c.in_range.result
+reading c =
+    reads_parts c.args.text.now _ _ _ _ _ _ _ c.in_range.result c.in-Some.ensures.found c.units-magnitude.ensures c.in_range.ensures.made c.in_range.ensures.exact
+
+pub returns-clause-value : goal.returns-clause-value
+returns-clause-value c = (reading c).value
+
+pub returns-clause-only : goal.returns-clause-only
+returns-clause-only c = (reading c).only
+
+pub returns-clause-range : goal.returns-clause-range
+returns-clause-range c = (reading c).range
+
+pub returns-clause-spelling : goal.returns-clause-spelling
+returns-clause-spelling c = (reading c).spelling
+
+pub returns-clause-faults : goal.returns-clause-faults
+returns-clause-faults c = (reading c).faults
+
+spelled : (d : Decimal) → Spells (written d.digits d.scale) d.digits d.scale
+spelled = written_spells_decimal
+
+pub returns-clause-again : goal.returns-clause-again
+returns-clause-again c d e = (reading c).only d (subst (λ xs. Spells xs d.digits d.scale) (sym e) (spelled d))
+
+pub returns-in_default-clause-again : goal.returns-in_default-clause-again
+returns-in_default-clause-again c d e =
+    let s = subst (λ xs. Spells xs d.digits d.scale) (sym e) (spelled d) in
+    absurd (c.in_default.ensures.none s.1.0 s.1.1 s.1.2)

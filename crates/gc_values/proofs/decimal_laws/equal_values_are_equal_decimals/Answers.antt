@@ -1,0 +1,8 @@
+use Rattle.std.proofs.Common.{subst, refl}
+use Rattle.gc_values.specs.Fraction.{SameValue}
+use Rattle.gc_values.specs.declared.decimal.Decimal.{Decimal}
+use Rattle.gc_values.proofs.DecimalLaws.{value_unique}
+use Rattle.gc_values.proofs.decimal_laws.equal_values_are_equal_decimals.Goals as goal
+
+pub returns : goal.returns
+returns c d e = (value_unique d e, λ same. subst (λ (x : Decimal). SameValue d.digits d.scale x.digits x.scale) same refl)

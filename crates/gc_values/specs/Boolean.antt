@@ -1,0 +1,16 @@
+use Rattle.std.specs.Prelude.{ℕ, Bool, true, false, List, [], ◌∷◌, pos}
+use Rattle.gc_values.specs.Whole.{NamesWhole}
+
+-- 0 for false and 1 for true
+abbrev pub number_of : Bool → ℕ
+number_of false = 0
+number_of true = 1
+
+-- the text writes the whole number of the truth value
+abbrev pub NamesBoolean : List ℕ → Bool → Type 0
+NamesBoolean text b = NamesWhole text (pos (number_of b))
+
+-- a truth value, written: `0` or `1`
+abbrev pub boolean_text : Bool → List ℕ
+boolean_text false = 48 ∷ []
+boolean_text true = 49 ∷ []

@@ -1,0 +1,45 @@
+use Rattle.std.specs.Prelude.{ℕ, IsTrue, ◌*◌, ◌^◌, ◌==◌, ◌&&◌, Bool, ℤ, pos, ◌*ℤ◌, int_le, unsigned_abs}
+use Rattle.std.specs.Ordering.{int_cmp, int_eq, on}
+use Rattle.std.specs.declared.cmp.Ordering.{Ordering}
+use Rattle.gc_values.specs.Fraction.{Fraction, is_decimal, signed, is_negative, distance, units_of}
+use Rattle.gc_values.specs.Nearest.{rounded_to}
+use Rattle.gc_values.specs.declared.decimal.Decimal.{Decimal}
+use Rattle.gc_values.specs.RoundedFacts.{decimal_few, decimal_in_range, decimal_canonical, zero_few, zero_in_range, zero_canonical, rounded_few, rounded_in_range, rounded_canonical}
+
+-- the decimal's value
+abbrev pub fraction : Decimal → Fraction
+fraction d = record { n = d.digits; k = d.scale }
+
+-- the decimal with these digits and this scale
+abbrev pub decimal : (m : ℤ) (s : ℕ) → IsTrue (is_decimal m s) → Decimal
+decimal m s h = record { digits = m; scale = s; has_few_places = decimal_few m s h; is_in_range = decimal_in_range m s h; is_canonical = decimal_canonical m s h }
+
+-- 0.0
+abbrev pub zero : Decimal
+zero = record { digits = pos 0; scale = 0; has_few_places = zero_few; is_in_range = zero_in_range; is_canonical = zero_canonical }
+
+-- the decimal rounded to p places, half away from zero
+unfoldable pub rounded : Decimal → ℕ → Decimal
+rounded d p = record {
+  digits = signed (is_negative d.digits) (rounded_to (unsigned_abs d.digits) d.scale p).digits;
+  scale = (rounded_to (unsigned_abs d.digits) d.scale p).places;
+  has_few_places = rounded_few (unsigned_abs d.digits) d.scale p d.has_few_places;
+  is_in_range = rounded_in_range (is_negative d.digits) (unsigned_abs d.digits) d.scale p d.is_in_range;
+  is_canonical = rounded_canonical (is_negative d.digits) (unsigned_abs d.digits) d.scale p;
+}
+
+-- the value in units of 10^-24, which is a whole number
+abbrev pub units : Decimal → ℤ
+units d = units_of d.digits d.scale
+
+-- what `==` answers: whether digits and scale are the same
+abbrev pub decimal_eq : Decimal → Decimal → Bool
+decimal_eq a b = int_eq a.digits b.digits && (a.scale == b.scale)
+
+-- the order of the values
+abbrev pub decimal_cmp : Decimal → Decimal → Ordering
+decimal_cmp = on units int_cmp
+
+-- whether two values are at most as far apart as the area, which may be below zero
+unfoldable pub is_within : Decimal → Decimal → Decimal → Bool
+is_within a b area = int_le (pos (distance a.digits a.scale b.digits b.scale * 10 ^ area.scale)) (area.digits *ℤ pos (10 ^ a.scale * 10 ^ b.scale))

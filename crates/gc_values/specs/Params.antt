@@ -1,0 +1,47 @@
+use Rattle.std.specs.Prelude.{◌≡◌, ℕ, ◌%◌, ◌==◌, List, [], ◌∷◌, ◌++◌, replicate, count_by}
+use Rattle.std.specs.List.{flat_map}
+
+-- how many double quotes stand in the bytes
+abbrev pub quotes : List ℕ → ℕ
+quotes bytes = count_by (λ b. b == 34) bytes
+
+-- spaces alone, or nothing
+abbrev pub AreSpaces : List ℕ → Type 0
+AreSpaces bytes = (n : ℕ) × (bytes ≡ replicate n 32)
+
+-- a parameter: no space at its ends, its double quotes in pairs, and each comma inside a pair
+pub record IsParam (item : List ℕ) : Type 0 where
+  pub first : (rest : List ℕ) → item ≡ 32 ∷ rest → ⊥
+  pub last : (front : List ℕ) → item ≡ front ++ 32 ∷ [] → ⊥
+  pub pairs : quotes item % 2 ≡ 0
+  pub commas : (front rest : List ℕ) → item ≡ front ++ 44 ∷ rest → quotes front % 2 ≡ 1
+
+-- the item with any spaces round it
+pub record IsPadded (piece item : List ℕ) : Type 0 where
+  pub before : ℕ
+  pub behind : ℕ
+  pub piece_is : piece ≡ replicate before 32 ++ (item ++ replicate behind 32)
+
+-- the pieces are the parameters, one for one, with any spaces round each
+abbrev pub ArePieces : List (List ℕ) → List (List ℕ) → Type 0
+ArePieces [] [] = Unit {0}
+ArePieces [] (item ∷ items) = ⊥
+ArePieces (piece ∷ pieces) [] = ⊥
+ArePieces (piece ∷ pieces) (item ∷ items) = IsPadded piece item × IsParam item × ArePieces pieces items
+
+-- texts joined by commas
+abbrev pub joined : List (List ℕ) → List ℕ
+joined [] = []
+joined (t ∷ ts) = t ++ flat_map (λ u. 44 ∷ u) ts
+
+-- the bytes are the parameters joined by commas, with any spaces round each, and not spaces alone
+pub record AreJoined (bytes : List ℕ) (items : List (List ℕ)) : Type 0 where
+  pub pieces : List (List ℕ)
+  pub bytes_are : bytes ≡ joined pieces
+  pub pieces_are : ArePieces pieces items
+  pub some : AreSpaces bytes → ⊥
+
+-- a list of parameters; it is empty exactly where the bytes are spaces alone
+abbrev pub IsParams : List ℕ → List (List ℕ) → Type 0
+IsParams bytes [] = AreSpaces bytes
+IsParams bytes (item ∷ items) = AreJoined bytes (item ∷ items)

@@ -1,0 +1,135 @@
+-- the facts that a rounded decimal keeps, which stand in the decimal itself
+use Rattle.std.proofs.Common.{◌≡◌, ℕ, zero, suc, ◌+◌, ◌-◌, ◌*◌, ◌/◌, ◌%◌, ◌^◌, ◌<◌, ◌≤◌, Bool, true, false, cond, not, ◌&&◌, ◌||◌, ◌==◌, nat_le, min, ℤ, pos, unsigned_abs, refl, sym, ap, ◌∙◌, subst, inl, inr, arith, lit<, lit≤}
+use Rattle.std.proofs.Math.Nat.{pow-suc, one-le-pow, div-add-mod', mod-lt, mul-le-mul_right, le_of_mul-le-mul_right}
+use Rattle.std.proofs.lemmas.Nat.{pow-add}
+use Rattle.std.proofs.lemmas.Bool.Decides.{eqb_tells}
+use Rattle.std.proofs.lemmas.Bool.{cases_lt}
+use borrow.Author.Tests.{leb-true, eq-eqb}
+use Rattle.gc_values.specs.Fraction.{signed, is_decimal, IsCanonical, IsInRange}
+use Rattle.gc_values.specs.Nearest.{gap, RoundsHalfUp, half_up, rounded_to}
+use Rattle.gc_values.specs.Zeros.{WithoutZeros, Placed, stripped}
+
+zero_back : (m s n t : ℕ) → m % 10 ≡ 0 → (m / 10) * 10 ^ t ≡ n * 10 ^ s → m * 10 ^ t ≡ n * 10 ^ suc s
+zero_back m s n t whole same =
+    let ten : m ≡ 10 * (m / 10) = omega arith in
+    omega (arith, same, pow-suc 10 s, ap (λ x. n * x) (pow-suc 10 s), ap (λ x. x * 10 ^ t) ten)
+
+one_more : (m s n t : ℕ) → m % 10 ≡ 0 → WithoutZeros (m / 10) s n t → WithoutZeros m (suc s) n t
+one_more m s n t whole w = record { same = zero_back m s n t whole w.same; fewer = let f = w.fewer in omega (arith, f); canonical = w.canonical }
+
+abbrev Stripped : ℕ → ℕ → Placed → Type 0
+Stripped m s r = WithoutZeros m s r.digits r.places
+
+-- the zeros are off
+pub stripped_is : (m s : ℕ) → WithoutZeros m s (stripped m s).digits (stripped m s).places
+stripped_is m zero = record { same = refl; fewer = omega arith; canonical = λ h. absurd (omega arith) }
+stripped_is m (suc s) = elim (eqb_tells (m % 10) 0) [
+  | inl whole ↦
+      subst (Stripped m (suc s)) (ap (λ b. cond b (stripped (m / 10) s) (record { digits = m; places = suc s })) (sym whole.0))
+      (one_more m s (stripped (m / 10) s).digits (stripped (m / 10) s).places whole.1 (stripped_is (m / 10) s))
+  | inr part ↦
+      subst (Stripped m (suc s)) (ap (λ b. cond b (stripped (m / 10) s) (record { digits = m; places = suc s })) (sym part.0))
+      (record { same = refl; fewer = omega arith; canonical = λ _. part.1 })
+]
+
+near_from : (a b m r : ℕ) → 0 < b → m * (2 * b) + r ≡ 2 * a + b → r < 2 * b → RoundsHalfUp a b m
+near_from a b m r some whole rest = record { near = omega arith; tie = λ h. omega arith }
+
+-- the quotient is the nearest whole number
+pub half_up_rounds : (a b : ℕ) → 0 < b → RoundsHalfUp a b (half_up a b)
+half_up_rounds a b some = near_from a b (half_up a b) ((2 * a + b) % (2 * b)) some (div-add-mod' (2 * a + b) (2 * b)) (mod-lt (2 * a + b) (omega arith))
+
+-- and at most what a is at most times b
+pub rounds_bound : (a b m n : ℕ) → 0 < b → RoundsHalfUp a b m → a ≤ n * b → m ≤ n
+rounds_bound a b m n some r h =
+    let near : 2 * gap a (m * b) ≤ b = r.near in
+    let tie : 2 * gap a (m * b) ≡ b → a < m * b = r.tie in
+    elim (cases_lt n m) [
+      | inl above ↦
+          let more : n * b + b ≤ m * b = omega (arith, mul-le-mul_right {m = n + 1} {n = m} b (omega arith)) in
+          absurd (omega arith)
+      | inr within ↦ within
+    ]
+
+pub ten_pow_pos : (k : ℕ) → 0 < 10 ^ k
+ten_pow_pos k = one-le-pow k 10 (lit< tt)
+
+pub unsigned_abs-signed : (b : Bool) (m : ℕ) → unsigned_abs (signed b m) ≡ m
+unsigned_abs-signed false m = refl
+unsigned_abs-signed true zero = refl
+unsigned_abs-signed true (suc m) = refl
+
+-- zeros at the end don't change the range
+pub zeros_in_range : (m s n t : ℕ) → WithoutZeros m s n t → m ≤ 10 ^ 13 * 10 ^ s → n ≤ 10 ^ 13 * 10 ^ t
+zeros_in_range m s n t w h =
+    le_of_mul-le-mul_right {m = n} {n = 10 ^ 13 * 10 ^ t} {k = 10 ^ s} (omega (arith, w.same, mul-le-mul_right {m = m} {n = 10 ^ 13 * 10 ^ s} (10 ^ t) h)) (ten_pow_pos s)
+
+-- nor do places that are left out
+pub places_in_range : (a s p : ℕ) → p ≤ s → a ≤ 10 ^ 13 * 10 ^ s → a ≤ 10 ^ 13 * 10 ^ p * 10 ^ (s - p)
+places_in_range a s p places h =
+    let back : p + (s - p) ≡ s = omega arith in
+    let power : 10 ^ p * 10 ^ (s - p) ≡ 10 ^ s = sym (pow-add 10 p (s - p)) ∙ ap (λ e. 10 ^ e) back in
+    omega (arith, h, power)
+
+-- a fraction that is rounded at its own or at fewer places
+pub rounded_to_zeros : (m s p : ℕ) → WithoutZeros (half_up m (10 ^ (s - p))) (min s p) (rounded_to m s p).digits (rounded_to m s p).places
+rounded_to_zeros m s p = stripped_is (half_up m (10 ^ (s - p))) (min s p)
+
+pub rounded_few : (m s p : ℕ) → s ≤ 24 → (rounded_to m s p).places ≤ 24
+rounded_few m s p h = let w = (rounded_to_zeros m s p).fewer in omega (arith, w)
+
+min_off : (s p : ℕ) → s - min s p ≡ s - p
+min_off s p = omega arith
+
+pub rounded_in_range : (b : Bool) (m s p : ℕ) → m ≤ 10 ^ 13 * 10 ^ s → IsInRange (signed b (rounded_to m s p).digits) (rounded_to m s p).places
+rounded_in_range b m s p h =
+    let size : m ≤ 10 ^ 13 * 10 ^ min s p * 10 ^ (s - p) =
+    subst (λ e. m ≤ 10 ^ 13 * 10 ^ min s p * 10 ^ e) (min_off s p) (places_in_range m s (min s p) (omega arith) h) in
+    let near = half_up_rounds m (10 ^ (s - p)) (ten_pow_pos (s - p)) in
+    let whole = rounds_bound m (10 ^ (s - p)) (half_up m (10 ^ (s - p))) (10 ^ 13 * 10 ^ min s p) (ten_pow_pos (s - p)) near size in
+    let all = zeros_in_range (half_up m (10 ^ (s - p))) (min s p) (rounded_to m s p).digits (rounded_to m s p).places (rounded_to_zeros m s p) whole in
+    subst (λ n. n ≤ 10 ^ 13 * 10 ^ (rounded_to m s p).places) (sym (unsigned_abs-signed b (rounded_to m s p).digits)) all
+
+pub rounded_canonical : (b : Bool) (m s p : ℕ) → IsCanonical (signed b (rounded_to m s p).digits) (rounded_to m s p).places
+rounded_canonical b m s p some divides =
+    (rounded_to_zeros m s p).canonical some (ap (λ n. n % 10) (sym (unsigned_abs-signed b (rounded_to m s p).digits)) ∙ divides)
+
+pub zero_few : 0 ≤ 24
+zero_few = lit≤ tt
+
+pub zero_in_range : IsInRange (pos 0) 0
+zero_in_range = lit≤ tt
+
+pub zero_canonical : IsCanonical (pos 0) 0
+zero_canonical below = absurd (omega arith)
+
+-- what the test of a decimal says
+first_holds : (s t : Bool) → (s && t) ≡ true → s ≡ true
+first_holds true t h = refl
+first_holds false t h = h
+
+second_holds : (s t : Bool) → (s && t) ≡ true → t ≡ true
+second_holds true t h = h
+second_holds false t h = absurd (cc)
+
+pub decimal_few : (m : ℤ) (s : ℕ) → is_decimal m s ≡ true → s ≤ 24
+decimal_few m s h = leb-true s 24 (first_holds (nat_le s 24) (nat_le (unsigned_abs m) (10 ^ 13 * 10 ^ s) && (s == 0 || not (unsigned_abs m % 10 == 0))) h)
+
+rest : (m : ℤ) (s : ℕ) → is_decimal m s ≡ true → (nat_le (unsigned_abs m) (10 ^ 13 * 10 ^ s) && (s == 0 || not (unsigned_abs m % 10 == 0))) ≡ true
+rest m s h = second_holds (nat_le s 24) (nat_le (unsigned_abs m) (10 ^ 13 * 10 ^ s) && (s == 0 || not (unsigned_abs m % 10 == 0))) h
+
+pub decimal_in_range : (m : ℤ) (s : ℕ) → is_decimal m s ≡ true → IsInRange m s
+decimal_in_range m s h = leb-true (unsigned_abs m) (10 ^ 13 * 10 ^ s) (first_holds (nat_le (unsigned_abs m) (10 ^ 13 * 10 ^ s)) (s == 0 || not (unsigned_abs m % 10 == 0)) (rest m s h))
+
+some_places : (s : ℕ) → 0 < s → (s == 0) ≡ false
+some_places s some = elim (eqb_tells s 0) [ inl none ↦ absurd (let e = none.1 in omega (arith, e)) | inr more ↦ more.0 ]
+
+no_zero : (a b : Bool) → (a || not b) ≡ true → a ≡ false → b ≡ true → ⊥
+no_zero true b h e f = absurd (cc)
+no_zero false true h e f = absurd (cc)
+no_zero false false h e f = absurd (cc)
+
+pub decimal_canonical : (m : ℤ) (s : ℕ) → is_decimal m s ≡ true → IsCanonical m s
+decimal_canonical m s h some divides =
+    let last = second_holds (nat_le (unsigned_abs m) (10 ^ 13 * 10 ^ s)) (s == 0 || not (unsigned_abs m % 10 == 0)) (rest m s h) in
+    no_zero (s == 0) (unsigned_abs m % 10 == 0) last (some_places s some) (eq-eqb (unsigned_abs m % 10) 0 divides)

@@ -1,0 +1,100 @@
+use Rattle.std.specs.Prelude.{◌≡◌, ℕ, ◌+◌, ◌*◌, ◌^◌, ◌<◌, ◌≤◌, Bool, true, false, List, [], ◌∷◌, ◌++◌, length, Option, Some, None, ℤ, unsigned_abs, if◌then◌else◌}
+use Rattle.gc_values.specs.Digits.{AreDigits, number}
+use Rattle.gc_values.specs.Fraction.{Fraction, signed, IsRounded}
+
+-- a sign that may stand before digits
+pub data Sign : Type 0 where
+  Absent : Sign
+  Plus : Sign
+  Minus : Sign
+
+abbrev pub sign_text : Sign → List ℕ
+sign_text Absent = []
+sign_text Plus = 43 ∷ []
+sign_text Minus = 45 ∷ []
+
+abbrev pub is_minus : Sign → Bool
+is_minus Absent = false
+is_minus Plus = false
+is_minus Minus = true
+
+-- `e` or `E`, a sign and digits
+pub record Exponent : Type 0 where
+  pub capital : Bool
+  pub sign : Sign
+  pub digits : List ℕ
+
+-- the parts of a number's text; the fraction is there where a point is
+pub record Parts : Type 0 where
+  pub sign : Sign
+  pub whole : List ℕ
+  pub fraction : Option (List ℕ)
+  pub exponent : Option Exponent
+
+abbrev pub fraction_text : Option (List ℕ) → List ℕ
+fraction_text None = []
+fraction_text (Some ds) = 46 ∷ ds
+
+abbrev pub fraction_digits : Option (List ℕ) → List ℕ
+fraction_digits None = []
+fraction_digits (Some ds) = ds
+
+-- `E` or `e`
+abbrev pub mark : Bool → ℕ
+mark capital = if capital then 69 else 101
+
+abbrev pub exponent_text : Option Exponent → List ℕ
+exponent_text None = []
+exponent_text (Some e) = mark e.capital ∷ (sign_text e.sign ++ e.digits)
+
+-- how many times the exponent multiplies by ten, and how many times it divides
+abbrev pub ups : Option Exponent → ℕ
+ups None = 0
+ups (Some e) = if is_minus e.sign then 0 else number e.digits
+
+abbrev pub downs : Option Exponent → ℕ
+downs None = 0
+downs (Some e) = if is_minus e.sign then number e.digits else 0
+
+-- one to three digits
+pub record IsShort (digits : List ℕ) : Type 0 where
+  pub digits_are : AreDigits digits
+  pub some : 0 < length digits
+  pub few : length digits ≤ 3
+
+abbrev pub IsExponent : Option Exponent → Type 0
+IsExponent None = Unit {0}
+IsExponent (Some e) = IsShort e.digits
+
+-- digits, at least one of them before or behind the point
+pub record IsNumeral (p : Parts) : Type 0 where
+  pub whole : AreDigits p.whole
+  pub fraction : AreDigits (fraction_digits p.fraction)
+  pub some : 0 < length p.whole + length (fraction_digits p.fraction)
+  pub exponent : IsExponent p.exponent
+
+abbrev pub spelling : Parts → List ℕ
+spelling p = sign_text p.sign ++ (p.whole ++ (fraction_text p.fraction ++ exponent_text p.exponent))
+
+-- the whole number that all the digits write, moved by the exponent and by the digits behind the point
+abbrev pub value : Parts → Fraction
+value p = record {
+  n = signed (is_minus p.sign) (number (p.whole ++ fraction_digits p.fraction) * 10 ^ ups p.exponent);
+  k = length (fraction_digits p.fraction) + downs p.exponent;
+}
+
+-- the text names the fraction
+abbrev pub Names : List ℕ → Fraction → Type 0
+Names text q = (p : Parts) × IsNumeral p × (text ≡ spelling p) × (q ≡ value p)
+
+-- the text spells m / 10^s: the fraction that it names, rounded to 24 places
+abbrev pub Spells : List ℕ → ℤ → ℕ → Type 0
+Spells text m s = (q : Fraction) × Names text q × IsRounded q 24 m s
+
+-- the text is a number, and its value, rounded to 24 places, is further from 0 than 10^13
+abbrev pub SpellsBeyond : List ℕ → Type 0
+SpellsBeyond text = (m : ℤ) × (s : ℕ) × Spells text m s × (10 ^ 13 * 10 ^ s < unsigned_abs m)
+
+-- the text is no number
+abbrev pub SpellsNothing : List ℕ → Type 0
+SpellsNothing text = (q : Fraction) → Names text q → ⊥

@@ -1,0 +1,54 @@
+use Rattle.std.specs.Prelude.{◌≡◌, ℕ, ◌<◌, ◌⊎◌, List, ◌++◌, length, ℤ, pos, neg_ℤ, ◌≤ℤ◌, unsigned_abs}
+use Rattle.gc_values.specs.Digits.{AreDigits, number}
+use Rattle.gc_values.specs.Fraction.{signed}
+use Rattle.gc_values.specs.Spelling.{Sign, sign_text, is_minus}
+use Rattle.gc_values.specs.Written.{minus_text, whole_text}
+use Rattle.gc_values.specs.declared.fault.ValueFault.{ValueFault}
+use Rattle.gc_values.specs.declared.fault.ValueFault.TheVariants.{Spelling, Range}
+
+-- one or more digits that write n
+pub record NamesNumber (text : List ℕ) (n : ℕ) : Type 0 where
+  pub digits : AreDigits text
+  pub some : 0 < length text
+  pub value : n ≡ number text
+
+-- the text is no number, or one above the greatest
+abbrev pub IsNumberFault : ℕ → List ℕ → ValueFault → Type 0
+IsNumberFault max text e = ((e ≡ Spelling) × ((n : ℕ) → NamesNumber text n → ⊥)) ⊎ ((e ≡ Range) × ((n : ℕ) × NamesNumber text n × (max < n)))
+
+-- a sign or none, and one or more digits, that write z
+pub record NamesWhole (text : List ℕ) (z : ℤ) : Type 0 where
+  pub sign : Sign
+  pub digits : List ℕ
+  pub n : ℕ
+  pub text_is : text ≡ sign_text sign ++ digits
+  pub number_is : NamesNumber digits n
+  pub value : z ≡ signed (is_minus sign) n
+
+-- at least -below and at most above
+abbrev pub IsBetween : ℕ → ℕ → ℤ → Type 0
+IsBetween below above z = (neg_ℤ (pos below) ≤ℤ z) × (z ≤ℤ pos above)
+
+-- the range of a Long
+abbrev pub FitsLong : ℤ → Type 0
+FitsLong z = IsBetween 2147483648 2147483647 z
+
+-- the range of a Short
+abbrev pub FitsShort : ℤ → Type 0
+FitsShort z = IsBetween 32768 32767 z
+
+-- the text writes no whole number
+abbrev pub NamesNoWhole : List ℕ → Type 0
+NamesNoWhole text = (z : ℤ) → NamesWhole text z → ⊥
+
+-- the text writes a whole number that isn't between the two
+abbrev pub NamesWholeBeyond : ℕ → ℕ → List ℕ → Type 0
+NamesWholeBeyond below above text = (z : ℤ) × NamesWhole text z × (IsBetween below above z → ⊥)
+
+-- the text is no whole number, or one that isn't between the two
+abbrev pub IsWholeFault : ℕ → ℕ → List ℕ → ValueFault → Type 0
+IsWholeFault below above text e = ((e ≡ Spelling) × NamesNoWhole text) ⊎ ((e ≡ Range) × NamesWholeBeyond below above text)
+
+-- a whole number, written: a minus where it is below zero, and digits without leading zeros
+abbrev pub signed_text : ℤ → List ℕ
+signed_text z = minus_text z ++ whole_text (unsigned_abs z)

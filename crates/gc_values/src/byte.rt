@@ -1,0 +1,60 @@
+//! Byte parameters: two hexadecimal digits between single quotes, as in the GeoCOM manual. That
+//! both cases are read and lower case is written is this project's own.
+
+ghost use Rattle.std.specs.Prelude.{◌≡◌, ◌∷◌, [], ℕ, List, IfOk, IfErr, IfSome, IfNone, IsSomeAnd, MatchResult};
+ghost use Rattle.hex.specs.Hex.{decode_sized, encode_lower};
+ghost use Rattle.gc_values.specs.Byte.{IsByte, IsNoByte, byte_text};
+
+use crate::fault::ValueFault;
+use arrayvec::ArrayVec;
+use hex::{decode_to_slice, encode_to_slice};
+
+/// The byte that two hexadecimal digits write.
+fn hex_byte(digits: &[u8]) -> Option<u8>
+    ensures { MatchResult (decode_sized digits.now 1)
+        (λ bytes. IsSomeAnd result (λ b. bytes ≡ b ∷ []))
+        (λ _. result ≡ None) }
+{
+    let mut out = [0u8; 1];
+    match decode_to_slice(digits, &mut out) {
+        Ok(()) => Some(out[0]),
+        Err(_) => None,
+    }
+}
+
+/// The two bytes between single quotes.
+fn between_quotes(item: &[u8]) -> Option<(u8, u8)>
+    ensures found { IfSome result (λ d. item.now ≡ 39 ∷ d.0 ∷ d.1 ∷ 39 ∷ []) }
+    ensures none { IfNone result ((a b : ℕ) → item.now ≡ 39 ∷ a ∷ b ∷ 39 ∷ [] → ⊥) }
+{
+    match item {
+        [b'\'', a, b, b'\''] => Some((*a, *b)),
+        _ => None,
+    }
+}
+
+/// Reads two hexadecimal digits, of either case, between single quotes. Anything else is refused as
+/// `Spelling`.
+pub fn read_byte(item: &[u8]) -> Result<u8, ValueFault>
+    ensures value { IfOk result (λ n. IsByte item.now n) }
+    ensures only { (n : ℕ) → IsByte item.now n → result ≡ Ok n }
+    ensures fault { IfErr result (λ e. (e ≡ ValueFault.Spelling) × IsNoByte item.now) }
+{
+    let Some((a, b)) = between_quotes(item) else {
+        return Err(ValueFault::Spelling);
+    };
+    match hex_byte(&[a, b]) {
+        Some(byte) => Ok(byte),
+        None => Err(ValueFault::Spelling),
+    }
+}
+
+/// Writes a byte as two hexadecimal digits in lower case between single quotes.
+pub fn write_byte(v: u8) -> ArrayVec<u8, 4>
+    ensures text { result.items ≡ byte_text v }
+    ensures reads_back { IsByte result.items v }
+{
+    let mut digits = [0u8; 2];
+    let _ = encode_to_slice([v], &mut digits);
+    ArrayVec::from([b'\'', digits[0], digits[1], b'\''])
+}

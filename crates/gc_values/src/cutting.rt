@@ -1,0 +1,130 @@
+//! The parts of a number's text: the longest run of digits is cut off each time, so there is one way to cut.
+
+ghost use Rattle.std.specs.Prelude.{◌≡◌, ℕ, ◌+◌, ◌<◌, ◌≤◌, ◌++◌, ◌∷◌, Bool, List, length, Option, IfSome, IfNone};
+ghost use Rattle.gc_values.specs.Cut.{CutsDigits, CutsSign, StartsNoDigit, StartsNoPoint, ReadsExponent, StartsNoMark, CutsFraction, ReadsNumeral};
+ghost use Rattle.gc_values.specs.Digits.{AreDigits, number};
+ghost use Rattle.gc_values.specs.Spelling.{Exponent, IsExponent, IsShort, exponent_text, mark, Parts, IsNumeral, spelling};
+
+/// Cuts the longest run of digits off the front.
+pub fn cut_digits(text: &[u8]) -> (&[u8], &[u8])
+    ensures { CutsDigits text.now result.0.now result.1.now }
+{
+    for (i, byte) in text.iter().enumerate() {
+        if !byte.is_ascii_digit() {
+            return text.split_at(i);
+        }
+    }
+    (text, &[])
+}
+
+/// Cuts off a sign, and says whether it is a minus.
+pub fn cut_sign(text: &[u8]) -> (bool, &[u8])
+    ensures { CutsSign text.now result.0 result.1.now }
+{
+    match text {
+        [b'+', rest @ ..] => (false, rest),
+        [b'-', rest @ ..] => (true, rest),
+        _ => (false, text),
+    }
+}
+
+/// Cuts off `E` or `e`.
+fn cut_mark(text: &[u8]) -> Option<&[u8]>
+    ensures found { IfSome result (λ rest. (capital : Bool) × (text.now ≡ mark capital ∷ rest.now)) }
+    ensures none { IfNone result (StartsNoMark text.now) }
+{
+    match text {
+        [b'e', rest @ ..] => Some(rest),
+        [b'E', rest @ ..] => Some(rest),
+        _ => None,
+    }
+}
+
+/// The number that one to three digits write.
+fn short_number(text: &[u8]) -> Option<u16>
+    ensures found { IfSome result (λ n. IsShort text.now × (n ≡ number text.now) × (n < 1000)) }
+    ensures none { IfNone result (IsShort text.now → ⊥) }
+{
+    if text.is_empty() || text.len() > 3 {
+        return None;
+    }
+    let mut value = 0;
+    for byte in text {
+        if !byte.is_ascii_digit() {
+            return None;
+        }
+        value = value * 10 + u16::from(*byte - b'0');
+    }
+    Some(value)
+}
+
+/// Reads an exponent: how often it multiplies by ten, and how often it divides.
+pub fn exponent(text: &[u8]) -> Option<(u16, u16)>
+    ensures found { IfSome result (λ r. ReadsExponent text.now r.0 r.1) }
+    ensures small { IfSome result (λ r. (r.0 < 1000) × (r.1 < 1000)) }
+    ensures none { IfNone result
+        ((e : Option Exponent) → IsExponent e → text.now ≡ exponent_text e → ⊥) }
+{
+    if text.is_empty() {
+        return Some((0, 0));
+    }
+    let rest = cut_mark(text)?;
+    let (negative, digits) = cut_sign(rest);
+    let value = short_number(digits)?;
+    Some(if negative { (0, value) } else { (value, 0) })
+}
+
+/// Cuts off a point.
+fn cut_point(text: &[u8]) -> Option<&[u8]>
+    ensures found { IfSome result (λ rest. text.now ≡ 46 ∷ rest.now) }
+    ensures none { IfNone result (StartsNoPoint text.now) }
+{
+    match text {
+        [b'.', rest @ ..] => Some(rest),
+        _ => None,
+    }
+}
+
+/// Cuts off a point and the digits behind it.
+fn cut_fraction(text: &[u8]) -> (&[u8], &[u8])
+    requires { StartsNoDigit text.now }
+    ensures { CutsFraction text.now result.0.now result.1.now }
+{
+    match cut_point(text) {
+        Some(rest) => cut_digits(rest),
+        None => (&[], text),
+    }
+}
+
+/// A number's text, cut into its parts.
+#[derive(Clone, Copy)]
+pub struct Numeral<'a> {
+    pub negative: bool,
+    pub whole: &'a [u8],
+    pub fraction: &'a [u8],
+    pub up: u16,
+    pub down: u16,
+}
+
+/// Reads a number's text.
+pub fn cut_numeral(text: &[u8]) -> Option<Numeral<'_>>
+    ensures found { IfSome result
+        (λ n. ReadsNumeral text.now n.negative n.whole.now n.fraction.now n.up n.down) }
+    ensures small { IfSome result (λ n. (n.up < 1000) × (n.down < 1000)) }
+    ensures none { IfNone result ((p : Parts) → IsNumeral p → text.now ≡ spelling p → ⊥) }
+{
+    let (negative, rest) = cut_sign(text);
+    let (whole, rest) = cut_digits(rest);
+    let (fraction, rest) = cut_fraction(rest);
+    if whole.is_empty() && fraction.is_empty() {
+        return None;
+    }
+    let (up, down) = exponent(rest)?;
+    Some(Numeral {
+        negative,
+        whole,
+        fraction,
+        up,
+        down,
+    })
+}

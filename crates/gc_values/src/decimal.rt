@@ -1,0 +1,281 @@
+//! Decimal numbers: at most 24 places, at most 10^13 from zero, and one written form for each value.
+//!
+//! Both limits, and which way a tie is rounded, are this project's own. Nothing here is a floating point
+//! number, so that 1.99975 at three places is 2.0 for everybody.
+
+ghost use Rattle.std.specs.Prelude.{◌≡◌, ◌≢◌, ◌*◌, ◌%◌, ◌^◌, ◌<◌, ◌≤◌, ◌↔◌, IsOk, IfOk, IfErr, MatchResult, IsTrue, ◌⊎◌, ◌∷◌, [], if◌then◌else◌, ℕ, unsigned_abs};
+ghost use Rattle.std.proofs.Common.{rules};
+ghost use Rattle.std.specs.Cmp.Rules.{comparing};
+ghost use Rattle.std.specs.Ordering.{as_partial_cmp};
+ghost use Rattle.gc_values.specs.Fraction.{signed, SameValue, IsCanonical, IsInRange};
+ghost use Rattle.gc_values.specs.Nearest.{MadeOf, RoundsHalfUp};
+ghost use Rattle.gc_values.specs.Spelling.{Spells, SpellsBeyond, SpellsNothing};
+ghost use Rattle.gc_values.specs.Zeros.{WithoutZeros};
+
+use crate::cutting::cut_numeral;
+use crate::fault::ValueFault;
+use crate::numeral::units;
+use crate::written::{push_fraction, push_whole};
+use arrayvec::ArrayVec;
+use std::cmp::Ordering;
+use std::fmt;
+
+/// A decimal's greatest absolute value. It is inclusive, so that rounding never leaves the range.
+pub const BOUND: u128 = 10_000_000_000_000;
+
+/// A decimal's greatest number of places.
+pub const PLACES: u8 = 24;
+
+/// The decimal number `digits / 10^scale`, with no place more than it needs.
+///
+/// Equal values have equal digits and scale, so `==`, `<` and the hash go by the value. The unit is the
+/// parameter's: radians for an angle, metres for a length.
+#[derive(Clone, Copy, Debug, PartialEq, Eq, Hash)]
+pub struct Decimal {
+    digits: i128,
+    scale: u8,
+    pub ghost has_few_places: { scale ≤ 24 },
+    pub ghost is_in_range: { IsInRange digits scale },
+    pub ghost is_canonical: { IsCanonical digits scale },
+}
+
+/// Takes off the zeros behind the point.
+fn without_zeros(mut magnitude: u128, mut scale: u8) -> (u128, u8)
+    ensures { WithoutZeros magnitude scale result.0 result.1 }
+{
+    while scale > 0 && magnitude % 10 == 0 {
+        magnitude /= 10;
+        scale -= 1;
+    }
+    (magnitude, scale)
+}
+
+/// The whole number nearest to `a / b`, and the greater of two.
+fn nearest(a: u128, b: u128) -> u128
+    requires { 0 < b }
+    ensures rounds { RoundsHalfUp a b result }
+    ensures bound { (m : ℕ) → a ≤ m * b → result ≤ m }
+{
+    let below = a / b;
+    let rest = a - below * b;
+    if rest >= b - rest { below + 1 } else { below }
+}
+
+/// The number with this sign and magnitude.
+fn with_sign(negative: bool, magnitude: u128) -> i128
+    requires { magnitude < 2 ^ 127 }
+    ensures { result ≡ signed negative magnitude }
+{
+    let digits = magnitude as i128;
+    if negative { -digits } else { digits }
+}
+
+impl Decimal {
+    ghost use Rattle.gc_values.specs.declared.decimal.Decimal.{Decimal};
+    ghost use Rattle.gc_values.specs.Fraction.{is_decimal, IsRounded, IsWithin, units_of};
+    ghost use Rattle.gc_values.specs.Decimals.{decimal, fraction, is_within, rounded, zero};
+    ghost use Rattle.gc_values.specs.Written.{written, minus_text};
+
+    /// 0.0.
+    pub fn zero() -> Decimal
+        ensures { result ≡ zero }
+    {
+        Decimal {
+            digits: 0,
+            scale: 0,
+        }
+    }
+
+    /// The decimal of a value that is known to be one, as `Decimal::literal(15, 1)` for 1.5.
+    pub fn literal(digits: i128, scale: u8) -> Decimal
+        requires { IsTrue (is_decimal digits scale) }
+        ensures { (h : IsTrue (is_decimal digits scale)) → result ≡ decimal digits scale h }
+    {
+        Decimal { digits, scale }
+    }
+
+    /// The decimal of the value `digits / 10^scale`.
+    ///
+    /// It refuses `Range` where the scale passes 24 or the value passes the bound, and nothing else.
+    pub fn new(digits: i128, scale: u8) -> Result<Decimal, ValueFault>
+        ensures value { IfOk result (λ d. SameValue d.digits d.scale digits scale) }
+        ensures exact { IsOk result ↔ ((scale ≤ 24) × IsInRange digits scale) }
+        ensures fault { IfErr result (λ e. e ≡ ValueFault.Range) }
+    {
+        if scale > PLACES {
+            return Err(ValueFault::Range);
+        }
+        Decimal::in_range(digits < 0, digits.unsigned_abs(), scale)
+    }
+
+    /// The decimal of these parts, unless it passes the bound.
+    fn in_range(negative: bool, magnitude: u128, scale: u8) -> Result<Decimal, ValueFault>
+        requires { scale ≤ 24 }
+        ensures made { IfOk result (λ d. MadeOf negative magnitude scale d.digits d.scale) }
+        ensures exact { MatchResult result (λ _. magnitude ≤ 10 ^ 13 * 10 ^ scale)
+            (λ e. (e ≡ ValueFault.Range) × (10 ^ 13 * 10 ^ scale < magnitude)) }
+    {
+        if magnitude > BOUND * 10u128.pow(u32::from(scale)) {
+            return Err(ValueFault::Range);
+        }
+        Ok(Decimal::from_parts(negative, magnitude, scale))
+    }
+
+    /// The decimal of these parts.
+    fn from_parts(negative: bool, magnitude: u128, scale: u8) -> Decimal
+        requires places { scale ≤ 24 }
+        requires range { magnitude ≤ 10 ^ 13 * 10 ^ scale }
+        ensures { MadeOf negative magnitude scale result.digits result.scale }
+    {
+        let (magnitude, scale) = without_zeros(magnitude, scale);
+        Decimal {
+            digits: with_sign(negative, magnitude),
+            scale,
+        }
+    }
+
+    /// Reads a number's text, and rounds it to 24 places, half away from zero.
+    ///
+    /// The text is an optional sign, digits with an optional point among, before or behind them, and optionally
+    /// `e` or `E` with an optional sign and one to three digits. Where it isn't, `Spelling` is refused; else
+    /// where the rounded value passes the bound, `Range`. After a refusal nothing has changed.
+    pub fn read(text: &[u8]) -> Result<Decimal, ValueFault>
+        ensures value { IfOk result (λ d. Spells text.now d.digits d.scale) }
+        ensures only { (d : Decimal) → Spells text.now d.digits d.scale → result ≡ Ok d }
+        ensures again { (d : Decimal) → text.now ≡ written d.digits d.scale → result ≡ Ok d }
+        ensures range { (result ≡ Err ValueFault.Range) ↔ SpellsBeyond text.now }
+        ensures spelling { (result ≡ Err ValueFault.Spelling) ↔ SpellsNothing text.now }
+        ensures faults { IfErr result (λ e. (e ≡ ValueFault.Range) ⊎ (e ≡ ValueFault.Spelling)) }
+    {
+        let Some(parts) = cut_numeral(text) else {
+            return Err(ValueFault::Spelling);
+        };
+        let (magnitude, scale) = units(parts.whole, parts.fraction, parts.up, parts.down);
+        Decimal::in_range(parts.negative, magnitude, scale)
+    }
+
+    /// The value rounded to at most this many places, half away from zero.
+    ///
+    /// This never leaves the range, since the bound is a whole number.
+    pub fn round(&self, places: u8) -> Decimal
+        requires { places ≤ 24 }
+        ensures rounding { IsRounded (fraction self.now) places result.digits result.scale }
+        ensures exact { result ≡ rounded self.now places }
+    {
+        if self.scale <= places {
+            return *self;
+        }
+        let unit = 10u128.pow(u32::from(self.scale - places));
+        let (negative, magnitude) = self.parts();
+        Decimal::from_parts(negative, nearest(magnitude, unit), places)
+    }
+
+    /// The one written form: a minus where the value is below zero, at least one digit on each side of the
+    /// point, no other zero that isn't needed, and no exponent. Zero is `0.0`.
+    pub fn write(&self) -> ArrayVec<u8, 40>
+        ensures text { result.items ≡ written self.now.digits self.now.scale }
+        ensures reads_back { Spells result.items self.now.digits self.now.scale }
+    {
+        let (negative, magnitude) = self.parts();
+        let unit = 10u128.pow(u32::from(self.scale));
+        let mut out = ArrayVec::new();
+        if negative {
+            out.push(b'-');
+        }
+        let whole = magnitude / unit;
+        push_whole(&mut out, whole as u64);
+        out.push(b'.');
+        if self.scale == 0 {
+            out.push(b'0');
+        } else {
+            push_fraction(&mut out, magnitude - whole * unit, self.scale);
+        }
+        out
+    }
+
+    /// Whether the absolute difference of two values is at most the area; an area below zero takes in nothing.
+    pub fn within(&self, other: &Decimal, area: &Decimal) -> bool
+        ensures fact { IsTrue result
+            ↔ IsWithin (fraction self.now) (fraction other.now) (fraction area.now) }
+        ensures exact { result ≡ is_within self.now other.now area.now }
+    {
+        (self.units() - other.units()).abs() <= area.units()
+    }
+
+    /// The value in units of the last place that a decimal may have.
+    fn units(&self) -> i128
+        ensures value { result ≡ units_of self.now.digits self.now.scale }
+        ensures bound { unsigned_abs result ≤ 10 ^ 37 }
+    {
+        let (negative, magnitude) = self.parts();
+        with_sign(
+            negative,
+            magnitude * 10u128.pow(u32::from(PLACES - self.scale)),
+        )
+    }
+
+    /// The digits as a sign and a magnitude.
+    fn parts(&self) -> (bool, u128)
+        ensures value { self.now.digits ≡ signed result.0 result.1 }
+        ensures magnitude { result.1 ≡ unsigned_abs self.now.digits }
+        ensures minus { minus_text self.now.digits ≡ (if result.0 then 45 ∷ [] else []) }
+    {
+        (self.digits < 0, self.digits.unsigned_abs())
+    }
+
+    /// The value times `10^scale`.
+    pub fn digits(&self) -> i128
+        ensures { result ≡ self.now.digits }
+    {
+        self.digits
+    }
+
+    /// The number of places behind the point, at most 24.
+    pub fn scale(&self) -> u8
+        ensures { result ≡ self.now.scale }
+    {
+        self.scale
+    }
+}
+
+impl fmt::Display for Decimal {
+    fn fmt<W: fmt::Write>(&self, f: &mut fmt::Formatter<W>) -> fmt::Result {
+        for byte in self.write().as_slice() {
+            f.write_char(char::from(*byte))?;
+        }
+        Ok(())
+    }
+}
+
+impl Ord for Decimal {
+    ghost use Rattle.gc_values.specs.Decimals.{decimal_cmp};
+    ghost use Rattle.gc_values.specs.DecimalOrder.{cmp_total, cmp_matches_eq};
+
+    ghost cmp = { decimal_cmp };
+
+    ghost total = { cmp_total };
+
+    ghost matches_partial_cmp = { Prim.search (comparing, rules) };
+
+    ghost matches_eq = { cmp_matches_eq };
+
+    fn cmp(&self, other: &Decimal) -> Ordering {
+        self.units().cmp(&other.units())
+    }
+}
+
+impl PartialOrd for Decimal {
+    ghost use Rattle.gc_values.specs.Decimals.{decimal_cmp};
+    ghost use Rattle.gc_values.specs.DecimalOrder.{cmp_order};
+
+    ghost partial_cmp = { as_partial_cmp decimal_cmp };
+
+    ghost laws = { cmp_order };
+
+    fn partial_cmp(&self, other: &Decimal) -> Option<Ordering> {
+        Some(self.cmp(other))
+    }
+}
+
+#[cfg(test)]
+mod tests;

@@ -1,0 +1,79 @@
+//! What holds of all decimals and all texts, whatever the code does: each function is one law, and its
+//! clause states it. The rules that the words stand for are in `specs/`.
+
+ghost use Rattle.std.specs.Prelude.{◌≡◌, ◌↔◌, IsTrue, ◌≤◌, ℕ, List};
+ghost use Rattle.std.specs.Ordering.{MatchOrdering};
+ghost use Rattle.gc_values.specs.Decimals.{fraction, rounded, decimal_eq, decimal_cmp, is_within};
+ghost use Rattle.gc_values.specs.Fraction.{Fraction, SameValue, IsRounded, IsBelow, IsWithin};
+ghost use Rattle.gc_values.specs.Spelling.{Names, Spells, SpellsBeyond, SpellsNothing};
+ghost use Rattle.gc_values.specs.Written.{written};
+ghost use Rattle.gc_values.specs.declared.decimal.Decimal.{Decimal};
+
+/// A text names one fraction at most.
+pub fn text_names_one_fraction()
+    ensures { (text : List ℕ) (p q : Fraction) → Names text p → Names text q → p ≡ q }
+{}
+
+/// A text spells one decimal at most.
+pub fn text_spells_one_decimal()
+    ensures { (text : List ℕ) (d e : Decimal) → Spells text d.digits d.scale
+        → Spells text e.digits e.scale → d ≡ e }
+{}
+
+/// A text that spells a decimal has no fault.
+pub fn spelled_text_has_no_fault()
+    ensures range { (text : List ℕ) (d : Decimal) → Spells text d.digits d.scale
+        → SpellsBeyond text → ⊥ }
+    ensures spelling { (text : List ℕ) (d : Decimal) → Spells text d.digits d.scale
+        → SpellsNothing text → ⊥ }
+{}
+
+/// A text has one fault at most.
+pub fn text_has_one_fault()
+    ensures { (text : List ℕ) → SpellsBeyond text → SpellsNothing text → ⊥ }
+{}
+
+/// A decimal's written text spells it.
+pub fn written_text_spells()
+    ensures { (d : Decimal) → Spells (written d.digits d.scale) d.digits d.scale }
+{}
+
+/// Two decimals are equal exactly if their written texts are.
+pub fn equal_texts_are_equal_decimals()
+    ensures { (d e : Decimal)
+        → (written d.digits d.scale ≡ written e.digits e.scale) ↔ (d ≡ e) }
+{}
+
+/// Two decimals are equal exactly if their values are.
+pub fn equal_values_are_equal_decimals()
+    ensures { (d e : Decimal) → SameValue d.digits d.scale e.digits e.scale ↔ (d ≡ e) }
+{}
+
+/// A fraction rounds to one decimal at most.
+pub fn rounding_is_unique()
+    ensures { (q : Fraction) (p : ℕ) (d e : Decimal) → IsRounded q p d.digits d.scale
+        → IsRounded q p e.digits e.scale → d ≡ e }
+{}
+
+/// What the rounded decimal is computed to be is the rounding.
+pub fn rounded_is_the_rounding()
+    ensures { (d : Decimal) (p : ℕ)
+        → IsRounded (fraction d) p (rounded d p).digits (rounded d p).scale }
+{}
+
+/// The order of decimals is that of their values.
+pub fn order_is_that_of_the_values()
+    ensures { (a b : Decimal) → MatchOrdering (decimal_cmp a b)
+        (IsBelow (fraction a) (fraction b)) (a ≡ b) (IsBelow (fraction b) (fraction a)) }
+{}
+
+/// The test of an area tells whether two values are at most that far apart.
+pub fn area_test_is_the_distance()
+    ensures { (a b area : Decimal)
+        → IsTrue (is_within a b area) ↔ IsWithin (fraction a) (fraction b) (fraction area) }
+{}
+
+/// What `==` answers is whether two decimals are equal.
+pub fn equality_is_that_of_decimals()
+    ensures { (a b : Decimal) → IsTrue (decimal_eq a b) ↔ (a ≡ b) }
+{}

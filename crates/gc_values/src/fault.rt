@@ -1,0 +1,53 @@
+//! Why a value is refused, and the number that each refusal has.
+
+ghost use Rattle.std.specs.Prelude.{◌≡◌};
+ghost use Rattle.gc_values.specs.ValueFault.{fault_number};
+
+use std::error::Error;
+use std::fmt;
+
+/// Why a value or a list of parameters is refused. The kinds and their numbers are this project's own.
+///
+/// A refusal changes nothing: the bytes that were read stand as they did.
+#[derive(Clone, Copy, Debug, PartialEq, Eq)]
+pub enum ValueFault {
+    /// The bytes haven't the form of their kind.
+    Spelling,
+    /// The form is there, and the value or its length is out of the kind's range.
+    Range,
+    /// The number of double quotes in a list of parameters is odd.
+    OpenQuote,
+    /// A list has more than 16 parameters.
+    TooMany,
+    /// A procedure has another number of parameters than the list.
+    Count,
+}
+
+impl ValueFault {
+    /// The fault's number, from 11 to 15.
+    pub fn number(self) -> u8
+        ensures { result ≡ fault_number self }
+    {
+        match self {
+            ValueFault::Spelling => 11,
+            ValueFault::Range => 12,
+            ValueFault::OpenQuote => 13,
+            ValueFault::TooMany => 14,
+            ValueFault::Count => 15,
+        }
+    }
+}
+
+impl fmt::Display for ValueFault {
+    fn fmt<W: fmt::Write>(&self, f: &mut fmt::Formatter<W>) -> fmt::Result {
+        f.write_str(match self {
+            ValueFault::Spelling => "the parameter hasn't the form of its kind",
+            ValueFault::Range => "the parameter is out of its kind's range",
+            ValueFault::OpenQuote => "a string isn't closed",
+            ValueFault::TooMany => "there are more than 16 parameters",
+            ValueFault::Count => "the number of parameters is another",
+        })
+    }
+}
+
+impl Error for ValueFault {}

@@ -1,0 +1,61 @@
+//! The laws of items and of parameter lists, which the crates above cite. Each is the contract of a
+//! function that does nothing.
+
+ghost use Rattle.std.specs.Prelude.{◌≡◌, ◌≢◌, ◌<◌, ◌≤◌, ℕ, List, All, length, map};
+ghost use Rattle.std.specs.List.{AllByRecursion};
+ghost use Rattle.gc_values.specs.Item.{kind_of, IsItem, IsItemFault, IsValue, text};
+ghost use Rattle.gc_values.specs.Params.{IsParams, joined};
+ghost use Rattle.gc_values.specs.declared.fault.ValueFault.{ValueFault};
+ghost use Rattle.gc_values.specs.declared.value.Kind.{Kind};
+ghost use Rattle.gc_values.specs.declared.value.Value.{Value};
+
+/// What is written is read.
+pub fn written_is_read()
+    ensures { (v : Value) → IsValue v → IsItem (text v) v }
+{}
+
+/// An item is one value of a kind.
+pub fn one_value()
+    ensures { (v w : Value) (item : List ℕ) → kind_of v ≡ kind_of w
+        → IsItem item v → IsItem item w → v ≡ w }
+{}
+
+/// An item has one fault for a kind.
+pub fn one_fault()
+    ensures { (k : Kind) (item : List ℕ) (e f : ValueFault)
+        → IsItemFault k item e → IsItemFault k item f → e ≡ f }
+{}
+
+/// An item of a value has no fault for the value's kind.
+pub fn item_has_no_fault()
+    ensures { (v : Value) (item : List ℕ) (e : ValueFault)
+        → IsItem item v → IsItemFault (kind_of v) item e → ⊥ }
+{}
+
+/// A text is one parameter list.
+pub fn one_list()
+    ensures { (bytes : List ℕ) (xs ys : List (List ℕ))
+        → IsParams bytes xs → IsParams bytes ys → xs ≡ ys }
+{}
+
+/// The texts of values, joined by commas, split back into these texts.
+pub fn joined_splits()
+    ensures { (vs : List Value) → AllByRecursion IsValue vs
+        → IsParams (joined (map text vs)) (map text vs) }
+{}
+
+/// The text of a value has no CR and no LF.
+pub fn text_is_plain()
+    ensures { (v : Value) → IsValue v → All (λ b. (b ≢ 10) × (b ≢ 13)) (text v) }
+{}
+
+/// The text of a value has 1 to 66 bytes.
+pub fn text_is_short()
+    ensures some { (v : Value) → 0 < length (text v) }
+    ensures few { (v : Value) → IsValue v → length (text v) ≤ 66 }
+{}
+
+/// What an item is read as lies in its kind's range.
+pub fn item_is_a_value()
+    ensures { (v : Value) (item : List ℕ) → IsItem item v → IsValue v }
+{}

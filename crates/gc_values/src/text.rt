@@ -1,0 +1,143 @@
+//! Strings of at most 64 bytes: what may stand between the double quotes, and how an item is read
+//! as one. The form is the GeoCOM manual's; the limit, and that a backslash is a plain byte, are
+//! this project's own.
+
+ghost use Rattle.std.specs.Prelude.{◌≡◌, ◌↔◌, ◌⊎◌, ◌<◌, ◌≤◌, ◌-◌, ◌++◌, ◌∷◌, length, take, replicate, List, [], ℕ, IsOk, IfOk, IfErr, IfSome, IfNone, IsTrue};
+ghost use Rattle.gc_values.specs.Text.{IsStringByte, AreStringBytes, IsText, quoted, IsString, IsTextItem, IsNoString, IsLongString};
+
+use crate::fault::ValueFault;
+use arrayvec::ArrayVec;
+use std::marker::Model;
+
+/// The bytes of a string parameter: at most 64, none of them a double quote, CR or LF. The unused
+/// bytes are zero.
+#[derive(Clone, Copy, Debug, PartialEq, Eq)]
+pub struct Text {
+    bytes: [u8; 64],
+    len: u8,
+}
+
+impl Model for Text {
+    ghost use Rattle.std.specs.Prelude.{◌++◌, ◌-◌, length, take, replicate, List, ℕ};
+
+    ghost Value = { List ℕ };
+
+    ghost use Rattle.gc_values.specs.Padding.{IsKept, padded_back};
+
+    ghost view = { λ t. take t.len t.bytes };
+
+    ghost invariant = { IsKept };
+
+    ghost inverse = { λ bs. record { bytes = bs ++ replicate (64 - length bs) 0; len = length bs } };
+
+    ghost inverse_ok = { padded_back };
+}
+
+/// Whether a byte may stand in a string.
+fn is_string_byte(byte: u8) -> bool
+    ensures { IsTrue result ↔ IsStringByte byte }
+{
+    byte != b'"' && byte != b'\r' && byte != b'\n'
+}
+
+/// Whether all the bytes may stand in a string.
+fn are_string_bytes(bytes: &[u8]) -> bool
+    ensures { IsTrue result ↔ AreStringBytes bytes.now }
+{
+    for byte in bytes {
+        if !is_string_byte(*byte) {
+            return false;
+        }
+    }
+    true
+}
+
+/// The bytes, and zeros behind them.
+fn filled_up(bytes: &[u8]) -> [u8; 64]
+    requires { length bytes.now ≤ 64 }
+    ensures { result ≡ bytes.now ++ replicate (64 - length bytes.now) 0 }
+{
+    let mut all = [0; 64];
+    all[..bytes.len()].copy_from_slice(bytes);
+    all
+}
+
+impl Text {
+    /// A text without bytes.
+    pub fn empty() -> Text
+        ensures { result ≡ [] }
+    {
+        Text {
+            bytes: [0; 64],
+            len: 0,
+        }
+    }
+
+    /// The text of these bytes. It is refused as `Spelling` where a double quote, CR or LF is among
+    /// them, and else as `Range` where they are more than 64.
+    pub fn new(bytes: &[u8]) -> Result<Text, ValueFault>
+        ensures value { IfOk result (λ t. (t ≡ bytes.now) × IsText t) }
+        ensures only { IsText bytes.now → result ≡ Ok bytes.now }
+        ensures spelling { (result ≡ Err ValueFault.Spelling) ↔ (AreStringBytes bytes.now → ⊥) }
+        ensures range { (result ≡ Err ValueFault.Range)
+            ↔ (AreStringBytes bytes.now × (64 < length bytes.now)) }
+        ensures faults { IfErr result (λ e. (e ≡ ValueFault.Spelling) ⊎ (e ≡ ValueFault.Range)) }
+    {
+        if !are_string_bytes(bytes) {
+            return Err(ValueFault::Spelling);
+        }
+        if bytes.len() > 64 {
+            return Err(ValueFault::Range);
+        }
+        Ok(Text {
+            bytes: filled_up(bytes),
+            len: bytes.len() as u8,
+        })
+    }
+
+    /// The bytes, without the unused ones.
+    pub fn as_bytes(&self) -> &[u8]
+        ensures bytes { result.now ≡ self.now }
+        ensures text { IsText self.now }
+    {
+        &self.bytes[..self.len as usize]
+    }
+}
+
+/// What stands between two double quotes.
+fn between_quotes(item: &[u8]) -> Option<&[u8]>
+    ensures found { IfSome result (λ bytes. item.now ≡ quoted bytes.now) }
+    ensures none { IfNone result ((bytes : List ℕ) → item.now ≡ quoted bytes → ⊥) }
+{
+    match item {
+        [b'"', bytes @ .., b'"'] => Some(bytes),
+        _ => None,
+    }
+}
+
+/// Reads a string: bytes other than `"`, CR and LF between double quotes. Anything else is refused
+/// as `Spelling`, and more than 64 bytes between the quotes as `Range`.
+pub fn read_text(item: &[u8]) -> Result<Text, ValueFault>
+    ensures value { IfOk result (λ bytes. IsTextItem item.now bytes) }
+    ensures only { (bytes : List ℕ) → IsTextItem item.now bytes → result ≡ Ok bytes }
+    ensures spelling { (result ≡ Err ValueFault.Spelling) ↔ IsNoString item.now }
+    ensures range { (result ≡ Err ValueFault.Range) ↔ IsLongString item.now }
+    ensures faults { IfErr result (λ e. (e ≡ ValueFault.Spelling) ⊎ (e ≡ ValueFault.Range)) }
+{
+    match between_quotes(item) {
+        Some(bytes) => Text::new(bytes),
+        None => Err(ValueFault::Spelling),
+    }
+}
+
+/// Writes a string between double quotes.
+pub fn write_text(v: &Text) -> ArrayVec<u8, 66>
+    ensures text { result.items ≡ quoted v.now }
+    ensures reads_back { IsTextItem result.items v.now }
+{
+    let mut out = ArrayVec::new();
+    out.push(b'"');
+    let _ = out.try_extend_from_slice(v.as_bytes());
+    out.push(b'"');
+    out
+}

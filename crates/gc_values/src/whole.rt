@@ -1,0 +1,119 @@
+//! Whole numbers, with a sign or without one: any number of digits is read, and the range is looked
+//! at afterwards, so that leading zeros never matter. The ranges are those of the GeoCOM manual's
+//! types; signs and leading zeros are read as this project's own leniency.
+
+ghost use Rattle.std.specs.Prelude.{◌≡◌, ◌⊎◌, ◌<◌, ◌≤◌, ◌^◌, ℕ, ℤ, pos, ◌∷◌, [], Bool, IfOk, IfErr, length};
+ghost use Rattle.gc_values.specs.Whole.{NamesNumber, IsNumberFault, NamesWhole, IsBetween, IsWholeFault, FitsLong, FitsShort, signed_text};
+ghost use Rattle.gc_values.specs.Boolean.{NamesBoolean, boolean_text};
+
+use crate::cutting::cut_sign;
+use crate::fault::ValueFault;
+use crate::written::push_whole;
+use arrayvec::ArrayVec;
+
+/// Reads one or more digits, without a sign, as a number of at most `max`. Anything else is refused
+/// as `Spelling`, and a greater number as `Range`.
+pub fn read_whole(item: &[u8], max: u64) -> Result<u64, ValueFault>
+    ensures value { IfOk result (λ n. NamesNumber item.now n × (n ≤ max)) }
+    ensures only { (n : ℕ) → NamesNumber item.now n → n ≤ max → result ≡ Ok n }
+    ensures fault { IfErr result (λ e. IsNumberFault max item.now e) }
+{
+    if item.is_empty() {
+        return Err(ValueFault::Spelling);
+    }
+    let above = u128::from(max) + 1;
+    let mut value = 0;
+    for byte in item {
+        if !byte.is_ascii_digit() {
+            return Err(ValueFault::Spelling);
+        }
+        value = (value * 10 + u128::from(*byte - b'0')).min(above);
+    }
+    if value == above {
+        return Err(ValueFault::Range);
+    }
+    Ok(value as u64)
+}
+
+/// Reads an optional sign and one or more digits as a number from `-below` to `above`; what has not
+/// this form is refused as `Spelling`, and another number as `Range`.
+fn read_between(item: &[u8], below: u32, above: u32) -> Result<i64, ValueFault>
+    ensures value { IfOk result (λ z. NamesWhole item.now z × IsBetween below above z) }
+    ensures only { (z : ℤ) → NamesWhole item.now z → IsBetween below above z → result ≡ Ok z }
+    ensures fault { IfErr result (λ e. IsWholeFault below above item.now e) }
+{
+    let (negative, digits) = cut_sign(item);
+    let most = if negative { below } else { above };
+    let magnitude = read_whole(digits, u64::from(most))? as i64;
+    Ok(if negative { -magnitude } else { magnitude })
+}
+
+/// Reads a Long: an optional sign and one or more digits, from -2147483648 to 2147483647. What has
+/// not this form is refused as `Spelling`, and another number as `Range`.
+pub fn read_long(item: &[u8]) -> Result<i32, ValueFault>
+    ensures value { IfOk result (λ z. NamesWhole item.now z × FitsLong z) }
+    ensures only { (z : ℤ) → NamesWhole item.now z → FitsLong z → result ≡ Ok z }
+    ensures fault { IfErr result (λ e. IsWholeFault 2147483648 2147483647 item.now e) }
+{
+    Ok(read_between(item, 2_147_483_648, 2_147_483_647)? as i32)
+}
+
+/// Reads a Short: an optional sign and one or more digits, from -32768 to 32767. What has not
+/// this form is refused as `Spelling`, and another number as `Range`.
+pub fn read_short(item: &[u8]) -> Result<i16, ValueFault>
+    ensures value { IfOk result (λ z. NamesWhole item.now z × FitsShort z) }
+    ensures only { (z : ℤ) → NamesWhole item.now z → FitsShort z → result ≡ Ok z }
+    ensures fault { IfErr result (λ e. IsWholeFault 32768 32767 item.now e) }
+{
+    Ok(read_between(item, 32_768, 32_767)? as i16)
+}
+
+/// Reads a Boolean: an optional sign and one or more digits, of the value 0 or 1. What has not
+/// this form is refused as `Spelling`, and another number as `Range`.
+pub fn read_bool(item: &[u8]) -> Result<bool, ValueFault>
+    ensures value { IfOk result (λ b. NamesBoolean item.now b) }
+    ensures only { (b : Bool) → NamesBoolean item.now b → result ≡ Ok b }
+    ensures fault { IfErr result (λ e. IsWholeFault 0 1 item.now e) }
+{
+    Ok(read_between(item, 0, 1)? == 1)
+}
+
+/// A whole number's text: a minus where it is below zero, and digits without leading zeros.
+fn signed_text(v: i32) -> ArrayVec<u8, 40>
+    ensures { result.items ≡ signed_text v }
+{
+    let mut out = ArrayVec::new();
+    if v < 0 {
+        out.push(b'-');
+    }
+    push_whole(&mut out, v.unsigned_abs().into());
+    out
+}
+
+/// Writes a Long.
+pub fn write_long(v: i32) -> ArrayVec<u8, 11>
+    ensures text { result.items ≡ signed_text v }
+    ensures reads_back { NamesWhole result.items v }
+{
+    let mut out = ArrayVec::new();
+    let _ = out.try_extend_from_slice(signed_text(v).as_slice());
+    out
+}
+
+/// Writes a Short.
+pub fn write_short(v: i16) -> ArrayVec<u8, 6>
+    ensures text { result.items ≡ signed_text v }
+    ensures reads_back { NamesWhole result.items v }
+{
+    let mut out = ArrayVec::new();
+    let _ = out.try_extend_from_slice(signed_text(i32::from(v)).as_slice());
+    out
+}
+
+/// Writes a Boolean: `0` or `1`.
+pub fn write_bool(v: bool) -> ArrayVec<u8, 1>
+    ensures text { result.items ≡ boolean_text v }
+    ensures reads_back { NamesBoolean result.items v }
+{
+    ArrayVec::from([if v { b'1' } else { b'0' }])
+}
