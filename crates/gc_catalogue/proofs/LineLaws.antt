@@ -1,0 +1,68 @@
+-- Lines that are written read back.
+use Rattle.std.specs.Prelude.{◌≡◌, ◌<◌, ℕ, List, [], ◌∷◌, Option, Some, None, IfSome, Result, Ok, refl}
+use Rattle.std.proofs.Common.{◌∙◌, ap, arith, lit<}
+use Rattle.gc_lines.proofs.Written.{request_back, reply_back}
+use Rattle.gc_lines.specs.declared.fault.LineFault.{LineFault}
+use Rattle.gc_lines.specs.Requests.{RequestFields, request_at}
+use Rattle.gc_values.specs.declared.value.Value.{Value}
+use Rattle.gc_values.specs.declared.value.Value.TheVariants as value
+use Rattle.gc_catalogue.specs.declared.answer.Answer.{Answer}
+use Rattle.gc_catalogue.specs.declared.answer.Answer.TheVariants.{Nothing}
+use Rattle.gc_catalogue.specs.declared.answer.Reading.TheVariants as reading
+use Rattle.gc_catalogue.specs.declared.call.Call.{Call}
+use Rattle.gc_catalogue.specs.Answers.{answer_fields, IsAnswer, IsAnswerOf, IsFittingAnswer, rounded_answer}
+use Rattle.gc_catalogue.specs.Calls.{IsFitting}
+use Rattle.gc_catalogue.specs.Laws.{ReadsBackAnswer, ReadsBackCall}
+use Rattle.gc_catalogue.specs.Lists.{AreValues, params_of, shown_values}
+use Rattle.gc_catalogue.specs.Texts.{reply_of, request_line, request_of}
+use Rattle.gc_catalogue.proofs.CallLaws.{one_call, written_is_call}
+use Rattle.gc_catalogue.proofs.ListLaws.{written_reads}
+use Rattle.gc_catalogue.proofs.Made.{number_fits}
+use Rattle.gc_catalogue.proofs.MadeAnswers.{shape-rounded, values-rounded}
+
+pub call_again : (id : Option ℕ) (call : Call) → IfSome id (λ n. n < 8) → IsFitting call → ReadsBackCall id call
+call_again id call i fits = record { line = request_back (request_of id call) (record { rpc = number_fits call; id = i }); is_call = written_is_call call fits }
+
+read_once : (r : Result RequestFields LineFault) (p q : RequestFields) → r ≡ Ok p → r ≡ Ok q → p ≡ q
+read_once r p q e f = cc
+
+pub one_call_for_a_line : (i j : Option ℕ) (c d : Call) → IfSome i (λ n. n < 8) → IfSome j (λ n. n < 8) → IsFitting c → IsFitting d → request_line i c ≡ request_line j d → (i ≡ j) × (c ≡ d)
+one_call_for_a_line i j c d x y f g e =
+    let one = call_again i c x f in
+    let two = call_again j d y g in
+    let same : request_of i c ≡ request_of j d = read_once _ (request_of i c) (request_of j d) one.line (ap request_at e ∙ two.line) in
+    (ap (λ (q : RequestFields). q.id) same, one_call _ _ c d one.is_call (rw (ap (λ (q : RequestFields). q.rpc) same, ap (λ (q : RequestFields). q.params) same) two.is_call))
+
+shown_fit : (places : ℕ) (vs : List Value) → AreValues vs → AreValues (shown_values (Some places) vs)
+shown_fit places [] h = tt
+shown_fit places (value.Double d ∷ vs) h = (tt, shown_fit places vs h.1)
+shown_fit places (value.Long z ∷ vs) h = (h.0, shown_fit places vs h.1)
+shown_fit places (value.Short z ∷ vs) h = (h.0, shown_fit places vs h.1)
+shown_fit places (value.Byte n ∷ vs) h = (h.0, shown_fit places vs h.1)
+shown_fit places (value.Bool b ∷ vs) h = (tt, shown_fit places vs h.1)
+shown_fit places (value.Text t ∷ vs) h = (h.0, shown_fit places vs h.1)
+
+pub rounded_fits : (places : ℕ) (answer : Answer) → IsFittingAnswer answer → IsFittingAnswer (rounded_answer places answer)
+rounded_fits places answer h = rw (values-rounded places answer) (shown_fit places (answer_fields answer).values h)
+
+pub written_is_answer : (call : Call) (answer : Answer) (places : ℕ) → IsAnswerOf call answer → IsFittingAnswer (rounded_answer places answer) → IsAnswer call (params_of (answer_fields (rounded_answer places answer)).values) (rounded_answer places answer)
+written_is_answer call answer places of_call fits = record {
+  of_call = shape-rounded places answer ∙ of_call;
+  values = written_reads _ fits;
+}
+
+pub answer_again : (call : Call) (id : ℕ) (answer : Answer) (places : ℕ) → id < 8 → IsAnswerOf call answer → IsFittingAnswer (rounded_answer places answer) → ReadsBackAnswer call id 0 answer places (reading.Value (rounded_answer places answer))
+answer_again call id answer places i of_call fits = record {
+  line = reply_back (reply_of id 0 answer places) (record { rc_com = lit< tt; id = i; rc = lit< tt });
+  is_reading = (refl, refl, written_is_answer call answer places of_call fits);
+}
+
+pub refusal_again : (call : Call) (id rc places : ℕ) → id < 8 → 0 < rc → rc < 65536 → ReadsBackAnswer call id rc Nothing places (reading.Refused rc)
+refusal_again call id rc places i some fits = record {
+  line = reply_back (reply_of id rc Nothing places) (record { rc_com = lit< tt; id = i; rc = fits });
+  is_reading = (refl, (λ e. omega arith), refl);
+}
+
+pub some_id : (id : Option ℕ) → ((i : ℕ) → id ≡ Some i → i < 8) → IfSome id (λ i. i < 8)
+some_id None h = tt
+some_id (Some i) h = h i refl

@@ -1,0 +1,60 @@
+-- What is claimed of the definitions themselves, apart from any call of a function.
+use Rattle.std.specs.Prelude.{◌≡◌, ◌<◌, ℕ, List, Option, IfSome, Ok}
+use Rattle.gc_lines.specs.Replies.{ReplyFields, reply_at}
+use Rattle.gc_lines.specs.Requests.{request_at}
+use Rattle.gc_catalogue.specs.declared.answer.Answer.{Answer}
+use Rattle.gc_catalogue.specs.declared.answer.Answer.TheVariants.{Nothing}
+use Rattle.gc_catalogue.specs.declared.answer.CallFault.{CallFault}
+use Rattle.gc_catalogue.specs.declared.answer.Reading.{Reading}
+use Rattle.gc_catalogue.specs.declared.answer.Reading.TheVariants as reading
+use Rattle.gc_catalogue.specs.declared.call.Call.{Call}
+use Rattle.gc_catalogue.specs.Answers.{IsAnswerOf, IsFittingAnswer, rounded_answer}
+use Rattle.gc_catalogue.specs.Calls.{call_fields, IsCall, IsFitting, IsRefusal}
+use Rattle.gc_catalogue.specs.Lists.{kinds_of}
+use Rattle.gc_catalogue.specs.Readings.{IsReading}
+use Rattle.gc_catalogue.specs.Texts.{reply_line, reply_of, request_line, request_of}
+
+-- two calls take parameters of the same kinds, and their answers have one shape
+pub record AreAlike (c d : Call) : Type 0 where
+  pub kinds : kinds_of (call_fields c).values ≡ kinds_of (call_fields d).values
+  pub answer : (call_fields c).answer ≡ (call_fields d).answer
+
+-- calls with one number are alike, and one call where their values agree too: no two procedures share a number
+pub record NumbersDiffer : Type 0 where
+  pub alike : (c d : Call) → (call_fields c).number ≡ (call_fields d).number → AreAlike c d
+  pub same : (c d : Call) → (call_fields c).number ≡ (call_fields d).number → (call_fields c).values ≡ (call_fields d).values → c ≡ d
+
+-- two calls with one line are one call, with one id
+abbrev pub OneCallForALine : Type 0
+OneCallForALine = (i j : Option ℕ) (c d : Call) → IfSome i (λ n. n < 8) → IfSome j (λ n. n < 8) → IsFitting c → IsFitting d
+    → request_line i c ≡ request_line j d → (i ≡ j) × (c ≡ d)
+
+-- a number and parameters are those of one call, or have one refusal, and never both
+pub record OneCallOrRefusal : Type 0 where
+  pub call : (rpc : ℕ) (params : List ℕ) (c d : Call) → IsCall rpc params c → IsCall rpc params d → c ≡ d
+  pub refusal : (rpc : ℕ) (params : List ℕ) (e f : CallFault) → IsRefusal rpc params e → IsRefusal rpc params f → e ≡ f
+  pub never_both : (rpc : ℕ) (params : List ℕ) (c : Call) (e : CallFault) → IsCall rpc params c → IsRefusal rpc params e → ⊥
+
+-- a reply says one thing of a call
+abbrev pub OneReading : Type 0
+OneReading = (call : Call) (reply : ReplyFields) (x y : Reading) → IsReading call reply x → IsReading call reply y → x ≡ y
+
+-- the line of a call reads as a request, and that is the call's
+pub record ReadsBackCall (id : Option ℕ) (call : Call) : Type 0 where
+  pub line : request_at (request_line id call) ≡ Ok (request_of id call)
+  pub is_call : IsCall (request_of id call).rpc (request_of id call).params call
+
+abbrev pub CallsReadBack : Type 0
+CallsReadBack = (id : Option ℕ) (call : Call) → IfSome id (λ n. n < 8) → IsFitting call → ReadsBackCall id call
+
+-- the line of an answer reads as a reply, and that says this of the call
+pub record ReadsBackAnswer (call : Call) (id rc : ℕ) (answer : Answer) (places : ℕ) (reading : Reading) : Type 0 where
+  pub line : reply_at (reply_line id rc answer places) ≡ Ok (reply_of id rc answer places)
+  pub is_reading : IsReading call (reply_of id rc answer places) reading
+
+-- an answer of the call is read as the answer with its doubles rounded, and a return code other than 0 as a refusal
+pub record AnswersReadBack : Type 0 where
+  pub value : (call : Call) (id : ℕ) (answer : Answer) (places : ℕ) → id < 8 → IsAnswerOf call answer → IsFittingAnswer answer
+      → ReadsBackAnswer call id 0 answer places (reading.Value (rounded_answer places answer))
+  pub refused : (call : Call) (id rc places : ℕ) → id < 8 → 0 < rc → rc < 65536
+      → ReadsBackAnswer call id rc Nothing places (reading.Refused rc)

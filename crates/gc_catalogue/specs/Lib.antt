@@ -1,0 +1,10 @@
+pub mod Answers
+pub mod CallFault
+pub mod Calls
+pub mod Laws
+pub mod Lists
+pub mod Making
+pub mod Places
+pub mod Readings
+pub mod Structs
+pub mod Texts

@@ -1,0 +1,14 @@
+-- What a reply says of its call.
+use Rattle.std.specs.Prelude.{◌≡◌, ◌≢◌}
+use Rattle.gc_lines.specs.Replies.{ReplyFields}
+use Rattle.gc_catalogue.specs.declared.answer.Reading.{Reading}
+use Rattle.gc_catalogue.specs.declared.answer.Reading.TheVariants.{Value, Refused, ComFault, Unreadable}
+use Rattle.gc_catalogue.specs.declared.call.Call.{Call}
+use Rattle.gc_catalogue.specs.Answers.{IsAnswer, IsUnreadable}
+
+-- a fault of communication where its code isn't 0, else a refusal where the return code isn't 0, else the answer or why there is none
+abbrev pub IsReading : Call → ReplyFields → Reading → Type 0
+IsReading call r (ComFault code) = (r.rc_com ≢ 0) × (code ≡ r.rc_com)
+IsReading call r (Refused code) = (r.rc_com ≡ 0) × (r.rc ≢ 0) × (code ≡ r.rc)
+IsReading call r (Value answer) = (r.rc_com ≡ 0) × (r.rc ≡ 0) × IsAnswer call r.params answer
+IsReading call r (Unreadable e) = (r.rc_com ≡ 0) × (r.rc ≡ 0) × IsUnreadable call r.params e

@@ -1,0 +1,25 @@
+-- The lines of calls and answers as they are written.
+use Rattle.std.specs.Prelude.{ℕ, List, Option, Some}
+use Rattle.gc_lines.specs.Requests.{RequestFields, request_text}
+use Rattle.gc_lines.specs.Replies.{ReplyFields, reply_text}
+use Rattle.gc_catalogue.specs.declared.answer.Answer.{Answer}
+use Rattle.gc_catalogue.specs.declared.call.Call.{Call}
+use Rattle.gc_catalogue.specs.Answers.{answer_fields, rounded_answer}
+use Rattle.gc_catalogue.specs.Calls.{call_fields}
+use Rattle.gc_catalogue.specs.Lists.{params_of}
+
+-- what a call's request says
+abbrev pub request_of : Option ℕ → Call → RequestFields
+request_of id call = record { rpc = (call_fields call).number; id = id; params = params_of (call_fields call).values }
+
+-- what an answer's reply says, with each double rounded to the places
+abbrev pub reply_of : ℕ → ℕ → Answer → ℕ → ReplyFields
+reply_of id rc answer places = record { rc_com = 0; id = Some id; rc = rc; params = params_of (answer_fields (rounded_answer places answer)).values }
+
+-- the line of a call, with its id or none
+abbrev pub request_line : Option ℕ → Call → List ℕ
+request_line id call = request_text (request_of id call)
+
+-- the line of an answer, with each double rounded to the places
+abbrev pub reply_line : ℕ → ℕ → Answer → ℕ → List ℕ
+reply_line id rc answer places = reply_text (reply_of id rc answer places)
