@@ -1,0 +1,150 @@
+-- What was made for a request is the reply that it has.
+use Rattle.std.proofs.Common.{◌≡◌, ◌≢◌, ◌⊎◌, inl, inr, ℕ, zero, suc, ◌<◌, arith, List, cond, ◌==◌, if◌then◌else◌, Some, None, Result, Ok, Err, refl, sym, ap, ◌∙◌, subst, Bool}
+use Rattle.std.proofs.lemmas.Bool.{ne_eqb}
+use Rattle.gc_lines.specs.Headers.{Gives}
+use Rattle.gc_lines.specs.Requests.{RequestFields, IsRequest}
+use Rattle.gc_lines.specs.declared.fault.LineFault.{LineFault}
+use Rattle.gc_lines.specs.declared.request.Request.{Request}
+use Rattle.gc_lines.proofs.Requests.{request_found, request_one}
+use Rattle.gc_catalogue.proofs.CallLaws.{one_call, no_refusal}
+use Rattle.gc_catalogue.proofs.LineLaws.{call_again, answer_again, refusal_again, rounded_fits}
+use Rattle.gc_catalogue.specs.Answers.{IsAnswerOf, rounded_answer}
+use Rattle.gc_catalogue.specs.Laws.{ReadsBackAnswer}
+use Rattle.gc_catalogue.specs.declared.answer.Reading.{Reading}
+use Rattle.gc_catalogue.specs.declared.answer.Reading.TheVariants.{Value, Refused}
+use Rattle.gc_catalogue.specs.Calls.{IsCall, IsFitting, IsRefusal}
+use Rattle.gc_catalogue.specs.Readings.{IsReading}
+use Rattle.gc_catalogue.specs.Texts.{reply_line, reply_of, request_line, request_of}
+use Rattle.gc_catalogue.specs.declared.answer.Answer.{Answer}
+use Rattle.gc_catalogue.specs.declared.answer.CallFault.{CallFault}
+use Rattle.gc_catalogue.specs.declared.call.Call.{Call}
+use Rattle.gc_instrument.proofs.Executions.{Outcome, exec_outcome}
+use Rattle.gc_instrument.specs.State.{State, IsFittingState}
+use Rattle.gc_instrument.specs.Execution.{Executed, Executes, exec}
+use Rattle.gc_instrument.specs.Replying.{IsReplied, silent, answers, AnswersRequest, refuses, executes, IsAnswered, IsExchanged, handed, reading_of, refusal_line, executed_line, reply_id}
+
+-- a call that was carried out
+pub executed_reply : (before after : State) (q : RequestFields) (call : Call) (number code places : ℕ) (answer : Answer) (line : List ℕ)
+    → IsCall q.rpc q.params call → Executes before call after code answer → number ≡ reply_id q → places ≡ after.precision → line ≡ reply_line number code answer places
+    → AnswersRequest before q after line
+executed_reply before after q call number code places answer line is done same precision made =
+    executes call is (sym (ap (λ (x : Executed). x.state) done))
+    (made ∙ ap (λ n. reply_line n code answer places) same ∙ ap (λ n. reply_line (reply_id q) code answer n) precision
+    ∙ sym (ap (λ (x : Executed). executed_line (reply_id q) x) done))
+
+-- a request that names no call
+pub refused_reply : (state : State) (q : RequestFields) (fault : CallFault) (number : ℕ) (line : List ℕ)
+    → IsRefusal q.rpc q.params fault → number ≡ reply_id q → line ≡ refusal_line number fault → AnswersRequest state q state line
+refused_reply state q fault number line is same made = refuses fault is refl (made ∙ ap (λ n. refusal_line n fault) same)
+
+-- a line that reads as a request
+pub request_replied : (before after : State) (line bytes : List ℕ) (q : RequestFields) (text : List ℕ) → bytes ≡ line → IsRequest bytes q → AnswersRequest before q after text → IsReplied before line after (Some text)
+request_replied before after line bytes q text same is made = answers q (subst (λ (x : List ℕ). IsRequest x q) same is) text made refl
+
+-- a line that doesn't
+pub silence_replied : (state : State) (line bytes : List ℕ) (fault : LineFault) (view : Request → RequestFields) → bytes ≡ line
+    → ((q : RequestFields) → IsRequest bytes q → Gives view (Err fault) (Ok q)) → IsReplied state line state None
+silence_replied state line bytes fault view same only =
+    silent (λ q is. let wrong : ◌≡◌ {A = Result RequestFields LineFault} (Ok q) (Err fault) = only q (subst (λ (x : List ℕ). IsRequest x q) (sym same) is) in cc) refl refl
+
+zero_or_more : (n : ℕ) → (n ≡ 0) ⊎ (n ≢ 0)
+zero_or_more zero = inl refl
+zero_or_more (suc n) = inr (λ h. omega (arith, h))
+
+at_zero : (n : ℕ) (a b : Reading) → n ≡ 0 → (if n == 0 then a else b) ≡ a
+at_zero n a b h = ap (λ (m : ℕ). if m == 0 then a else b) h
+
+past_zero : (n : ℕ) (a b : Reading) → n ≢ 0 → (if n == 0 then a else b) ≡ b
+past_zero n a b h = ap (λ (t : Bool). cond t a b) (ne_eqb n 0 h)
+
+reads_as : (before : State) (number : ℕ) (call : Call) (x : Executed) (reading : Reading) → exec before call ≡ x → reading_of x ≡ reading
+    → ReadsBackAnswer call number x.rc x.answer x.state.precision reading → IsAnswered before number call (executed_line number x)
+reads_as before number call x reading e same back = record {
+  fields = reply_of number x.rc x.answer x.state.precision;
+  reads = back.line;
+  same_id = refl;
+  reading = subst (λ (r : Reading). IsReading call (reply_of number x.rc x.answer x.state.precision) r) (sym (ap reading_of e ∙ same)) back.is_reading;
+}
+
+-- a reply that reads back says of its call what carrying it out gave
+pub reads_executed : (before : State) (number : ℕ) (call : Call) (x : Executed) → exec before call ≡ x
+    → (x.rc ≡ 0 → ReadsBackAnswer call number x.rc x.answer x.state.precision (Value (rounded_answer x.state.precision x.answer)))
+    → (x.rc ≢ 0 → ReadsBackAnswer call number x.rc x.answer x.state.precision (Refused x.rc)) → IsAnswered before number call (executed_line number x)
+reads_executed before number call x e done refused = elim (zero_or_more x.rc) [
+  | inl h ↦ reads_as before number call x (Value (rounded_answer x.state.precision x.answer)) e (at_zero x.rc _ _ h) (done h)
+  | inr h ↦ reads_as before number call x (Refused x.rc) e (past_zero x.rc _ _ h) (refused h)
+]
+
+-- the same of a line that was made of the parts
+pub made_answered : (before after : State) (q : RequestFields) (call made : Call) (number code places : ℕ) (answer : Answer) (line : List ℕ)
+    → IsCall q.rpc q.params made → IsCall q.rpc q.params call → Executes before made after code answer → number ≡ reply_id q → places ≡ after.precision → line ≡ reply_line number code answer places
+    → (code ≡ 0 → IsAnswerOf made answer → ReadsBackAnswer made number code answer places (Value (rounded_answer places answer))) → (code ≢ 0 → ReadsBackAnswer made number code answer places (Refused code))
+    → IsAnswered before (reply_id q) call line
+made_answered before after q call made number code places answer line is_made is_call done same precision text back refused =
+    let x : Executed = record { state = after; rc = code; answer = answer } in
+    let outcome : Outcome before made x = subst (λ (y : Executed). Outcome before made y) done (exec_outcome before made) in
+    let value = λ (h : code ≡ 0). subst (λ (p : ℕ). ReadsBackAnswer made number code answer p (Value (rounded_answer p answer))) precision (back h (outcome.answers h)) in
+    let refusal = λ (h : code ≢ 0). subst (λ (p : ℕ). ReadsBackAnswer made number code answer p (Refused code)) precision (refused h) in
+    let whole : line ≡ executed_line number x = text ∙ ap (λ (p : ℕ). reply_line number code answer p) precision in
+    let reads : IsAnswered before number made line = subst (λ (l : List ℕ). IsAnswered before number made l) (sym whole) (reads_executed before number made x done value refusal) in
+    subst (λ (c : Call). IsAnswered before (reply_id q) c line) (one_call q.rpc q.params made call is_made is_call) (subst (λ (n : ℕ). IsAnswered before n made line) same reads)
+
+-- a request line that reads as a request is the call's
+pub read_of : (line : List ℕ) (q : RequestFields) (id : ℕ) (call : Call) → id < 8 → IsFitting call → line ≡ request_line (Some id) call → IsRequest line q → q ≡ request_of (Some id) call
+read_of line q id call small fits e is =
+    request_one line q (request_of (Some id) call) is
+    (subst (λ (x : List ℕ). IsRequest x (request_of (Some id) call)) (sym e) (request_found (request_line (Some id) call) (request_of (Some id) call) (call_again (Some id) call small fits).line))
+
+-- what came of a call's own request
+pub exchanged : (before after : State) (q : RequestFields) (id : ℕ) (call : Call) (text : List ℕ) → q ≡ request_of (Some id) call → IsCall q.rpc q.params call
+    → AnswersRequest before q after text → IsAnswered before (reply_id q) call text → IsExchanged before id call after (Some text)
+unfolding handed
+exchanged before after q id call text same is (refuses fault refusal state line) answered = absurd (no_refusal q.rpc q.params call fault is refusal)
+exchanged before after q id call text same is (executes made is_made state line) answered =
+    let one : made ≡ call = one_call q.rpc q.params made call is_made is in
+    let own : reply_id q ≡ id = ap reply_id same in
+    let whole : text ≡ executed_line id (exec before call) = line ∙ ap (λ (c : Call). executed_line (reply_id q) (exec before c)) one ∙ ap (λ (n : ℕ). executed_line n (exec before call)) own in
+    record {
+      state = state ∙ ap (λ (c : Call). (exec before c).state) one;
+      line = ap (λ (l : List ℕ). Some l) whole;
+      answered = subst (λ (l : List ℕ). IsAnswered before id call l) whole (subst (λ (n : ℕ). IsAnswered before n call text) own answered);
+    }
+
+-- handing a call's request line to an instrument in a state that fits
+pub handed_answered : (s : State) (id : ℕ) (call : Call) → IsFittingState s → id < 8 → IsFitting call → IsAnswered s id call (handed s id call).reply
+unfolding handed
+handed_answered s id call good small fits =
+    let x = exec s call in
+    let outcome = exec_outcome s call in
+    reads_executed s id call x refl
+    (λ h. subst (λ (c : ℕ). ReadsBackAnswer call id c x.answer x.state.precision (Value (rounded_answer x.state.precision x.answer))) (sym h)
+    (answer_again call id x.answer x.state.precision small (outcome.answers h) (rounded_fits x.state.precision x.answer (outcome.answer_fits good fits))))
+    (λ h. subst (λ (a : Answer). ReadsBackAnswer call id x.rc a x.state.precision (Refused x.rc)) (sym (outcome.refuses h))
+    (refusal_again call id x.rc x.state.precision small (omega (arith, h)) outcome.code))
+
+-- the line of a call's request reads as a request
+own_request : (id : ℕ) (call : Call) → id < 8 → IsFitting call → IsRequest (request_line (Some id) call) (request_of (Some id) call)
+own_request id call small fits = request_found (request_line (Some id) call) (request_of (Some id) call) (call_again (Some id) call small fits).line
+
+-- a call's own line, where it read as a request
+pub line_exchanged : (before after : State) (line bytes : List ℕ) (q : RequestFields) (id : ℕ) (call : Call) (text : List ℕ) → bytes ≡ line → IsRequest bytes q → id < 8 → IsFitting call → line ≡ request_line (Some id) call
+    → AnswersRequest before q after text → ((d : Call) → IsCall q.rpc q.params d → IsAnswered before (reply_id q) d text) → IsExchanged before id call after (Some text)
+line_exchanged before after line bytes q id call text same is small fits own made answered =
+    let q_is : q ≡ request_of (Some id) call = read_of bytes q id call small fits (same ∙ own) is in
+    let call_is : IsCall q.rpc q.params call = subst (λ (p : RequestFields). IsCall p.rpc p.params call) (sym q_is) (call_again (Some id) call small fits).is_call in
+    exchanged before after q id call text q_is call_is made (answered call call_is)
+
+-- it always reads as one
+pub silence_exchanged : (state : State) (line bytes : List ℕ) (fault : LineFault) (view : Request → RequestFields) (id : ℕ) (call : Call) → bytes ≡ line
+    → ((q : RequestFields) → IsRequest bytes q → Gives view (Err fault) (Ok q)) → id < 8 → IsFitting call → line ≡ request_line (Some id) call → IsExchanged state id call state None
+silence_exchanged state line bytes fault view id call same only small fits own =
+    let q = request_of (Some id) call in
+    let wrong : ◌≡◌ {A = Result RequestFields LineFault} (Ok q) (Err fault) = only q (subst (λ (x : List ℕ). IsRequest x q) (sym (same ∙ own)) (own_request id call small fits)) in
+    let never : ⊥ = cc in
+    absurd never
+
+-- handing a call's request line to an instrument has the call's reply
+pub handed_replied : (s : State) (id : ℕ) (call : Call) → id < 8 → IsFitting call → IsReplied s (request_line (Some id) call) (handed s id call).state (Some (handed s id call).reply)
+unfolding handed
+handed_replied s id call small fits =
+    answers (request_of (Some id) call) (own_request id call small fits) (executed_line id (exec s call)) (executes call (call_again (Some id) call small fits).is_call refl refl) refl

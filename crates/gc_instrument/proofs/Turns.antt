@@ -1,0 +1,57 @@
+-- A line has one reply, and lines have one output.
+use Rattle.std.proofs.Common.{◌≡◌, ℕ, List, [], ◌∷◌, ◌++◌, Option, Some, sym, ap, ◌∙◌, subst}
+use Rattle.std.specs.Option.{option_to_list}
+use Rattle.gc_lines.specs.Frames.{lines, rest_of}
+use Rattle.gc_lines.specs.Requests.{RequestFields}
+use Rattle.gc_lines.proofs.Requests.{request_one}
+use Rattle.gc_catalogue.specs.declared.answer.CallFault.{CallFault}
+use Rattle.gc_catalogue.specs.declared.call.Call.{Call}
+use Rattle.gc_catalogue.proofs.CallLaws.{one_call, one_refusal, no_refusal}
+use Rattle.gc_instrument.specs.Execution.{exec}
+use Rattle.gc_instrument.specs.Hearing.{Hears, IsOutput, written}
+use Rattle.gc_instrument.specs.Lines.{lines_behind}
+use Rattle.gc_instrument.specs.Replying.{IsReplied, silent, answers, AnswersRequest, refuses, executes, executed_line, refusal_line, reply_id}
+use Rattle.gc_instrument.specs.State.{State}
+use Rattle.gc_instrument.proofs.Completing.{lines-append}
+use Rattle.gc_instrument.proofs.Runs.{hears_then, written-append}
+
+-- a request has one answer
+one_answer : (s t u : State) (q : RequestFields) (x y : List ℕ) → AnswersRequest s q t x → AnswersRequest s q u y → (t ≡ u) × (x ≡ y)
+one_answer s t u q x y (refuses e is same made) (refuses f other again told) =
+    (same ∙ sym again, made ∙ ap (λ (g : CallFault). refusal_line (reply_id q) g) (one_refusal q.rpc q.params e f is other) ∙ sym told)
+one_answer s t u q x y (refuses e is same made) (executes c other again told) = absurd (no_refusal q.rpc q.params c e other is)
+one_answer s t u q x y (executes c is same made) (refuses e other again told) = absurd (no_refusal q.rpc q.params c e is other)
+one_answer s t u q x y (executes c is same made) (executes d other again told) =
+    let one : c ≡ d = one_call q.rpc q.params c d is other in (
+      same ∙ ap (λ (e : Call). (exec s e).state) one ∙ sym again,
+      made ∙ ap (λ (e : Call). executed_line (reply_id q) (exec s e)) one ∙ sym told,
+    )
+
+-- a line has one reply
+pub one_reply : (s t u : State) (line : List ℕ) (p q : Option (List ℕ)) → IsReplied s line t p → IsReplied s line u q → (t ≡ u) × (p ≡ q)
+one_reply s t u line p q (silent none same quiet) (silent never again mute) = (same ∙ sym again, quiet ∙ sym mute)
+one_reply s t u line p q (silent none same quiet) (answers r is text does told) = absurd (none r is)
+one_reply s t u line p q (answers r is text does told) (silent none same quiet) = absurd (none r is)
+one_reply s t u line p q (answers a is x does told) (answers b other y makes said) =
+    let same = one_answer s t u a x y does (subst (λ (r : RequestFields). AnswersRequest s r u y) (request_one line b a other is) makes) in
+    (same.0, told ∙ ap (λ (text : List ℕ). Some text) same.1 ∙ sym said)
+
+-- lines have one output
+pub one_hearing : (s t u : State) (heard : List (List ℕ)) (ps qs : List (List ℕ)) → Hears s heard t ps → Hears s heard u qs → (t ≡ u) × (ps ≡ qs)
+one_hearing s t u [] ps qs h k = (h.0 ∙ sym k.0, h.1 ∙ sym k.1)
+one_hearing s t u (line ∷ later) ps qs h k =
+    let first = one_reply s h.0 k.0 line h.1 k.1 h.3 k.3 in
+    let rest = one_hearing k.0 t u later h.2 k.2 (subst (λ (v : State). Hears v later t h.2) first.0 h.4) k.4 in (
+      rest.0,
+      h.5 ∙ ap (λ (r : Option (List ℕ)). option_to_list r ++ h.2) first.1 ∙ ap (λ (xs : List (List ℕ)). option_to_list k.1 ++ xs) rest.1 ∙ sym k.5,
+    )
+
+-- a stream may be parted behind each line feed
+pub output_then : (s t u : State) (first next xs ys : List ℕ) → rest_of first ≡ [] → IsOutput s first t xs → IsOutput t next u ys → IsOutput s (first ++ next) u (xs ++ ys)
+output_then s t u first next xs ys none h k =
+    let parted : lines (first ++ next) ≡ lines first ++ lines next = lines-append first next ∙ ap (λ (rest : List ℕ). lines first ++ lines_behind rest next) none in
+    record {
+      replies = h.replies ++ k.replies;
+      hears = subst (λ (heard : List (List ℕ)). Hears s heard u (h.replies ++ k.replies)) (sym parted) (hears_then s t u (lines first) (lines next) h.replies k.replies h.hears k.hears);
+      bytes_are = ap (λ (zs : List ℕ). zs ++ ys) h.bytes_are ∙ ap (λ (zs : List ℕ). written h.replies ++ zs) k.bytes_are ∙ sym (written-append h.replies k.replies);
+    }

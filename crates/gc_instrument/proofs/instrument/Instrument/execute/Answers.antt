@@ -1,0 +1,9 @@
+use Rattle.std.proofs.Common.{rules, FitsSigned, w32}
+use Rattle.std.proofs.lemmas.Int.{to_z-of_z}
+use Rattle.gc_instrument.proofs.instrument.Instrument.execute.Goals as goal
+
+pub returns-in-MeasDistance : goal.returns-in-MeasDistance
+returns-in-MeasDistance c =
+    let fits : FitsSigned w32 c.in-MeasDistance.mode = search rules in
+    let h = simp to_z-of_z at c.measured_distance.ensures in
+    rw c.in-MeasDistance.is h

@@ -1,0 +1,117 @@
+-- What each call does to an instrument, and what the instrument answers: this project's own, after the manual's procedures.
+use Rattle.std.specs.Prelude.{◌≡◌, ℕ, ℤ, pos, ◌&&◌, ◌||◌, Bool, true, false, Option, Some, None, int_le, int_lt, nat_le, unsigned_abs, if◌then◌else◌}
+use Rattle.std.specs.Ordering.{int_eq}
+use Rattle.std.specs.Option.{option_map}
+use Rattle.gc_values.specs.declared.decimal.Decimal.{Decimal}
+use Rattle.gc_catalogue.specs.declared.call.Call.{Call}
+use Rattle.gc_catalogue.specs.declared.call.Call.TheVariants.{NullProc, SetPrecision, GetPrecision, ComVersion, InstrumentNo, InstrumentName, SetDate, GetDate, IntTemp, CsvVersion, DoMeasure, GetStation, SetStation, GetHeight, SetHeight, GetFace, GetAngle, SimpleMea, MeasDistance, Position, ChangeFace, FineAdjust}
+use Rattle.gc_catalogue.specs.declared.call.DateTime.{DateTime}
+use Rattle.gc_catalogue.specs.declared.answer.Answer.{Answer}
+use Rattle.gc_catalogue.specs.declared.answer.Answer.TheVariants.{Nothing, Short, Version, Long, Name, Date, Temperature, Place, Height, Angles, Measured, MeasuredMode}
+use Rattle.gc_instrument.specs.Faces.{turned, face_number}
+use Rattle.gc_instrument.specs.Numbers.{temperature}
+use Rattle.gc_instrument.specs.State.{State}
+use Rattle.gc_instrument.specs.Targets.{first_at, first_within}
+use Rattle.gc_instrument.specs.declared.target.Target.{Target}
+
+-- the state after a call, with the return code and the answer
+pub record Executed : Type 0 where
+  pub state : State
+  pub rc : ℕ
+  pub answer : Answer
+
+-- the call was carried out
+abbrev pub done : State → Answer → Executed
+done s a = record { state = s; rc = 0; answer = a }
+
+-- the call was refused with this code, and is answered by nothing
+abbrev pub refused : State → ℕ → Executed
+refused s code = record { state = s; rc = code; answer = Nothing }
+
+-- the new state where the call's values are allowed, else the manual's "invalid parameter"
+abbrev pub set_if : Bool → State → State → Executed
+set_if true old new = done new Nothing
+set_if false old new = refused old 2
+
+-- an answer with the distance, and 1285 where there is none
+abbrev pub told : State → (Decimal → Answer) → Option Decimal → Executed
+told s answer_with (Some d) = done s (answer_with d)
+told s answer_with None = refused s 1285
+
+-- numbers of places that a precision can be
+abbrev pub is_precision : ℤ → Bool
+is_precision n = int_le (pos 0) n && int_le n (pos 15)
+
+-- a date and time that the clock takes; lengths of months aren't looked at
+abbrev pub is_date : DateTime → Bool
+is_date d =
+    int_le (pos 1) d.year && int_le d.year (pos 9999) && nat_le 1 d.month && nat_le d.month 12 && nat_le 1 d.day && nat_le d.day 31
+    && nat_le d.hour 23 && nat_le d.minute 59 && nat_le d.second 59
+
+-- the distance is that of the first target where the telescope points, if there is one
+abbrev pub measured : State → State
+measured s = record s { distance = option_map (λ t. t.distance) (first_at s.pointing s.scene) }
+
+-- there is no distance
+abbrev pub unmeasured : State → State
+unmeasured s = record s { distance = None }
+
+-- the telescope points there, and there is no distance
+abbrev pub pointed : State → Decimal → Decimal → State
+pointed s hz v = record s { pointing = record { hz = hz; v = v }; distance = None }
+
+-- the telescope is turned over, and there is no distance
+abbrev pub turned_over : State → State
+turned_over s = record s { face = turned s.face; distance = None }
+
+-- measuring as commanded: 0 does nothing, 1 measures, 3 clears
+abbrev pub commanded : State → ℤ → Executed
+commanded s command =
+    if int_eq command (pos 0) then done s Nothing
+    else (if int_eq command (pos 1) then done (measured s) Nothing
+    else (if int_eq command (pos 3) then done (unmeasured s) Nothing else refused s 2))
+
+-- pointing at the target that was met, and 8710 where there is none
+abbrev pub adjusted : State → Option Target → Executed
+adjusted s (Some t) = done (pointed s t.hz t.v) Nothing
+adjusted s None = refused s 8710
+
+-- looking for a target within the areas; neither may be below zero
+abbrev pub searched : State → Decimal → Decimal → Executed
+searched s area_hz area_v =
+    if int_lt area_hz.digits (pos 0) || int_lt area_v.digits (pos 0) then refused s 2
+    else adjusted s (first_within s.pointing area_hz area_v s.scene)
+
+-- the call carried out in this state
+unfoldable pub exec : State → Call → Executed
+exec s NullProc = done s Nothing
+exec s (SetPrecision n) = set_if (is_precision n) s (record s { precision = unsigned_abs n })
+exec s GetPrecision = done s (Short (pos s.precision))
+exec s ComVersion = done s (Version (pos 1) (pos 0) (pos 0))
+exec s InstrumentNo = done s (Long s.serial)
+exec s InstrumentName = done s (Name s.name)
+exec s (SetDate d) = set_if (is_date d) s (record s { date = d })
+exec s GetDate = done s (Date s.date)
+exec s IntTemp = done s (Temperature temperature)
+exec s CsvVersion = done s (Version (pos 1) (pos 2) (pos 0))
+exec s (DoMeasure command mode) = commanded s command
+exec s GetStation = done s (Place s.station)
+exec s (SetStation p) = done (record s { station = p }) Nothing
+exec s GetHeight = done s (Height s.height)
+exec s (SetHeight h) = done (record s { height = h }) Nothing
+exec s GetFace = done s (Long (face_number s.face))
+exec s (GetAngle mode) = done s (Angles s.pointing.hz s.pointing.v)
+exec s (SimpleMea wait mode) = told s (λ d. Measured s.pointing.hz s.pointing.v d) s.distance
+exec s (MeasDistance mode) =
+    told (measured s) (λ d. MeasuredMode s.pointing.hz s.pointing.v d mode) (measured s).distance
+exec s (Position hz v pos_mode atr_mode dummy) = done (pointed s hz v) Nothing
+exec s (ChangeFace pos_mode atr_mode dummy) = done (turned_over s) Nothing
+exec s (FineAdjust area_hz area_v dummy) = searched s area_hz area_v
+
+-- this state, return code and answer are what came of it
+abbrev pub Gives : Executed → State → ℕ → Answer → Type 0
+Gives x after code answer = x ≡ record { state = after; rc = code; answer = answer }
+
+-- carrying out the call takes the one state to the other, with this return code and answer
+abbrev pub Executes : State → Call → State → ℕ → Answer → Type 0
+Executes before call after code answer = Gives (exec before call) after code answer

@@ -1,0 +1,36 @@
+-- What is claimed of the definitions themselves, apart from any call of a function.
+use Rattle.std.specs.Prelude.{◌≡◌, ℕ, ◌<◌, List, [], ◌++◌, Option, Some}
+use Rattle.gc_lines.specs.Frames.{rest_of}
+use Rattle.gc_catalogue.specs.Calls.{IsFitting}
+use Rattle.gc_catalogue.specs.Texts.{request_line}
+use Rattle.gc_catalogue.specs.declared.call.Call.{Call}
+use Rattle.gc_instrument.specs.Execution.{exec}
+use Rattle.gc_instrument.specs.Hearing.{Hears, IsOutput}
+use Rattle.gc_instrument.specs.Outcomes.{Outcome}
+use Rattle.gc_instrument.specs.Replying.{IsReplied, IsAnswered, handed}
+use Rattle.gc_instrument.specs.State.{State, IsFittingState, restarted}
+
+-- every call comes out, in every state
+abbrev pub CallsComeOut : Type 0
+CallsComeOut = (s : State) (call : Call) → Outcome s call (exec s call)
+
+-- starting twice is starting once, and a state that fits starts as one that fits
+pub record Restarts : Type 0 where
+  pub twice : (s : State) → restarted (restarted s) ≡ restarted s
+  pub fits : (s : State) → IsFittingState s → IsFittingState (restarted s)
+
+-- a line has one reply, and leads to one state
+abbrev pub OneReply : Type 0
+OneReply = (s t u : State) (line : List ℕ) (p q : Option (List ℕ)) → IsReplied s line t p → IsReplied s line u q → (t ≡ u) × (p ≡ q)
+
+-- handing over a call's request line has the reply of the call, which says of it what carrying it out gave
+pub record ExchangesCalls : Type 0 where
+  pub replied : (s : State) (id : ℕ) (call : Call) → id < 8 → IsFitting call → IsReplied s (request_line (Some id) call) (handed s id call).state (Some (handed s id call).reply)
+  pub answered : (s : State) (id : ℕ) (call : Call) → IsFittingState s → id < 8 → IsFitting call → IsAnswered s id call (handed s id call).reply
+
+-- lines have one output; what comes first is answered first, and what comes next from the state after it; a stream may be
+-- parted behind each line feed
+pub record AnswersInTurn : Type 0 where
+  pub one : (s t u : State) (heard : List (List ℕ)) (ps qs : List (List ℕ)) → Hears s heard t ps → Hears s heard u qs → (t ≡ u) × (ps ≡ qs)
+  pub next : (s t u : State) (xs ys : List (List ℕ)) (ps qs : List (List ℕ)) → Hears s xs t ps → Hears t ys u qs → Hears s (xs ++ ys) u (ps ++ qs)
+  pub whole : (s t u : State) (first next : List ℕ) (xs ys : List ℕ) → rest_of first ≡ [] → IsOutput s first t xs → IsOutput t next u ys → IsOutput s (first ++ next) u (xs ++ ys)

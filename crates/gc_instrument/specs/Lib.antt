@@ -1,0 +1,12 @@
+pub mod Execution
+pub mod Faces
+pub mod Hearing
+pub mod Laws
+pub mod Lines
+pub mod Numbers
+pub mod Outcomes
+pub mod Replying
+pub mod Seen
+pub mod Serving
+pub mod State
+pub mod Targets

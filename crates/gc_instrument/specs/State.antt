@@ -1,0 +1,76 @@
+-- The state of a simulated instrument, as it is at the start and after a restart.
+use Rattle.std.specs.Prelude.{◌≤◌, ℕ, ℤ, pos, List, [], ◌∷◌, Option, None, codes, refl}
+use Rattle.gc_values.specs.Decimals.{decimal, zero}
+use Rattle.gc_values.specs.declared.decimal.Decimal.{Decimal}
+use Rattle.gc_values.specs.Text.{IsText}
+use Rattle.gc_values.specs.Whole.{FitsLong}
+use Rattle.gc_catalogue.specs.Lists.{AreValues}
+use Rattle.gc_catalogue.specs.Structs.{date_values}
+use Rattle.gc_catalogue.specs.declared.call.Station.{Station}
+use Rattle.gc_catalogue.specs.declared.call.DateTime.{DateTime}
+use Rattle.gc_instrument.specs.declared.face.Face.{Face}
+use Rattle.gc_instrument.specs.declared.face.Face.TheVariants.{Normal}
+use Rattle.gc_instrument.specs.declared.pointing.Pointing.{Pointing}
+use Rattle.gc_instrument.specs.declared.target.Target.{Target}
+
+-- what an instrument is, and what its calls have set
+pub record State : Type 0 where
+  pub serial : ℤ
+  pub name : List ℕ
+  pub scene : List Target
+  pub precision : ℕ
+  pub station : Station
+  pub height : Decimal
+  pub face : Face
+  pub pointing : Pointing
+  pub distance : Option Decimal
+  pub date : DateTime
+
+-- what is known of every instrument's state: a precision is at most 15, and the other values lie in their types
+pub record IsFittingState (s : State) : Type 0 where
+  pub precision : s.precision ≤ 15
+  pub serial : FitsLong s.serial
+  pub name : IsText s.name
+  pub date : AreValues (date_values s.date)
+
+-- a station of zeros
+abbrev pub origin : Station
+origin = record { e0 = zero; n0 = zero; h0 = zero; hi = zero }
+
+-- the direction of zeros
+abbrev pub ahead : Pointing
+ahead = record { hz = zero; v = zero }
+
+-- the date at the start: 1996-07-25 16:19:47
+abbrev pub first_date : DateTime
+first_date = record { year = pos 1996; month = 7; day = 25; hour = 16; minute = 19; second = 47 }
+
+-- the state at the start, of an instrument with this serial number, name and scene (this project's own)
+abbrev pub opening : ℤ → List ℕ → List Target → State
+opening number letters targets = record {
+  serial = number;
+  name = letters;
+  scene = targets;
+  precision = 15;
+  station = origin;
+  height = zero;
+  face = Normal;
+  pointing = ahead;
+  distance = None;
+  date = first_date;
+}
+
+-- the state after a restart: that of the start, with the same serial number, name and scene
+abbrev pub restarted : State → State
+restarted s = opening s.serial s.name s.scene
+
+-- the three targets of the simulator
+abbrev pub simulator_scene : List Target
+simulator_scene =
+    record { hz = decimal (pos 5) 1 refl; v = decimal (pos 15) 1 refl; distance = decimal (pos 25125) 3 refl }
+    ∷ (record { hz = decimal (pos 225) 2 refl; v = decimal (pos 1625) 3 refl; distance = decimal (pos 1100625) 4 refl }
+    ∷ (record { hz = decimal (pos 4) 0 refl; v = decimal (pos 15) 1 refl; distance = decimal (pos 485) 1 refl } ∷ []))
+
+-- the simulator at the start (this project's own)
+abbrev pub simulator_opening : State
+simulator_opening = opening (pos 123456) (codes "GEOCOM SIM") simulator_scene

@@ -1,0 +1,26 @@
+-- The targets of a scene, and which of them an instrument meets.
+use Rattle.std.specs.Prelude.{◌&&◌, Bool, List, Option, find}
+use Rattle.gc_values.specs.Decimals.{decimal_eq, is_within, zero}
+use Rattle.gc_values.specs.declared.decimal.Decimal.{Decimal}
+use Rattle.gc_instrument.specs.declared.pointing.Pointing.{Pointing}
+use Rattle.gc_instrument.specs.declared.target.Target.{Target}
+
+-- a target of zeros
+abbrev pub nowhere : Target
+nowhere = record { hz = zero; v = zero; distance = zero }
+
+-- the target lies exactly where the telescope points
+abbrev pub is_at : Pointing → Target → Bool
+is_at p t = decimal_eq t.hz p.hz && decimal_eq t.v p.v
+
+-- the target lies within the two areas round where the telescope points
+abbrev pub is_within_areas : Pointing → Decimal → Decimal → Target → Bool
+is_within_areas p area_hz area_v t = is_within t.hz p.hz area_hz && is_within t.v p.v area_v
+
+-- the first target that lies exactly where the telescope points
+abbrev pub first_at : Pointing → List Target → Option Target
+first_at p scene = find (is_at p) scene
+
+-- the first target within the two areas
+abbrev pub first_within : Pointing → Decimal → Decimal → List Target → Option Target
+first_within p area_hz area_v scene = find (is_within_areas p area_hz area_v) scene

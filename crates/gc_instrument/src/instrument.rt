@@ -1,0 +1,149 @@
+//! The simulated instrument: what it is, how it starts, and what it shows.
+
+ghost use Rattle.std.specs.Prelude.{◌≡◌, ◌<◌, ◌≤◌, ◌↔◌, length, IfOk, IsErr};
+ghost use Rattle.gc_instrument.specs.State.{IsFittingState, opening, restarted, simulator_opening};
+
+mod execution;
+mod replying;
+mod settings;
+
+use crate::face::Face;
+use crate::pointing::Pointing;
+use crate::simulator;
+use crate::target::Target;
+use arrayvec::ArrayVec;
+use gc_catalogue::{DateTime, Station};
+use gc_values::{Decimal, Text};
+use settings::Settings;
+use std::marker::Model;
+
+/// A scene has more than 32 targets.
+#[derive(Clone, Copy, Debug, PartialEq, Eq)]
+pub struct SceneFull;
+
+impl SceneFull {
+    /// The fault's number, 41.
+    pub fn number(self) -> u8
+        ensures { result ≡ 41 }
+    {
+        41
+    }
+}
+
+/// A simulated total station: its serial number, its name, a scene of at most 32 targets, and what
+/// calls have set. It holds no allocated memory.
+#[derive(Debug, Drop)]
+pub struct Instrument {
+    serial: i32,
+    name: Text,
+    scene: ArrayVec<Target, 32>,
+    settings: Settings,
+}
+
+impl Model for Instrument {
+    ghost use Rattle.gc_instrument.specs.State.{State};
+
+    ghost Value = { State };
+
+    ghost use Rattle.gc_instrument.specs.Seen.{state_of, IsSound};
+
+    ghost view = { state_of };
+
+    ghost invariant = { IsSound };
+}
+
+impl Instrument {
+    ghost use Rattle.gc_instrument.specs.Targets.{nowhere};
+
+    /// An instrument with this serial number, name and scene, in the opening state: precision 15,
+    /// all values 0.0, the normal face, no distance, and the date 1996-07-25 16:19:47 (this
+    /// project's own). A scene of more than 32 targets is refused.
+    pub fn new(serial: i32, name: Text, scene: &[Target]) -> Result<Instrument, SceneFull>
+        ensures opening { IfOk result (λ i. i ≡ opening serial name scene.now) }
+        ensures fits { IfOk result (λ i. IsFittingState i) }
+        ensures full { IsErr result ↔ (32 < length scene.now) }
+    {
+        // The proof learns here what every `Text` holds.
+        let _ = name.as_bytes();
+        let mut targets = ArrayVec::new();
+        if targets.try_extend_from_slice(scene).is_err() {
+            return Err(SceneFull);
+        }
+        Ok(Instrument {
+            serial,
+            name,
+            scene: targets,
+            settings: Settings::opening(),
+        })
+    }
+
+    /// Brings back the opening state. The serial number, the name and the scene stay.
+    pub fn restart(&mut self)
+        ensures state { self.new ≡ restarted self.old }
+        ensures fits { IsFittingState self.new }
+    {
+        self.settings = Settings::opening();
+    }
+
+    /// The simulator: serial number 123456, name `GEOCOM SIM`, and three targets.
+    pub fn simulator() -> Instrument
+        ensures state { result ≡ simulator_opening }
+        ensures fits { IsFittingState result }
+    {
+        match Instrument::new(simulator::SERIAL, simulator::name(), &simulator::scene()) {
+            Ok(instrument) => instrument,
+            Err(_) => unreachable!(),
+        }
+    }
+
+    /// The number of places to which doubles are rounded in replies, 0 to 15.
+    pub fn precision(&self) -> u8
+        ensures value { result ≡ self.now.precision }
+        ensures fits { IsFittingState self.now }
+    {
+        self.settings.precision
+    }
+
+    /// The station's coordinates and the height of the instrument over it, in metres.
+    pub fn station(&self) -> Station
+        ensures { result ≡ self.now.station }
+    {
+        self.settings.station
+    }
+
+    /// The height of the reflector, in metres.
+    pub fn height(&self) -> Decimal
+        ensures { result ≡ self.now.height }
+    {
+        self.settings.height
+    }
+
+    /// The face of the telescope.
+    pub fn face(&self) -> Face
+        ensures { result ≡ self.now.face }
+    {
+        self.settings.face
+    }
+
+    /// Where the telescope points, in radians.
+    pub fn pointing(&self) -> Pointing
+        ensures { result ≡ self.now.pointing }
+    {
+        self.settings.pointing
+    }
+
+    /// The slope distance that was measured last, in metres, where no call since then has cleared
+    /// it.
+    pub fn distance(&self) -> Option<Decimal>
+        ensures { result ≡ self.now.distance }
+    {
+        self.settings.distance
+    }
+
+    /// The date and time that were set last.
+    pub fn date(&self) -> DateTime
+        ensures { result ≡ self.now.date }
+    {
+        self.settings.date
+    }
+}

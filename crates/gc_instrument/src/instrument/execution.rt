@@ -1,0 +1,233 @@
+//! What each call does to an instrument, and what the instrument answers: this project's own, after
+//! the procedures of the GeoCOM manual.
+
+ghost use Rattle.std.specs.Prelude.{◌≡◌};
+ghost use Rattle.gc_instrument.specs.Numbers.{temperature};
+ghost use Rattle.gc_instrument.specs.Execution.{Gives, Executes, done, told, is_date, commanded, measured, pointed, turned_over, searched};
+
+use super::Instrument;
+use crate::measurement::{first_at, first_within};
+use crate::pointing::Pointing;
+use gc_catalogue::{Answer, Call, DateTime, Station};
+use gc_values::Decimal;
+
+/// The manual's return code for an invalid parameter.
+const INVALID_PARAMETER: u16 = 2;
+
+/// The return code where angles are known and no distance is.
+const NO_DISTANCE: u16 = 1285;
+
+/// The return code where no target is met.
+const NO_TARGET: u16 = 8710;
+
+impl Instrument {
+    ghost use Rattle.gc_catalogue.specs.declared.call.Call.TheVariants.{SetPrecision, SetDate, SetStation, SetHeight, GetAngle, SimpleMea, MeasDistance};
+    ghost use Rattle.gc_catalogue.specs.declared.answer.Answer.TheVariants.{Nothing, Angles, Measured, MeasuredMode};
+
+    /// Carries out a call, and gives the return code and the answer, which is `Answer::Nothing`
+    /// where the code isn't 0: 2 for a value that isn't allowed, 1285 where no distance is known,
+    /// 8710 where no target is met. The stored values keep all their places, whatever the precision.
+    #[tactic(auto, unfolding(crate::specs::Execution::exec))]
+    pub fn execute(&mut self, call: &Call) -> (u16, Answer)
+        ensures { Executes self.old call.now self.new result.0 result.1 }
+    {
+        match *call {
+            Call::NullProc => (0, Answer::Nothing),
+            Call::SetPrecision(places) => self.set_precision(places),
+            Call::GetPrecision => (0, Answer::Short(i16::from(self.settings.precision))),
+            Call::ComVersion => (0, Answer::Version(1, 0, 0)),
+            Call::InstrumentNo => (0, Answer::Long(self.serial)),
+            Call::InstrumentName => (0, Answer::Name(self.name)),
+            Call::SetDate(date) => self.set_date(date),
+            Call::GetDate => (0, Answer::Date(self.settings.date)),
+            Call::IntTemp => (0, Answer::Temperature(temperature())),
+            Call::CsvVersion => (0, Answer::Version(1, 2, 0)),
+            Call::DoMeasure { command, .. } => self.measure_as(command),
+            Call::GetStation => (0, Answer::Place(self.settings.station)),
+            Call::SetStation(station) => self.set_station(station),
+            Call::GetHeight => (0, Answer::Height(self.settings.height)),
+            Call::SetHeight(height) => self.set_height(height),
+            Call::GetFace => (0, Answer::Long(self.settings.face.number())),
+            Call::GetAngle { .. } => self.angles(),
+            Call::SimpleMea { .. } => self.simple_measurement(),
+            Call::MeasDistance { mode } => self.measured_distance(mode),
+            Call::Position { hz, v, .. } => self.position(hz, v),
+            Call::ChangeFace { .. } => self.change_face(),
+            Call::FineAdjust {
+                area_hz,
+                area_v,
+                ..
+            } => self.fine_adjust(&area_hz, &area_v),
+        }
+    }
+
+    // Sets the number of places, 0 to 15.
+    #[tactic(auto, unfolding(crate::specs::Execution::exec))]
+    fn set_precision(&mut self, places: i16) -> (u16, Answer)
+        ensures { Executes self.old (SetPrecision places) self.new result.0 result.1 }
+    {
+        if 0 <= places && places <= 15 {
+            self.settings.precision = places as u8;
+            (0, Answer::Nothing)
+        } else {
+            (INVALID_PARAMETER, Answer::Nothing)
+        }
+    }
+
+    // Sets the date and time.
+    #[tactic(auto, unfolding(crate::specs::Execution::exec))]
+    fn set_date(&mut self, date: DateTime) -> (u16, Answer)
+        ensures { Executes self.old (SetDate date) self.new result.0 result.1 }
+    {
+        if is_date(&date) {
+            self.settings.date = date;
+            (0, Answer::Nothing)
+        } else {
+            (INVALID_PARAMETER, Answer::Nothing)
+        }
+    }
+
+    // Sets the station.
+    #[tactic(auto, unfolding(crate::specs::Execution::exec))]
+    fn set_station(&mut self, station: Station) -> (u16, Answer)
+        ensures { Executes self.old (SetStation station) self.new result.0 result.1 }
+    {
+        self.settings.station = station;
+        (0, Answer::Nothing)
+    }
+
+    // Sets the height of the reflector, with all its places.
+    #[tactic(auto, unfolding(crate::specs::Execution::exec))]
+    fn set_height(&mut self, height: Decimal) -> (u16, Answer)
+        ensures { Executes self.old (SetHeight height) self.new result.0 result.1 }
+    {
+        self.settings.height = height;
+        (0, Answer::Nothing)
+    }
+
+    // Measures, or clears the distance, as commanded.
+    fn measure_as(&mut self, command: i32) -> (u16, Answer)
+        ensures { Gives (commanded self.old command) self.new result.0 result.1 }
+    {
+        match command {
+            0 => (0, Answer::Nothing),
+            1 => {
+                self.measure();
+                (0, Answer::Nothing)
+            }
+            3 => {
+                self.settings.distance = None;
+                (0, Answer::Nothing)
+            }
+            _ => (INVALID_PARAMETER, Answer::Nothing),
+        }
+    }
+
+    // Measures the first target where the telescope points, if there is one.
+    fn measure(&mut self)
+        ensures { self.new ≡ measured self.old }
+    {
+        let target = first_at(&self.settings.pointing, self.scene.as_slice());
+        self.settings.distance = target.map(|target| target.distance);
+    }
+
+    // The angles.
+    fn angles(&self) -> (u16, Answer)
+        ensures { Gives (done self.now (Angles self.now.pointing.hz self.now.pointing.v))
+            self.now result.0 result.1 }
+    {
+        let Pointing { hz, v } = self.settings.pointing;
+        (0, Answer::Angles { hz, v })
+    }
+
+    // The angles and the distance, where there is one.
+    fn simple_measurement(&self) -> (u16, Answer)
+        ensures { Gives (told self.now (λ d. Measured self.now.pointing.hz self.now.pointing.v d)
+            self.now.distance) self.now result.0 result.1 }
+    {
+        let Pointing { hz, v } = self.settings.pointing;
+        match self.settings.distance {
+            Some(distance) => (0, Answer::Measured { hz, v, distance }),
+            None => (NO_DISTANCE, Answer::Nothing),
+        }
+    }
+
+    // Measures, and gives the angles and the distance, where there is one.
+    #[tactic(auto, unfolding(crate::specs::Execution::exec))]
+    fn measured_distance(&mut self, mode: i32) -> (u16, Answer)
+        ensures { Executes self.old (MeasDistance mode) self.new result.0 result.1 }
+    {
+        self.measure();
+        let Pointing { hz, v } = self.settings.pointing;
+        match self.settings.distance {
+            Some(distance) => (
+                0,
+                Answer::MeasuredMode {
+                    hz,
+                    v,
+                    distance,
+                    mode,
+                },
+            ),
+            None => (NO_DISTANCE, Answer::Nothing),
+        }
+    }
+
+    // Turns the telescope, which clears the distance.
+    fn position(&mut self, hz: Decimal, v: Decimal) -> (u16, Answer)
+        ensures { Gives (done (pointed self.old hz v) Nothing) self.new result.0 result.1 }
+    {
+        self.settings.pointing = Pointing { hz, v };
+        self.settings.distance = None;
+        (0, Answer::Nothing)
+    }
+
+    // Turns the telescope over, which clears the distance. The angles stay.
+    fn change_face(&mut self) -> (u16, Answer)
+        ensures { Gives (done (turned_over self.old) Nothing) self.new result.0 result.1 }
+    {
+        self.settings.face = self.settings.face.turned();
+        self.settings.distance = None;
+        (0, Answer::Nothing)
+    }
+
+    // Turns the telescope to the first target within the areas, if there is one.
+    fn fine_adjust(&mut self, area_hz: &Decimal, area_v: &Decimal) -> (u16, Answer)
+        ensures { Gives (searched self.old area_hz.now area_v.now) self.new result.0 result.1 }
+    {
+        if area_hz.digits() < 0 || area_v.digits() < 0 {
+            return (INVALID_PARAMETER, Answer::Nothing);
+        }
+        match first_within(
+            &self.settings.pointing,
+            area_hz,
+            area_v,
+            self.scene.as_slice(),
+        ) {
+            Some(target) => self.position(target.hz, target.v),
+            None => (NO_TARGET, Answer::Nothing),
+        }
+    }
+}
+
+// The temperature inside every instrument: 21 degrees Celsius.
+fn temperature() -> Decimal
+    ensures { result ≡ temperature }
+{
+    Decimal::literal(21, 0)
+}
+
+// Whether the clock takes this date and time. Lengths of months aren't looked at.
+fn is_date(date: &DateTime) -> bool
+    ensures { result ≡ is_date date.now }
+{
+    1 <= date.year
+        && date.year <= 9999
+        && 1 <= date.month
+        && date.month <= 12
+        && 1 <= date.day
+        && date.day <= 31
+        && date.hour <= 23
+        && date.minute <= 59
+        && date.second <= 59
+}

@@ -1,0 +1,78 @@
+//! What the instrument replies to a line: nothing where it is no request, 3081 or 3080 where it names
+//! no call, and else what carrying out the call gave.
+
+ghost use Rattle.std.specs.Prelude.{◌≡◌, ◌<◌, ℕ, Some};
+ghost use Rattle.std.specs.Option.{option_map, ForSome};
+ghost use Rattle.gc_lines.specs.Requests.{request_seen};
+ghost use Rattle.gc_catalogue.specs.Calls.{IsCall, IsFitting};
+ghost use Rattle.gc_catalogue.specs.Texts.{request_line};
+ghost use Rattle.gc_instrument.specs.Replying.{IsReplied, IsAnswered, IsExchanged, AnswersRequest, com_code, refusal_line, reply_id};
+
+use super::Instrument;
+use gc_catalogue::{CallFault, decode_call, encode_answer};
+use gc_lines::{Line, Request, begin_reply, read_request};
+
+/// The communication code for a procedure that isn't in the catalogue.
+const UNKNOWN_PROCEDURE: u16 = 3081;
+
+/// The communication code for parameters that don't read.
+const WRONG_PARAMETERS: u16 = 3080;
+
+impl Instrument {
+    ghost use Rattle.gc_catalogue.specs.declared.call.Call.{Call};
+
+    /// The reply to a line, if it is a request.
+    ///
+    /// The call is carried out, and its reply has the request's id, or 0, and doubles with the
+    /// precision that stands after the call. A procedure that isn't in the catalogue is answered
+    /// with the communication code 3081, and parameters that don't read with 3080; then nothing
+    /// changes, as with a line that is no request. A request that is repeated is carried out again.
+    pub fn on_line(&mut self, line: &Line) -> Option<Line>
+        ensures replied { IsReplied self.old line.now.items self.new (option_map (λ r. r.items) result) }
+        ensures exchanged { (id : ℕ) (call : Call) → id < 8 → IsFitting call
+            → line.now.items ≡ request_line (Some id) call
+            → IsExchanged self.old id call self.new (option_map (λ r. r.items) result) }
+    {
+        match read_request(line.as_slice()) {
+            Ok(request) => Some(self.reply_to(&request)),
+            Err(_) => None,
+        }
+    }
+
+    // The reply to a request.
+    #[inline]
+    fn reply_to(&mut self, request: &Request<'_>) -> Line
+        requires { ForSome request.now.id (λ id. id < 8) }
+        ensures answers { AnswersRequest self.old (request_seen request.now) self.new result.items }
+        ensures reads { (call : Call) → IsCall request.now.rpc request.now.params.now call
+            → IsAnswered self.old (reply_id (request_seen request.now)) call result.items }
+    {
+        let id = request.id.unwrap_or(0);
+        match decode_call(request) {
+            Ok(call) => {
+                let (rc, answer) = self.execute(&call);
+                encode_answer(id, rc, &answer, self.settings.precision)
+            }
+            Err(fault) => refusal(id, fault),
+        }
+    }
+}
+
+// The communication code that says why a request names no call.
+fn com_code(fault: CallFault) -> u16
+    ensures { result ≡ com_code fault }
+{
+    match fault {
+        CallFault::Unknown => UNKNOWN_PROCEDURE,
+        CallFault::Parameters(_) => WRONG_PARAMETERS,
+    }
+}
+
+// The reply to a request that names no call.
+#[inline]
+fn refusal(id: u8, fault: CallFault) -> Line
+    requires { id < 8 }
+    ensures { result.items ≡ refusal_line id fault }
+{
+    begin_reply(com_code(fault), Some(id), 0)
+}

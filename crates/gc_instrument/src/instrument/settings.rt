@@ -1,0 +1,61 @@
+//! What calls set in an instrument, and what a restart forgets.
+
+use crate::face::Face;
+use crate::pointing::Pointing;
+use gc_catalogue::{DateTime, Station};
+use gc_values::Decimal;
+
+/// The part of an instrument that calls change.
+#[derive(Clone, Copy, Debug)]
+pub struct Settings {
+    pub precision: u8,
+    pub station: Station,
+    pub height: Decimal,
+    pub face: Face,
+    pub pointing: Pointing,
+    pub distance: Option<Decimal>,
+    pub date: DateTime,
+}
+
+impl Settings {
+    ghost use Rattle.std.specs.Prelude.{◌≡◌, None};
+    ghost use Rattle.gc_values.specs.Decimals.{zero};
+    ghost use Rattle.gc_instrument.specs.State.{origin, ahead, first_date};
+    ghost use Rattle.gc_instrument.specs.declared.face.Face.TheVariants.{Normal};
+
+    /// The settings at the start.
+    pub fn opening() -> Settings
+        ensures { result ≡ record {
+          precision = 15;
+          station = origin;
+          height = zero;
+          face = Normal;
+          pointing = ahead;
+          distance = None;
+          date = first_date;
+        } }
+    {
+        let zero = Decimal::zero();
+        Settings {
+            precision: 15,
+            station: Station {
+                e0: zero,
+                n0: zero,
+                h0: zero,
+                hi: zero,
+            },
+            height: zero,
+            face: Face::Normal,
+            pointing: Pointing { hz: zero, v: zero },
+            distance: None,
+            date: DateTime {
+                year: 1996,
+                month: 7,
+                day: 25,
+                hour: 16,
+                minute: 19,
+                second: 47,
+            },
+        }
+    }
+}

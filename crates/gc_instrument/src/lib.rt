@@ -1,0 +1,20 @@
+//! A simulated instrument: its state, what each call does to it, and its replies to lines.
+#![tactic(auto)]
+
+mod face;
+mod instrument;
+pub mod laws;
+mod measurement;
+mod pointing;
+mod serving;
+mod simulator;
+mod target;
+
+pub use face::Face;
+pub use instrument::{Instrument, SceneFull};
+pub use pointing::Pointing;
+pub use serving::{ServeFault, Served, serve};
+pub use target::Target;
+
+#[cfg(test)]
+mod tests;

@@ -1,0 +1,46 @@
+//! Which target of a scene the instrument meets: always the first that fits.
+
+ghost use Rattle.std.specs.Prelude.{◌≡◌, find};
+ghost use Rattle.gc_instrument.specs.Targets.{is_at, is_within_areas, first_at, first_within};
+
+use crate::pointing::Pointing;
+use crate::target::Target;
+use gc_values::Decimal;
+
+// Whether the target lies exactly where the telescope points.
+fn is_at(pointing: &Pointing, target: &Target) -> bool
+    ensures { result ≡ is_at pointing.now target.now }
+{
+    target.hz == pointing.hz && target.v == pointing.v
+}
+
+// Whether the target lies within the areas round where the telescope points.
+fn is_within_areas(
+    pointing: &Pointing,
+    area_hz: &Decimal,
+    area_v: &Decimal,
+    target: &Target,
+) -> bool
+    ensures { result ≡ is_within_areas pointing.now area_hz.now area_v.now target.now }
+{
+    target.hz.within(&pointing.hz, area_hz) && target.v.within(&pointing.v, area_v)
+}
+
+/// The first target that lies exactly where the telescope points.
+pub fn first_at(pointing: &Pointing, scene: &[Target]) -> Option<Target>
+    ensures { result ≡ first_at pointing.now scene.now }
+{
+    scene.iter().copied().find(|target| is_at(pointing, target))
+}
+
+/// The first target within the areas round where the telescope points.
+pub fn first_within(
+    pointing: &Pointing,
+    area_hz: &Decimal,
+    area_v: &Decimal,
+    scene: &[Target],
+) -> Option<Target>
+    ensures { result ≡ first_within pointing.now area_hz.now area_v.now scene.now }
+{
+    scene.iter().copied().find(|target| is_within_areas(pointing, area_hz, area_v, target))
+}

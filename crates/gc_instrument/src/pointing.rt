@@ -1,0 +1,11 @@
+//! Where a telescope points.
+
+use gc_values::Decimal;
+
+/// The horizontal direction and the vertical angle of the telescope, in radians. They aren't brought
+/// into a circle.
+#[derive(Clone, Copy, Debug, PartialEq, Eq)]
+pub struct Pointing {
+    pub hz: Decimal,
+    pub v: Decimal,
+}
