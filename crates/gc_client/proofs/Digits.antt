@@ -1,0 +1,40 @@
+-- Ids of a window, as numbers.
+use Rattle.std.proofs.Common.{◌≡◌, ℕ, ◌<◌, ◌≤◌, ◌↔◌, true, length, Some, sym, subst, ap, ◌∙◌, arith}
+use Rattle.std.proofs.lemmas.Bool.{lt-ltb, ltb-true}
+use Rattle.gc_client.specs.Rule.{ById, place, place_in, fits}
+use Rattle.gc_client.specs.Ids.{id_at, id_of, IsWindow, Waits, SendKeepsIds, SettlingKeepsIds}
+
+-- a request that is sent has the next id, and the others keep theirs
+pub sending : (next waiting : ℕ) → next < 8 → waiting < 7 → SendKeepsIds next waiting
+sending next waiting digit room =
+    record {
+      own = omega arith;
+      others = λ k below. omega arith;
+    }
+
+-- those that are left keep their ids
+pub settling : (next waiting : ℕ) → waiting ≤ 7 → SettlingKeepsIds next waiting
+settling next waiting few count k below = omega arith
+
+-- the place of an id at a place
+place_back : (next waiting k : ℕ) → next < 8 → waiting ≤ 7 → k < waiting → place next waiting (id_at next waiting k) ≡ k
+place_back next waiting k digit few below = omega arith
+
+-- the id at the place of an id
+id_back : (next waiting id : ℕ) → next < 8 → waiting ≤ 7 → id < 8 → id_at next waiting (place next waiting id) ≡ id
+id_back next waiting id digit few below = omega arith
+
+-- the id of the request at place k has place k
+pub placed : (c : ById) (k : ℕ) → IsWindow c → k < length c.waiting → place_in c (id_of c k) ≡ k
+placed c k w below = place_back c.next (length c.waiting) k w.digit w.few below
+
+-- two ids that are one have one place
+pub differ : (c : ById) (j k : ℕ) → IsWindow c → j < length c.waiting → k < length c.waiting → id_of c j ≡ id_of c k → j ≡ k
+differ c j k w below_j below_k same = sym (placed c j w below_j) ∙ ap (place_in c) same ∙ placed c k w below_k
+
+-- the place of an id is that of a request exactly where one has it
+pub fits_where_it_waits : (c : ById) (id : ℕ) → IsWindow c → id < 8 → (fits c (Some id) ≡ true) ↔ Waits c id
+fits_where_it_waits c id w digit = (
+  λ fit. (place_in c id, ltb-true _ _ fit, id_back c.next (length c.waiting) id w.digit w.few digit),
+  λ (k, below, same). lt-ltb _ _ (subst (λ j. j < length c.waiting) (sym (placed c k w below) ∙ ap (place_in c) same) below),
+)

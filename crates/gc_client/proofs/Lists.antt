@@ -1,0 +1,31 @@
+-- Lists, one element further.
+use Rattle.std.proofs.Common.{◌≡◌, ℕ, zero, suc, ◌+◌, List, [], ◌∷◌, ◌++◌, take, drop, Some, sym, ◌∙◌, ap, arith}
+use Rattle.std.specs.Prelude.{slice_get}
+
+-- the first k + 1 are the first k, and the one at place k
+pub take_turn : {A : Type 0} (xs : List A) (k : ℕ) (x : A) → slice_get xs k ≡ Some x → take (suc k) xs ≡ take k xs ++ x ∷ []
+take_turn [] k x e = cc
+take_turn (y ∷ xs) zero x e = let same : y ≡ x = cc in ap (λ z. z ∷ []) same
+take_turn (y ∷ xs) (suc k) x e = ap (λ zs. y ∷ zs) (take_turn xs k x e)
+
+-- from place k on there are the one at place k, and those behind it
+pub drop_turn : {A : Type 0} (xs : List A) (k : ℕ) (x : A) → slice_get xs k ≡ Some x → drop k xs ≡ x ∷ drop (suc k) xs
+drop_turn [] k x e = cc
+drop_turn (y ∷ xs) zero x e = let same : y ≡ x = cc in ap (λ z. z ∷ xs) same
+drop_turn (y ∷ xs) (suc k) x e = drop_turn xs k x e
+
+-- the first of those from place k on stands at place k
+pub head_of_drop : {A : Type 0} (xs : List A) (k : ℕ) (x : A) (rest : List A) → drop k xs ≡ x ∷ rest → slice_get xs k ≡ Some x
+head_of_drop [] zero x rest e = cc
+head_of_drop [] (suc k) x rest e = cc
+head_of_drop (y ∷ xs) zero x rest e = cc
+head_of_drop (y ∷ xs) (suc k) x rest e = head_of_drop xs k x rest e
+
+-- once the one at place k is taken out of those from place k on, those from place k + 1 on are left
+pub left_turn : {A : Type 0} (ws : List A) (k : ℕ) (p : A) (qs qs' : List A) → qs ≡ drop k ws → qs ≡ p ∷ qs' → qs' ≡ drop (k + 1) ws
+left_turn ws k p qs qs' rest first =
+    let here : slice_get ws k ≡ Some p = head_of_drop ws k p qs' (sym rest ∙ first) in
+    let n : suc k ≡ k + 1 = omega arith in
+    let both : p ∷ qs' ≡ p ∷ drop (suc k) ws = sym first ∙ rest ∙ drop_turn ws k p here in
+    let tails : qs' ≡ drop (suc k) ws = cc in
+    tails ∙ ap (λ m. drop m ws) n

@@ -1,0 +1,29 @@
+-- Giving up the request at a place is a write at that place.
+use Rattle.std.proofs.Common.{◌≡◌, ℕ, zero, suc, ◌<◌, ◌≤◌, List, [], ◌∷◌, length, get_or, set, Some, None, true, refl, ap, arith}
+use Rattle.std.specs.Prelude.{slice_get}
+use Rattle.gc_client.specs.declared.pending.Pending.{Pending}
+use Rattle.gc_client.specs.Rule.{given_up_at}
+
+-- a request that was given up
+abbrev pub abandoned : Pending → Pending
+abandoned p = record p { given_up = true }
+
+-- by the element that stands there
+pub set_is_given_up : (ps : List Pending) (k : ℕ) (d : Pending) → k < length ps → set ps k (abandoned (get_or ps k d)) ≡ given_up_at k ps
+set_is_given_up [] k d lt = absurd (omega arith)
+set_is_given_up (p ∷ ps) zero d lt = refl
+set_is_given_up (p ∷ ps) (suc k) d lt = ap (λ qs. p ∷ qs) (set_is_given_up ps k d (omega arith))
+
+-- by the element that was read there
+pub set_some_is_given_up : (ps : List Pending) (k : ℕ) (p : Pending) → slice_get ps k ≡ Some p → set ps k (abandoned p) ≡ given_up_at k ps
+set_some_is_given_up [] k p e = cc
+set_some_is_given_up (q ∷ ps) zero p e = let same : p ≡ q = cc in ap (λ x. abandoned x ∷ ps) same
+set_some_is_given_up (q ∷ ps) (suc k) p e = ap (λ qs. q ∷ qs) (set_some_is_given_up ps k p e)
+
+-- a place at which nothing was read is past the end
+pub none_is_past : (ps : List Pending) (k : ℕ) → slice_get ps k ≡ None → length ps ≤ k
+none_is_past [] k e = omega arith
+none_is_past (p ∷ ps) zero e = absurd (some_is_not_none p e) where
+  some_is_not_none : (p : Pending) → Some p ≡ None → ⊥
+  some_is_not_none p e = cc
+none_is_past (p ∷ ps) (suc k) e = omega (arith, none_is_past ps k e)

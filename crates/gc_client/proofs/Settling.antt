@@ -1,0 +1,33 @@
+-- One more settlement.
+use Rattle.std.proofs.Common.{◌≡◌, ℕ, zero, suc, ◌+◌, List, [], ◌∷◌, ◌++◌, map, take, drop, All, Some, sym, ◌∙◌, ap, ap₂, subst, arith}
+use Rattle.std.specs.Prelude.{slice_get}
+use Rattle.std.proofs.lemmas.List.{map-append}
+use Rattle.std.proofs.lemmas.List.Elements.{All-append}
+use Rattle.gc_client.specs.declared.pending.Pending.{Pending}
+use Rattle.gc_client.specs.declared.settlement.Settlement.{Settlement}
+use Rattle.gc_client.specs.Rule.{lost}
+use Rattle.gc_client.specs.Rule
+use Rattle.gc_client.specs.Settlements.{settlement_seen, IsWellRead, IsSettlement, AreSettlements}
+use Rattle.gc_client.proofs.Lists.{take_turn, head_of_drop}
+
+-- one settlement that is well read
+well_read_one : (s : Settlement) → IsWellRead s.call s.outcome → All (λ s. IsWellRead s.call s.outcome) (s ∷ [])
+well_read_one s read zero d lt = read
+well_read_one s read (suc k) d lt = absurd (omega arith)
+
+-- settlements that are the rule's, and one more that is
+pub one_more : (ss : List Settlement) (rs : List Rule.Settlement) (s : Settlement) (r : Rule.Settlement) → AreSettlements ss rs → IsSettlement s r → AreSettlements (ss ++ s ∷ []) (rs ++ r ∷ [])
+one_more ss rs s r are is =
+    record {
+      seen = map-append settlement_seen ss (s ∷ []) ∙ ap₂ (λ xs x. xs ++ x ∷ []) are.seen is.seen;
+      read = All-append (λ s. IsWellRead s.call s.outcome) ss (s ∷ []) are.read (well_read_one s is.read);
+    }
+
+-- the next of those that wait is lost
+pub lose_turn : (ss : List Settlement) (ws : List Pending) (k : ℕ) (p : Pending) (qs qs' : List Pending) (s : Settlement) → AreSettlements ss (map lost (take k ws)) → qs ≡ drop k ws → qs ≡ p ∷ qs' → IsSettlement s (lost p) → AreSettlements (ss ++ s ∷ []) (map lost (take (k + 1) ws))
+lose_turn ss ws k p qs qs' s are rest first is =
+    let here : slice_get ws k ≡ Some p = head_of_drop ws k p qs' (sym rest ∙ first) in
+    let n : k + 1 ≡ suc k = omega arith in
+    let next : map lost (take (k + 1) ws) ≡ map lost (take k ws) ++ lost p ∷ [] =
+    ap (λ m. map lost (take m ws)) n ∙ ap (map lost) (take_turn ws k p here) ∙ map-append lost (take k ws) (p ∷ []) in
+    subst (λ rs. AreSettlements (ss ++ s ∷ []) rs) (sym next) (one_more ss (map lost (take k ws)) s (lost p) are is)

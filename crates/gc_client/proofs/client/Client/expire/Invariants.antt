@@ -1,0 +1,15 @@
+use Rattle.std.proofs.Common.{◌≡◌, ◌≤◌, length, take}
+use Rattle.gc_client.specs.Rule.{expiring}
+use Rattle.gc_client.proofs.Expiry.{partly}
+use Rattle.gc_client.proofs.client.Client.expire.Given as goal
+
+-- the first k have seen the moment, and the others have not
+abbrev pub invariant-loop-k : goal.invariant-loop-k
+invariant-loop-k g l =
+    let pendings = g.W.Window.pendings in
+    record {
+      done : pendings l.self-inside.window ≡ partly l.now l.k l.fn.self.waiting;
+      told : l.targets.items ≡ expiring l.now (take l.k l.fn.self.waiting);
+      count : length l.targets.items ≤ l.k;
+      next : l.self-inside.next ≡ l.fn.self.next;
+    }

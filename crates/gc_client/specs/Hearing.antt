@@ -1,0 +1,19 @@
+-- What a client makes of a line.
+use Rattle.std.specs.Prelude.{◌≡◌, ℕ, true, false, List, [], IsOk, Err}
+use Rattle.gc_lines.specs.Replies.{reply_at}
+use Rattle.gc_client.specs.declared.settlement.Settlement.{Settlement}
+use Rattle.gc_client.specs.declared.heard.Heard.{Heard}
+use Rattle.gc_client.specs.declared.heard.Heard.TheVariants.{Settled, Stray, Unread}
+use Rattle.gc_client.specs.Rule.{ById, heard, fits}
+
+-- what a line settled
+abbrev pub settlements_in : Heard → List Settlement
+settlements_in (Settled settlements) = settlements.items
+settlements_in Stray = []
+settlements_in (Unread fault) = []
+
+-- which of the three a line is for a client; a stray and a line that is no reply change nothing
+abbrev pub HearsAs : ById → List ℕ → Heard → ById → Type 0
+HearsAs old line (Settled settlements) new = fits old (heard line) ≡ true
+HearsAs old line Stray new = IsOk (reply_at line) × (fits old (heard line) ≡ false) × (new ≡ old)
+HearsAs old line (Unread fault) new = (reply_at line ≡ Err fault) × (new ≡ old)

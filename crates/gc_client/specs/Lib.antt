@@ -1,0 +1,5 @@
+pub mod Rule
+pub mod Ids
+pub mod Settlements
+pub mod Hearing
+pub mod Places

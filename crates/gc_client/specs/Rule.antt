@@ -1,0 +1,140 @@
+-- The client's rule, this project's own: what a send, a reply, an expiry and a restart do to the next id and to the requests that wait.
+use Rattle.std.specs.Prelude.{ℕ, zero, suc, ◌+◌, ◌-◌, ◌%◌, Bool, true, false, ◌||◌, ◌&&◌, not, List, [], ◌∷◌, ◌++◌, length, map, filter, drop, Option, Some, None, Result, Ok, Err, if◌then◌else◌, nat_lt, nat_le, nat_eq}
+use Rattle.gc_lines.specs.declared.fault.LineFault.{LineFault}
+use Rattle.gc_lines.specs.Replies.{ReplyFields, reply_at}
+use Rattle.gc_catalogue.specs.declared.call.Call.{Call}
+use Rattle.gc_catalogue.specs.Texts.{request_line}
+use Rattle.gc_client.specs.declared.pending.Pending.{Pending}
+
+-- how a request ended: a reply line met it, which is its bytes; one met it after it was given up; or none will
+pub data Outcome : Type 0 where
+  Answered : (line : List ℕ) → Outcome
+  Late : Outcome
+  Lost : Outcome
+
+-- the end of one request
+pub record Settlement : Type 0 where
+  pub target : ℕ
+  pub call : Call
+  pub outcome : Outcome
+
+-- a client that knows requests by ids: the next id, and the requests that wait, oldest first
+pub record ById : Type 0 where
+  pub next : ℕ
+  pub waiting : List Pending
+
+-- a request line that was written, and the client behind it
+pub record Wrote (Client : Type 0) : Type 0 where
+  pub line : List ℕ
+  pub client : Client
+
+-- what was settled, and the client behind it
+pub record Settled (Client : Type 0) : Type 0 where
+  pub settlements : List Settlement
+  pub client : Client
+
+-- a client at its start
+abbrev pub fresh : ById
+fresh = record { next = 0; waiting = [] }
+
+-- Pendings.
+
+-- a request that has just been sent
+abbrev pub asked : ℕ → Call → ℕ → Pending
+asked target call deadline = record { target = target; call = call; deadline = deadline; given_up = false }
+
+-- given up from now on where its deadline is at most this moment
+abbrev pub expired : ℕ → Pending → Pending
+expired now p = record p { given_up = p.given_up || nat_le p.deadline now }
+
+-- whether this moment gives it up
+abbrev pub is_expiring : ℕ → Pending → Bool
+is_expiring now p = nat_le p.deadline now && not p.given_up
+
+-- the targets of those that this moment gives up, in order
+abbrev pub expiring : ℕ → List Pending → List ℕ
+expiring now ps = map (λ p. p.target) (filter (is_expiring now) ps)
+
+-- the one at place k is given up
+abbrev pub given_up_at : ℕ → List Pending → List Pending
+given_up_at k [] = []
+given_up_at zero (p ∷ ps) = record p { given_up = true } ∷ ps
+given_up_at (suc k) (p ∷ ps) = p ∷ given_up_at k ps
+
+-- Settlements.
+
+-- settled without an answer
+abbrev pub lost : Pending → Settlement
+lost p = record { target = p.target; call = p.call; outcome = Lost }
+
+-- settled by this reply line
+abbrev pub met : Pending → List ℕ → Settlement
+met p line = record { target = p.target; call = p.call; outcome = if p.given_up then Late else Answered line }
+
+-- the first k are lost, and the next one is met by this line
+abbrev pub settle : ℕ → List ℕ → List Pending → List Settlement
+settle k line [] = []
+settle zero line (p ∷ ps) = met p line ∷ []
+settle (suc k) line (p ∷ ps) = lost p ∷ settle k line ps
+
+-- Ids.
+
+-- how far an id lies behind that of the oldest of so many requests, going round at eight
+abbrev pub place : ℕ → ℕ → ℕ → ℕ
+place next waiting id = (id + 8 - (next + 8 - waiting) % 8) % 8
+
+-- the place of an id among the requests that wait
+abbrev pub place_in : ById → ℕ → ℕ
+place_in c id = place c.next (length c.waiting) id
+
+-- whether a reply with this id, or with none, fits a request that waits
+abbrev pub fits : ById → Option ℕ → Bool
+fits c None = false
+fits c (Some id) = nat_lt (place_in c id) (length c.waiting)
+
+-- the place of the request that a reply with this id, or with none, is for, where one waits
+abbrev pub place_heard : ℕ → ℕ → Option ℕ → Option ℕ
+place_heard next waiting None = None
+place_heard next waiting (Some id) = if nat_lt (place next waiting id) waiting then Some (place next waiting id) else None
+
+-- the id of a line that was read as a reply
+abbrev pub id_in : Result ReplyFields LineFault → Option ℕ
+id_in (Ok reply) = reply.id
+id_in (Err fault) = None
+
+-- the id that a line has, where it reads as a reply with one
+abbrev pub heard : List ℕ → Option ℕ
+heard line = id_in (reply_at line)
+
+-- The rule.
+
+-- a send where the window is full, or has room
+abbrev pub id_send : ById → ℕ → Call → ℕ → Bool → Option (Wrote ById)
+id_send c target call deadline true = None
+id_send c target call deadline false =
+    Some (record {
+      line = request_line (Some c.next) call;
+      client = record { next = (c.next + 1) % 8; waiting = c.waiting ++ asked target call deadline ∷ [] };
+    })
+
+-- a send: refused where as many wait as the window is wide
+abbrev pub sends : ℕ → ById → ℕ → Call → ℕ → Option (Wrote ById)
+sends width c target call deadline = id_send c target call deadline (nat_eq (length c.waiting) width)
+
+-- a reply whose id has place k, where that is below the number that wait, or is not
+abbrev pub id_settled : ById → List ℕ → ℕ → Bool → Settled ById
+id_settled c line k false = record { settlements = []; client = c }
+id_settled c line k true = record { settlements = settle k line c.waiting; client = record { next = c.next; waiting = drop (k + 1) c.waiting } }
+
+-- a line that comes with this id, or with none
+abbrev pub hears : ById → List ℕ → Option ℕ → Settled ById
+hears c line None = record { settlements = []; client = c }
+hears c line (Some id) = id_settled c line (place_in c id) (nat_lt (place_in c id) (length c.waiting))
+
+-- a moment: each request whose deadline it has reached is given up, and goes on waiting
+abbrev pub expires : ById → ℕ → ById
+expires c now = record { next = c.next; waiting = map (expired now) c.waiting }
+
+-- a restart: all are lost, and the ids begin anew
+abbrev pub restarts : ById → Settled ById
+restarts c = record { settlements = map lost c.waiting; client = fresh }

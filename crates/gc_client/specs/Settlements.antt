@@ -1,0 +1,42 @@
+-- What settlements are in the rule's words.
+use Rattle.std.specs.Prelude.{◌≡◌, ℕ, List, map, All, Ok, ⊤}
+use Rattle.gc_lines.specs.Replies.{ReplyFields, reply_at}
+use Rattle.gc_catalogue.specs.declared.call.Call.{Call}
+use Rattle.gc_catalogue.specs.declared.answer.Reading.{Reading}
+use Rattle.gc_catalogue.specs.Readings.{IsReading}
+use Rattle.gc_client.specs.declared.settlement.Settlement.{Settlement}
+use Rattle.gc_client.specs.declared.settlement.Outcome.{Outcome}
+use Rattle.gc_client.specs.declared.settlement.Outcome.TheVariants.{Answered, Late, Lost}
+use Rattle.gc_client.specs.Rule
+
+-- an outcome without its reading, which its line and its call determine
+abbrev pub outcome_seen : Outcome → Rule.Outcome
+outcome_seen (Answered reading line) = Rule.Answered line.items
+outcome_seen Late = Rule.Late
+outcome_seen Lost = Rule.Lost
+
+-- a settlement as the rule speaks of it
+abbrev pub settlement_seen : Settlement → Rule.Settlement
+settlement_seen s = record { target = s.target; call = s.call; outcome = outcome_seen s.outcome }
+
+-- the line is a reply, and this is what it says of the call
+pub record ReadsAs (call : Call) (line : List ℕ) (reading : Reading) : Type 0 where
+  pub reply : ReplyFields
+  pub is_reply : reply_at line ≡ Ok reply
+  pub is_reading : IsReading call reply reading
+
+-- the reading of an answer is what its line says of the call
+abbrev pub IsWellRead : Call → Outcome → Type 0
+IsWellRead call (Answered reading line) = ReadsAs call line.items reading
+IsWellRead call Late = ⊤
+IsWellRead call Lost = ⊤
+
+-- this settlement is the rule's: the same target, call and outcome, and an answer's reading is its line's
+pub record IsSettlement (s : Settlement) (ruled : Rule.Settlement) : Type 0 where
+  pub seen : settlement_seen s ≡ ruled
+  pub read : IsWellRead s.call s.outcome
+
+-- these settlements are the rule's, one for one
+pub record AreSettlements (settlements : List Settlement) (ruled : List Rule.Settlement) : Type 0 where
+  pub seen : map settlement_seen settlements ≡ ruled
+  pub read : All (λ s. IsWellRead s.call s.outcome) settlements

@@ -1,0 +1,16 @@
+//! What a client makes of a line.
+
+use crate::settlement::Settlement;
+use arrayvec::ArrayVec;
+use gc_lines::LineFault;
+
+/// What a client made of a line.
+#[derive(Debug, PartialEq, Eq, Drop)]
+pub enum Heard {
+    /// The line is the reply to a request that waits: the end of each request before it, and of that one, in order.
+    Settled(ArrayVec<Settlement, 7>),
+    /// The line is a reply, and no request waits for it: it has no id, or one that nothing waits with.
+    Stray,
+    /// The line is no reply; the fault names its first faulty field.
+    Unread(LineFault),
+}

@@ -1,0 +1,21 @@
+//! The client: what a monitoring station embeds. It reads no clock and opens no port.
+#![tactic(auto)]
+
+mod client;
+mod heard;
+pub mod laws;
+mod pending;
+mod ring;
+mod settlement;
+mod slots;
+#[cfg(test)]
+mod tests;
+mod window;
+
+pub use client::{Client, WindowFull};
+pub use heard::Heard;
+pub use pending::Pending;
+pub use ring::Ring;
+pub use settlement::{Outcome, Settlement};
+pub use slots::Slots;
+pub use window::Window;

@@ -1,0 +1,53 @@
+//! Settlements: how a request ended. Each request is settled once, in the order of sending.
+
+ghost use Rattle.std.specs.Prelude.{◌≡◌};
+ghost use Rattle.gc_catalogue.specs.declared.call.Call.TheVariants.{NullProc};
+ghost use Rattle.gc_client.specs.declared.settlement.Outcome.TheVariants.{Lost};
+
+use gc_catalogue::{Call, Reading};
+use gc_lines::Line;
+
+/// How a request ended.
+#[derive(Debug, PartialEq, Eq, Drop)]
+pub enum Outcome {
+    /// Its reply came in time: what the reply says for the call, and the very line.
+    /// A reply that doesn't read is an answer too, whose reading says so.
+    Answered(Reading, Line),
+    /// A reply to it came after it was given up. What the reply said is dropped.
+    Late,
+    /// A later request was answered first, or the client was restarted: no reply will be taken.
+    /// Whether the instrument acted on it is not known.
+    Lost,
+}
+
+impl Default for Outcome {
+    ghost is_default = { λ outcome. outcome ≡ Lost };
+
+    fn default() -> Outcome {
+        Outcome::Lost
+    }
+}
+
+/// The end of one request.
+#[derive(Debug, PartialEq, Eq, Drop)]
+pub struct Settlement {
+    /// Whom the request was for, as it was handed to `send`.
+    pub target: u32,
+    /// What it asked for.
+    pub call: Call,
+    /// How it ended.
+    pub outcome: Outcome,
+}
+
+impl Default for Settlement {
+    ghost is_default = { λ s. (s.target ≡ 0) × (s.call ≡ NullProc) × (s.outcome ≡ Lost) };
+
+    /// A null procedure for target 0 that is lost: what fills the places of an `ArrayVec` that nothing uses yet.
+    fn default() -> Settlement {
+        Settlement {
+            target: 0,
+            call: Call::NullProc,
+            outcome: Outcome::default(),
+        }
+    }
+}

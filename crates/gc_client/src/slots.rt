@@ -1,0 +1,92 @@
+//! A window in eight fixed places: a request's place is its id.
+
+ghost use Rattle.std.specs.Prelude.{◌≡◌, []};
+
+use crate::pending::Pending;
+use crate::window::Window;
+use gc_catalogue::Call;
+use std::marker::Model;
+
+/// A window in eight fixed places, for a station that must never ask for memory.
+/// `clear` begins again at place 0, as a client does with its ids, so the request with id i stands at place i.
+#[derive(Drop)]
+pub struct Slots {
+    places: [Pending; 8],
+    oldest: usize,
+    len: usize,
+}
+
+impl Model for Slots {
+    ghost use Rattle.std.specs.Prelude.{◌≡◌, ◌<◌, ◌≤◌, List, length};
+    ghost use Rattle.gc_client.specs.declared.pending.Pending.{Pending};
+    ghost use Rattle.gc_client.specs.Places.{waiting_in};
+
+    ghost Value = { List Pending };
+
+    ghost view = { λ s. waiting_in s.oldest s.len s.places };
+
+    ghost invariant = { λ s. (s.oldest < 8) × (s.len ≤ 7) × (length s.places ≡ 8) };
+}
+
+// What stands in a place that nothing has used yet.
+const VACANT: Pending = Pending {
+    target: 0,
+    call: Call::NullProc,
+    deadline: 0,
+    given_up: false,
+};
+
+impl Slots {
+    /// Makes an empty window. It takes no memory.
+    pub fn new() -> Slots
+        ensures { result ≡ [] }
+    {
+        Slots {
+            places: [VACANT; 8],
+            oldest: 0,
+            len: 0,
+        }
+    }
+}
+
+impl Default for Slots {
+    ghost is_default = { λ slots. slots ≡ [] };
+
+    fn default() -> Slots {
+        Slots::new()
+    }
+}
+
+impl Window for Slots {
+    ghost pendings = { λ slots. slots };
+
+    fn len(&self) -> usize {
+        self.len
+    }
+
+    fn get(&self, k: usize) -> Pending {
+        self.places[(self.oldest + k) % 8]
+    }
+
+    fn push(&mut self, p: Pending) {
+        self.places[(self.oldest + self.len) % 8] = p;
+        self.len += 1;
+    }
+
+    fn take_first(&mut self) -> Pending {
+        let first = self.places[self.oldest];
+        self.oldest = (self.oldest + 1) % 8;
+        self.len -= 1;
+        first
+    }
+
+    fn give_up(&mut self, k: usize) {
+        let place = (self.oldest + k) % 8;
+        self.places[place].given_up = true;
+    }
+
+    fn clear(&mut self) {
+        self.oldest = 0;
+        self.len = 0;
+    }
+}

@@ -1,0 +1,237 @@
+//! Worked examples, each with both windows.
+
+use crate::client::Client;
+use crate::heard::Heard;
+use crate::ring::Ring;
+use crate::settlement::{Outcome, Settlement};
+use crate::slots::Slots;
+use crate::window::Window;
+use gc_catalogue::Call;
+use gc_lines::Line;
+use std::alloc::{AllocError, Global};
+use std::process::Abort;
+use std::test::Fail;
+
+// What happens to a client.
+#[derive(Clone, Copy)]
+enum Step {
+    Send(u32, u64),
+    Hear(&'static str),
+    Expire(u64),
+    Restart,
+}
+
+use Step::{Expire, Hear, Restart, Send};
+
+fn line_of(text: &str) -> Line {
+    let mut line = Line::new();
+    let _ = line.try_extend_from_slice(text.as_bytes());
+    line
+}
+
+fn tell_line(text: &mut String, line: &Line) -> Result<(), AllocError> {
+    for byte in line.as_slice() {
+        text.push(char::from(*byte))?;
+    }
+    Ok(())
+}
+
+fn tell(text: &mut String, settled: &[Settlement]) -> Result<(), AllocError> {
+    for settlement in settled {
+        write!(text, "{} ", settlement.target)?;
+        match &settlement.outcome {
+            Outcome::Answered(reading, line) => {
+                write!(text, "{reading:?} ")?;
+                tell_line(text, line)?;
+            }
+            Outcome::Late => text.push_str("late")?,
+            Outcome::Lost => text.push_str("lost")?,
+        }
+        text.push_str(", ")?;
+    }
+    Ok(())
+}
+
+// What a step gives, and then how many wait and the next id.
+fn told<W: Window>(
+    alloc: Global,
+    client: &mut Client<W>,
+    call: Call,
+    step: Step,
+) -> Result<String, AllocError> {
+    let mut text = String::new(alloc);
+    match step {
+        Send(target, deadline) => match client.send(target, call, deadline) {
+            Ok(line) => tell_line(&mut text, &line)?,
+            Err(full) => write!(text, "refused {}", full.number())?,
+        },
+        Hear(line) => match client.on_line(&line_of(line)) {
+            Heard::Settled(settled) => tell(&mut text, &settled)?,
+            Heard::Stray => text.push_str("stray")?,
+            Heard::Unread(fault) => write!(text, "unread {}", fault.number())?,
+        },
+        Expire(now) => {
+            for target in client.expire(now).as_slice() {
+                write!(text, "{target}, ")?;
+            }
+        }
+        Restart => tell(&mut text, &client.restart())?,
+    }
+    write!(
+        text,
+        "; {} wait, next {}",
+        client.waiting(),
+        client.next_id()
+    )?;
+    Ok(text)
+}
+
+fn follow<W: Window>(
+    rt: &impl Abort,
+    alloc: Global,
+    name: &str,
+    window: W,
+    call: Call,
+    steps: &[(Step, &str)],
+) -> Result<(), AllocError> {
+    let mut client = Client::new(window);
+    for (step, want) in steps {
+        let got = told(alloc, &mut client, call, *step)?;
+        assert_eq!(rt; got.as_str(), *want, "{name}");
+    }
+    Ok(())
+}
+
+// The same steps give the same with both windows.
+fn follow_both(
+    rt: &impl Abort,
+    alloc: Global,
+    name: &str,
+    call: Call,
+    steps: &[(Step, &str)],
+) -> Result<(), AllocError> {
+    follow(rt, alloc, name, Ring::new(alloc)?, call, steps)?;
+    follow(rt, alloc, name, Slots::new(), call, steps)
+}
+
+#[test]
+fn strays_and_unreadable_replies(rt: HostRuntime) -> Result<(), Fail> {
+    let steps = [
+        (Send(1, 9), "%R1Q,5003,0:; 1 wait, next 1"),
+        (Hear("%R1P,0:0,7"), "stray; 1 wait, next 1"),
+        (Hear("%R1P,0,1:0,7"), "stray; 1 wait, next 1"),
+        (Hear("%R1P,0,0:x"), "unread 5; 1 wait, next 1"),
+        (
+            Hear("%R1P,0,0:0,abc"),
+            "1 Unreadable(Spelling) %R1P,0,0:0,abc, ; 0 wait, next 1",
+        ),
+    ];
+    follow_both(
+        &rt,
+        rt.alloc(),
+        "strays and unreadable replies",
+        Call::InstrumentNo,
+        &steps,
+    )?;
+    Ok(())
+}
+
+#[test]
+fn seven_waiting(rt: HostRuntime) -> Result<(), Fail> {
+    let steps = [
+        (Send(1, 9), "%R1Q,0,0:; 1 wait, next 1"),
+        (Send(2, 9), "%R1Q,0,1:; 2 wait, next 2"),
+        (Send(3, 9), "%R1Q,0,2:; 3 wait, next 3"),
+        (Send(4, 9), "%R1Q,0,3:; 4 wait, next 4"),
+        (Send(5, 9), "%R1Q,0,4:; 5 wait, next 5"),
+        (Send(6, 9), "%R1Q,0,5:; 6 wait, next 6"),
+        (Send(7, 9), "%R1Q,0,6:; 7 wait, next 7"),
+        (Send(8, 9), "refused 31; 7 wait, next 7"),
+        (
+            Hear("%R1P,0,2:0"),
+            "1 lost, 2 lost, 3 Value(Nothing) %R1P,0,2:0, ; 4 wait, next 7",
+        ),
+        (Send(9, 9), "%R1Q,0,7:; 5 wait, next 0"),
+    ];
+    follow_both(&rt, rt.alloc(), "seven waiting", Call::NullProc, &steps)?;
+    Ok(())
+}
+
+#[test]
+fn given_up(rt: HostRuntime) -> Result<(), Fail> {
+    let steps = [
+        (Send(1, 10), "%R1Q,0,0:; 1 wait, next 1"),
+        (Send(2, 20), "%R1Q,0,1:; 2 wait, next 2"),
+        (Expire(9), "; 2 wait, next 2"),
+        (Expire(10), "1, ; 2 wait, next 2"),
+        (Expire(30), "2, ; 2 wait, next 2"),
+        (Expire(5), "; 2 wait, next 2"),
+        (Hear("%R1P,0,0:0"), "1 late, ; 1 wait, next 2"),
+        (Restart, "2 lost, ; 0 wait, next 0"),
+    ];
+    follow_both(&rt, rt.alloc(), "given up", Call::NullProc, &steps)?;
+    Ok(())
+}
+
+#[test]
+fn eight_places(rt: HostRuntime) -> Result<(), Fail> {
+    let steps = [
+        (Send(0, 9), "%R1Q,0,0:; 1 wait, next 1"),
+        (Send(1, 9), "%R1Q,0,1:; 2 wait, next 2"),
+        (Send(2, 9), "%R1Q,0,2:; 3 wait, next 3"),
+        (Send(3, 9), "%R1Q,0,3:; 4 wait, next 4"),
+        (Send(4, 9), "%R1Q,0,4:; 5 wait, next 5"),
+        (Send(5, 9), "%R1Q,0,5:; 6 wait, next 6"),
+        (Send(6, 9), "%R1Q,0,6:; 7 wait, next 7"),
+        (
+            Hear("%R1P,0,6:0"),
+            "0 lost, 1 lost, 2 lost, 3 lost, 4 lost, 5 lost, 6 Value(Nothing) %R1P,0,6:0, ; 0 wait, next 7",
+        ),
+        (Send(7, 9), "%R1Q,0,7:; 1 wait, next 0"),
+        (Send(8, 9), "%R1Q,0,0:; 2 wait, next 1"),
+        (Send(9, 9), "%R1Q,0,1:; 3 wait, next 2"),
+        (Send(10, 9), "%R1Q,0,2:; 4 wait, next 3"),
+        (Send(11, 9), "%R1Q,0,3:; 5 wait, next 4"),
+        (Send(12, 9), "%R1Q,0,4:; 6 wait, next 5"),
+        (Send(13, 9), "%R1Q,0,5:; 7 wait, next 6"),
+        (Hear("%R1P,0,6:0"), "stray; 7 wait, next 6"),
+        (
+            Hear("%R1P,0,5:0"),
+            "7 lost, 8 lost, 9 lost, 10 lost, 11 lost, 12 lost, 13 Value(Nothing) %R1P,0,5:0, ; 0 wait, next 6",
+        ),
+    ];
+    follow_both(&rt, rt.alloc(), "the eight places", Call::NullProc, &steps)?;
+    Ok(())
+}
+
+// Each handler and mutator once. It takes no memory itself.
+fn go_through<W: Window>(rt: &impl Abort, window: W) {
+    let mut client = Client::new(window);
+    for target in 0..7 {
+        assert!(rt; client.send(target, Call::NullProc, 10).is_ok());
+    }
+    assert!(rt; client.send(7, Call::NullProc, 10).is_err());
+    assert_eq!(rt; client.on_line(&line_of("%R1P,0:0")), Heard::Stray);
+    let Heard::Settled(settled) = client.on_line(&line_of("%R1P,0,2:0")) else {
+        assert!(rt; false, "the third request waits");
+        return;
+    };
+    assert_eq!(rt; settled.len(), 3);
+    assert_eq!(rt; client.expire(10).len(), 4);
+    assert_eq!(rt; client.restart().len(), 4);
+    assert_eq!(rt; client.waiting(), 0);
+    assert_eq!(rt; client.next_id(), 0);
+}
+
+// This passes with the second allocation refused, and fails with the first.
+#[test]
+fn ring_takes_memory_once(rt: HostRuntime) -> Result<(), Fail> {
+    go_through(&rt, Ring::new(rt.alloc())?);
+    Ok(())
+}
+
+// This passes with the first allocation refused.
+#[test]
+fn places_take_no_memory(rt: HostRuntime) {
+    go_through(&rt, Slots::new());
+}

@@ -1,0 +1,45 @@
+//! The window: the requests that wait, as a list of at most seven, however it is kept.
+
+ghost use Rattle.std.specs.Prelude.{◌≡◌, ◌<◌, ◌≤◌, [], ◌∷◌, ◌++◌, length, slice_get};
+ghost use Rattle.gc_client.specs.Rule.{given_up_at};
+
+use crate::pending::Pending;
+
+/// The requests that wait, oldest first: at most seven.
+/// What stands above sees this list and nothing else of a window.
+pub trait Window: Drop {
+    ghost use Rattle.std.specs.Prelude.{List};
+    ghost use Rattle.gc_client.specs.declared.pending.Pending.{Pending};
+
+    /// The requests that wait, oldest first.
+    ghost pendings: { Self → List Pending };
+
+    /// How many wait.
+    fn len(&self) -> usize
+        ensures len { result ≡ length (pendings self.now) }
+        ensures within { result ≤ 7 };
+
+    /// The one at place k, counted from the oldest.
+    fn get(&self, k: usize) -> Pending
+        requires { k < length (pendings self.now) }
+        ensures { slice_get (pendings self.now) k ≡ Some result };
+
+    /// Appends one behind the youngest.
+    fn push(&mut self, p: Pending)
+        requires { length (pendings self.old) < 7 }
+        ensures { pendings self.new ≡ pendings self.old ++ p ∷ [] };
+
+    /// Takes the oldest out.
+    fn take_first(&mut self) -> Pending
+        requires { 0 < length (pendings self.old) }
+        ensures { pendings self.old ≡ result ∷ pendings self.new };
+
+    /// Marks the one at place k as given up. It stays where it is.
+    fn give_up(&mut self, k: usize)
+        requires { k < length (pendings self.old) }
+        ensures { pendings self.new ≡ given_up_at k (pendings self.old) };
+
+    /// Takes all out.
+    fn clear(&mut self)
+        ensures { pendings self.new ≡ [] };
+}
