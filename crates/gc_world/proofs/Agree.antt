@@ -1,0 +1,188 @@
+-- The client that knows ids does what the client that is told the numbers does.
+use Rattle.std.proofs.Common.{◌≡◌, ℕ, zero, suc, ◌+◌, ◌-◌, ◌%◌, ◌<◌, ◌≤◌, Bool, true, false, List, [], ◌∷◌, ◌++◌, length, map, take, drop, Option, Some, None, refl, sym, ◌∙◌, ap, subst, arith, length-drop, ltb, eqb}
+use mathlib.Core.Path.{ap₂}
+use Rattle.std.proofs.lemmas.List.{drop-drop, drop-append-le, length_push, drop_all}
+use Rattle.std.proofs.lemmas.Bool.{ltb-true, ltb-false, lt-ltb, le-ltb}
+use Rattle.gc_catalogue.specs.declared.call.Call.{Call}
+use Rattle.gc_client.specs.declared.pending.Pending.{Pending}
+use Rattle.gc_client.specs.Rule.{Settled, ById, asked, expired, lost, settle, place, id_send, id_settled, hears}
+use Rattle.gc_world.specs.World.{Request, Numbered, Ends, Happening, Send, Up_deliver, Up_lose, Up_repeat, Down_deliver, Down_lose, Down_repeat, Expire, Restart_client, Restart_instrument, Nothing, Wire, World, Written, without, doubled, idle, up_delivered, with_up, with_down, started, instrument_restarted, on_wire, requested, booked, down_delivered, client_restarted, happens, run}
+use Rattle.gc_world.specs.Clients.{ByNumber, with_id, by_ids, ids_open, number_send, number_reply, by_numbers, numbers_open, run_by_ids, run_by_numbers}
+use Rattle.gc_world.specs.Exchange.{IsExchange}
+use Rattle.gc_world.specs.Order.{Each, Rising, numbers, under_way, IsOrderly}
+use Rattle.gc_world.proofs.Ids.{place_within, place_before}
+use Rattle.gc_world.proofs.Sound.{IsComing, Sound, length_expired, all_sent, sound_step, sound_all, sound_open}
+
+-- the two clients stand for the same
+pub record Alike (a : ById) (b : ByNumber) : Type 0 where
+  pub window : a.waiting ≡ drop b.count b.asked
+  pub next : a.next ≡ (length b.asked - b.since) % 8
+
+-- the two clients did the same
+pub record SameWritten (a : Written ById) (b : Written ByNumber) : Type 0 where
+  pub id : a.id ≡ b.id
+  pub client : Alike a.client b.client
+
+abbrev SameSend : Option (Written ById) → Option (Written ByNumber) → Type 0
+SameSend None None = Unit {0}
+SameSend (Some x) (Some y) = SameWritten x y
+SameSend None (Some y) = ⊥
+SameSend (Some x) None = ⊥
+
+pub record SameSettled (a : Settled ById) (b : Settled ByNumber) : Type 0 where
+  pub settlements : a.settlements ≡ b.settlements
+  pub client : Alike a.client b.client
+
+waiting_count : (a : ById) (b : ByNumber) → Alike a b → length a.waiting ≡ length b.asked - b.count
+waiting_count a b h = ap length h.window ∙ length-drop b.count b.asked
+
+same_send : (a : ById) (b : ByNumber) (target : ℕ) (call : Call) (deadline : ℕ) (full : Bool) → b.since ≤ b.count → b.count ≤ length b.asked → Alike a b → SameSend (with_id a.next (id_send a target call deadline full)) (number_send b target call deadline full)
+same_send a b target call deadline true h1 h2 h = tt
+same_send a b target call deadline false h1 h2 h =
+    let p : Pending = asked target call deadline in
+    record {
+      id = h.next;
+      client = record {
+        window = ap (λ w. w ++ p ∷ []) h.window ∙ sym (drop-append-le b.count b.asked (p ∷ []) h2);
+        next = omega (arith, h.next, length_push b.asked p, h1, h2);
+      };
+    }
+
+drop_expired : (now k : ℕ) (ps : List Pending) → map (expired now) (drop k ps) ≡ drop k (take k ps ++ map (expired now) (drop k ps))
+drop_expired now zero ps = refl
+drop_expired now (suc k) [] = refl
+drop_expired now (suc k) (p ∷ ps) = drop_expired now k ps
+
+module _ {State : Type 0} (width : ℕ) (narrow : width ≤ 7) (ends : Ends State) (Good : State → Type 0) where
+  -- the two worlds have the same wire, and clients that stand for the same
+  pub record Agree (a : World ById State) (b : World ByNumber State) : Type 0 where
+    pub wire : a.wire ≡ b.wire
+    pub client : Alike a.client b.client
+
+  same_reply : (a : ById) (b : ByNumber) (x : Numbered (List ℕ)) (old : Bool) → ltb x.number b.count ≡ old → b.since ≤ b.count → b.count ≤ length b.asked → length b.asked ≤ b.count + width → b.count ≤ x.number + 1 → IsComing width ends Good b.since (length b.asked) x → Alike a b → SameSettled (hears a x.line (Some ((x.number - b.since) % 8))) (number_reply b x old)
+  same_reply a b x true t h1 h2 h3 h4 coming h =
+      let lt : x.number < b.count = ltb-true _ _ t in
+      let n = waiting_count a b h in
+      let k : place a.next (length a.waiting) ((x.number - b.since) % 8) ≡ 7 =
+      ap (λ v. place v (length a.waiting) ((x.number - b.since) % 8)) h.next ∙ ap (λ v. place ((length b.asked - b.since) % 8) v ((x.number - b.since) % 8)) n
+      ∙ place_before b.since b.count (length b.asked) x.number coming.recent (omega arith) h2 (omega arith) in
+      let far : ltb (place a.next (length a.waiting) ((x.number - b.since) % 8)) (length a.waiting) ≡ false = le-ltb _ _ (omega (arith, k, n, h3, h2)) in
+      subst (λ v. SameSettled (id_settled a x.line (place a.next (length a.waiting) ((x.number - b.since) % 8)) v) (number_reply b x true)) (sym far)
+      (record { settlements = refl; client = h })
+  same_reply a b x false t h1 h2 h3 h4 coming h =
+      let ge : b.count ≤ x.number = ltb-false _ _ t in
+      let lt : x.number < length b.asked = coming.sent in
+      let n = waiting_count a b h in
+      let k : place a.next (length a.waiting) ((x.number - b.since) % 8) ≡ x.number - b.count =
+      ap (λ v. place v (length a.waiting) ((x.number - b.since) % 8)) h.next ∙ ap (λ v. place ((length b.asked - b.since) % 8) v ((x.number - b.since) % 8)) n
+      ∙ place_within b.since b.count (length b.asked) x.number h1 ge lt (omega arith) in
+      let near : ltb (x.number - b.count) (length a.waiting) ≡ true = lt-ltb _ _ (omega (arith, n, ge, lt)) in
+      subst (λ v. SameSettled (id_settled a x.line v (ltb v (length a.waiting))) (number_reply b x false)) (sym k)
+      (subst (λ v. SameSettled (id_settled a x.line (x.number - b.count) v) (number_reply b x false)) (sym near)
+      (record {
+        settlements = ap (λ ps. settle (x.number - b.count) x.line ps) h.window;
+        client = record {
+          window = ap (λ ps. drop (x.number - b.count + 1) ps) h.window ∙ drop-drop (x.number - b.count + 1) b.count b.asked ∙ ap (λ m. drop m b.asked) (let e : b.count + (x.number - b.count + 1) ≡ x.number + 1 = omega (arith, ge) in e);
+          next = h.next;
+        };
+      }))
+
+  same_requested : (a : World ById State) (b : World ByNumber State) (target : ℕ) (call : Call) (o : Option (Written ById)) (o' : Option (Written ByNumber)) → SameSend o o' → Agree a b → Agree (requested a target call o) (requested b target call o')
+  same_requested a b target call None None s h = record { wire = ap (λ (w : Wire State). record w { refused = w.refused + 1 }) h.wire; client = h.client }
+  same_requested a b target call (Some x) (Some y) s h =
+      record {
+        wire =
+            ap₂ (λ (w : Wire State) (id : ℕ). record w {
+              sent = w.sent ++ record { target = target; request = record { id = id; call = call } } ∷ [];
+              up = w.up ++ record { number = length w.sent; line = record { id = id; call = call } } ∷ [];
+            }) h.wire s.id;
+        client = s.client;
+      }
+  same_requested a b target call None (Some y) s h = absurd s
+  same_requested a b target call (Some x) None s h = absurd s
+
+  same_booked : (v w : Wire State) (x : Settled ById) (y : Settled ByNumber) → v ≡ w → SameSettled x y → Agree (booked v x) (booked w y)
+  same_booked v w x y e s =
+      record { wire = ap₂ (λ (u : Wire State) (l : List _). record u { settled = u.settled ++ l }) e s.settlements; client = s.client }
+
+  agree_down : (a : World ById State) (b : World ByNumber State) (q : List (Numbered (List ℕ))) → b.wire.down ≡ q → Sound width ends Good b → Agree a b → Agree (down_delivered (by_ids width ends) a q) (down_delivered (by_numbers width) b q)
+  agree_down a b [] e s h = record { wire = ap idle h.wire; client = h.client }
+  agree_down a b (x ∷ rest) e s h =
+      let c = b.client in
+      let coming = (subst (λ q. Each (IsComing width ends Good c.since (length c.asked)) q) e s.coming).0 in
+      let order = (subst (λ q. Rising c.count (numbers q ++ numbers b.wire.up)) e s.order).0 in
+      same_booked _ _ _ _ (ap (λ (w : Wire State). record w { down = rest }) h.wire)
+      (subst (λ o. SameSettled (hears a.client x.line o) (number_reply c x (ltb x.number c.count))) (sym coming.id)
+      (same_reply a.client c x (ltb x.number c.count) refl s.begun s.within s.few order coming h.client))
+
+  agree_expire : (now : ℕ) (a : ById) (b : ByNumber) → Alike a b → Alike ((by_ids width ends).expire a now) ((by_numbers width).expire b now)
+  agree_expire now a b h =
+      record {
+        window = ap (λ ps. map (expired now) ps) h.window ∙ drop_expired now b.count b.asked;
+        next = h.next ∙ ap (λ n. (n - b.since) % 8) (sym (length_expired now b.count b.asked));
+      }
+
+  agree_lost : (a : ById) (b : ByNumber) → Alike a b → SameSettled ((by_ids width ends).restart a) ((by_numbers width).restart b)
+  agree_lost a b h =
+      record {
+        settlements = ap (λ ps. map lost ps) h.window;
+        client = record { window = sym (drop_all (length b.asked) b.asked (omega arith)); next = omega arith };
+      }
+
+  agree_restart_client : (a : World ById State) (b : World ByNumber State) (up : List (Numbered Request)) (down : List (Numbered (List ℕ))) → Agree a b → Agree (client_restarted ends (by_ids width ends) a up down) (client_restarted ends (by_numbers width) b up down)
+  agree_restart_client a b [] [] h = same_booked _ _ _ _ (ap (λ w. started ends w ends.joint) h.wire) (agree_lost a.client b.client h.client)
+  agree_restart_client a b [] (y ∷ down) h = record { wire = ap idle h.wire; client = h.client }
+  agree_restart_client a b (x ∷ up) down h = record { wire = ap idle h.wire; client = h.client }
+
+  -- an event that the client has no part in
+  agree_wire : (f : Wire State → Wire State) (a : World ById State) (b : World ByNumber State) → Agree a b → Agree (on_wire a (f a.wire)) (on_wire b (f b.wire))
+  agree_wire f a b h = record { wire = ap f h.wire; client = h.client }
+
+  pub agrees : (a : World ById State) (b : World ByNumber State) (e : Happening) → Sound width ends Good b → Agree a b → Agree (happens ends (by_ids width ends) a e) (happens ends (by_numbers width) b e)
+  agrees a b (Send target call deadline) s h =
+      same_requested a b target call _ _
+      (subst (λ n. SameSend (with_id a.client.next (id_send a.client target call deadline (eqb n width))) (number_send b.client target call deadline (eqb (length b.client.asked - b.client.count) width))) (sym (waiting_count a.client b.client h.client))
+      (same_send a.client b.client target call deadline (eqb (length b.client.asked - b.client.count) width) s.begun s.within h.client)) h
+  agrees a b Up_deliver s h = agree_wire (λ w. up_delivered ends w w.up) a b h
+  agrees a b (Up_lose k) s h = agree_wire (λ w. with_up w (without k w.up) (ltb k (length w.up))) a b h
+  agrees a b (Up_repeat k) s h = agree_wire (λ w. with_up w (doubled k w.up) (ltb k (length w.up))) a b h
+  agrees a b Down_deliver s h =
+      subst (λ q. Agree (down_delivered (by_ids width ends) a q) (down_delivered (by_numbers width) b b.wire.down)) (sym (ap (λ (w : Wire State). w.down) h.wire))
+      (agree_down a b b.wire.down refl s h)
+  agrees a b (Down_lose k) s h = agree_wire (λ w. with_down w (without k w.down) (ltb k (length w.down))) a b h
+  agrees a b (Down_repeat k) s h = agree_wire (λ w. with_down w (doubled k w.down) (ltb k (length w.down))) a b h
+  agrees a b (Expire now) s h = record { wire = h.wire; client = agree_expire now a.client b.client h.client }
+  agrees a b Restart_client s h =
+      subst (λ (w : Wire State). Agree (client_restarted ends (by_ids width ends) a w.up w.down) (client_restarted ends (by_numbers width) b b.wire.up b.wire.down)) (sym h.wire)
+      (agree_restart_client a b b.wire.up b.wire.down h)
+  agrees a b Restart_instrument s h = agree_wire (λ w. instrument_restarted ends w w.up w.down) a b h
+  agrees a b Nothing s h = agree_wire idle a b h
+
+  pub agrees_all : IsExchange ends Good → (es : List Happening) (a : World ById State) (b : World ByNumber State) → Sound width ends Good b → Agree a b → Agree (run ends (by_ids width ends) es a) (run ends (by_numbers width) es b)
+  agrees_all ex [] a b s h = h
+  agrees_all ex (e ∷ es) a b s h = agrees_all ex es _ _ (sound_step width ends Good ex b e s) (agrees a b e s h)
+
+  agree_open : (state : State) → Agree (ids_open state) (numbers_open state)
+  agree_open state = record { wire = refl; client = record { window = refl; next = omega arith } }
+
+  orderly : (w : World ByNumber State) → Sound width ends Good w → IsOrderly width w.wire
+  orderly w s =
+      record {
+        settled = omega (arith, s.booked, s.counted, s.within);
+        few = omega (arith, s.booked, s.counted, s.few);
+        order = subst (λ n. Rising n (under_way w.wire)) (sym s.booked) s.order;
+        sent = subst (λ n. Each (λ m. m < n) (under_way w.wire)) s.counted (all_sent width ends Good w.client.since (length w.client.asked) w.wire.down w.wire.up s.coming s.going);
+      }
+
+  -- what the two runs have at their ends
+  pub agree_at : IsExchange ends Good → (es : List Happening) (state : State) → Good state → Agree (run_by_ids width ends es state) (run_by_numbers width ends es state)
+  agree_at ex es state g = agrees_all ex es (ids_open state) (numbers_open state) (sound_open width ends Good state g) (agree_open state)
+
+  pub sound_at : IsExchange ends Good → (es : List Happening) (state : State) → Good state → Sound width ends Good (run_by_numbers width ends es state)
+  sound_at ex es state g = sound_all width ends Good ex es (numbers_open state) (sound_open width ends Good state g)
+
+  pub same_wire : IsExchange ends Good → (es : List Happening) (state : State) → Good state → (run_by_ids width ends es state).wire ≡ (run_by_numbers width ends es state).wire
+  same_wire ex es state g = (agree_at ex es state g).wire
+
+  pub orderly_at : IsExchange ends Good → (es : List Happening) (state : State) → Good state → IsOrderly width (run_by_ids width ends es state).wire
+  orderly_at ex es state g = subst (λ w. IsOrderly width w) (sym (same_wire ex es state g)) (orderly _ (sound_at ex es state g))

@@ -1,0 +1,134 @@
+-- An answer that is booked is a line that was made for that very request.
+use Rattle.std.proofs.Common.{◌≡◌, ℕ, zero, suc, ◌+◌, ◌-◌, ◌≤◌, inl, inr, Bool, true, false, List, [], ◌∷◌, ◌++◌, length, map, drop, Some, refl, sym, ap, subst, arith, ltb, ◌⊎◌}
+use Rattle.std.specs.Prelude.{slice_get}
+use Rattle.std.proofs.lemmas.Bool.{ltb-false}
+use Rattle.gc_client.specs.declared.pending.Pending.{Pending}
+use Rattle.gc_client.specs.Rule.{Outcome, Answered, Late, Lost, Settlement, lost, met, settle}
+use Rattle.gc_world.specs.World.{Request, Numbered, Ends, Handed, Happening, World, Wire, answered, started, booked}
+use Rattle.gc_world.specs.Clients.{ByNumber, number_reply, by_numbers, numbers_open, run_by_numbers}
+use Rattle.gc_world.specs.Exchange.{IsExchange}
+use Rattle.gc_world.specs.Order.{Each}
+use Rattle.gc_world.proofs.Rows.{each_append, each_more, each_without, each_doubled}
+use Rattle.gc_world.proofs.Sound.{Sound, keeps, sound_open}
+use Rattle.gc_world.proofs.Stable.{IsStable, stable_all}
+
+-- one of the elements is this
+abbrev pub Has : {A : Type 0} → A → List A → Type 0
+Has a [] = ⊥
+Has a (x ∷ xs) = (x ≡ a) ⊎ Has a xs
+
+has_more : {A : Type 0} (a : A) (xs ys : List A) → Has a xs → Has a (xs ++ ys)
+has_more a [] ys h = absurd h
+has_more a (x ∷ xs) ys (inl e) = inl e
+has_more a (x ∷ xs) ys (inr h) = inr (has_more a xs ys h)
+
+has_push : {A : Type 0} (a : A) (xs : List A) → Has a (xs ++ a ∷ [])
+has_push a [] = inl refl
+has_push a (x ∷ xs) = inr (has_push a xs)
+
+pub has_at : {A : Type 0} (a : A) (xs : List A) → Has a xs → (j : ℕ) × (slice_get xs j ≡ Some a)
+has_at a [] h = absurd h
+has_at a (x ∷ xs) (inl e) = (0, ap Some e)
+has_at a (x ∷ xs) (inr h) = (suc (has_at a xs h).0, (has_at a xs h).1)
+
+-- an answer at place n is a line that was made for the request of this number
+abbrev pub IsMade : List (Numbered (List ℕ)) → ℕ → Outcome → Type 0
+IsMade made n (Answered line) = Has (record { number = n; line = line }) made
+IsMade made n Late = Unit {0}
+IsMade made n Lost = Unit {0}
+
+-- the same of each settlement, from number n on
+abbrev pub AllMade : List (Numbered (List ℕ)) → ℕ → List Settlement → Type 0
+AllMade made n [] = Unit {0}
+AllMade made n (s ∷ ss) = IsMade made n s.outcome × AllMade made (n + 1) ss
+
+made_more : (made more : List (Numbered (List ℕ))) (n : ℕ) (o : Outcome) → IsMade made n o → IsMade (made ++ more) n o
+made_more made more n (Answered line) h = has_more _ made more h
+made_more made more n Late h = tt
+made_more made more n Lost h = tt
+
+all_made_more : (made more : List (Numbered (List ℕ))) (n : ℕ) (ss : List Settlement) → AllMade made n ss → AllMade (made ++ more) n ss
+all_made_more made more n [] h = tt
+all_made_more made more n (s ∷ ss) h = (made_more made more n s.outcome h.0, all_made_more made more (n + 1) ss h.1)
+
+all_made_append : (made : List (Numbered (List ℕ))) (n m : ℕ) (ss ts : List Settlement) → n + length ss ≡ m → AllMade made n ss → AllMade made m ts → AllMade made n (ss ++ ts)
+all_made_append made n m [] ts e h g = let e' : m ≡ n = omega arith in subst (λ k. AllMade made k ts) e' g
+all_made_append made n m (s ∷ ss) ts e h g = (h.0, all_made_append made (n + 1) m ss ts (omega arith) h.1 g)
+
+all_made_lost : (made : List (Numbered (List ℕ))) (n : ℕ) (ps : List Pending) → AllMade made n (map lost ps)
+all_made_lost made n [] = tt
+all_made_lost made n (p ∷ ps) = (tt, all_made_lost made (n + 1) ps)
+
+-- one that is late has no answer to vouch for
+made_met : (made : List (Numbered (List ℕ))) (n : ℕ) (line : List ℕ) (p : Pending) (given_up : Bool) → p.given_up ≡ given_up → Has (record { number = n; line = line }) made → IsMade made n (met p line).outcome
+made_met made n line p true e h = subst (λ b. IsMade made n (met (record p { given_up = b }) line).outcome) (sym e) tt
+made_met made n line p false e h = subst (λ b. IsMade made n (met (record p { given_up = b }) line).outcome) (sym e) h
+
+all_made_settle : (made : List (Numbered (List ℕ))) (n m k : ℕ) (line : List ℕ) (ps : List Pending) → n + k ≡ m → Has (record { number = m; line = line }) made → AllMade made n (settle k line ps)
+all_made_settle made n m k line [] e h = tt
+all_made_settle made n m zero line (p ∷ ps) e h =
+    let e' : m ≡ n = omega arith in
+    (made_met made n line p p.given_up refl (subst (λ i. Has (record { number = i; line = line }) made) e' h), tt)
+all_made_settle made n m (suc k) line (p ∷ ps) e h = (tt, all_made_settle made (n + 1) m k line ps (omega arith) h)
+
+pub record IsBacked (made down : List (Numbered (List ℕ))) (settled : List Settlement) : Type 0 where
+  pub under_way : Each (λ x. Has x made) down
+  pub booked : AllMade made 0 settled
+
+module _ {State : Type 0} (width : ℕ) (ends : Ends State) (Good : State → Type 0) where
+  -- the line is as it has to be, and each reply under way and each answer was made for its request
+  pub record Backed (w : World ByNumber State) : Type 0 where
+    pub sound : Sound width ends Good w
+    pub backed : IsBacked w.wire.made w.wire.down w.wire.settled
+
+  backed_answer : (w : Wire State) (n : ℕ) (rest : List (Numbered Request)) (hd : Handed State) → IsBacked w.made w.down w.settled → (let v = answered w n rest hd in IsBacked v.made v.down v.settled)
+  backed_answer w n rest hd h =
+      let x : Numbered (List ℕ) = record { number = n; line = hd.reply } in
+      record {
+        under_way =
+            each_append _ w.down _
+            (each_more (λ y. Has y w.made) (λ y. Has y (w.made ++ x ∷ [])) (λ y p. has_more y w.made (x ∷ []) p) w.down h.under_way)
+            (has_push x w.made, tt);
+        booked = all_made_more w.made _ 0 w.settled h.booked;
+      }
+
+  backed_reply : (w : World ByNumber State) (x : Numbered (List ℕ)) (rest : List (Numbered (List ℕ))) (old : Bool) → ltb x.number w.client.count ≡ old → w.wire.down ≡ x ∷ rest → length w.wire.settled ≡ w.client.count → IsBacked w.wire.made w.wire.down w.wire.settled → IsBacked w.wire.made rest (w.wire.settled ++ (number_reply w.client x old).settlements)
+  backed_reply w x rest true t e s h =
+      let g = subst (λ q. Each (λ y. Has y w.wire.made) q) e h.under_way in
+      record { under_way = g.1; booked = all_made_append w.wire.made 0 w.client.count w.wire.settled [] (omega (arith, s)) h.booked tt }
+  backed_reply w x rest false t e s h =
+      let g = subst (λ q. Each (λ y. Has y w.wire.made) q) e h.under_way in
+      let ge : w.client.count ≤ x.number = ltb-false _ _ t in
+      record {
+        under_way = g.1;
+        booked =
+            all_made_append w.wire.made 0 w.client.count w.wire.settled _ (omega (arith, s)) h.booked
+            (all_made_settle w.wire.made w.client.count x.number (x.number - w.client.count) x.line (drop w.client.count w.client.asked) (omega (arith, ge)) g.0);
+      }
+
+  backed_restart : (w : World ByNumber State) (b : Bool) → length w.wire.settled ≡ w.client.count → IsBacked w.wire.made w.wire.down w.wire.settled → (let v = (booked (started ends w.wire b) ((by_numbers width).restart w.client)).wire in IsBacked v.made v.down v.settled)
+  backed_restart w false s h =
+      record { under_way = h.under_way; booked = all_made_append w.wire.made 0 w.client.count w.wire.settled _ (omega (arith, s)) h.booked (all_made_lost w.wire.made w.client.count (drop w.client.count w.client.asked)) }
+  backed_restart w true s h =
+      record { under_way = h.under_way; booked = all_made_append w.wire.made 0 w.client.count w.wire.settled _ (omega (arith, s)) h.booked (all_made_lost w.wire.made w.client.count (drop w.client.count w.client.asked)) }
+
+  keeps_backed : IsExchange ends Good → IsStable ends (by_numbers width) Backed
+  keeps_backed ex =
+      let k = keeps width ends Good ex in
+      record {
+        idles = λ w h. record { sound = k.idles w h.sound; backed = h.backed };
+        refuses = λ w h. record { sound = k.refuses w h.sound; backed = h.backed };
+        sends = λ w target call deadline x e h. record { sound = k.sends w target call deadline x e h.sound; backed = h.backed };
+        answers = λ w x rest q h. record { sound = k.answers w x rest q h.sound; backed = backed_answer w.wire x.number rest (ends.handed w.wire.state x.line.id x.line.call) h.backed };
+        loses_up = λ w n h. record { sound = k.loses_up w n h.sound; backed = h.backed };
+        repeats_up = λ w n h. record { sound = k.repeats_up w n h.sound; backed = h.backed };
+        loses_down = λ w n h. record { sound = k.loses_down w n h.sound; backed = record { under_way = each_without _ n w.wire.down h.backed.under_way; booked = h.backed.booked } };
+        repeats_down = λ w n h. record { sound = k.repeats_down w n h.sound; backed = record { under_way = each_doubled _ n w.wire.down h.backed.under_way; booked = h.backed.booked } };
+        hears = λ w x rest q h. record { sound = k.hears w x rest q h.sound; backed = backed_reply w x rest (ltb x.number w.client.count) refl q h.sound.booked h.backed };
+        expires = λ w now h. record { sound = k.expires w now h.sound; backed = h.backed };
+        restarts = λ w u d h. record { sound = k.restarts w u d h.sound; backed = backed_restart w ends.joint h.sound.booked h.backed };
+        starts = λ w u d h. record { sound = k.starts w u d h.sound; backed = h.backed };
+      }
+
+  pub backed_at : IsExchange ends Good → (es : List Happening) (state : State) → Good state → Backed (run_by_numbers width ends es state)
+  backed_at ex es state g = stable_all ends (by_numbers width) Backed (keeps_backed ex) es (numbers_open state) (record { sound = sound_open width ends Good state g; backed = record { under_way = tt; booked = tt } })

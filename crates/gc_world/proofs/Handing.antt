@@ -1,0 +1,80 @@
+-- What the instrument does with a request that a client wrote, and how its reply reads.
+use Rattle.std.proofs.Common.{◌≡◌, ℕ, ◌<◌, Bool, true, false, cond, List, Some, Result, Ok, refl, sym, ◌∙◌, ap, subst, lit<, eqb}
+use Rattle.gc_lines.specs.declared.fault.LineFault.{LineFault}
+use Rattle.gc_lines.specs.Replies.{ReplyFields, reply_at}
+use Rattle.gc_lines.proofs.Written.{reply_back}
+use Rattle.gc_catalogue.specs.declared.answer.Reading.{Reading}
+use Rattle.gc_catalogue.specs.declared.answer.Reading.TheVariants.{Value, Refused}
+use Rattle.gc_catalogue.specs.declared.call.Call.{Call}
+use Rattle.gc_catalogue.specs.Answers.{rounded_answer}
+use Rattle.gc_catalogue.specs.Calls.{IsFitting}
+use Rattle.gc_catalogue.specs.Readings.{IsReading}
+use Rattle.gc_catalogue.specs.Texts.{request_line, reply_of}
+use Rattle.gc_catalogue.proofs.AnswerLaws.{one_reading}
+use Rattle.gc_client.specs.Rule.{id_in}
+use Rattle.gc_client.specs.Settlements.{ReadsAs}
+use Rattle.gc_instrument.specs.State.{State, IsFittingState}
+use Rattle.gc_instrument.specs.Execution.{Executed, exec}
+use Rattle.gc_instrument.specs.Replying
+use Rattle.gc_instrument.specs.Replying.{IsReplied, IsAnswered, reading_of}
+use Rattle.gc_instrument.proofs.Answering.{handed_answered, handed_replied}
+use Rattle.gc_instrument.proofs.Executions.{exec_outcome, restarted_fits}
+use Rattle.gc_world.specs.Exchange.{IsExchange, IsSimple}
+use Rattle.gc_world.specs.Faithful.{IsValueOrRefusal}
+use Rattle.gc_world.specs.Record.{IsReplyTo}
+use Rattle.gc_world.specs.Simulated.{handed, ends}
+
+-- whatever an instrument's state is, its reply to a request reads as one with the request's id
+pub reads : IsExchange ends (λ s. Unit {0})
+unfolding Replying.handed
+reads =
+    record {
+      reads = λ s id call good digit.
+          let x = exec s call in
+          ap id_in (reply_back (reply_of id x.rc x.answer x.state.precision) (record { rc_com = lit< tt; id = digit; rc = (exec_outcome s call).code }));
+      stays_good = λ s id call good digit. tt;
+      restart_good = λ s good. tt;
+    }
+
+-- the two ends understand one another
+pub exchange : IsExchange ends IsFittingState
+unfolding Replying.handed
+exchange =
+    record {
+      reads = λ s id call good digit. reads.reads s id call tt digit;
+      stays_good = λ s id call good digit. (exec_outcome s call).fits good;
+      restart_good = restarted_fits;
+    }
+
+pub simple : IsSimple ends
+unfolding Replying.handed
+simple = record { twice = λ s. refl; executes = λ s id call. refl }
+
+-- the reply is the instrument's to that line, and the state that of carrying the call out
+pub replied_as : (s : State) (id : ℕ) (call : Call) (line text : List ℕ) → id < 8 → IsFitting call → line ≡ request_line (Some id) call → text ≡ (handed s id call).reply → IsReplied s line (exec s call).state (Some text)
+unfolding Replying.handed
+replied_as s id call line text digit fits e made =
+    subst (λ (l : List ℕ). IsReplied s l (exec s call).state (Some text)) (sym e)
+    (subst (λ (t : List ℕ). IsReplied s (request_line (Some id) call) (exec s call).state (Some t)) (sym made) (handed_replied s id call digit fits))
+
+pub after_is : (s : State) (id : ℕ) (call : Call) → (handed s id call).state ≡ (exec s call).state
+unfolding Replying.handed
+after_is s id call = refl
+
+read_once : (r : Result ReplyFields LineFault) (p q : ReplyFields) → r ≡ Ok p → r ≡ Ok q → p ≡ q
+read_once r p q e f = cc
+
+fine_if : (b : Bool) (value refusal : Reading) → IsValueOrRefusal value → IsValueOrRefusal refusal → IsValueOrRefusal (cond b value refusal)
+fine_if true value refusal v r = v
+fine_if false value refusal v r = r
+
+fine_reading : (x : Executed) → IsValueOrRefusal (reading_of x)
+fine_reading x = fine_if (eqb x.rc 0) (Value (rounded_answer x.state.precision x.answer)) (Refused x.rc) tt tt
+
+-- a reply in a fitting state to a call that fits reads as a value or a refusal
+pub fine : (call : Call) (bytes : List ℕ) (reading : Reading) → IsReplyTo ends IsFittingState call bytes → IsFitting call → ReadsAs call bytes reading → IsValueOrRefusal reading
+fine call bytes reading made fits read =
+    let a = handed_answered made.state made.id call made.good made.small fits in
+    let same : a.fields ≡ read.reply = read_once (reply_at bytes) a.fields read.reply (ap reply_at made.reply ∙ a.reads) read.is_reply in
+    let one : reading_of (exec made.state call) ≡ reading = one_reading call read.reply _ reading (subst (λ f. IsReading call f (reading_of (exec made.state call))) same a.reading) read.is_reading in
+    subst IsValueOrRefusal one (fine_reading (exec made.state call))

@@ -1,0 +1,67 @@
+-- What each elementary change keeps, each step keeps, and each run.
+use Rattle.std.proofs.Common.{◌≡◌, ℕ, ◌+◌, Bool, true, false, List, [], ◌∷◌, length, Option, Some, None, refl, ltb}
+use Rattle.gc_catalogue.specs.declared.call.Call.{Call}
+use Rattle.gc_world.specs.World.{Request, Numbered, Ends, Rule, Happening, Send, Up_deliver, Up_lose, Up_repeat, Down_deliver, Down_lose, Down_repeat, Expire, Restart_client, Restart_instrument, Nothing, World, Written, without, doubled, idle, answered, up_delivered, with_up, with_down, started, instrument_restarted, on_wire, requested, booked, down_delivered, client_restarted, happens, run}
+
+module _ {Client State : Type 0} (ends : Ends State) (rule : Rule Client) (P : World Client State → Type 0) where
+  pub record IsStable : Type 0 where
+    pub idles : (w : World Client State) → P w → P (on_wire w (idle w.wire))
+    pub refuses : (w : World Client State) → P w → P (on_wire w (record w.wire { refused = w.wire.refused + 1 }))
+    pub sends : (w : World Client State) (target : ℕ) (call : Call) (deadline : ℕ) (x : Written Client) → rule.send w.client target call deadline ≡ Some x → P w → P (requested w target call (Some x))
+    pub answers : (w : World Client State) (x : Numbered Request) (rest : List (Numbered Request)) → w.wire.up ≡ x ∷ rest → P w → P (on_wire w (answered w.wire x.number rest (ends.handed w.wire.state x.line.id x.line.call)))
+    pub loses_up : (w : World Client State) (k : ℕ) → P w → P (on_wire w (record w.wire { up = without k w.wire.up }))
+    pub repeats_up : (w : World Client State) (k : ℕ) → P w → P (on_wire w (record w.wire { up = doubled k w.wire.up }))
+    pub loses_down : (w : World Client State) (k : ℕ) → P w → P (on_wire w (record w.wire { down = without k w.wire.down }))
+    pub repeats_down : (w : World Client State) (k : ℕ) → P w → P (on_wire w (record w.wire { down = doubled k w.wire.down }))
+    pub hears : (w : World Client State) (x : Numbered (List ℕ)) (rest : List (Numbered (List ℕ))) → w.wire.down ≡ x ∷ rest → P w → P (booked (record w.wire { down = rest }) (rule.reply w.client x))
+    pub expires : (w : World Client State) (now : ℕ) → P w → P (record { wire = w.wire; client = rule.expire w.client now })
+    pub restarts : (w : World Client State) → w.wire.up ≡ [] → w.wire.down ≡ [] → P w → P (booked (started ends w.wire ends.joint) (rule.restart w.client))
+    pub starts : (w : World Client State) → w.wire.up ≡ [] → w.wire.down ≡ [] → P w → P (on_wire w (started ends w.wire true))
+
+  module _ (st : IsStable) where
+    at_send : (w : World Client State) (target : ℕ) (call : Call) (deadline : ℕ) (o : Option (Written Client)) → rule.send w.client target call deadline ≡ o → P w → P (requested w target call o)
+    at_send w target call deadline None e h = st.refuses w h
+    at_send w target call deadline (Some x) e h = st.sends w target call deadline x e h
+
+    at_up : (w : World Client State) (q : List (Numbered Request)) → w.wire.up ≡ q → P w → P (on_wire w (up_delivered ends w.wire q))
+    at_up w [] e h = st.idles w h
+    at_up w (x ∷ rest) e h = st.answers w x rest e h
+
+    at_with_up : (w : World Client State) (up : List (Numbered Request)) (b : Bool) → P (on_wire w (record w.wire { up = up })) → P w → P (on_wire w (with_up w.wire up b))
+    at_with_up w up false u h = st.idles w h
+    at_with_up w up true u h = u
+
+    at_with_down : (w : World Client State) (down : List (Numbered (List ℕ))) (b : Bool) → P (on_wire w (record w.wire { down = down })) → P w → P (on_wire w (with_down w.wire down b))
+    at_with_down w down false u h = st.idles w h
+    at_with_down w down true u h = u
+
+    at_down : (w : World Client State) (q : List (Numbered (List ℕ))) → w.wire.down ≡ q → P w → P (down_delivered rule w q)
+    at_down w [] e h = st.idles w h
+    at_down w (x ∷ rest) e h = st.hears w x rest e h
+
+    at_restart : (w : World Client State) (up : List (Numbered Request)) (down : List (Numbered (List ℕ))) → w.wire.up ≡ up → w.wire.down ≡ down → P w → P (client_restarted ends rule w up down)
+    at_restart w [] [] u d h = st.restarts w u d h
+    at_restart w [] (y ∷ down) u d h = st.idles w h
+    at_restart w (x ∷ up) down u d h = st.idles w h
+
+    at_start : (w : World Client State) (up : List (Numbered Request)) (down : List (Numbered (List ℕ))) → w.wire.up ≡ up → w.wire.down ≡ down → P w → P (on_wire w (instrument_restarted ends w.wire up down))
+    at_start w [] [] u d h = st.starts w u d h
+    at_start w [] (y ∷ down) u d h = st.idles w h
+    at_start w (x ∷ up) down u d h = st.idles w h
+
+    pub stable : (w : World Client State) (e : Happening) → P w → P (happens ends rule w e)
+    stable w (Send target call deadline) h = at_send w target call deadline (rule.send w.client target call deadline) refl h
+    stable w Up_deliver h = at_up w w.wire.up refl h
+    stable w (Up_lose k) h = at_with_up w _ (ltb k (length w.wire.up)) (st.loses_up w k h) h
+    stable w (Up_repeat k) h = at_with_up w _ (ltb k (length w.wire.up)) (st.repeats_up w k h) h
+    stable w Down_deliver h = at_down w w.wire.down refl h
+    stable w (Down_lose k) h = at_with_down w _ (ltb k (length w.wire.down)) (st.loses_down w k h) h
+    stable w (Down_repeat k) h = at_with_down w _ (ltb k (length w.wire.down)) (st.repeats_down w k h) h
+    stable w (Expire now) h = st.expires w now h
+    stable w Restart_client h = at_restart w w.wire.up w.wire.down refl refl h
+    stable w Restart_instrument h = at_start w w.wire.up w.wire.down refl refl h
+    stable w Nothing h = st.idles w h
+
+    pub stable_all : (es : List Happening) (w : World Client State) → P w → P (run ends rule es w)
+    stable_all [] w h = h
+    stable_all (e ∷ es) w h = stable_all es (happens ends rule w e) (stable w e h)

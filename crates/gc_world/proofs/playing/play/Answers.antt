@@ -1,0 +1,37 @@
+use Rattle.std.proofs.Common.{◌+◌, take, sym, subst, arith}
+use Rattle.std.proofs.lemmas.List.{take_all}
+use Rattle.gc_client.specs.Rule.{ById}
+use Rattle.gc_instrument.specs.State.{State}
+use Rattle.gc_world.specs.Simulated.{played}
+use Rattle.gc_world.specs.Stages.{AreOf}
+use Rattle.gc_world.specs.World.{World}
+use Rattle.gc_world.proofs.Faithfulness.{faithful, no_longer_than}
+use Rattle.gc_world.proofs.Turns.{played_more, counts_at}
+use Rattle.gc_world.proofs.playing.play.Goals as goal
+
+pub loop-event-preserved : goal.loop-event-preserved
+loop-event-preserved g c =
+    let s = c.happen.new.self in
+    let i = c.loop-event.event-index in
+    let events = c.args.events.now in
+    let opening = c.args.instrument in
+    let is = c.event-item.is in
+    let shown = c.in_ok-happen.ensures (played opening (take i events)) c.loop-event.invariant.shows in
+    let shows : AreOf s.report s.up s.down s.client (played opening (take (i + 1) events)) =
+    subst (λ (w : World ById State). AreOf s.report s.up s.down s.client w) (sym (played_more opening events i c.event-item.result c.loop-event-test.true is)) shown in
+    let counts = counts_at opening events (i + 1) s.report shows.reports (omega (arith, c.loop-event-test.true)) in
+    record { shows = shows; refused = counts.0; idle = counts.1 }
+
+pub returns-clause-faithful : goal.returns-clause-faithful
+returns-clause-faithful g c =
+    let s = c.loop-event.stage in
+    let events = c.args.events.now in
+    faithful c.args.instrument events s.report s.up s.down s.client c.new-stage.ensures.fits
+    (subst (λ es. AreOf s.report s.up s.down s.client (played c.args.instrument es)) (take_all c.loop-event.event-index events c.loop-event-test.false) c.loop-event.invariant.shows)
+
+pub returns-clause-few : goal.returns-clause-few
+returns-clause-few g c =
+    let s = c.loop-event.stage in
+    let events = c.args.events.now in
+    no_longer_than c.args.instrument events s.report s.up s.down s.client
+    (subst (λ es. AreOf s.report s.up s.down s.client (played c.args.instrument es)) (take_all c.loop-event.event-index events c.loop-event-test.false) c.loop-event.invariant.shows)

@@ -1,0 +1,99 @@
+-- When the report of a list of events is faithful. It has four parts; each stands here first in a sentence, then in symbols.
+-- The report's lists are counted from 0, and request m is the one at place m of `sent`. This project's own.
+use Rattle.std.specs.Prelude.{◌≡◌, ℕ, ◌+◌, ◌<◌, ◌≤◌, List, length, Some, map, slice_get, ⊤}
+use Rattle.gc_catalogue.specs.declared.answer.Reading.{Reading}
+use Rattle.gc_catalogue.specs.declared.answer.Reading.TheVariants.{Value, Refused, ComFault, Unreadable}
+use Rattle.gc_catalogue.specs.declared.call.Call.{Call}
+use Rattle.gc_catalogue.specs.Texts.{request_line}
+use Rattle.gc_client.specs.declared.settlement.Settlement.{Settlement}
+use Rattle.gc_client.specs.declared.settlement.Outcome.{Outcome}
+use Rattle.gc_client.specs.declared.settlement.Outcome.TheVariants.{Answered, Late, Lost}
+use Rattle.gc_client.specs.Settlements.{AreSettlements, ReadsAs}
+use Rattle.gc_instrument.specs.Execution.{exec}
+use Rattle.gc_instrument.specs.Replying.{IsReplied}
+use Rattle.gc_instrument.specs.State.{State, restarted}
+use Rattle.gc_world.specs.declared.event.Event.{Event}
+use Rattle.gc_world.specs.declared.report.Made.{Made}
+use Rattle.gc_world.specs.declared.report.Report.{Report}
+use Rattle.gc_world.specs.declared.report.Sent.{Sent}
+use Rattle.gc_world.specs.Record.{has_number, begun}
+use Rattle.gc_world.specs.Reports.{posted, posted_of}
+use Rattle.gc_world.specs.Simulated.{played_by_numbers}
+use Rattle.gc_world.specs.World.{Wire}
+
+-- one for one: there are no more settlements than requests, and settlement m has the target and the call of request m.
+pub record OneForOne (r : Report) : Type 0 where
+  pub count : length r.settled ≤ length r.sent
+  pub same :
+      (m : ℕ) (settlement : Settlement) (request : Sent) → slice_get r.settled m ≡ Some settlement → slice_get r.sent m ≡ Some request →
+      (settlement.target ≡ request.target) × (settlement.call ≡ request.call)
+
+-- a reading is a value or a refusal, never a fault of the communication and never something unreadable
+abbrev pub IsValueOrRefusal : Reading → Type 0
+IsValueOrRefusal (Value answer) = ⊤
+IsValueOrRefusal (Refused code) = ⊤
+IsValueOrRefusal (ComFault code) = ⊥
+IsValueOrRefusal (Unreadable fault) = ⊥
+
+-- the line is among those that the instrument made for request m, and the reading is the value or the refusal that the
+-- line has for the call
+pub record IsBookedFor (r : Report) (m : ℕ) (call : Call) (reading : Reading) (line : List ℕ) : Type 0 where
+  pub place : ℕ
+  pub entry : Made
+  pub made : slice_get r.made place ≡ Some entry
+  pub number : entry.number ≡ m
+  pub same_line : entry.line.items ≡ line
+  pub reads : ReadsAs call line reading
+  pub fine : IsValueOrRefusal reading
+
+-- an outcome at place m, where it is an answer
+abbrev pub IsBookedAnswer : Report → ℕ → Call → Outcome → Type 0
+IsBookedAnswer r m call (Answered reading line) = IsBookedFor r m call reading line.items
+IsBookedAnswer r m call Late = ⊤
+IsBookedAnswer r m call Lost = ⊤
+
+-- booked answers: where settlement m is answered with a line, that line is among those that the instrument made for
+-- request m, and the reading is the value or the refusal that the line has for the settlement's call
+abbrev pub BooksAnswers : Report → Type 0
+BooksAnswers r =
+    (m : ℕ) (settlement : Settlement) → slice_get r.settled m ≡ Some settlement → IsBookedAnswer r m settlement.call settlement.outcome
+
+-- execution j is that of request n: the request's line is that of its call with some id from 0 to 7, entry j of `made` has
+-- the number n and the line that the instrument replies to it in the state before, and the next state is the one that
+-- carrying out the call leaves, restarted where `starts` has the number of executions so far
+pub record IsExecutionOf (r : Report) (before : ℕ → State) (j n : ℕ) : Type 0 where
+  pub request : Sent
+  pub sent : slice_get r.sent n ≡ Some request
+  pub id : ℕ
+  pub digit : id < 8
+  pub request_is : request.line.items ≡ request_line (Some id) request.call
+  pub entry : Made
+  pub made : slice_get r.made j ≡ Some entry
+  pub number : entry.number ≡ n
+  pub replied : IsReplied (before j) request.line.items (exec (before j) request.call).state (Some entry.line.items)
+  pub next : before (j + 1) ≡ begun restarted (has_number (j + 1) r.starts) (exec (before j) request.call).state
+
+-- the record of execution: `made` has an entry for each entry of `executed`, each execution is that of its request, from
+-- the restarted opening state on, and the instrument is in the state after the last
+pub record RecordsExecution (opening : State) (r : Report) : Type 0 where
+  pub entries : length r.made ≡ length r.executed
+  pub before : ℕ → State
+  pub first : before 0 ≡ restarted opening
+  pub each : (j n : ℕ) → slice_get r.executed j ≡ Some n → IsExecutionOf r before j n
+  pub last : r.instrument ≡ before (length r.executed)
+
+-- agreement: requests and settlements, with their lines and readings, the count of refused sends and the count of idle
+-- events are those of the run by numbers of the same events: what the client would do if every reply carried its
+-- request's number.
+pub record AgreesWith (w : Wire State) (r : Report) : Type 0 where
+  pub sent : map posted r.sent ≡ map posted_of w.sent
+  pub settled : AreSettlements r.settled w.settled
+  pub refused : r.refused_sends ≡ w.refused
+  pub idle : r.idle_events ≡ w.idle
+
+-- the report of these events, from this opening state on, is faithful
+pub record Faithful (opening : State) (events : List Event) (r : Report) : Type 0 where
+  pub one_for_one : OneForOne r
+  pub booked : BooksAnswers r
+  pub executed : RecordsExecution opening r
+  pub agrees : AgreesWith (played_by_numbers opening events).wire r

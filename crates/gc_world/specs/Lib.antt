@@ -1,0 +1,11 @@
+pub mod World
+pub mod Clients
+pub mod Order
+pub mod Exchange
+pub mod Record
+pub mod Events
+pub mod Simulated
+pub mod Reports
+pub mod Stages
+pub mod Faithful
+pub mod Laws

@@ -1,0 +1,32 @@
+-- The order of the line: which numbers can be under way.
+use Rattle.std.specs.Prelude.{ℕ, ◌+◌, ◌<◌, ◌≤◌, List, [], ◌∷◌, ◌++◌, length, map}
+use Rattle.gc_world.specs.World.{Numbered, Wire}
+
+-- each element has it
+abbrev pub Each : {A : Type 0} → (A → Type 0) → List A → Type 0
+Each P [] = Unit {0}
+Each P (x ∷ xs) = P x × Each P xs
+
+-- numbers from one less than low on, that never fall
+abbrev pub Rising : ℕ → List ℕ → Type 0
+Rising low [] = Unit {0}
+Rising low (n ∷ ns) = (low ≤ n + 1) × Rising (n + 1) ns
+
+-- the numbers of the lines of a queue
+abbrev pub numbers : {Line : Type 0} → List (Numbered Line) → List ℕ
+numbers xs = map (λ x. x.number) xs
+
+-- the numbers under way, from the front of the downward queue to the back of the upward one
+abbrev pub under_way : {State : Type 0} → Wire State → List ℕ
+under_way w = numbers w.down ++ numbers w.up
+
+-- the order of the line, where at most this many are unaccounted for
+pub record IsOrderly {State : Type 0} (width : ℕ) (w : Wire State) : Type 0 where
+  -- at most the width are unaccounted for
+  pub settled : length w.settled ≤ length w.sent
+  pub few : length w.sent ≤ length w.settled + width
+  -- in each queue the numbers never fall from front to back, no number downward passes one upward, and every number
+  -- is at least the count settled less one
+  pub order : Rising (length w.settled) (under_way w)
+  -- and below the count sent
+  pub sent : Each (λ n. n < length w.sent) (under_way w)

@@ -1,0 +1,53 @@
+-- What the lists of a run say of one another.
+use Rattle.std.specs.Prelude.{◌≡◌, ℕ, ◌+◌, ◌<◌, ◌≤◌, ◌||◌, Bool, true, false, List, [], ◌∷◌, length, Some, nat_eq, slice_get}
+use Rattle.gc_catalogue.specs.declared.call.Call.{Call}
+use Rattle.gc_client.specs.Rule.{Settlement, Answered}
+use Rattle.gc_world.specs.World.{Dispatch, Numbered, Ends, Wire}
+
+-- one of the numbers is this
+abbrev pub has_number : ℕ → List ℕ → Bool
+has_number n [] = false
+has_number n (x ∷ xs) = nat_eq x n || has_number n xs
+
+-- the state after a restart, where there was one
+abbrev pub begun : {State : Type 0} → (State → State) → Bool → State → State
+begun restarted false state = state
+begun restarted true state = restarted state
+
+-- settlement m has the target and the call of request m, and there are no more settlements than requests
+pub record IsOneForOne (sent : List Dispatch) (settled : List Settlement) : Type 0 where
+  pub count : length settled ≤ length sent
+  pub same :
+      (m : ℕ) (s : Settlement) (r : Dispatch) → slice_get settled m ≡ Some s → slice_get sent m ≡ Some r →
+      (s.target ≡ r.target) × (s.call ≡ r.request.call)
+
+module _ {State : Type 0} (ends : Ends State) where
+  -- the instrument wrote these bytes in answer to this call
+  pub record IsReplyTo (Good : State → Type 0) (call : Call) (bytes : List ℕ) : Type 0 where
+    pub state : State
+    pub good : Good state
+    pub id : ℕ
+    pub small : id < 8
+    pub reply : bytes ≡ (ends.handed state id call).reply
+
+  -- where settlement m is answered, its line is among those that were made for request m, in answer to that very call
+  abbrev pub IsBooked : (State → Type 0) → List (Numbered (List ℕ)) → ℕ → Settlement → Type 0
+  IsBooked Good made m s =
+      (bytes : List ℕ) → s.outcome ≡ Answered bytes →
+      ((j : ℕ) × (slice_get made j ≡ Some (record { number = m; line = bytes }))) × IsReplyTo Good s.call bytes
+
+  -- execution j is that of request n: its entry is the reply in the state before it, and this is the next state
+  pub record IsExecuted (w : Wire State) (before : ℕ → State) (j n : ℕ) : Type 0 where
+    pub request : Dispatch
+    pub found : slice_get w.sent n ≡ Some request
+    pub small : request.request.id < 8
+    pub made : slice_get w.made j ≡ Some (record { number = n; line = (ends.handed (before j) request.request.id request.request.call).reply })
+    pub next : before (j + 1) ≡ begun ends.restarted (has_number (j + 1) w.starts) (ends.handed (before j) request.request.id request.request.call).state
+
+  -- the replies are those to what was executed, from the restarted opening state on
+  pub record IsExecution (opening : State) (w : Wire State) : Type 0 where
+    pub before : ℕ → State
+    pub first : before 0 ≡ ends.restarted opening
+    pub entries : length w.made ≡ length w.executed
+    pub each : (j n : ℕ) → slice_get w.executed j ≡ Some n → IsExecuted w before j n
+    pub last : w.state ≡ before (length w.executed)

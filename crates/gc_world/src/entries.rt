@@ -1,0 +1,79 @@
+//! Entries: a list on the heap that contracts see as a list.
+
+ghost use Rattle.std.specs.Prelude.{◌≡◌, ◌↔◌, [], ◌∷◌, ◌++◌, length, OnOk, IsTrue};
+
+use arrayvec::ArrayVec;
+use gc_client::Settlement;
+use std::alloc::AllocError;
+use std::marker::Model;
+
+/// Entries in the order in which they came, in a `Vec`.
+#[derive(Debug, Drop)]
+pub struct Entries<T> {
+    entries: Vec<T>,
+}
+
+impl<T> Model for Entries<T> {
+    ghost use Rattle.std.specs.Prelude.{List};
+
+    ghost Value = { List T };
+
+    ghost view = { λ e. e.entries.items };
+}
+
+impl<T> Entries<T> {
+    /// The entries of a vector. It takes no memory.
+    pub fn new(entries: Vec<T>) -> Entries<T>
+        ensures { result ≡ entries.items }
+    {
+        Self { entries }
+    }
+
+    /// The vector of the entries. It takes no memory.
+    pub fn into_vec(self) -> Vec<T>
+        ensures { result.items ≡ self }
+    {
+        let Entries { entries } = self;
+        entries
+    }
+
+    /// The entries, in order.
+    pub fn as_slice(&self) -> &[T]
+        ensures { result.now ≡ self.now }
+    {
+        self.entries.as_slice()
+    }
+
+    /// How many there are.
+    pub fn len(&self) -> usize
+        ensures { result ≡ length self.now }
+    {
+        self.entries.len()
+    }
+
+    /// Whether there are none.
+    pub fn is_empty(&self) -> bool
+        ensures { IsTrue result ↔ (self.now ≡ []) }
+    {
+        self.entries.is_empty()
+    }
+}
+
+impl<T: Drop> Entries<T> {
+    /// Appends one.
+    pub(crate) fn push(&mut self, entry: T) -> Result<(), AllocError>
+        ensures { OnOk result (self.new ≡ self.old ++ entry ∷ []) }
+    {
+        self.entries.push(entry)?;
+        Ok(())
+    }
+}
+
+impl Entries<Settlement> {
+    /// Appends each of these, in order.
+    pub(crate) fn append(&mut self, settlements: ArrayVec<Settlement, 7>) -> Result<(), AllocError>
+        ensures { OnOk result (self.new ≡ self.old ++ settlements.items) }
+    {
+        self.entries.extend(settlements)
+    }
+}

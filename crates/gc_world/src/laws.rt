@@ -1,0 +1,31 @@
+//! What is proved of the runs themselves. Each function does nothing: its contract is the law.
+
+ghost use Rattle.gc_world.specs.Laws.{KeepsOrder, RunsAgree, SettlesInOrder, BooksItsOwn, RepliesAreFine, RecordsExecutions};
+
+/// In each queue the numbers never fall from front to back, no number downward passes one upward, every number under
+/// way is at least the count settled less one and below the count sent, and at most the width of the window are
+/// unaccounted for.
+pub fn line_keeps_order()
+    ensures { KeepsOrder }
+{}
+
+/// The client that knows ids does what a client would do if every reply carried its request's number.
+pub fn runs_agree()
+    ensures { RunsAgree }
+{}
+
+/// The settlements stand one for one and in order for the requests sent.
+pub fn settlements_are_one_for_one()
+    ensures { SettlesInOrder }
+{}
+
+/// Each answer that is booked was made for that very request, and reads as a value or a refusal.
+pub fn answers_are_booked()
+    ensures own { BooksItsOwn }
+    ensures fine { RepliesAreFine }
+{}
+
+/// The replies are those of the instrument to what it executed.
+pub fn executions_are_recorded()
+    ensures { RecordsExecutions }
+{}

@@ -1,0 +1,17 @@
+//! The world: a client and an instrument with a line between them that loses, repeats and delays, event by event.
+#![tactic(auto)]
+
+mod entries;
+mod event;
+pub mod laws;
+mod playing;
+mod queue;
+mod report;
+mod stage;
+#[cfg(test)]
+mod tests;
+
+pub use entries::Entries;
+pub use event::Event;
+pub use playing::play;
+pub use report::{Made, Report, Sent};

@@ -1,0 +1,42 @@
+//! Playing a list of events on a real client and a real instrument.
+
+ghost use Rattle.std.specs.Prelude.{◌≡◌, length, IfOk};
+ghost use Rattle.gc_world.specs.Faithful.{Faithful};
+ghost use Rattle.gc_world.specs.Simulated.{played};
+ghost use Rattle.gc_world.specs.Reports.{IsReport, IsNoLongerThan};
+
+use crate::event::Event;
+use crate::report::Report;
+use crate::stage::Stage;
+use gc_client::{Client, Window};
+use gc_instrument::Instrument;
+use std::alloc::{AllocError, Global};
+
+/// Plays the events in order, from a restarted instrument and a new client over this window, and hands back what they led
+/// to, and the client as the last event leaves it.
+///
+/// The report is that of the world's run by ids, and it is faithful: the settlements stand one for one and in order for
+/// the requests sent; each answer that the client booked is a line that the instrument made on executing that very
+/// request, and reads as a value or a refusal; and requests and settlements are those of a client that is told each
+/// reply's number. The line keeps order, a line arrives whole or not at all and a repeat stands directly behind its
+/// original, and either end restarts only while no line is under way: that is what the events are. An event that isn't
+/// possible changes nothing and is counted.
+///
+/// Want of memory comes only where a growth was refused; then nothing is handed back.
+pub fn play<W: Window>(
+    alloc: Global,
+    instrument: Instrument,
+    window: W,
+    events: &[Event],
+) -> Result<(Report, Client<W>), AllocError>
+    ensures report { IfOk result (λ done. IsReport done.0 (played instrument events.now).wire) }
+    ensures client { IfOk result (λ done. done.1 ≡ (played instrument events.now).client) }
+    ensures faithful { IfOk result (λ done. Faithful instrument events.now done.0) }
+    ensures few { IfOk result (λ done. IsNoLongerThan (length events.now) done.0) }
+{
+    let mut stage = Stage::new(alloc, instrument, window);
+    for event in events {
+        stage.happen(event)?;
+    }
+    Ok((stage.report, stage.client))
+}

@@ -1,0 +1,48 @@
+//! The report of a list of events: what was sent, executed, made and settled.
+
+use crate::entries::Entries;
+use gc_catalogue::Call;
+use gc_client::Settlement;
+use gc_instrument::Instrument;
+use gc_lines::Line;
+
+/// A request that was sent. Its number is its place among these, counted from 0.
+#[derive(Debug, PartialEq, Eq, Drop)]
+pub struct Sent {
+    /// Whom it was for, as it was handed to the client.
+    pub target: u32,
+    /// What it asks for.
+    pub call: Call,
+    /// Its line, as the client wrote it.
+    pub line: Line,
+}
+
+/// A reply that the instrument made.
+#[derive(Debug, PartialEq, Eq, Drop)]
+pub struct Made {
+    /// The number of the request that it replies to.
+    pub number: usize,
+    /// Its line.
+    pub line: Line,
+}
+
+/// What a list of events led to.
+#[derive(Debug, Drop)]
+pub struct Report {
+    /// The requests that were sent, refused ones not among them.
+    pub sent: Entries<Sent>,
+    /// The numbers of the requests that the instrument executed, in the order of execution.
+    pub executed: Entries<usize>,
+    /// The replies that it made, in order.
+    pub made: Entries<Made>,
+    /// The ends of requests, in order.
+    pub settled: Entries<Settlement>,
+    /// For each restart of the instrument, how many requests it had executed until then.
+    pub starts: Entries<usize>,
+    /// The instrument, as the last event left it.
+    pub instrument: Instrument,
+    /// How many sends were refused.
+    pub refused_sends: usize,
+    /// How many events were not possible.
+    pub idle_events: usize,
+}

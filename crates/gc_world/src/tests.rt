@@ -1,0 +1,236 @@
+//! Worked examples: lists of events, and what they lead to on the simulator.
+
+use crate::event::Event;
+use crate::playing::play;
+use crate::report::Report;
+use Event::{
+    DownDeliver, DownLose, DownRepeat, Expire, RestartClient, Send, UpDeliver, UpLose, UpRepeat,
+};
+use gc_catalogue::Call;
+use gc_client::{Outcome, Pending, Ring, Slots, Window};
+use gc_instrument::Instrument;
+use std::alloc::{AllocError, Global};
+use std::cell::Cell;
+use std::test::Fail;
+
+const CHANGE_FACE: Call = Call::ChangeFace {
+    pos_mode: 0,
+    atr_mode: 0,
+    dummy: false,
+};
+
+const LATE_REPLY: [Event; 7] = [
+    Send(1, Call::InstrumentNo, 10),
+    Expire(10),
+    Send(2, Call::InstrumentNo, 20),
+    UpDeliver,
+    UpDeliver,
+    DownDeliver,
+    DownDeliver,
+];
+
+const OVERTAKEN: [Event; 8] = [
+    Send(1, Call::NullProc, 9),
+    Send(2, Call::NullProc, 9),
+    Send(3, Call::NullProc, 9),
+    UpLose(1),
+    UpDeliver,
+    UpDeliver,
+    DownDeliver,
+    DownDeliver,
+];
+
+const BOUNDARY_OF_EIGHT: [Event; 13] = [
+    Send(1, Call::NullProc, 9),
+    UpDeliver,
+    DownRepeat(0),
+    DownDeliver,
+    Send(2, Call::NullProc, 9),
+    Send(3, Call::NullProc, 9),
+    Send(4, Call::NullProc, 9),
+    Send(5, Call::NullProc, 9),
+    Send(6, Call::NullProc, 9),
+    Send(7, Call::NullProc, 9),
+    Send(8, Call::NullProc, 9),
+    Send(9, Call::NullProc, 9),
+    DownDeliver,
+];
+
+const WAY_OUT: [Event; 19] = [
+    Send(1, Call::NullProc, 9),
+    Send(2, Call::NullProc, 9),
+    Send(3, Call::NullProc, 9),
+    Send(4, Call::NullProc, 9),
+    Send(5, Call::NullProc, 9),
+    Send(6, Call::NullProc, 9),
+    Send(7, Call::NullProc, 9),
+    UpLose(0),
+    UpLose(0),
+    UpLose(0),
+    UpLose(0),
+    UpLose(0),
+    UpLose(0),
+    UpLose(0),
+    Send(8, Call::NullProc, 9),
+    RestartClient,
+    Send(8, Call::NullProc, 9),
+    UpDeliver,
+    DownDeliver,
+];
+
+const IDLE_EVENTS: [Event; 6] = [
+    Send(1, Call::NullProc, 9),
+    UpDeliver,
+    RestartClient,
+    UpDeliver,
+    DownLose(5),
+    DownDeliver,
+];
+
+const REPEAT_THAT_ACTS: [Event; 9] = [
+    Send(1, CHANGE_FACE, 9),
+    Send(2, Call::GetFace, 9),
+    UpRepeat(0),
+    UpDeliver,
+    UpDeliver,
+    UpDeliver,
+    DownDeliver,
+    DownDeliver,
+    DownDeliver,
+];
+
+// The settlements, each with its number, and then the counts.
+fn tell(alloc: Global, report: &Report) -> Result<String, AllocError> {
+    let mut text = String::new(alloc);
+    for (m, settlement) in report.settled.as_slice().iter().enumerate() {
+        write!(text, "{m} {} ", settlement.target)?;
+        match &settlement.outcome {
+            Outcome::Answered(_, line) => {
+                text.push_str("answered ")?;
+                for byte in line.as_slice() {
+                    text.push(char::from(*byte))?;
+                }
+            }
+            Outcome::Late => text.push_str("late")?,
+            Outcome::Lost => text.push_str("lost")?,
+        }
+        text.push_str(" / ")?;
+    }
+    write!(
+        text,
+        "sent {} executed {} made {} settled {} refused {} idle {}",
+        report.sent.len(),
+        report.executed.len(),
+        report.made.len(),
+        report.settled.len(),
+        report.refused_sends,
+        report.idle_events
+    )?;
+    Ok(text)
+}
+
+// What the events lead to, and then how many wait and the next id.
+fn told<W: Window>(alloc: Global, window: W, events: &[Event]) -> Result<String, AllocError> {
+    let (report, client) = play(alloc, Instrument::simulator(), window, events)?;
+    let mut text = tell(alloc, &report)?;
+    write!(
+        text,
+        "; {} wait, next {}",
+        client.waiting(),
+        client.next_id()
+    )?;
+    Ok(text)
+}
+
+#[test]
+fn worked_examples(rt: HostRuntime) -> Result<(), Fail> {
+    let alloc = rt.alloc();
+    let rows: [(&str, &[Event], &str); 6] = [
+        (
+            "late reply",
+            &LATE_REPLY,
+            "0 1 late / 1 2 answered %R1P,0,1:0,123456 / sent 2 executed 2 made 2 settled 2 refused 0 idle 0; 0 wait, next 2",
+        ),
+        (
+            "overtaken",
+            &OVERTAKEN,
+            "0 1 answered %R1P,0,0:0 / 1 2 lost / 2 3 answered %R1P,0,2:0 / sent 3 executed 2 made 2 settled 3 refused 0 idle 0; 0 wait, next 3",
+        ),
+        (
+            "boundary of eight",
+            &BOUNDARY_OF_EIGHT,
+            "0 1 answered %R1P,0,0:0 / sent 8 executed 1 made 1 settled 1 refused 1 idle 0; 7 wait, next 0",
+        ),
+        (
+            "the way out",
+            &WAY_OUT,
+            "0 1 lost / 1 2 lost / 2 3 lost / 3 4 lost / 4 5 lost / 5 6 lost / 6 7 lost / 7 8 answered %R1P,0,0:0 / sent 8 executed 1 made 1 settled 8 refused 1 idle 0; 0 wait, next 1",
+        ),
+        (
+            "idle events",
+            &IDLE_EVENTS,
+            "0 1 answered %R1P,0,0:0 / sent 1 executed 1 made 1 settled 1 refused 0 idle 3; 0 wait, next 1",
+        ),
+        (
+            "a repeat that acts",
+            &REPEAT_THAT_ACTS,
+            "0 1 answered %R1P,0,0:0 / 1 2 answered %R1P,0,1:0,0 / sent 2 executed 3 made 3 settled 2 refused 0 idle 0; 0 wait, next 2",
+        ),
+    ];
+    for (name, events, want) in rows {
+        let with_places = told(alloc, Slots::new(), events)?;
+        assert_eq!(rt; with_places.as_str(), want, "{name}");
+        let with_ring = told(alloc, Ring::new(alloc)?, events)?;
+        assert_eq!(rt; with_ring.as_str(), want, "{name}, over a ring");
+    }
+    Ok(())
+}
+
+// A window that counts what is pushed into it.
+#[derive(Drop)]
+struct Counting<'a> {
+    window: Slots,
+    pushes: &'a Cell<u32>,
+}
+
+impl Window for Counting<'_> {
+    ghost pendings = { λ c. c.window };
+
+    fn len(&self) -> usize {
+        self.window.len()
+    }
+
+    fn get(&self, k: usize) -> Pending {
+        self.window.get(k)
+    }
+
+    fn push(&mut self, p: Pending) {
+        self.pushes.set(self.pushes.get().wrapping_add(1));
+        self.window.push(p);
+    }
+
+    fn take_first(&mut self) -> Pending {
+        self.window.take_first()
+    }
+
+    fn give_up(&mut self, k: usize) {
+        self.window.give_up(k);
+    }
+
+    fn clear(&mut self) {
+        self.window.clear();
+    }
+}
+
+#[test]
+fn the_way_out_fills_the_window_send_by_send(rt: HostRuntime) -> Result<(), Fail> {
+    let pushes = Cell::new(0);
+    let window = Counting {
+        window: Slots::new(),
+        pushes: &pushes,
+    };
+    let text = told(rt.alloc(), window, &WAY_OUT)?;
+    assert!(rt; text.as_str().ends_with("next 1"));
+    assert_eq!(rt; pushes.get(), 8);
+    Ok(())
+}
