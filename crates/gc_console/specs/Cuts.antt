@@ -1,0 +1,12 @@
+-- Texts cut at a mark.
+use Rattle.std.specs.Prelude.{◌≡◌, ◌≢◌, ℕ, List, [], ◌∷◌, ◌++◌, Option, None, Some}
+
+-- no byte is the mark
+abbrev pub Lacks : ℕ → List ℕ → Type 0
+Lacks mark [] = Unit {0}
+Lacks mark (b ∷ bs) = (b ≢ mark) × Lacks mark bs
+
+-- the text up to the first mark, and what follows it
+abbrev pub Cuts : ℕ → List ℕ → List ℕ → Option (List ℕ) → Type 0
+Cuts mark text front None = (text ≡ front) × Lacks mark front
+Cuts mark text front (Some rest) = (text ≡ front ++ mark ∷ rest) × Lacks mark front

@@ -1,0 +1,5 @@
+pub mod Cuts
+pub mod Schedule
+pub mod Texts
+pub mod Drill
+pub mod Faults

@@ -1,0 +1,60 @@
+//! A schedule, read from a source, played on the simulator, and its settlements written into a sink.
+
+ghost use Rattle.std.specs.Prelude.{◌≡◌, ◌<◌, ℕ, List, true, IfOk};
+ghost use Rattle.std.specs.Io.KnownBytes.{Consumes, IsAtEnd};
+ghost use Rattle.gc_console.specs.Drill.{drill_text, Drills, is_read_whole, source_failed, sink_failed};
+
+use crate::fault::RunFault;
+use crate::schedule::read_schedule;
+use crate::settled::text_of;
+use crate::text::read_text;
+use crate::writing::write_whole;
+use gc_client::Slots;
+use gc_instrument::Instrument;
+use gc_lines::{Sink, Source};
+use gc_world::{Event, play};
+use std::alloc::{AllocError, Global};
+
+/// Plays the schedule that a source gives on the simulator and a client with a window of seven, and writes one line for
+/// each settlement, then with `totals` one more line. Nothing is written before the whole schedule was read and played,
+/// and its whole text made.
+///
+/// `Read` comes where the source failed, `InputTooLong` where it gave more than 65,536 bytes, and `Schedule` at the first
+/// line that has the form of no event, counted from 1; then, and after `Memory`, which comes only where a growth was
+/// refused, the sink has taken nothing. `Output` comes where the sink failed; it has taken a part of the text. The lines
+/// are this project's own.
+pub fn run_drill<S: Source, K: Sink>(
+    alloc: Global,
+    source: &mut S,
+    sink: &mut K,
+    totals: bool,
+) -> Result<(), RunFault>
+    // What the bytes that the source gave were, and what of their schedule's output the sink took.
+    ensures drills { (given : List ℕ) × Consumes (S.remaining source.old) (S.remaining source.new) given × Drills given totals (K.taken sink.old) (K.taken sink.new) result }
+
+    // A schedule is played, or found faulty, only where the last read was the end, and the source has no byte left.
+    ensures whole { is_read_whole result ≡ true
+        → IsAtEnd (S.remaining source.new) × (S.ended source.new ≡ true) × (S.reads source.old < S.reads source.new) }
+
+    // `Read` exactly where the source failed, and `Output` exactly where the sink did.
+    ensures source { S.failed source.new ≡ source_failed result (S.failed source.old) }
+    ensures sink { K.failed sink.new ≡ sink_failed result (K.failed sink.old) }
+{
+    let text = read_text(alloc, source)?;
+    let events = read_schedule(alloc, text.as_slice())?;
+    let Ok(output) = output_of(alloc, events.as_slice(), totals) else {
+        return Err(RunFault::Memory);
+    };
+    match write_whole(sink, output.as_slice()) {
+        Ok(()) => Ok(()),
+        Err(_) => Err(RunFault::Output),
+    }
+}
+
+// What is written for events that are played.
+fn output_of(alloc: Global, events: &[Event], totals: bool) -> Result<Vec<u8>, AllocError>
+    ensures { IfOk result (λ text. text.items ≡ drill_text events.now totals) }
+{
+    let (report, _) = play(alloc, Instrument::simulator(), Slots::new(), events)?;
+    text_of(alloc, &report, totals)
+}

@@ -1,0 +1,23 @@
+//! The program `geocom`: its command line, and the engine behind each subcommand.
+#![tactic(auto)]
+
+mod cuts;
+mod drill;
+mod event;
+mod exec;
+mod fault;
+mod program;
+mod schedule;
+mod settled;
+mod text;
+mod writing;
+
+pub use drill::run_drill;
+pub use exec::run_exec;
+pub use fault::RunFault;
+pub use gc_instrument::{ServeFault, Served, serve};
+pub use program::run_program;
+pub use schedule::read_schedule;
+
+#[cfg(test)]
+mod tests;
