@@ -1,0 +1,64 @@
+//! A client's round: a request is sent, and its reply comes.
+
+use gc_catalogue::{Answer, Call, Reading};
+use gc_client::{Client, Heard, Outcome, Window};
+use gc_lines::Line;
+
+// Replies to a simple measurement, with the request's id, 0 to 7.
+const REPLIES: [&[u8]; 8] = [
+    b"%R1P,0,0:0,0.512345678901,1.512345678901,25.1252",
+    b"%R1P,0,1:0,0.512345678901,1.512345678901,25.1252",
+    b"%R1P,0,2:0,0.512345678901,1.512345678901,25.1252",
+    b"%R1P,0,3:0,0.512345678901,1.512345678901,25.1252",
+    b"%R1P,0,4:0,0.512345678901,1.512345678901,25.1252",
+    b"%R1P,0,5:0,0.512345678901,1.512345678901,25.1252",
+    b"%R1P,0,6:0,0.512345678901,1.512345678901,25.1252",
+    b"%R1P,0,7:0,0.512345678901,1.512345678901,25.1252",
+];
+
+/// Sends so many requests, each of which is answered before the next; the sum is of the lengths of the request lines and
+/// of the scales of the distances.
+pub fn send<W: Window>(window: W, count: u32) -> u64 {
+    let mut client = Client::new(window);
+    let mut reply = Line::new();
+    let mut sum = 0u64;
+    for n in 0..count {
+        reply.clear();
+        let _ = reply.try_extend_from_slice(REPLIES[n as usize % 8]);
+        sum = sum.wrapping_add(sent(&mut client, n));
+        sum = sum.wrapping_add(answered(&mut client, &reply));
+    }
+    sum
+}
+
+// Sends a request. It stays a function of its own, so that its instructions can be told apart.
+#[inline(never)]
+fn sent<W: Window>(client: &mut Client<W>, target: u32) -> u64 {
+    let call = Call::SimpleMea {
+        wait: 5000,
+        mode: 1,
+    };
+    match client.send(target, call, 1000) {
+        Ok(line) => line.len() as u64,
+        Err(_) => 0,
+    }
+}
+
+// Hears the reply. It stays a function of its own, so that its instructions can be told apart.
+#[inline(never)]
+fn answered<W: Window>(client: &mut Client<W>, reply: &Line) -> u64 {
+    let Heard::Settled(settled) = client.on_line(reply) else {
+        return 0;
+    };
+    let mut sum = 0u64;
+    for settlement in settled.as_slice() {
+        if let Outcome::Answered(
+            Reading::Value(Answer::Measured { distance, .. }),
+            _,
+        ) = &settlement.outcome
+        {
+            sum = sum.wrapping_add(u64::from(distance.scale()));
+        }
+    }
+    sum
+}
