@@ -23,12 +23,12 @@ pub fn read(count: u32) -> u64 {
 
 /// Writes so many doubles; the sum is of the lengths of their texts.
 pub fn write(count: u32) -> u64 {
-    let decimals = [
+    let decimals = &[
         Decimal::literal(123_456_789_012, 8),
         Decimal::literal(512_345_678_901, 11),
         Decimal::literal(98_765_432_109, 11),
         Decimal::literal(-271_828_182_845, 7),
-    ];
+    ][..];
     let mut sum = 0u64;
     for n in 0..count {
         sum = sum.wrapping_add(decimals[n as usize % 4].write().len() as u64);

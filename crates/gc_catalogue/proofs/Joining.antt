@@ -1,13 +1,15 @@
 -- Texts joined by commas, and texts each behind a comma.
-use Rattle.std.specs.Prelude.{◌≡◌, ◌<◌, ◌-◌, ◌++◌, ℕ, List, [], ◌∷◌, None, Option, length, map, take, drop, slice_index_or, refl}
+use Rattle.std.specs.Prelude.{◌≡◌, ◌≢◌, ◌<◌, ◌-◌, ◌++◌, ℕ, List, [], ◌∷◌, Option, length, map, take, refl}
+use Rattle.std.specs.Fmt.{decimal}
 use Rattle.std.specs.List.{flat_map}
-use Rattle.std.proofs.Common.{sym, ◌∙◌, ap, arith, append_assoc, append-nil, subst}
-use Rattle.std.proofs.lemmas.List.{take_all}
+use Rattle.std.proofs.Common.{sym, ◌∙◌, ap, arith, append_assoc, append-nil, length-append}
+use Rattle.std.proofs.Math.Seq.{take-append_seam}
 use Rattle.gc_lines.specs.Replies.{params_text, reply_text}
-use Rattle.gc_lines.specs.Requests.{request_text}
-use Rattle.gc_values.specs.Item.{text, IsValue}
+use Rattle.gc_lines.specs.Headers.{id_text}
+use Rattle.gc_lines.specs.Requests.{request_signature, request_text}
+use Rattle.gc_values.specs.Item.{text}
 use Rattle.gc_values.specs.declared.value.Value.{Value}
-use Rattle.gc_catalogue.specs.Lists.{AreValues, behind_commas, params_of, shown_values}
+use Rattle.gc_catalogue.specs.Lists.{before_commas, behind_commas, params_of}
 use Rattle.gc_values.proofs.TextShape.{text_is_some}
 
 commas-map : (vs : List Value) → flat_map (λ u. 44 ∷ u) (map text vs) ≡ behind_commas vs
@@ -16,10 +18,6 @@ commas-map (v ∷ vs) = rw (commas-map vs) refl
 
 pub params_of-cons : (v : Value) (vs : List Value) → params_of (v ∷ vs) ≡ text v ++ behind_commas vs
 params_of-cons v vs = ap (λ rest. text v ++ rest) (commas-map vs)
-
-pub shown-all : (vs : List Value) → shown_values None vs ≡ vs
-shown-all [] = refl
-shown-all (v ∷ vs) = rw (shown-all vs) refl
 
 params_text-some : (bytes : List ℕ) → 0 < length bytes → params_text bytes ≡ 44 ∷ bytes
 params_text-some [] h = absurd (omega arith)
@@ -34,22 +32,55 @@ pub params_text-params_of : (vs : List Value) → params_text (params_of vs) ≡
 params_text-params_of [] = refl
 params_text-params_of (v ∷ vs) = ap params_text (params_of-cons v vs) ∙ params_text-some (text v ++ behind_commas vs) (more (text v) (behind_commas vs) (text_is_some v))
 
-rest_of : (v : Value) (vs : List Value) → take (length (v ∷ vs) - 1) (drop 1 (v ∷ vs)) ≡ vs
-rest_of v vs = take_all _ vs (omega arith)
-
--- the first value and what follows it, as slices have them
-pub params_of-first : (vs : List Value) (first : Value) → 0 < length vs → first ≡ slice_index_or vs 0 first → text first ++ behind_commas (shown_values None (take (length vs - 1) (drop 1 vs))) ≡ params_of vs
-params_of-first [] first h e = absurd (omega arith)
-params_of-first (v ∷ vs) first h e =
-    ap (λ x. text x ++ behind_commas (shown_values None (take (length (v ∷ vs) - 1) (drop 1 (v ∷ vs))))) e ∙ ap (λ xs. text v ++ behind_commas xs) (ap (λ xs. shown_values None xs) (rest_of v vs) ∙ shown-all vs) ∙ sym (params_of-cons v vs)
-
-pub fits-first : (vs : List Value) (first : Value) → 0 < length vs → first ≡ slice_index_or vs 0 first → IsValue first → AreValues (shown_values None (take (length vs - 1) (drop 1 vs))) → AreValues vs
-fits-first [] first h e x y = absurd (omega arith)
-fits-first (v ∷ vs) first h e x y = (subst IsValue e x, subst AreValues (ap (λ xs. shown_values None xs) (rest_of v vs) ∙ shown-all vs) y)
-
 -- a line that is begun, and its parameters behind it
-pub request_text-params : (rpc : ℕ) (id : Option ℕ) (params : List ℕ) → request_text (record { rpc = rpc; id = id; params = [] }) ++ params ≡ request_text (record { rpc = rpc; id = id; params = params })
-request_text-params rpc id params = simp append_assoc
+before-params : (v : Value) (vs : List Value) → before_commas (v ∷ vs) ≡ params_of (v ∷ vs) ++ 44 ∷ []
+before-params v [] = simp append-nil
+before-params v (w ∷ vs) = rw (before-params w vs) (simp append_assoc)
+
+pub behind-before : (vs : List Value) → 44 ∷ before_commas vs ≡ behind_commas vs ++ 44 ∷ []
+behind-before [] = refl
+behind-before (v ∷ vs) =
+    ap (λ rest. 44 ∷ rest) (append_assoc (text v) (44 ∷ []) (before_commas vs)) ∙ ap (λ rest. 44 ∷ (text v ++ rest)) (behind-before vs) ∙ sym (ap (λ rest. 44 ∷ rest) (append_assoc (text v) (behind_commas vs) (44 ∷ [])))
+
+without_last : (xs : List ℕ) (a : ℕ) → take (length (xs ++ a ∷ []) - 1) (xs ++ a ∷ []) ≡ xs
+without_last xs a =
+    let n : length (xs ++ a ∷ []) - 1 ≡ length xs = omega (arith, length-append xs (a ∷ [])) in
+    ap (λ k. take k (xs ++ a ∷ [])) n ∙ take-append_seam xs (a ∷ [])
+
+-- a comma, values before commas, and the last comma taken off
+pub comma_list : (head : List ℕ) (vs : List Value) (begun old new : List ℕ) → begun ≡ head ++ 44 ∷ [] → old ≡ begun ++ before_commas vs → new ≡ take (length old - 1) old → new ≡ head ++ behind_commas vs
+comma_list head vs begun old new start is cut =
+    let all : old ≡ (head ++ behind_commas vs) ++ 44 ∷ [] = is ∙ ap (λ bytes. bytes ++ before_commas vs) start ∙ append_assoc head (44 ∷ []) (before_commas vs) ∙ ap (λ bytes. head ++ bytes) (behind-before vs) ∙ sym (append_assoc head (behind_commas vs) (44 ∷ [])) in
+    cut ∙ ap (λ bytes. take (length bytes - 1) bytes) all ∙ without_last (head ++ behind_commas vs) 44
+
+nothing_ends : (ys : List ℕ) (b : ℕ) → [] ≡ ys ++ b ∷ [] → ⊥
+nothing_ends [] b e = absurd (cc)
+nothing_ends (y ∷ ys) b e = absurd (cc)
+
+-- bytes have one end
+ends_once : (xs ys : List ℕ) (a b : ℕ) → xs ++ a ∷ [] ≡ ys ++ b ∷ [] → a ≡ b
+ends_once [] [] a b e = cc
+ends_once [] (y ∷ ys) a b e = let rest : [] ≡ ys ++ b ∷ [] = cc in absurd (nothing_ends ys b rest)
+ends_once (x ∷ xs) [] a b e = let rest : [] ≡ xs ++ a ∷ [] = cc in absurd (nothing_ends xs a rest)
+ends_once (x ∷ xs) (y ∷ ys) a b e = let rest : xs ++ a ∷ [] ≡ ys ++ b ∷ [] = cc in ends_once xs ys a b rest
+
+-- a colon and values before commas, and the comma at the end taken off where there is one
+colon_list : (head : List ℕ) (vs : List Value) (old new : List ℕ) → old ≡ (head ++ 58 ∷ []) ++ before_commas vs → ((front : List ℕ) → old ≡ front ++ 44 ∷ [] → new ≡ front) → (((front : List ℕ) → old ≢ front ++ 44 ∷ []) → new ≡ old) → new ≡ (head ++ 58 ∷ []) ++ params_of vs
+colon_list head [] old new is comma other =
+    other (λ front e. let same : 58 ≡ 44 = ends_once head front 58 44 (sym (append-nil (head ++ 58 ∷ [])) ∙ sym is ∙ e) in omega (arith, same)) ∙ is
+colon_list head (v ∷ vs) old new is comma other =
+    comma ((head ++ 58 ∷ []) ++ params_of (v ∷ vs)) (is ∙ ap (λ bytes. (head ++ 58 ∷ []) ++ bytes) (before-params v vs) ∙ sym (append_assoc (head ++ 58 ∷ []) (params_of (v ∷ vs)) (44 ∷ [])))
+
+bare_head : (rpc : ℕ) (id : Option ℕ) → request_text (record { rpc = rpc; id = id; params = [] }) ≡ (request_signature ++ (decimal rpc ++ id_text id)) ++ 58 ∷ []
+bare_head rpc id = simp append_assoc
+
+-- a request's head and values before commas, and the comma at the end taken off where there is one
+pub request_ends : (front : List ℕ) (rpc : ℕ) (id : Option ℕ) (vs : List Value) (old new : List ℕ) → old ≡ front ++ (request_text (record { rpc = rpc; id = id; params = [] }) ++ before_commas vs) → ((list : List ℕ) → old ≡ list ++ 44 ∷ [] → new ≡ list) → (((list : List ℕ) → old ≢ list ++ 44 ∷ []) → new ≡ old) → new ≡ front ++ request_text (record { rpc = rpc; id = id; params = params_of vs })
+request_ends front rpc id vs old new is comma other =
+    let head : List ℕ = front ++ (request_signature ++ (decimal rpc ++ id_text id)) in
+    let start : front ++ (request_text (record { rpc = rpc; id = id; params = [] }) ++ before_commas vs) ≡ (head ++ 58 ∷ []) ++ before_commas vs = ap (λ bytes. front ++ (bytes ++ before_commas vs)) (bare_head rpc id) ∙ simp append_assoc in
+    let end : (head ++ 58 ∷ []) ++ params_of vs ≡ front ++ request_text (record { rpc = rpc; id = id; params = params_of vs }) = simp append_assoc in
+    colon_list head vs old new (is ∙ start) comma other ∙ end
 
 pub reply_text-params : (rc_com : ℕ) (id : Option ℕ) (rc : ℕ) (params : List ℕ) → reply_text (record { rc_com = rc_com; id = id; rc = rc; params = [] }) ++ params_text params ≡ reply_text (record { rc_com = rc_com; id = id; rc = rc; params = params })
 reply_text-params rc_com id rc params = simp (append_assoc, append-nil)

@@ -2,9 +2,5 @@ pub mod AnswerLaws
 pub mod CallLaws
 pub mod Joining
 pub mod LineLaws
-pub mod ListLaws
-pub mod Made
-pub mod MadeAnswers
 pub mod Plain
-pub mod Reshape
-pub mod Steps
+pub mod Table

@@ -3,7 +3,8 @@ use Rattle.std.specs.Prelude.{◌≡◌, ◌<◌, ℕ, List, [], ◌∷◌, Opti
 use Rattle.std.proofs.Common.{◌∙◌, ap, arith, lit<}
 use Rattle.gc_lines.proofs.Written.{request_back, reply_back}
 use Rattle.gc_lines.specs.declared.fault.LineFault.{LineFault}
-use Rattle.gc_lines.specs.Requests.{RequestFields, request_at}
+use Rattle.gc_lines.specs.Requests.{RequestFields}
+use Rattle.gc_lines.specs.Readers.{request_at}
 use Rattle.gc_values.specs.declared.value.Value.{Value}
 use Rattle.gc_values.specs.declared.value.Value.TheVariants as value
 use Rattle.gc_catalogue.specs.declared.answer.Answer.{Answer}
@@ -13,12 +14,12 @@ use Rattle.gc_catalogue.specs.declared.call.Call.{Call}
 use Rattle.gc_catalogue.specs.Answers.{answer_fields, IsAnswer, IsAnswerOf, IsFittingAnswer, rounded_answer}
 use Rattle.gc_catalogue.specs.Calls.{IsFitting}
 use Rattle.gc_catalogue.specs.Laws.{ReadsBackAnswer, ReadsBackCall}
-use Rattle.gc_catalogue.specs.Lists.{AreValues, params_of, shown_values}
+use Rattle.gc_values.specs.Lists.{AreValues}
+use Rattle.gc_catalogue.specs.Lists.{params_of, shown_values}
 use Rattle.gc_catalogue.specs.Texts.{reply_of, request_line, request_of}
 use Rattle.gc_catalogue.proofs.CallLaws.{one_call, written_is_call}
-use Rattle.gc_catalogue.proofs.ListLaws.{written_reads}
-use Rattle.gc_catalogue.proofs.Made.{number_fits}
-use Rattle.gc_catalogue.proofs.MadeAnswers.{shape-rounded, values-rounded}
+use Rattle.gc_values.proofs.ListLaws.{written_reads}
+use Rattle.gc_catalogue.proofs.Table.{number_fits, shape-rounded, values-rounded}
 
 pub call_again : (id : Option ℕ) (call : Call) → IfSome id (λ n. n < 8) → IsFitting call → ReadsBackCall id call
 call_again id call i fits = record { line = request_back (request_of id call) (record { rpc = number_fits call; id = i }); is_call = written_is_call call fits }

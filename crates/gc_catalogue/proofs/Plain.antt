@@ -14,7 +14,8 @@ use Rattle.gc_lines.specs.Requests.{request_signature, request_text}
 use Rattle.gc_values.proofs.TextShape.{text_is_plain}
 use Rattle.gc_values.specs.Item.{text}
 use Rattle.gc_values.specs.declared.value.Value.{Value}
-use Rattle.gc_catalogue.specs.Lists.{AreValues, behind_commas, params_of}
+use Rattle.gc_values.specs.Lists.{AreValues}
+use Rattle.gc_catalogue.specs.Lists.{behind_commas, params_of}
 use Rattle.gc_catalogue.proofs.Joining.{params_of-cons, params_text-params_of}
 
 -- neither CR nor LF

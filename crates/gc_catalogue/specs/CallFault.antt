@@ -1,8 +1,15 @@
-use Rattle.std.specs.Prelude.{ℕ}
-use Rattle.gc_catalogue.specs.declared.answer.CallFault.{CallFault}
-use Rattle.gc_catalogue.specs.declared.answer.CallFault.TheVariants.{Unknown, Parameters}
+-- Why a request names no call: the numbers and the texts of the faults, which are this project's own.
+use Rattle.std.specs.Prelude.{ℕ, List, codes}
+use Rattle.gc_values.specs.ValueFault.{fault_text}
+use Rattle.gc_catalogue.specs.declared.fault.CallFault.{CallFault}
+use Rattle.gc_catalogue.specs.declared.fault.CallFault.TheVariants.{Unknown, Parameters}
 
 -- the number of each fault
 abbrev pub call_fault_number : CallFault → ℕ
 call_fault_number Unknown = 21
 call_fault_number (Parameters e) = 22
+
+-- the text of each fault: that of the parameters is their own fault's
+abbrev pub call_fault_text : CallFault → List ℕ
+call_fault_text Unknown = codes "no procedure has the number"
+call_fault_text (Parameters e) = fault_text e

@@ -1,15 +1,16 @@
--- Calls: the table of procedures, and which parameters are a call's.
+-- Calls: the table of procedures, and which parameters are a call's. Numbers and names are those of the manual's procedure
+-- tables; which parameters a procedure has, and of which kinds, is this project's own after them.
 use Rattle.std.specs.Prelude.{◌≡◌, ◌≢◌, ℕ, List, [], ◌∷◌}
 use Rattle.gc_values.specs.declared.value.Value.{Value}
 use Rattle.gc_values.specs.declared.value.Value.TheVariants.{Double, Long, Short, Bool}
-use Rattle.gc_catalogue.specs.declared.answer.CallFault.{CallFault}
-use Rattle.gc_catalogue.specs.declared.answer.CallFault.TheVariants.{Unknown, Parameters}
+use Rattle.gc_catalogue.specs.declared.fault.CallFault.{CallFault}
+use Rattle.gc_catalogue.specs.declared.fault.CallFault.TheVariants.{Unknown, Parameters}
 use Rattle.gc_catalogue.specs.declared.answer.Shape.{Shape}
 use Rattle.gc_catalogue.specs.declared.answer.Shape.TheVariants as shape
 use Rattle.gc_catalogue.specs.declared.call.Call.{Call}
 use Rattle.gc_catalogue.specs.declared.call.Call.TheVariants.{NullProc, SetPrecision, GetPrecision, ComVersion, InstrumentNo, InstrumentName, SetDate, GetDate, IntTemp, CsvVersion, DoMeasure, GetStation, SetStation, GetHeight, SetHeight, GetFace, GetAngle, SimpleMea, MeasDistance, Position, ChangeFace, FineAdjust}
 use Rattle.gc_catalogue.specs.Structs.{date_values, station_values}
-use Rattle.gc_catalogue.specs.Lists.{kinds_of, AreParams, AreValues, IsListFault}
+use Rattle.gc_values.specs.Lists.{kinds_of, AreParams, AreValues, IsListFault}
 
 -- a procedure's number, the values of its parameters in their order on the line, and the shape of its answer
 pub record CallFields : Type 0 where

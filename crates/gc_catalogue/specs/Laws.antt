@@ -1,16 +1,20 @@
--- What is claimed of the definitions themselves, apart from any call of a function.
-use Rattle.std.specs.Prelude.{◌≡◌, ◌<◌, ℕ, List, Option, IfSome, Ok}
-use Rattle.gc_lines.specs.Replies.{ReplyFields, reply_at}
-use Rattle.gc_lines.specs.Requests.{request_at}
+-- What is claimed of the definitions themselves, apart from any call of a function: this project's own.
+use Rattle.std.specs.Prelude.{◌≡◌, ◌<◌, ℕ, List, [], ◌∷◌, Option, IfSome, Ok}
+use Rattle.gc_lines.specs.Replies.{ReplyFields}
+use Rattle.gc_lines.specs.Readers.{reply_at, request_at}
+use Rattle.gc_values.specs.Decimals.{fraction}
+use Rattle.gc_values.specs.Fraction.{IsRounded}
+use Rattle.gc_values.specs.declared.value.Value.{Value}
+use Rattle.gc_values.specs.declared.value.Value.TheVariants as value
 use Rattle.gc_catalogue.specs.declared.answer.Answer.{Answer}
 use Rattle.gc_catalogue.specs.declared.answer.Answer.TheVariants.{Nothing}
-use Rattle.gc_catalogue.specs.declared.answer.CallFault.{CallFault}
+use Rattle.gc_catalogue.specs.declared.fault.CallFault.{CallFault}
 use Rattle.gc_catalogue.specs.declared.answer.Reading.{Reading}
 use Rattle.gc_catalogue.specs.declared.answer.Reading.TheVariants as reading
 use Rattle.gc_catalogue.specs.declared.call.Call.{Call}
-use Rattle.gc_catalogue.specs.Answers.{IsAnswerOf, IsFittingAnswer, rounded_answer}
+use Rattle.gc_catalogue.specs.Answers.{answer_fields, IsAnswerOf, IsFittingAnswer, rounded_answer}
 use Rattle.gc_catalogue.specs.Calls.{call_fields, IsCall, IsFitting, IsRefusal}
-use Rattle.gc_catalogue.specs.Lists.{kinds_of}
+use Rattle.gc_values.specs.Lists.{kinds_of}
 use Rattle.gc_catalogue.specs.Readings.{IsReading}
 use Rattle.gc_catalogue.specs.Texts.{reply_line, reply_of, request_line, request_of}
 
@@ -23,6 +27,24 @@ pub record AreAlike (c d : Call) : Type 0 where
 pub record NumbersDiffer : Type 0 where
   pub alike : (c d : Call) → (call_fields c).number ≡ (call_fields d).number → AreAlike c d
   pub same : (c d : Call) → (call_fields c).number ≡ (call_fields d).number → (call_fields c).values ≡ (call_fields d).values → c ≡ d
+
+-- a value as it is written: a double is rounded to the places, and any other value stays
+abbrev pub IsShown : ℕ → Value → Value → Type 0
+IsShown places (value.Double d) (value.Double shown) = IsRounded (fraction d) places shown.digits shown.scale
+IsShown places v shown = v ≡ shown
+
+-- the same of values, one for one
+abbrev pub AreShown : ℕ → List Value → List Value → Type 0
+AreShown places [] [] = Unit {0}
+AreShown places [] (shown ∷ rest) = ⊥
+AreShown places (v ∷ vs) [] = ⊥
+AreShown places (v ∷ vs) (shown ∷ rest) = IsShown places v shown × AreShown places vs rest
+
+-- every double of a written answer is the rounding of the answer's, and nothing else is another
+abbrev pub DoublesAreRounded : Type 0
+DoublesAreRounded = (places : ℕ) (answer : Answer)
+    → ((answer_fields (rounded_answer places answer)).shape ≡ (answer_fields answer).shape)
+    × AreShown places (answer_fields answer).values (answer_fields (rounded_answer places answer)).values
 
 -- two calls with one line are one call, with one id
 abbrev pub OneCallForALine : Type 0

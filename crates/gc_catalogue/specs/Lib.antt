@@ -3,8 +3,6 @@ pub mod CallFault
 pub mod Calls
 pub mod Laws
 pub mod Lists
-pub mod Making
-pub mod Places
 pub mod Readings
 pub mod Structs
 pub mod Texts

@@ -1,52 +1,11 @@
--- Parameter lists and their values.
-use Rattle.std.specs.Prelude.{◌≡◌, ◌≢◌, ◌⊎◌, ◌<◌, ◌≤◌, ◌%◌, ℕ, List, [], ◌∷◌, length, map, Option, Some, None}
-use Rattle.std.specs.List.{AllByRecursion, flat_map}
+-- What is written of a list of values, by the manual's chapter on the ASCII protocol: their texts, with commas between them.
+use Rattle.std.specs.Prelude.{ℕ, List, [], ◌∷◌, ◌++◌, map, Option, Some, None}
+use Rattle.std.specs.List.{flat_map}
 use Rattle.gc_values.specs.Decimals.{rounded}
-use Rattle.gc_values.specs.Item.{kind_of, text, IsItem, IsItemFault, IsValue}
-use Rattle.gc_values.specs.Params.{IsParams, joined, quotes}
-use Rattle.gc_values.specs.declared.fault.ValueFault.{ValueFault}
-use Rattle.gc_values.specs.declared.fault.ValueFault.TheVariants.{OpenQuote, TooMany, Count}
-use Rattle.gc_values.specs.declared.value.Kind.{Kind}
+use Rattle.gc_values.specs.Item.{text}
+use Rattle.gc_values.specs.Params.{joined}
 use Rattle.gc_values.specs.declared.value.Value.{Value}
 use Rattle.gc_values.specs.declared.value.Value.TheVariants as value
-
--- the kinds of the values, one for one
-abbrev pub kinds_of : List Value → List Kind
-kinds_of vs = map kind_of vs
-
--- the items are read as the values, one for one
-abbrev pub AreItems : List (List ℕ) → List Value → Type 0
-AreItems [] [] = Unit {0}
-AreItems [] (v ∷ vs) = ⊥
-AreItems (item ∷ items) [] = ⊥
-AreItems (item ∷ items) (v ∷ vs) = IsItem item v × AreItems items vs
-
--- the parameters are a list of items, and these are read as the values
-pub record AreParams (params : List ℕ) (values : List Value) : Type 0 where
-  pub items : List (List ℕ)
-  pub split : IsParams params items
-  pub read : AreItems items values
-
--- the first item from the left that isn't read as a value of its kind has the fault
-abbrev pub FirstFault : List Kind → List (List ℕ) → ValueFault → Type 0
-FirstFault [] items e = ⊥
-FirstFault (k ∷ ks) [] e = ⊥
-FirstFault (k ∷ ks) (item ∷ items) e = IsItemFault k item e ⊎ ((v : Value) × (kind_of v ≡ k) × IsItem item v × FirstFault ks items e)
-
--- why the items are no values of the kinds: more than 16, else another count, else the first item with a fault
-pub data IsItemsFault (kinds : List Kind) (items : List (List ℕ)) (e : ValueFault) : Type 0 where
-  too_many : e ≡ TooMany → 16 < length items → IsItemsFault kinds items e
-  wrong_count : e ≡ Count → length items ≤ 16 → length items ≢ length kinds → IsItemsFault kinds items e
-  faulty_item : length items ≤ 16 → length items ≡ length kinds → FirstFault kinds items e → IsItemsFault kinds items e
-
--- why the parameters are no list of values of the kinds: an odd number of double quotes, else a fault of the items
-pub data IsListFault (kinds : List Kind) (params : List ℕ) (e : ValueFault) : Type 0 where
-  open_quote : e ≡ OpenQuote → quotes params % 2 ≡ 1 → IsListFault kinds params e
-  faulty_items : (items : List (List ℕ)) → IsParams params items → IsItemsFault kinds items e → IsListFault kinds params e
-
--- each value lies in its kind's range
-abbrev pub AreValues : List Value → Type 0
-AreValues values = AllByRecursion IsValue values
 
 -- the values' texts joined by commas
 abbrev pub params_of : List Value → List ℕ
@@ -55,6 +14,10 @@ params_of values = joined (map text values)
 -- the values' texts, each behind a comma
 abbrev pub behind_commas : List Value → List ℕ
 behind_commas values = flat_map (λ v. 44 ∷ text v) values
+
+-- the values' texts, each before a comma
+abbrev pub before_commas : List Value → List ℕ
+before_commas values = flat_map (λ v. text v ++ 44 ∷ []) values
 
 -- the value with each double rounded to the places, where places are given
 abbrev pub shown : Option ℕ → Value → Value

@@ -1,4 +1,4 @@
--- What a reply says of its call.
+-- What a reply says of its call: that parameters are read only where both codes are 0 is this project's own.
 use Rattle.std.specs.Prelude.{◌≡◌, ◌≢◌}
 use Rattle.gc_lines.specs.Replies.{ReplyFields}
 use Rattle.gc_catalogue.specs.declared.answer.Reading.{Reading}

@@ -1,4 +1,4 @@
--- The lines of calls and answers as they are written.
+-- The lines of calls and answers as they are written: their form is the manual's, in its chapter on the ASCII protocol.
 use Rattle.std.specs.Prelude.{ℕ, List, Option, Some}
 use Rattle.gc_lines.specs.Requests.{RequestFields, request_text}
 use Rattle.gc_lines.specs.Replies.{ReplyFields, reply_text}

@@ -1,6 +1,6 @@
 //! What is proved of the definitions themselves. Each function does nothing: its contract is the law.
 
-ghost use Rattle.gc_catalogue.specs.Laws.{NumbersDiffer, OneCallForALine, OneCallOrRefusal, OneReading, CallsReadBack, AnswersReadBack};
+ghost use Rattle.gc_catalogue.specs.Laws.{NumbersDiffer, OneCallForALine, OneCallOrRefusal, OneReading, CallsReadBack, AnswersReadBack, DoublesAreRounded};
 
 /// No two procedures share a number.
 pub fn numbers_differ()
@@ -30,4 +30,9 @@ pub fn calls_read_back()
 /// The line of a call's answer reads back as that answer with its doubles rounded, and that of a refusal as the refusal.
 pub fn answers_read_back()
     ensures { AnswersReadBack }
+{}
+
+/// Each double of an answer that is written is the rounding of the answer's double, and nothing else is another.
+pub fn doubles_are_rounded()
+    ensures { DoublesAreRounded }
 {}

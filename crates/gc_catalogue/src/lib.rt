@@ -1,17 +1,21 @@
-//! Calls and answers and their lines: each of the 22 procedures is a row of the tables in `call`, and its answer's
-//! shape is a row of those in `answer`; everything else is written and proved once, over kinds of parameters.
+//! Calls and answers and their lines. A procedure is one row for reading, in `reading`, and one for writing, in
+//! `writing`; everything else is written and proved once, over kinds of parameters.
 #![tactic(auto)]
 
 mod answer;
 mod call;
+mod fault;
 pub mod laws;
-mod lists;
+mod reading;
 mod replies;
 mod requests;
+mod taking;
 #[cfg(test)]
 mod tests;
+mod writing;
 
-pub use answer::{Answer, CallFault, Reading};
+pub use answer::{Answer, Reading};
 pub use call::{Call, DateTime, Station};
-pub use replies::{decode_answer, encode_answer};
-pub use requests::{decode_call, encode_call};
+pub use fault::CallFault;
+pub use replies::{decode_answer, encode_answer, encode_answer_onto};
+pub use requests::{decode_call, encode_call, encode_call_onto};

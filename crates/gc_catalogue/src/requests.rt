@@ -1,19 +1,32 @@
 //! Calls and their request lines.
 
-ghost use Rattle.std.specs.Prelude.{◌≡◌, ◌<◌, IfOk, IfErr, Ok, Err};
+ghost use Rattle.std.specs.Prelude.{◌≡◌, ◌≢◌, ◌+◌, ◌<◌, ◌≤◌, ◌++◌, ◌∷◌, [], ℕ, List, IfOk, IfErr, IfSome, Ok, Err};
 ghost use Rattle.std.specs.Option.{ForSome};
+ghost use Rattle.arrayvec.specs.ArrayVec.{array_vec_len};
 ghost use Rattle.gc_lines.specs.Lines.{IsPlain};
 ghost use Rattle.gc_catalogue.specs.Calls.{IsCall, IsRefusal, IsFitting};
 ghost use Rattle.gc_catalogue.specs.Laws.{ReadsBackCall};
 ghost use Rattle.gc_catalogue.specs.Texts.{request_line};
-ghost use Rattle.gc_catalogue.specs.declared.answer.CallFault.{CallFault};
+ghost use Rattle.gc_catalogue.specs.declared.fault.CallFault.{CallFault};
 ghost use Rattle.gc_catalogue.specs.declared.call.Call.{Call};
 
-use crate::answer::CallFault;
 use crate::call::Call;
-use crate::lists::{push_list, read_list};
+use crate::fault::CallFault;
+use crate::reading::read_row;
 use arrayvec::ArrayVec;
-use gc_lines::{Line, Request, begin_request};
+use gc_lines::{Line, Request};
+use gc_values::{Listed, Quick};
+
+/// Appends the request line of a call, with the id or without one. It fits in a line, whatever the call is.
+pub fn encode_call_onto<const N: usize>(out: &mut ArrayVec<u8, N>, id: Option<u8>, call: &Call)
+    requires id { ForSome id (λ i. i < 8) }
+    requires room { array_vec_len out.old + 512 ≤ N }
+    ensures line { out.new.items ≡ out.old.items ++ request_line id call.now }
+    ensures fitting { IsFitting call.now }
+{
+    call.write_row(id, out);
+    end_list(out);
+}
 
 /// Writes the request line of a call, with the id or without one. It fits in a line, whatever the call is.
 pub fn encode_call(id: Option<u8>, call: &Call) -> Line
@@ -23,10 +36,44 @@ pub fn encode_call(id: Option<u8>, call: &Call) -> Line
     ensures reads_back { ReadsBackCall id call.now }
     ensures fitting { IsFitting call.now }
 {
-    let row = call.row();
-    let mut line = begin_request(row.number, id);
-    push_list(&mut line, &row.values);
+    let mut line = Line::new();
+    encode_call_onto(&mut line, id, call);
     line
+}
+
+// Takes off the comma behind the last value, where there is one.
+fn end_list<const N: usize>(out: &mut ArrayVec<u8, N>)
+    ensures comma { (front : List ℕ) → out.old.items ≡ front ++ 44 ∷ [] → out.new.items ≡ front }
+    ensures other { ((front : List ℕ) → out.old.items ≢ front ++ 44 ∷ []) → out.new.items ≡ out.old.items }
+{
+    if out.ends_with(b",") {
+        out.pop();
+    }
+}
+
+// The call of a number and parameters in the common spelling.
+fn read_quickly(rpc: u16, params: &[u8]) -> Option<Call>
+    ensures { IfSome result (λ call. IsCall rpc params.now call) }
+{
+    let mut quick = Quick::new(params);
+    let call = read_row(rpc, &mut quick)?;
+    if quick.is_done() { Some(call) } else { None }
+}
+
+// The call of a number and any parameters, or the first fault.
+#[inline(never)]
+fn read_by_the_book(rpc: u16, params: &[u8]) -> Result<Call, CallFault>
+    ensures found { IfOk result (λ call. IsCall rpc params.now call) }
+    ensures fault { IfErr result (λ e. IsRefusal rpc params.now e) }
+{
+    let mut listed = Listed::new(params);
+    let Some(call) = read_row(rpc, &mut listed) else {
+        return Err(CallFault::Unknown);
+    };
+    match listed.finish() {
+        Ok(()) => Ok(call),
+        Err(fault) => Err(CallFault::Parameters(fault)),
+    }
 }
 
 // The call of a number and parameters, or the first fault.
@@ -35,13 +82,9 @@ fn read_call(rpc: u16, params: &[u8]) -> Result<Call, CallFault>
     ensures fitting { IfOk result (λ call. IsFitting call) }
     ensures fault { IfErr result (λ e. IsRefusal rpc params.now e) }
 {
-    let Some(kinds) = Call::kinds_in(rpc) else {
-        return Err(CallFault::Unknown);
-    };
-    let mut values = ArrayVec::new();
-    match read_list(kinds, params, &mut values) {
-        Ok(()) => Call::of(rpc, &values).ok_or(CallFault::Unknown),
-        Err(fault) => Err(CallFault::Parameters(fault)),
+    match read_quickly(rpc, params) {
+        Some(call) => Ok(call),
+        None => read_by_the_book(rpc, params),
     }
 }
 

@@ -1,8 +1,12 @@
 -- Ids of a window, as numbers.
-use Rattle.std.proofs.Common.{◌≡◌, ℕ, ◌<◌, ◌≤◌, ◌↔◌, true, length, Some, sym, subst, ap, ◌∙◌, arith}
+use Rattle.std.proofs.Common.{◌≡◌, ℕ, ◌<◌, ◌≤◌, ◌↔◌, true, List, length, Some, Result, Ok, Err, refl, sym, subst, ap, ◌∙◌, arith}
 use Rattle.std.proofs.lemmas.Bool.{lt-ltb, ltb-true}
-use Rattle.gc_client.specs.Rule.{ById, place, place_in, fits}
-use Rattle.gc_client.specs.Ids.{id_at, id_of, IsWindow, Waits, SendKeepsIds, SettlingKeepsIds}
+use Rattle.gc_lines.specs.declared.fault.LineFault.{LineFault}
+use Rattle.gc_lines.specs.Replies.{ReplyFields, IsReply}
+use Rattle.gc_lines.specs.Readers.{reply_at}
+use Rattle.gc_lines.proofs.Replies.{reply_found, reply_again}
+use Rattle.gc_client.specs.Rule.{ById, place, place_in, fits, id_in}
+use Rattle.gc_client.specs.Ids.{id_at, id_of, IsWindow, Waits, SendKeepsIds, SettlingKeepsIds, HearsByGrammar}
 
 -- a request that is sent has the next id, and the others keep theirs
 pub sending : (next waiting : ℕ) → next < 8 → waiting < 7 → SendKeepsIds next waiting
@@ -38,3 +42,15 @@ fits_where_it_waits c id w digit = (
   λ fit. (place_in c id, ltb-true _ _ fit, id_back c.next (length c.waiting) id w.digit w.few digit),
   λ (k, below, same). lt-ltb _ _ (subst (λ j. j < length c.waiting) (sym (placed c k w below) ∙ ap (place_in c) same) below),
 )
+
+-- a line that is a reply is heard with the reply's id, and a line that is heard with an id is a reply with it
+pub heard_by_grammar : (line : List ℕ) → HearsByGrammar line
+heard_by_grammar line =
+    record {
+      its = λ reply is. ap id_in (reply_again line reply is);
+      only = λ id e. read (reply_at line) refl id e;
+    }
+  where
+    read : (r : Result ReplyFields LineFault) → reply_at line ≡ r → (id : ℕ) → id_in r ≡ Some id → (reply : ReplyFields) × IsReply line reply × (reply.id ≡ Some id)
+    read (Ok reply) reads id e = (reply, reply_found line reply reads, e)
+    read (Err fault) reads id e = cc

@@ -1,18 +1,20 @@
 -- What a reply settles.
 use Rattle.std.proofs.Common.{◌≡◌, ℕ, zero, suc, ◌+◌, ◌≤◌, Bool, true, false, List, [], ◌∷◌, ◌++◌, length, map, take, drop, Option, Some, None, Ok, refl, sym, subst, ap, ap₂, ◌∙◌, arith, length-drop, if◌then◌else◌}
 use Rattle.arrayvec.specs.ArrayVec.{ArrayVec}
-use Rattle.gc_lines.specs.Replies.{ReplyFields, reply_at}
+use Rattle.gc_lines.specs.Replies.{ReplyFields}
+use Rattle.gc_lines.specs.Readers.{reply_at}
+use Rattle.gc_lines.proofs.Replies.{reply_found}
 use Rattle.gc_catalogue.specs.declared.answer.Reading.{Reading}
 use Rattle.gc_catalogue.specs.Readings.{IsReading}
 use Rattle.gc_client.specs.declared.pending.Pending.{Pending}
 use Rattle.gc_client.specs.declared.settlement.Outcome.{Outcome}
 use Rattle.gc_client.specs.declared.settlement.Outcome.TheVariants.{Answered, Late}
-use Rattle.gc_client.specs.Rule.{ById, lost, met, settle, place_heard, id_in, heard, id_settled, hears}
+use Rattle.gc_client.specs.Rule.{ById, lost, met, settle, id_in, heard, id_settled, hears}
+use Rattle.gc_client.specs.Places.{place_heard}
 use Rattle.gc_client.specs.Rule
 use Rattle.gc_client.specs.declared.settlement.Settlement.{Settlement}
 use Rattle.gc_client.specs.Settlements.{IsSettlement, AreSettlements}
 use Rattle.gc_client.proofs.Lists.{left_turn}
-use Rattle.gc_client.proofs.Settling.{one_more}
 
 -- the rule's settlement for a reply line, where it was given up or was not
 abbrev met_when : Pending → List ℕ → Bool → Rule.Settlement
@@ -31,7 +33,7 @@ pub answered_is : (p : Pending) (line : List ℕ) (fields : ReplyFields) (readin
 answered_is p line fields reading copy o is given_up same reads says =
     subst (λ o. IsSettlement (record { target = p.target; call = p.call; outcome = o }) (met p line)) (sym is) (record {
       seen = ap₂ (met_when p) same (sym given_up);
-      read = record { reply = fields; is_reply = ap reply_at same ∙ reads; is_reading = says };
+      read = record { reply = fields; is_reply = reply_found copy.items fields (ap reply_at same ∙ reads); is_reading = says };
     })
 
 -- the first k are lost, and the one at place k is met
@@ -62,9 +64,8 @@ module _ (c : ById) (line : List ℕ) (fields : ReplyFields) (k : ℕ) (p : Pend
   settles = ap (λ r. hears c line (id_in r)) reads ∙ hears_at c line fields.id k fit
 
   -- what is settled is the rule's
-  pub settled_by : (ss : List Settlement) (s : Settlement) → AreSettlements ss (map lost (take k c.waiting)) → IsSettlement s (met p line) → AreSettlements (ss ++ s ∷ []) (hears c line (heard line)).settlements
-  settled_by ss s are is =
-      subst (λ rs. AreSettlements (ss ++ s ∷ []) rs) (sym (ap (λ x. x.settlements) settles ∙ settle_is k line c.waiting p left next)) (one_more ss (map lost (take k c.waiting)) s (met p line) are is)
+  pub settled_by : (ss : List Settlement) → AreSettlements ss (map lost (take k c.waiting) ++ met p line ∷ []) → AreSettlements ss (hears c line (heard line)).settlements
+  settled_by ss are = subst (λ rs. AreSettlements ss rs) (sym (ap (λ x. x.settlements) settles ∙ settle_is k line c.waiting p left next)) are
 
   -- what is left is the rule's
   pub left_by : record { next = c.next; waiting = left } ≡ (hears c line (heard line)).client

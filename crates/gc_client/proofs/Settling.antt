@@ -1,5 +1,5 @@
 -- One more settlement.
-use Rattle.std.proofs.Common.{◌≡◌, ℕ, zero, suc, ◌+◌, List, [], ◌∷◌, ◌++◌, map, take, drop, All, Some, sym, ◌∙◌, ap, ap₂, subst, arith}
+use Rattle.std.proofs.Common.{◌≡◌, ℕ, zero, suc, ◌+◌, List, [], ◌∷◌, ◌++◌, map, take, drop, All, Some, sym, ◌∙◌, ap, ap₂, arith}
 use Rattle.std.specs.Prelude.{slice_get}
 use Rattle.std.proofs.lemmas.List.{map-append}
 use Rattle.std.proofs.lemmas.List.Elements.{All-append}
@@ -23,11 +23,9 @@ one_more ss rs s r are is =
       read = All-append (λ s. IsWellRead s.call s.outcome) ss (s ∷ []) are.read (well_read_one s is.read);
     }
 
--- the next of those that wait is lost
-pub lose_turn : (ss : List Settlement) (ws : List Pending) (k : ℕ) (p : Pending) (qs qs' : List Pending) (s : Settlement) → AreSettlements ss (map lost (take k ws)) → qs ≡ drop k ws → qs ≡ p ∷ qs' → IsSettlement s (lost p) → AreSettlements (ss ++ s ∷ []) (map lost (take (k + 1) ws))
-lose_turn ss ws k p qs qs' s are rest first is =
+-- one more of those that wait is lost
+pub next_lost : (ws : List Pending) (k : ℕ) (p : Pending) (qs qs' : List Pending) → qs ≡ drop k ws → qs ≡ p ∷ qs' → map lost (take (k + 1) ws) ≡ map lost (take k ws) ++ lost p ∷ []
+next_lost ws k p qs qs' rest first =
     let here : slice_get ws k ≡ Some p = head_of_drop ws k p qs' (sym rest ∙ first) in
     let n : k + 1 ≡ suc k = omega arith in
-    let next : map lost (take (k + 1) ws) ≡ map lost (take k ws) ++ lost p ∷ [] =
-    ap (λ m. map lost (take m ws)) n ∙ ap (map lost) (take_turn ws k p here) ∙ map-append lost (take k ws) (p ∷ []) in
-    subst (λ rs. AreSettlements (ss ++ s ∷ []) rs) (sym next) (one_more ss (map lost (take k ws)) s (lost p) are is)
+    ap (λ m. map lost (take m ws)) n ∙ ap (map lost) (take_turn ws k p here) ∙ map-append lost (take k ws) (p ∷ [])

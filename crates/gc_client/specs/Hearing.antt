@@ -1,8 +1,11 @@
--- What a client makes of a line.
+-- What a client makes of a line, this project's own: it settles, it is a stray, or it is no reply by the manual's chapter on the
+-- ASCII protocol.
 use Rattle.std.specs.Prelude.{◌≡◌, ℕ, true, false, List, [], IsOk, Err}
-use Rattle.gc_lines.specs.Replies.{reply_at}
+use Rattle.gc_lines.specs.Readers.{reply_at}
 use Rattle.gc_client.specs.declared.settlement.Settlement.{Settlement}
 use Rattle.gc_client.specs.declared.heard.Heard.{Heard}
+use Rattle.gc_client.specs.declared.heard.Hearing.{Hearing}
+use Rattle.gc_client.specs.declared.heard.Hearing.TheVariants as kind
 use Rattle.gc_client.specs.declared.heard.Heard.TheVariants.{Settled, Stray, Unread}
 use Rattle.gc_client.specs.Rule.{ById, heard, fits}
 
@@ -12,7 +15,13 @@ settlements_in (Settled settlements) = settlements.items
 settlements_in Stray = []
 settlements_in (Unread fault) = []
 
--- which of the three a line is for a client; a stray and a line that is no reply change nothing
+-- which of the three a line is for a client, and what it settled; a stray and a line that is no reply change nothing
+abbrev pub HearsInto : ById → List ℕ → Hearing → List Settlement → ById → Type 0
+HearsInto old line kind.Settled settlements new = fits old (heard line) ≡ true
+HearsInto old line kind.Stray settlements new = IsOk (reply_at line) × (fits old (heard line) ≡ false) × (settlements ≡ []) × (new ≡ old)
+HearsInto old line (kind.Unread fault) settlements new = (reply_at line ≡ Err fault) × (settlements ≡ []) × (new ≡ old)
+
+-- the same, where the settlements are handed back; a stray and a line that is no reply change nothing
 abbrev pub HearsAs : ById → List ℕ → Heard → ById → Type 0
 HearsAs old line (Settled settlements) new = fits old (heard line) ≡ true
 HearsAs old line Stray new = IsOk (reply_at line) × (fits old (heard line) ≡ false) × (new ≡ old)

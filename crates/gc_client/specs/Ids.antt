@@ -1,10 +1,12 @@
--- Ids: one digit for each request that waits, going round at eight.
-use Rattle.std.specs.Prelude.{◌≡◌, ℕ, ◌+◌, ◌-◌, ◌%◌, ◌<◌, ◌≤◌, length}
-use Rattle.gc_client.specs.Rule.{ById}
+-- Ids, this project's own: one digit for each request that waits, going round at the number of ids.
+use Rattle.std.specs.Prelude.{◌≡◌, ℕ, ◌+◌, ◌-◌, ◌%◌, ◌<◌, ◌≤◌, List, length, Some}
+use Rattle.gc_lines.specs.Replies.{ReplyFields, IsReply}
+use Rattle.gc_client.specs.declared.client.TheConstants.{WINDOW, IDS}
+use Rattle.gc_client.specs.Rule.{ById, heard}
 
 -- the id of the request at place k of so many, counted back from the next id
 abbrev pub id_at : ℕ → ℕ → ℕ → ℕ
-id_at next waiting k = (next + 8 - waiting + k) % 8
+id_at next waiting k = (next + IDS - waiting + k) % IDS
 
 -- the id of the request at place k
 abbrev pub id_of : ById → ℕ → ℕ
@@ -12,8 +14,8 @@ id_of c k = id_at c.next (length c.waiting) k
 
 -- what every client keeps: ids are digits below 8, and at most seven requests wait
 pub record IsWindow (c : ById) : Type 0 where
-  pub digit : c.next < 8
-  pub few : length c.waiting ≤ 7
+  pub digit : c.next < IDS
+  pub few : length c.waiting ≤ WINDOW
 
 -- a request with this id waits
 abbrev pub Waits : ById → ℕ → Type 0
@@ -21,9 +23,14 @@ Waits c id = (k : ℕ) × (k < length c.waiting) × (id_of c k ≡ id)
 
 -- a request that is sent gets the next id, and each that waits already keeps its own
 pub record SendKeepsIds (next waiting : ℕ) : Type 0 where
-  pub own : id_at ((next + 1) % 8) (waiting + 1) waiting ≡ next
-  pub others : (k : ℕ) → k < waiting → id_at ((next + 1) % 8) (waiting + 1) k ≡ id_at next waiting k
+  pub own : id_at ((next + 1) % IDS) (waiting + 1) waiting ≡ next
+  pub others : (k : ℕ) → k < waiting → id_at ((next + 1) % IDS) (waiting + 1) k ≡ id_at next waiting k
 
 -- once the first few are settled, each that is left keeps its id, at a place nearer the front
 abbrev pub SettlingKeepsIds : ℕ → ℕ → Type 0
 SettlingKeepsIds next waiting = (count k : ℕ) → count + k < waiting → id_at next (waiting - count) k ≡ id_at next waiting (count + k)
+
+-- the id that is heard in a line is that of the reply that the line is by the grammar
+pub record HearsByGrammar (line : List ℕ) : Type 0 where
+  pub its : (reply : ReplyFields) → IsReply line reply → heard line ≡ reply.id
+  pub only : (id : ℕ) → heard line ≡ Some id → (reply : ReplyFields) × IsReply line reply × (reply.id ≡ Some id)

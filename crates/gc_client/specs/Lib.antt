@@ -3,3 +3,5 @@ pub mod Ids
 pub mod Settlements
 pub mod Hearing
 pub mod Places
+pub mod Silence
+pub mod OneForOne

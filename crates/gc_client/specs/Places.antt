@@ -1,5 +1,11 @@
--- The requests that wait, in eight places.
-use Rattle.std.specs.Prelude.{ℕ, List, ◌++◌, take, drop}
+-- No part of a promise: places, as the code counts them.
+use Rattle.std.specs.Prelude.{ℕ, List, ◌++◌, take, drop, Option, Some, None, if◌then◌else◌, nat_lt}
+use Rattle.gc_client.specs.Rule.{place}
+
+-- the place of the request that a reply with this id, or with none, is for, where one waits
+abbrev pub place_heard : ℕ → ℕ → Option ℕ → Option ℕ
+place_heard next waiting None = None
+place_heard next waiting (Some id) = if nat_lt (place next waiting id) waiting then Some (place next waiting id) else None
 
 -- so many from the oldest's place on, going round at the end
 abbrev pub waiting_in : {A : Type 0} → ℕ → ℕ → List A → List A

@@ -1,9 +1,12 @@
--- The client's rule, this project's own: what a send, a reply, an expiry and a restart do to the next id and to the requests that wait.
-use Rattle.std.specs.Prelude.{ℕ, zero, suc, ◌+◌, ◌-◌, ◌%◌, Bool, true, false, ◌||◌, ◌&&◌, not, List, [], ◌∷◌, ◌++◌, length, map, filter, drop, Option, Some, None, Result, Ok, Err, if◌then◌else◌, nat_lt, nat_le, nat_eq}
+-- The client's rule, this project's own: what a send, a reply, an expiry and a restart do to the next id and to the
+-- requests that wait. A settlement is the end of a request here, and no movement of ground.
+use Rattle.std.specs.Prelude.{◌≡◌, ◌≤◌, All, ℕ, zero, suc, ◌+◌, ◌-◌, ◌%◌, Bool, true, false, ◌||◌, ◌&&◌, not, List, [], ◌∷◌, ◌++◌, length, map, filter, drop, Option, Some, None, Result, Ok, Err, if◌then◌else◌, nat_lt, nat_le, nat_eq}
+use Rattle.std.specs.List.{Contains}
 use Rattle.gc_lines.specs.declared.fault.LineFault.{LineFault}
-use Rattle.gc_lines.specs.Replies.{ReplyFields, reply_at}
+use Rattle.gc_lines.specs.Replies.{ReplyFields}
+use Rattle.gc_lines.specs.Readers.{reply_at}
 use Rattle.gc_catalogue.specs.declared.call.Call.{Call}
-use Rattle.gc_catalogue.specs.Texts.{request_line}
+use Rattle.gc_client.specs.declared.client.TheConstants.{IDS}
 use Rattle.gc_client.specs.declared.pending.Pending.{Pending}
 
 -- how a request ended: a reply line met it, which is its bytes; one met it after it was given up; or none will
@@ -23,9 +26,9 @@ pub record ById : Type 0 where
   pub next : ℕ
   pub waiting : List Pending
 
--- a request line that was written, and the client behind it
-pub record Wrote (Client : Type 0) : Type 0 where
-  pub line : List ℕ
+-- a send that was not refused: the id that its request line was written with, and the client behind it
+pub record Sending (Client : Type 0) : Type 0 where
+  pub id : ℕ
   pub client : Client
 
 -- what was settled, and the client behind it
@@ -40,8 +43,8 @@ fresh = record { next = 0; waiting = [] }
 -- Pendings.
 
 -- a request that has just been sent
-abbrev pub asked : ℕ → Call → ℕ → Pending
-asked target call deadline = record { target = target; call = call; deadline = deadline; given_up = false }
+abbrev pub pending_of : ℕ → Call → ℕ → Pending
+pending_of target call deadline = record { target = target; call = call; deadline = deadline; given_up = false }
 
 -- given up from now on where its deadline is at most this moment
 abbrev pub expired : ℕ → Pending → Pending
@@ -54,6 +57,15 @@ is_expiring now p = nat_le p.deadline now && not p.given_up
 -- the targets of those that this moment gives up, in order
 abbrev pub expiring : ℕ → List Pending → List ℕ
 expiring now ps = map (λ p. p.target) (filter (is_expiring now) ps)
+
+-- the deadlines of those that are not given up, in order
+abbrev pub deadlines : List Pending → List ℕ
+deadlines ps = map (λ p. p.deadline) (filter (λ p. not p.given_up) ps)
+
+-- the earliest of these moments: none where there are none, and else the least
+abbrev pub IsEarliest : List ℕ → Option ℕ → Type 0
+IsEarliest ds None = ds ≡ []
+IsEarliest ds (Some d) = Contains ds d × All (λ e. d ≤ e) ds
 
 -- the one at place k is given up
 abbrev pub given_up_at : ℕ → List Pending → List Pending
@@ -79,9 +91,9 @@ settle (suc k) line (p ∷ ps) = lost p ∷ settle k line ps
 
 -- Ids.
 
--- how far an id lies behind that of the oldest of so many requests, going round at eight
+-- how far an id lies behind that of the oldest of so many requests, going round at the number of ids
 abbrev pub place : ℕ → ℕ → ℕ → ℕ
-place next waiting id = (id + 8 - (next + 8 - waiting) % 8) % 8
+place next waiting id = (id + IDS - (next + IDS - waiting) % IDS) % IDS
 
 -- the place of an id among the requests that wait
 abbrev pub place_in : ById → ℕ → ℕ
@@ -92,33 +104,28 @@ abbrev pub fits : ById → Option ℕ → Bool
 fits c None = false
 fits c (Some id) = nat_lt (place_in c id) (length c.waiting)
 
--- the place of the request that a reply with this id, or with none, is for, where one waits
-abbrev pub place_heard : ℕ → ℕ → Option ℕ → Option ℕ
-place_heard next waiting None = None
-place_heard next waiting (Some id) = if nat_lt (place next waiting id) waiting then Some (place next waiting id) else None
-
 -- the id of a line that was read as a reply
 abbrev pub id_in : Result ReplyFields LineFault → Option ℕ
 id_in (Ok reply) = reply.id
 id_in (Err fault) = None
 
--- the id that a line has, where it reads as a reply with one
+-- the id that a line has, where it reads as a reply with one; by the grammar of replies the law `ids_are_heard` says it
 abbrev pub heard : List ℕ → Option ℕ
 heard line = id_in (reply_at line)
 
 -- The rule.
 
 -- a send where the window is full, or has room
-abbrev pub id_send : ById → ℕ → Call → ℕ → Bool → Option (Wrote ById)
+abbrev pub id_send : ById → ℕ → Call → ℕ → Bool → Option (Sending ById)
 id_send c target call deadline true = None
 id_send c target call deadline false =
     Some (record {
-      line = request_line (Some c.next) call;
-      client = record { next = (c.next + 1) % 8; waiting = c.waiting ++ asked target call deadline ∷ [] };
+      id = c.next;
+      client = record { next = (c.next + 1) % IDS; waiting = c.waiting ++ pending_of target call deadline ∷ [] };
     })
 
 -- a send: refused where as many wait as the window is wide
-abbrev pub sends : ℕ → ById → ℕ → Call → ℕ → Option (Wrote ById)
+abbrev pub sends : ℕ → ById → ℕ → Call → ℕ → Option (Sending ById)
 sends width c target call deadline = id_send c target call deadline (nat_eq (length c.waiting) width)
 
 -- a reply whose id has place k, where that is below the number that wait, or is not

@@ -1,6 +1,7 @@
--- What settlements are in the rule's words.
-use Rattle.std.specs.Prelude.{◌≡◌, ℕ, List, map, All, Ok, ⊤}
-use Rattle.gc_lines.specs.Replies.{ReplyFields, reply_at}
+-- What settlements are in the words of the client's rule, this project's own; a line is read by the manual's chapter on the
+-- ASCII protocol.
+use Rattle.std.specs.Prelude.{◌≡◌, ℕ, List, map, All, ⊤}
+use Rattle.gc_lines.specs.Replies.{ReplyFields, IsReply}
 use Rattle.gc_catalogue.specs.declared.call.Call.{Call}
 use Rattle.gc_catalogue.specs.declared.answer.Reading.{Reading}
 use Rattle.gc_catalogue.specs.Readings.{IsReading}
@@ -22,7 +23,7 @@ settlement_seen s = record { target = s.target; call = s.call; outcome = outcome
 -- the line is a reply, and this is what it says of the call
 pub record ReadsAs (call : Call) (line : List ℕ) (reading : Reading) : Type 0 where
   pub reply : ReplyFields
-  pub is_reply : reply_at line ≡ Ok reply
+  pub is_reply : IsReply line reply
   pub is_reading : IsReading call reply reading
 
 -- the reading of an answer is what its line says of the call

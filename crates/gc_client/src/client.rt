@@ -1,29 +1,43 @@
 //! The client: all that happens to the next id and to the requests that wait is the client's rule, this project's own.
 
-ghost use Rattle.std.specs.Prelude.{◌≡◌, ◌<◌, ◌≤◌, ◌↔◌, length, map, take, drop, Option, Some, None, IfSome, IfOk, OnOk, IsErr, MatchResult};
+ghost use Rattle.std.specs.Prelude.{◌≡◌, ℕ, ◌+◌, ◌<◌, ◌≤◌, ◌↔◌, List, [], ◌∷◌, ◌++◌, length, map, take, drop, Option, Some, None, IfSome, IfOk, OnOk, IsErr, MatchResult};
 ghost use Rattle.arrayvec.specs.ArrayVec.{array_vec_len};
 ghost use Rattle.gc_lines.specs.Lines.{IsPlain};
-ghost use Rattle.gc_lines.specs.Replies.{reply_at, reply_seen};
+ghost use Rattle.gc_lines.specs.Replies.{reply_seen};
+ghost use Rattle.gc_lines.specs.Readers.{reply_at};
 ghost use Rattle.gc_catalogue.specs.Calls.{IsFitting};
-ghost use Rattle.gc_client.specs.Rule.{fresh, sends, heard, place_heard, hears, expires, expiring, restarts, lost, met};
-ghost use Rattle.gc_client.specs.Settlements.{IsSettlement, AreSettlements};
-ghost use Rattle.gc_client.specs.Hearing.{HearsAs, settlements_in};
+ghost use Rattle.gc_catalogue.specs.Texts.{request_line};
+ghost use Rattle.gc_client.specs.Rule.{fresh, sends, heard, hears, deadlines, IsEarliest, expires, expiring, restarts, lost, met};
+ghost use Rattle.gc_client.specs.Places.{place_heard};
+ghost use Rattle.gc_client.specs.Settlements.{AreSettlements};
+ghost use Rattle.gc_client.specs.Rule;
+ghost use Rattle.gc_client.specs.Hearing.{HearsAs, HearsInto, settlements_in};
+ghost use Rattle.gc_client.specs.declared.heard.Hearing.TheVariants.{Unread};
+ghost use Rattle.gc_lines.specs.declared.fault.LineFault.TheVariants.{TooLong};
 
-use crate::heard::Heard;
+use crate::heard::{Heard, Hearing};
 use crate::pending::Pending;
 use crate::settlement::{Outcome, Settlement};
 use crate::window::Window;
 use arrayvec::ArrayVec;
 use gc_catalogue::{Call, decode_answer, encode_call};
-use gc_lines::{Line, Reply, read_reply};
+use gc_lines::{Line, LineFault, Reply, append, read_reply};
+use std::error::Error;
+use std::fmt;
 use std::marker::Model;
+
+/// How many requests can wait: the width of the window.
+pub const WINDOW: usize = 7;
+
+/// How many ids there are: one digit from 0 on, one more than can wait.
+pub const IDS: u8 = 8;
 
 /// Seven requests wait, so no further one was sent.
 #[derive(Clone, Copy, Debug, PartialEq, Eq)]
 pub struct WindowFull;
 
 impl WindowFull {
-    /// The fault's number: 31.
+    /// The fault's number, 31.
     pub fn number(self) -> u8
         ensures { result ≡ 31 }
     {
@@ -31,20 +45,34 @@ impl WindowFull {
     }
 }
 
-/// A client over any window: it writes request lines, takes the lines that come back, and settles each request once,
-/// in the order of sending.
+impl fmt::Display for WindowFull {
+    ghost use Rattle.std.specs.Prelude.{Some, codes};
+
+    ghost output = { λ full. Some (codes "seven requests wait") };
+
+    fn fmt<W: fmt::Write>(&self, f: &mut fmt::Formatter<W>) -> fmt::Result {
+        f.write_str("seven requests wait")
+    }
+}
+
+impl Error for WindowFull {}
+
+/// A client over any window: it settles each request once, in the order of sending, on a connection that keeps its
+/// lines in order, however many of them it loses, delays or repeats in place.
 ///
-/// To drive it, `send` each request and put its line, with CR LF, on the connection; hand each line that comes, without
-/// its CR LF, to `on_line`; and now and then hand the present moment to `expire`, on the clock that the deadlines are
-/// of. Where the connection fails, or seven requests wait and no reply comes any more, `restart`. By that call the
-/// caller vouches that no line is under way in either direction, since ids begin at 0 again and a reply from before
-/// would be taken for one to a new request; in practice, close the connection and open it anew. To an operator,
-/// `Answered` hands over the line that the instrument made for this very request, and what it says, refusals and faults
-/// included; `Late` says that such a line came, but after the request was given up: the instrument has dealt with the
-/// request, and nothing may rest on what it said; `Lost` says that no answer will be booked, and that it isn't known
-/// whether the instrument acted: look at it before a call that moves it is sent again. All this holds on a connection
-/// that keeps its lines in order, however many of them it loses, delays or repeats in place. The client reads no clock
-/// and opens no port.
+/// The caller has a clock and a connection, and no call takes memory, also where it refuses a send or knows no request
+/// for a line:
+///
+/// 1. `send` each request, and write its line, with CR LF, on the connection, while fewer than seven wait.
+/// 2. Read, waiting until [`next_deadline`](Client::next_deadline) at most.
+/// 3. Hand the moment after the read to `expire`, on the clock that the deadlines are of, and then each line that came,
+///    without its CR LF, to `on_line`: so a reply that came past its deadline is late. Go on at 1.
+/// 4. Where the connection fails, or all that wait were given up and nothing comes any more, close it, open it anew and
+///    `restart`: ids begin at 0 again, so no line may be under way, and by that call the caller vouches for it.
+///
+/// At `Answered` take the reading, which may be a refusal or a fault; at `Late` the instrument has dealt with the
+/// request, and nothing may rest on what it said; at `Lost` it isn't known whether it acted: look at it before a call
+/// that moves it is sent again, while a call that only asks may be sent again at once.
 #[derive(Drop)]
 pub struct Client<W: Window> {
     window: W,
@@ -53,13 +81,14 @@ pub struct Client<W: Window> {
 
 impl<W: Window> Model for Client<W> {
     ghost use Rattle.std.specs.Prelude.{◌<◌, ◌≤◌, length};
+    ghost use Rattle.gc_client.specs.declared.client.TheConstants.{WINDOW, IDS};
     ghost use Rattle.gc_client.specs.Rule.{ById};
 
     ghost Value = { ById };
 
     ghost view = { λ c. record { next = c.next; waiting = W.pendings c.window } };
 
-    ghost invariant = { λ c. (c.next < 8) × (length (W.pendings c.window) ≤ 7) };
+    ghost invariant = { λ c. (c.next < IDS) × (length (W.pendings c.window) ≤ WINDOW) };
 }
 
 impl<W: Window> Client<W> {
@@ -76,7 +105,7 @@ impl<W: Window> Client<W> {
     /// How many requests are not settled.
     pub fn waiting(&self) -> usize
         ensures waiting { result ≡ length self.now.waiting }
-        ensures within { result ≤ 7 }
+        ensures within { result ≤ WINDOW }
     {
         self.window.len()
     }
@@ -84,9 +113,23 @@ impl<W: Window> Client<W> {
     /// The id that the next request will have.
     pub fn next_id(&self) -> u8
         ensures next { result ≡ self.now.next }
-        ensures digit { result < 8 }
+        ensures digit { result < IDS }
     {
         self.next
+    }
+
+    /// The earliest deadline of the requests that wait and aren't given up: how long to wait for a line.
+    pub fn next_deadline(&self) -> Option<u64>
+        ensures { IsEarliest (deadlines self.now.waiting) result }
+    {
+        let mut earliest = None;
+        for k in 0..self.window.len() {
+            let pending = self.window.get(k);
+            if !pending.given_up {
+                earliest = Some(earlier(earliest, pending.deadline));
+            }
+        }
+        earliest
     }
 
     // Handlers.
@@ -102,16 +145,40 @@ impl<W: Window> Client<W> {
             (hears self.old line.now.items (heard line.now.items)).settlements }
         ensures client { self.new ≡ (hears self.old line.now.items (heard line.now.items)).client }
     {
+        let mut settled = ArrayVec::new();
+        match self.hear(line.as_slice(), &mut settled) {
+            Hearing::Settled => Heard::Settled(settled),
+            Hearing::Stray => Heard::Stray,
+            Hearing::Unread(fault) => Heard::Unread(fault),
+        }
+    }
+
+    /// Takes a line as `on_line` does, from any bytes, and settles into a list that is handed in.
+    ///
+    /// What the list held goes: afterwards it holds this line's settlements, and none after a stray or an unread line.
+    /// More than 512 bytes are no line, so they are unread, by `LineFault::TooLong`.
+    pub fn hear(&mut self, line: &[u8], settled: &mut ArrayVec<Settlement, WINDOW>) -> Hearing
+        ensures heard { length line.now ≤ 512 → HearsInto self.old line.now result settled.new.items self.new }
+        ensures settled { length line.now ≤ 512
+            → AreSettlements settled.new.items (hears self.old line.now (heard line.now)).settlements }
+        ensures client { length line.now ≤ 512 → self.new ≡ (hears self.old line.now (heard line.now)).client }
+        ensures overlong { 512 < length line.now
+            → (result ≡ Unread TooLong) × (settled.new.items ≡ []) × (self.new ≡ self.old) }
+    {
+        settled.clear();
+        if line.len() > 512 {
+            return Hearing::Unread(LineFault::TooLong);
+        }
         let reply = match read_reply(line) {
             Ok(reply) => reply,
-            Err(fault) => return Heard::Unread(fault),
+            Err(fault) => return Hearing::Unread(fault),
         };
         let Some(k) = place_of(self.next, self.window.len(), reply.id) else {
-            return Heard::Stray;
+            return Hearing::Stray;
         };
-        let mut settled = lose(&mut self.window, k);
-        settled.push(meet(self.window.take_first(), &reply, line));
-        Heard::Settled(settled)
+        lose(&mut self.window, k, settled);
+        meet(self.window.take_first(), &reply, line, settled);
+        Hearing::Settled
     }
 
     /// Gives up each request that waits and whose deadline is at most this moment, and answers the targets of those
@@ -119,7 +186,7 @@ impl<W: Window> Client<W> {
     ///
     /// A request that was given up goes on waiting, and a reply that comes for it settles it as late. The moment may
     /// lie before an earlier one; nothing is taken back then.
-    pub fn expire(&mut self, now: u64) -> ArrayVec<u32, 7>
+    pub fn expire(&mut self, now: u64) -> ArrayVec<u32, WINDOW>
         ensures targets { result.items ≡ expiring now self.old.waiting }
         ensures client { self.new ≡ expires self.old now }
         ensures waiting { length self.new.waiting ≡ length self.old.waiting }
@@ -142,98 +209,149 @@ impl<W: Window> Client<W> {
     ///
     /// It is refused exactly where seven requests wait, those that were given up included, and then changes nothing.
     pub fn send(&mut self, target: u32, call: Call, deadline: u64) -> Result<Line, WindowFull>
-        ensures rule { let ruled = sends 7 self.old target call deadline in MatchResult result
-            (λ line. ruled ≡ Some (record { line = line.items; client = self.new }))
+        ensures rule { let ruled = sends WINDOW self.old target call deadline in MatchResult result
+            (λ line. (ruled ≡ Some (record { id = self.old.next; client = self.new }))
+            × (line.items ≡ request_line (Some self.old.next) call))
             (λ _. (ruled ≡ None) × (self.new ≡ self.old)) }
-        ensures full { IsErr result ↔ (length self.old.waiting ≡ 7) }
+        ensures full { IsErr result ↔ (length self.old.waiting ≡ WINDOW) }
         ensures plain { IfOk result (λ line. IsPlain line.items) }
         ensures fitting { OnOk result (IsFitting call) }
     {
-        if self.window.len() == 7 {
+        let mut line = Line::new();
+        self.send_into(target, &call, deadline, &mut line)?;
+        Ok(line)
+    }
+
+    /// Sends a request as `send` does, and writes its line, without CR LF, into the one that is handed in.
+    ///
+    /// What that one held goes, so one line serves for all sends. A refusal leaves it as it was.
+    pub fn send_into(
+        &mut self,
+        target: u32,
+        call: &Call,
+        deadline: u64,
+        line: &mut Line,
+    ) -> Result<(), WindowFull>
+        ensures rule { let ruled = sends WINDOW self.old target call.now deadline in MatchResult result
+            (λ _. (ruled ≡ Some (record { id = self.old.next; client = self.new }))
+            × (line.new.items ≡ request_line (Some self.old.next) call.now))
+            (λ _. (ruled ≡ None) × (self.new ≡ self.old) × (line.new.items ≡ line.old.items)) }
+        ensures full { IsErr result ↔ (length self.old.waiting ≡ WINDOW) }
+        ensures plain { OnOk result (IsPlain line.new.items) }
+        ensures fitting { OnOk result (IsFitting call.now) }
+    {
+        if self.window.len() == WINDOW {
             return Err(WindowFull);
         }
-        let line = encode_call(Some(self.next), &call);
+        *line = encode_call(Some(self.next), call);
         self.window.push(Pending {
             target,
-            call,
+            call: *call,
             deadline,
             given_up: false,
         });
-        self.next = (self.next + 1) % 8;
-        Ok(line)
+        self.next = (self.next + 1) % IDS;
+        Ok(())
     }
 
     /// Settles all that wait as lost, in order, and begins anew at id 0.
     ///
     /// The caller vouches that no line is under way in either direction.
-    pub fn restart(&mut self) -> ArrayVec<Settlement, 7>
+    pub fn restart(&mut self) -> ArrayVec<Settlement, WINDOW>
         ensures settled { AreSettlements result.items (restarts self.old).settlements }
         ensures client { self.new ≡ (restarts self.old).client }
     {
+        let mut settled = ArrayVec::new();
         let count = self.window.len();
         self.next = 0;
-        lose(&mut self.window, count)
+        lose(&mut self.window, count, &mut settled);
+        settled
     }
 }
 
 // The place of the request that a reply with this id is for, where one waits.
 #[inline]
 fn place_of(next: u8, waiting: usize, id: Option<u8>) -> Option<usize>
-    requires next { next < 8 }
-    requires waiting { waiting ≤ 7 }
+    requires next { next < IDS }
+    requires waiting { waiting ≤ WINDOW }
     ensures place { result ≡ place_heard next waiting id }
     ensures within { IfSome result (λ k. k < waiting) }
 {
-    let oldest = (usize::from(next) + 8 - waiting) % 8;
-    let k = (usize::from(id?) + 8 - oldest) % 8;
+    let ids = usize::from(IDS);
+    let oldest = (usize::from(next) + ids - waiting) % ids;
+    let k = (usize::from(id?) + ids - oldest) % ids;
     if k < waiting { Some(k) } else { None }
 }
 
-// Takes the first `count` out of a window: they are lost.
+// The earliest deadline, with this one behind those so far.
 #[inline]
-fn lose<W: Window>(window: &mut W, count: usize) -> ArrayVec<Settlement, 7>
-    requires count { count ≤ length (W.pendings window.old) }
-    requires within { length (W.pendings window.old) ≤ 7 }
-    ensures settled { AreSettlements result.items (map lost (take count (W.pendings window.old))) }
-    ensures count { array_vec_len result ≡ count }
-    ensures left { W.pendings window.new ≡ drop count (W.pendings window.old) }
+fn earlier(earliest: Option<u64>, deadline: u64) -> u64
+    ensures { (ds : List ℕ) → IsEarliest ds earliest → IsEarliest (ds ++ deadline ∷ []) (Some result) }
 {
-    let mut settled = ArrayVec::new();
-    for _ in 0..count {
-        let p = window.take_first();
-        settled.push(Settlement {
-            target: p.target,
-            call: p.call,
-            outcome: Outcome::Lost,
-        });
+    match earliest {
+        Some(moment) if moment <= deadline => moment,
+        _ => deadline,
     }
-    settled
 }
 
-// The end of a request whose reply came.
+// Takes the first `count` out of a window, into an empty list: they are lost.
 #[inline]
-fn meet(p: Pending, reply: &Reply<'_>, line: &Line) -> Settlement
-    requires { reply_at line.now.items ≡ Ok (reply_seen reply.now) }
-    ensures { IsSettlement result (met p line.now.items) }
+fn lose<W: Window>(window: &mut W, count: usize, settled: &mut ArrayVec<Settlement, WINDOW>)
+    requires count { count ≤ length (W.pendings window.old) }
+    requires within { length (W.pendings window.old) ≤ WINDOW }
+    requires empty { settled.old.items ≡ [] }
+    ensures settled { AreSettlements settled.new.items (map lost (take count (W.pendings window.old))) }
+    ensures count { array_vec_len settled.new ≡ count }
+    ensures left { W.pendings window.new ≡ drop count (W.pendings window.old) }
+{
+    for _ in 0..count {
+        push_lost(window.take_first(), settled);
+    }
+}
+
+// Appends the settlement of a request that is lost. It has its own frame, since a settlement is large.
+#[inline(never)]
+fn push_lost(p: Pending, settled: &mut ArrayVec<Settlement, WINDOW>)
+    requires { array_vec_len settled.old < WINDOW }
+    ensures settled { (ruled : List Rule.Settlement) → AreSettlements settled.old.items ruled
+        → AreSettlements settled.new.items (ruled ++ lost p ∷ []) }
+    ensures count { array_vec_len settled.new ≡ array_vec_len settled.old + 1 }
+{
+    settled.push(Settlement {
+        target: p.target,
+        call: p.call,
+        outcome: Outcome::Lost,
+    });
+}
+
+// Appends the settlement of a request whose reply came. It has its own frame, since a settlement is large.
+#[inline(never)]
+fn meet(p: Pending, reply: &Reply<'_>, line: &[u8], settled: &mut ArrayVec<Settlement, WINDOW>)
+    requires reads { reply_at line.now ≡ Ok (reply_seen reply.now) }
+    requires short { length line.now ≤ 512 }
+    requires room { array_vec_len settled.old < WINDOW }
+    ensures { (ruled : List Rule.Settlement) → AreSettlements settled.old.items ruled
+        → AreSettlements settled.new.items (ruled ++ met p line.now ∷ []) }
 {
     let outcome = if p.given_up {
         Outcome::Late
     } else {
-        Outcome::Answered(decode_answer(&p.call, reply), copy_of(line))
+        Outcome::Answered(decode_answer(&p.call, reply), line_of(line))
     };
-    Settlement {
+    settled.push(Settlement {
         target: p.target,
         call: p.call,
         outcome,
-    }
+    });
 }
 
-// Another line with the same bytes.
+// The line with these bytes.
 #[inline]
-fn copy_of(line: &Line) -> Line
-    ensures { result.items ≡ line.now.items }
+fn line_of(bytes: &[u8]) -> Line
+    requires { length bytes.now ≤ 512 }
+    ensures { result.items ≡ bytes.now }
 {
-    let mut copy = Line::new();
-    let _ = copy.try_extend_from_slice(line.as_slice());
-    copy
+    let mut line = Line::new();
+    append(&mut line, bytes);
+    line
 }

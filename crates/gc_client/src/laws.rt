@@ -1,13 +1,17 @@
-//! Laws of the client's rule: what ids are good for. Each function is its contract, and does nothing.
+//! Laws of the client's rule: what ids are good for, and what holds whoever made the lines.
+//! Each function is its contract, and does nothing.
 
-ghost use Rattle.std.specs.Prelude.{◌≡◌, ℕ, ◌<◌, ◌≤◌, ◌↔◌, true, length, Some};
+ghost use Rattle.std.specs.Prelude.{◌≡◌, ℕ, ◌<◌, ◌≤◌, ◌↔◌, true, List, length, Some};
+ghost use Rattle.gc_client.specs.declared.client.TheConstants.{WINDOW, IDS};
 ghost use Rattle.gc_client.specs.Rule.{ById, place_in, fits};
-ghost use Rattle.gc_client.specs.Ids.{id_of, IsWindow, Waits, SendKeepsIds, SettlingKeepsIds};
+ghost use Rattle.gc_client.specs.Ids.{id_of, IsWindow, Waits, SendKeepsIds, SettlingKeepsIds, HearsByGrammar};
+ghost use Rattle.gc_client.specs.Silence.{IsReplyWithId, is_ours, IsSilent};
+ghost use Rattle.gc_client.specs.OneForOne.{Step, begun, course, IsOneForOne};
 
 /// A request has one id from its sending to its settlement.
 pub fn ids_last()
-    ensures sending { (next waiting : ℕ) → next < 8 → waiting < 7 → SendKeepsIds next waiting }
-    ensures settling { (next waiting : ℕ) → waiting ≤ 7 → SettlingKeepsIds next waiting }
+    ensures sending { (next waiting : ℕ) → next < IDS → waiting < WINDOW → SendKeepsIds next waiting }
+    ensures settling { (next waiting : ℕ) → waiting ≤ WINDOW → SettlingKeepsIds next waiting }
 {}
 
 /// The requests that wait have ids that differ, so an id is that of one request at most; and a reply fits exactly
@@ -16,5 +20,23 @@ pub fn ids_tell_requests_apart()
     ensures differ { (c : ById) (j k : ℕ) → IsWindow c → j < length c.waiting → k < length c.waiting
         → id_of c j ≡ id_of c k → j ≡ k }
     ensures place { (c : ById) (k : ℕ) → IsWindow c → k < length c.waiting → place_in c (id_of c k) ≡ k }
-    ensures fits { (c : ById) (id : ℕ) → IsWindow c → id < 8 → (fits c (Some id) ≡ true) ↔ Waits c id }
+    ensures fits { (c : ById) (id : ℕ) → IsWindow c → id < IDS → (fits c (Some id) ≡ true) ↔ Waits c id }
+{}
+
+/// The id that is heard in a line is that of the reply that the line is by the grammar, and in other lines none is heard.
+pub fn ids_are_heard()
+    ensures { (line : List ℕ) → HearsByGrammar line }
+{}
+
+/// Lines that are no replies, and replies without an id, are as if they had never come: over a list of lines the client
+/// settles the same, and is the same afterwards, as over that list without them.
+pub fn foreign_lines_are_silent()
+    ensures silent { (c : ById) (lines : List (List ℕ)) → IsSilent c lines }
+    ensures ours { (line : List ℕ) → (is_ours line ≡ true) ↔ IsReplyWithId line }
+{}
+
+/// From a new client on, over every list of sends, lines of any origin, moments and restarts, the settlements so far and
+/// behind them the requests that wait are the sends that weren't refused: their targets and calls, in order, each once.
+pub fn settles_one_for_one()
+    ensures { (width : ℕ) (steps : List Step) → IsOneForOne (course width begun steps) }
 {}

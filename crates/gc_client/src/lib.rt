@@ -12,8 +12,8 @@ mod slots;
 mod tests;
 mod window;
 
-pub use client::{Client, WindowFull};
-pub use heard::Heard;
+pub use client::{Client, IDS, WINDOW, WindowFull};
+pub use heard::{Heard, Hearing};
 pub use pending::Pending;
 pub use ring::Ring;
 pub use settlement::{Outcome, Settlement};

@@ -2,6 +2,7 @@
 
 ghost use Rattle.std.specs.Prelude.{◌≡◌, [], IfOk};
 
+use crate::client::WINDOW;
 use crate::pending::Pending;
 use crate::window::Window;
 use circular_buffer::HeapCircularBuffer;
@@ -17,13 +18,14 @@ pub struct Ring {
 
 impl Model for Ring {
     ghost use Rattle.std.specs.Prelude.{◌≡◌, List};
+    ghost use Rattle.gc_client.specs.declared.client.TheConstants.{WINDOW};
     ghost use Rattle.gc_client.specs.declared.pending.Pending.{Pending};
 
     ghost Value = { List Pending };
 
     ghost view = { λ r. r.buffer.items };
 
-    ghost invariant = { λ r. r.buffer.capacity ≡ 7 };
+    ghost invariant = { λ r. r.buffer.capacity ≡ WINDOW };
 }
 
 impl Ring {
@@ -31,7 +33,7 @@ impl Ring {
     pub fn new(alloc: Global) -> Result<Ring, AllocError>
         ensures { IfOk result (λ ring. ring ≡ []) }
     {
-        let buffer = HeapCircularBuffer::with_capacity(alloc, 7)?;
+        let buffer = HeapCircularBuffer::with_capacity(alloc, WINDOW)?;
         Ok(Ring { buffer })
     }
 }

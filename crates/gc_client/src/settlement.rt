@@ -28,7 +28,7 @@ impl Default for Outcome {
     }
 }
 
-/// The end of one request.
+/// The end of one request. That is what "settlement" means here, and no movement of the ground.
 #[derive(Debug, PartialEq, Eq, Drop)]
 pub struct Settlement {
     /// Whom the request was for, as it was handed to `send`.

@@ -2,30 +2,36 @@
 
 ghost use Rattle.std.specs.Prelude.{◌≡◌, []};
 
+use crate::client::IDS;
 use crate::pending::Pending;
 use crate::window::Window;
 use gc_catalogue::Call;
 use std::marker::Model;
 
+// A place for each id.
+const PLACES: usize = IDS as usize;
+
 /// A window in eight fixed places, for a station that must never ask for memory.
 /// `clear` begins again at place 0, as a client does with its ids, so the request with id i stands at place i.
 #[derive(Drop)]
 pub struct Slots {
-    places: [Pending; 8],
+    places: [Pending; PLACES],
     oldest: usize,
     len: usize,
 }
 
 impl Model for Slots {
     ghost use Rattle.std.specs.Prelude.{◌≡◌, ◌<◌, ◌≤◌, List, length};
+    ghost use Rattle.gc_client.specs.declared.client.TheConstants.{WINDOW};
     ghost use Rattle.gc_client.specs.declared.pending.Pending.{Pending};
+    ghost use Rattle.gc_client.specs.declared.slots.TheConstants.{PLACES};
     ghost use Rattle.gc_client.specs.Places.{waiting_in};
 
     ghost Value = { List Pending };
 
     ghost view = { λ s. waiting_in s.oldest s.len s.places };
 
-    ghost invariant = { λ s. (s.oldest < 8) × (s.len ≤ 7) × (length s.places ≡ 8) };
+    ghost invariant = { λ s. (s.oldest < PLACES) × (s.len ≤ WINDOW) × (length s.places ≡ PLACES) };
 }
 
 // What stands in a place that nothing has used yet.
@@ -42,7 +48,7 @@ impl Slots {
         ensures { result ≡ [] }
     {
         Slots {
-            places: [VACANT; 8],
+            places: [VACANT; PLACES],
             oldest: 0,
             len: 0,
         }
@@ -65,23 +71,23 @@ impl Window for Slots {
     }
 
     fn get(&self, k: usize) -> Pending {
-        self.places[(self.oldest + k) % 8]
+        self.places[(self.oldest + k) % PLACES]
     }
 
     fn push(&mut self, p: Pending) {
-        self.places[(self.oldest + self.len) % 8] = p;
+        self.places[(self.oldest + self.len) % PLACES] = p;
         self.len += 1;
     }
 
     fn take_first(&mut self) -> Pending {
         let first = self.places[self.oldest];
-        self.oldest = (self.oldest + 1) % 8;
+        self.oldest = (self.oldest + 1) % PLACES;
         self.len -= 1;
         first
     }
 
     fn give_up(&mut self, k: usize) {
-        let place = (self.oldest + k) % 8;
+        let place = (self.oldest + k) % PLACES;
         self.places[place].given_up = true;
     }
 

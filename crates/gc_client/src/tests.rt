@@ -1,13 +1,16 @@
 //! Worked examples, each with both windows.
 
+mod measuring;
+
 use crate::client::Client;
-use crate::heard::Heard;
+use crate::heard::{Heard, Hearing};
 use crate::ring::Ring;
 use crate::settlement::{Outcome, Settlement};
 use crate::slots::Slots;
 use crate::window::Window;
+use arrayvec::ArrayVec;
 use gc_catalogue::Call;
-use gc_lines::Line;
+use gc_lines::{Line, LineFault};
 use std::alloc::{AllocError, Global};
 use std::process::Abort;
 use std::test::Fail;
@@ -63,7 +66,7 @@ fn told<W: Window>(
     match step {
         Send(target, deadline) => match client.send(target, call, deadline) {
             Ok(line) => tell_line(&mut text, &line)?,
-            Err(full) => write!(text, "refused {}", full.number())?,
+            Err(full) => write!(text, "refused {}, {full}", full.number())?,
         },
         Hear(line) => match client.on_line(&line_of(line)) {
             Heard::Settled(settled) => tell(&mut text, &settled)?,
@@ -146,7 +149,10 @@ fn seven_waiting(rt: HostRuntime) -> Result<(), Fail> {
         (Send(5, 9), "%R1Q,0,4:; 5 wait, next 5"),
         (Send(6, 9), "%R1Q,0,5:; 6 wait, next 6"),
         (Send(7, 9), "%R1Q,0,6:; 7 wait, next 7"),
-        (Send(8, 9), "refused 31; 7 wait, next 7"),
+        (
+            Send(8, 9),
+            "refused 31, seven requests wait; 7 wait, next 7",
+        ),
         (
             Hear("%R1P,0,2:0"),
             "1 lost, 2 lost, 3 Value(Nothing) %R1P,0,2:0, ; 4 wait, next 7",
@@ -202,6 +208,66 @@ fn eight_places(rt: HostRuntime) -> Result<(), Fail> {
     ];
     follow_both(&rt, rt.alloc(), "the eight places", Call::NullProc, &steps)?;
     Ok(())
+}
+
+#[test]
+fn next_deadlines(rt: HostRuntime) {
+    let mut client = Client::new(Slots::new());
+    assert_eq!(rt; client.next_deadline(), None);
+    for deadline in [30, 10, 20] {
+        assert!(rt; client.send(1, Call::NullProc, deadline).is_ok());
+    }
+    assert_eq!(rt; client.next_deadline(), Some(10));
+    let _ = client.expire(10);
+    assert_eq!(rt; client.next_deadline(), Some(20));
+    let _ = client.on_line(&line_of("%R1P,0,2:0"));
+    assert_eq!(rt; client.next_deadline(), None);
+}
+
+// Each byte alone is a line that is no reply, by its signature, and it changes nothing.
+#[test]
+fn single_bytes(rt: HostRuntime) {
+    let mut client = Client::new(Slots::new());
+    assert!(rt; client.send(1, Call::NullProc, 9).is_ok());
+    for byte in 0..=255 {
+        let mut line = Line::new();
+        line.push(byte);
+        let Heard::Unread(fault) = client.on_line(&line) else {
+            assert!(rt; false, "byte {byte}");
+            return;
+        };
+        assert_eq!(rt;
+            (fault.number(), client.waiting(), client.next_id()),
+            (1, 1, 1),
+            "byte {byte}"
+        );
+    }
+}
+
+// A list of settlements and a line are used again, and hold what the last call gave.
+#[test]
+fn lines_in_place(rt: HostRuntime) {
+    let mut client = Client::new(Slots::new());
+    let mut line = Line::new();
+    for target in 0..3 {
+        assert!(rt;
+            client
+                .send_into(target, &Call::NullProc, 9, &mut line)
+                .is_ok()
+        );
+    }
+    assert_eq!(rt; line, line_of("%R1Q,0,2:"));
+    let mut settled = ArrayVec::new();
+    assert_eq!(rt; client.hear(b"%R1P,0,1:0", &mut settled), Hearing::Settled);
+    assert_eq!(rt; settled.len(), 2);
+    assert_eq!(rt; client.hear(b"%R1P,0,2:0", &mut settled), Hearing::Settled);
+    assert_eq!(rt; settled.len(), 1);
+    assert_eq!(rt; client.hear(b"%R1P,0,2:0", &mut settled), Hearing::Stray);
+    assert_eq!(rt; settled.len(), 0);
+    assert_eq!(rt;
+        client.hear(&[b'%'; 513], &mut settled),
+        Hearing::Unread(LineFault::TooLong)
+    );
 }
 
 // Each handler and mutator once. It takes no memory itself.

@@ -3,6 +3,7 @@
 ghost use Rattle.std.specs.Prelude.{◌≡◌, ◌<◌, ◌≤◌, [], ◌∷◌, ◌++◌, length, slice_get};
 ghost use Rattle.gc_client.specs.Rule.{given_up_at};
 
+use crate::client::WINDOW;
 use crate::pending::Pending;
 
 /// The requests that wait, oldest first: at most seven.
@@ -17,7 +18,7 @@ pub trait Window: Drop {
     /// How many wait.
     fn len(&self) -> usize
         ensures len { result ≡ length (pendings self.now) }
-        ensures within { result ≤ 7 };
+        ensures within { result ≤ WINDOW };
 
     /// The one at place k, counted from the oldest.
     fn get(&self, k: usize) -> Pending
@@ -26,7 +27,7 @@ pub trait Window: Drop {
 
     /// Appends one behind the youngest.
     fn push(&mut self, p: Pending)
-        requires { length (pendings self.old) < 7 }
+        requires { length (pendings self.old) < WINDOW }
         ensures { pendings self.new ≡ pendings self.old ++ p ∷ [] };
 
     /// Takes the oldest out.

@@ -44,7 +44,7 @@ no_parameters text front cut call p =
     not_more p.params (sym parts.1) p.some
 
 -- one number is written by digits
-one_number : (digits : List ℕ) (m n max : ℕ) → IsNumber digits m max → IsNumber digits n max → m ≡ n
+pub one_number : (digits : List ℕ) (m n max : ℕ) → IsNumber digits m max → IsNumber digits n max → m ≡ n
 one_number digits m n max h k = h.names.value ∙ sym k.names.value
 
 -- the call is that of the number and the parameters

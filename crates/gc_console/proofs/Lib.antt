@@ -1,6 +1,6 @@
-mod Known
 mod Cutting
 mod Forms
 mod LineEnds
 mod TextLines
 mod Shown
+mod OneSchedule

@@ -7,8 +7,9 @@ use Rattle.gc_client.specs.Settlements.{settlement_seen}
 use Rattle.gc_instrument.specs.State.{State, simulator_opening}
 use Rattle.gc_world.specs.declared.event.Event.{Event}
 use Rattle.gc_world.specs.declared.report.Report.{Report}
-use Rattle.gc_world.specs.Reports.{IsReport, posted, posted_of, numbered}
-use Rattle.gc_world.specs.Simulated.{played}
+use Rattle.gc_world.specs.Clients.{played}
+use Rattle.gc_world.specs.Faithful.{sent_seen}
+use Rattle.gc_world.specs.Reports.{IsReport, made_seen}
 use Rattle.gc_world.specs.World.{Wire}
 use Rattle.gc_console.specs.Drill.{settlement_line, lines_from, settlement_lines, totals_text, wire_text, report_text, drill_text}
 
@@ -21,8 +22,8 @@ totals_where false s t x y es ex = ap (λ l. l ++ []) es
 
 pub text_shown : (r : Report) (w : Wire State) (totals : Bool) → IsReport r w → report_text r totals ≡ wire_text w totals
 text_shown r w totals is =
-    let sent : length r.sent ≡ length w.sent = sym (length-map r.sent posted) ∙ ap length is.sent ∙ length-map w.sent posted_of in
-    let made : length r.made ≡ length w.made = sym (length-map r.made numbered) ∙ ap length is.made in
+    let sent : length r.sent ≡ length w.sent = sym (length-map r.sent sent_seen) ∙ ap length is.sent in
+    let made : length r.made ≡ length w.made = sym (length-map r.made made_seen) ∙ ap length is.made in
     let settled : length r.settled ≡ length w.settled = sym (length-map r.settled settlement_seen) ∙ ap length is.settled.seen in
     totals_where totals _ _ _ _
     (ap settlement_lines is.settled.seen)

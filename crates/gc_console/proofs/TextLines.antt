@@ -4,7 +4,7 @@ use Rattle.std.specs.Prelude.{filter, not}
 use Rattle.std.proofs.lemmas.List.{length-map}
 use Rattle.gc_world.specs.declared.event.Event.{Event}
 use Rattle.gc_console.specs.Cuts.{Cuts, Lacks}
-use Rattle.gc_console.specs.Schedule.{pieces_behind, without_cr, text_lines, is_skipped, is_kept, AreEvents, IsEvent, IsSchedule, IsFirstFaulty}
+use Rattle.gc_console.specs.Schedule.{text_pieces, without_cr, text_lines, is_skipped, is_kept, AreEvents, IsEvent, IsSchedule, IsFirstFaulty, IsBehindAnEvent}
 
 -- the lines of what is left of a text
 abbrev pub lines_left : Option (List ℕ) → List (List ℕ)
@@ -17,34 +17,34 @@ much_left None = 0
 much_left (Some text) = length text + 1
 
 -- one byte that isn't the LF
-piece-on : (before bs : List ℕ) (b : ℕ) → b ≢ 10 → pieces_behind before (b ∷ bs) ≡ pieces_behind (before ++ b ∷ []) bs
-piece-on before bs b other = ap (λ t. cond t (before ∷ pieces_behind [] bs) (pieces_behind (before ++ b ∷ []) bs)) (ne_eqb b 10 other)
+piece-on : (before bs : List ℕ) (b : ℕ) → b ≢ 10 → text_pieces before (b ∷ bs) ≡ text_pieces (before ++ b ∷ []) bs
+piece-on before bs b other = ap (λ t. cond t (before ∷ text_pieces [] bs) (text_pieces (before ++ b ∷ []) bs)) (ne_eqb b 10 other)
 
-pieces-lacking : (before bs : List ℕ) → Lacks 10 bs → pieces_behind before bs ≡ (before ++ bs) ∷ []
+pieces-lacking : (before bs : List ℕ) → Lacks 10 bs → text_pieces before bs ≡ (before ++ bs) ∷ []
 pieces-lacking before [] lacks = ap (λ x. x ∷ []) (sym (append-nil before))
 pieces-lacking before (b ∷ bs) lacks =
     piece-on before bs b lacks.0 ∙ pieces-lacking (before ++ b ∷ []) bs lacks.1 ∙ ap (λ x. x ∷ []) (append_assoc before (b ∷ []) bs)
 
-pieces-cut : (before front rest : List ℕ) → Lacks 10 front → pieces_behind before (front ++ 10 ∷ rest) ≡ (before ++ front) ∷ pieces_behind [] rest
-pieces-cut before [] rest lacks = ap (λ x. x ∷ pieces_behind [] rest) (sym (append-nil before))
+pieces-cut : (before front rest : List ℕ) → Lacks 10 front → text_pieces before (front ++ 10 ∷ rest) ≡ (before ++ front) ∷ text_pieces [] rest
+pieces-cut before [] rest lacks = ap (λ x. x ∷ text_pieces [] rest) (sym (append-nil before))
 pieces-cut before (b ∷ front) rest lacks =
-    piece-on before (front ++ 10 ∷ rest) b lacks.0 ∙ pieces-cut (before ++ b ∷ []) front rest lacks.1 ∙ ap (λ x. x ∷ pieces_behind [] rest) (append_assoc before (b ∷ []) front)
+    piece-on before (front ++ 10 ∷ rest) b lacks.0 ∙ pieces-cut (before ++ b ∷ []) front rest lacks.1 ∙ ap (λ x. x ∷ text_pieces [] rest) (append_assoc before (b ∷ []) front)
 
 few_more :
-    (before bs : List ℕ) (b : ℕ) (t : Bool) → length (pieces_behind [] bs) ≤ length bs + 1 → length (pieces_behind (before ++ b ∷ []) bs) ≤ length bs + 1 →
-    length (cond t (before ∷ pieces_behind [] bs) (pieces_behind (before ++ b ∷ []) bs)) ≤ length (b ∷ bs) + 1
+    (before bs : List ℕ) (b : ℕ) (t : Bool) → length (text_pieces [] bs) ≤ length bs + 1 → length (text_pieces (before ++ b ∷ []) bs) ≤ length bs + 1 →
+    length (cond t (before ∷ text_pieces [] bs) (text_pieces (before ++ b ∷ []) bs)) ≤ length (b ∷ bs) + 1
 few_more before bs b true new on = omega (arith, new)
 few_more before bs b false new on = omega (arith, on)
 
 -- no more pieces than bytes, and one more
-pieces-few : (before bs : List ℕ) → length (pieces_behind before bs) ≤ length bs + 1
+pieces-few : (before bs : List ℕ) → length (text_pieces before bs) ≤ length bs + 1
 pieces-few before [] = omega arith
 pieces-few before (b ∷ bs) = few_more before bs b (b == 10) (pieces-few [] bs) (pieces-few (before ++ b ∷ []) bs)
 
 -- the first line, and those of the rest
 pub lines-cut : (text front : List ℕ) (rest : Option (List ℕ)) → Cuts 10 text front rest → text_lines text ≡ without_cr front ∷ lines_left rest
-lines-cut text front None cut = ap (map without_cr) (ap (pieces_behind []) cut.0 ∙ pieces-lacking [] front cut.1)
-lines-cut text front (Some rest) cut = ap (map without_cr) (ap (pieces_behind []) cut.0 ∙ pieces-cut [] front rest cut.1)
+lines-cut text front None cut = ap (map without_cr) (ap (text_pieces []) cut.0 ∙ pieces-lacking [] front cut.1)
+lines-cut text front (Some rest) cut = ap (map without_cr) (ap (text_pieces []) cut.0 ∙ pieces-cut [] front rest cut.1)
 
 -- events, one behind the other
 pub AreEvents-append : (xs ys : List (List ℕ)) (es fs : List Event) → AreEvents xs es → AreEvents ys fs → AreEvents (xs ++ ys) (es ++ fs)
@@ -68,7 +68,7 @@ reads_none text = record { read = []; lines_are = refl; count = refl; events_are
 pub reads_few : (text : List ℕ) (left : Option (List ℕ)) (number : ℕ) (events : List Event) → length text ≤ 65536 → Reads text left number events → number ≤ 65537
 reads_few text left number events within r =
     let all : length (text_lines text) ≡ length r.read + length (lines_left left) = ap length r.lines_are ∙ length-append r.read (lines_left left) in
-    let pieces : length (text_lines text) ≡ length (pieces_behind [] text) = length-map (pieces_behind [] text) without_cr in
+    let pieces : length (text_lines text) ≡ length (text_pieces [] text) = length-map (text_pieces [] text) without_cr in
     omega (arith, all, pieces, pieces-few [] text, within, r.count)
 
 filter_one :
@@ -125,6 +125,21 @@ first_faulty text now line rest number events r cut kept none =
       before = r.events_are;
     }
 
+-- the next line has the form of an event
+pub next_event : (text now line : List ℕ) (rest : Option (List ℕ)) (number : ℕ) (events : List Event) → Reads text (Some now) number events → Cuts 10 now line rest → is_skipped (without_cr line) ≡ false → (e : Event) → IsEvent (without_cr line) e → IsBehindAnEvent text
+next_event text now line rest number events r cut kept e is =
+    record {
+      front = r.read;
+      line = without_cr line;
+      rest = lines_left rest;
+      lines_are = r.lines_are ∙ ap (λ ls. r.read ++ ls) (lines-cut now line rest cut);
+      kept = ap not kept;
+      event = e;
+      is_event = is;
+      events = events;
+      before = r.events_are;
+    }
+
 -- one turn of the reading: a line that stands at the front of what is left
 module _
     (text : List ℕ) (left : Option (List ℕ)) (now line plain : List ℕ) (rest : Option (List ℕ)) (number : ℕ) (events : List Event) (skipped : Bool)
@@ -148,3 +163,7 @@ module _
   pub turn_fails : skipped ≡ false → ((e : Event) → IsEvent plain e → ⊥) → IsFirstFaulty text (number + 1)
   turn_fails isnt none =
       first_faulty text now line rest number events stands cut (not_skipped isnt) (λ e is. none e (subst (λ l. IsEvent l e) (sym is_plain) is))
+
+  pub turn_wants : (event : Event) → skipped ≡ false → IsEvent plain event → IsBehindAnEvent text
+  turn_wants event isnt is =
+      next_event text now line rest number events stands cut (not_skipped isnt) event (subst (λ l. IsEvent l event) is_plain is)

@@ -1,4 +1,4 @@
--- Texts cut at a mark.
+-- Texts cut at a mark: this project's own.
 use Rattle.std.specs.Prelude.{◌≡◌, ◌≢◌, ℕ, List, [], ◌∷◌, ◌++◌, Option, None, Some}
 
 -- no byte is the mark

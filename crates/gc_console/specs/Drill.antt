@@ -1,4 +1,4 @@
--- What a schedule that is played writes.
+-- What a schedule that is played writes: this project's own.
 use Rattle.std.specs.Prelude.{◌≡◌, ℕ, ◌+◌, ◌<◌, ◌≤◌, Bool, true, false, List, [], ◌∷◌, ◌++◌, length, take, map, Option, Result, Ok, Err, if◌then◌else◌, codes}
 use Rattle.std.specs.Fmt.{decimal}
 use Rattle.std.specs.Io.KnownBytes.{Appends}
@@ -7,9 +7,10 @@ use Rattle.gc_client.specs.Settlements.{settlement_seen}
 use Rattle.gc_instrument.specs.State.{State, simulator_opening}
 use Rattle.gc_world.specs.declared.event.Event.{Event}
 use Rattle.gc_world.specs.declared.report.Report.{Report}
-use Rattle.gc_world.specs.Simulated.{played}
+use Rattle.gc_world.specs.Clients.{played}
 use Rattle.gc_world.specs.World.{Wire}
 use Rattle.gc_console.specs.Schedule.{IsSchedule, IsFirstFaulty}
+use Rattle.gc_console.specs.declared.schedule.TheConstants.{TEXT_LIMIT}
 use Rattle.gc_console.specs.declared.fault.RunFault.{RunFault}
 use Rattle.gc_console.specs.declared.fault.RunFault.TheVariants.{Read, Schedule, Memory, InputTooLong, Output}
 
@@ -62,12 +63,12 @@ TookPart old new text = (n : ℕ) × (n < length text) × Appends old new (take 
 
 -- what became of the bytes that were given, and what a sink took
 abbrev pub Drills : List ℕ → Bool → Option (List ℕ) → Option (List ℕ) → Result (Unit {0}) RunFault → Type 0
-Drills given totals old new (Ok _) = (length given ≤ 65536) × ((events : List Event) × IsSchedule given events × Appends old new (drill_text events totals))
-Drills given totals old new (Err Read) = (length given ≤ 65536) × (new ≡ old)
-Drills given totals old new (Err InputTooLong) = (length given ≡ 65537) × (new ≡ old)
-Drills given totals old new (Err (Schedule n)) = (length given ≤ 65536) × IsFirstFaulty given n × (new ≡ old)
-Drills given totals old new (Err Memory) = new ≡ old
-Drills given totals old new (Err Output) = (length given ≤ 65536) × ((events : List Event) × IsSchedule given events × TookPart old new (drill_text events totals))
+Drills given totals old new (Ok _) = (length given ≤ TEXT_LIMIT) × ((events : List Event) × IsSchedule given events × Appends old new (drill_text events totals))
+Drills given totals old new (Err Read) = (length given ≤ TEXT_LIMIT) × (new ≡ old)
+Drills given totals old new (Err InputTooLong) = (length given ≡ TEXT_LIMIT + 1) × (new ≡ old)
+Drills given totals old new (Err (Schedule n)) = (length given ≤ TEXT_LIMIT) × IsFirstFaulty given n × (new ≡ old)
+Drills given totals old new (Err Memory) = (length given ≤ TEXT_LIMIT) × (new ≡ old)
+Drills given totals old new (Err Output) = (length given ≤ TEXT_LIMIT) × ((events : List Event) × IsSchedule given events × TookPart old new (drill_text events totals))
 Drills given totals old new (Err _) = ⊥
 
 -- whether the source was read to its end

@@ -3,3 +3,4 @@ pub mod Schedule
 pub mod Texts
 pub mod Drill
 pub mod Faults
+pub mod Laws

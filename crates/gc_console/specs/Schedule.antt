@@ -1,10 +1,11 @@
--- A schedule's text, and the events that it gives.
+-- A schedule's text, and the events that it gives: this project's own.
 use Rattle.std.specs.Prelude.{◌≡◌, ℕ, ◌+◌, ◌<◌, ◌≤◌, ◌==◌, Bool, true, List, [], ◌∷◌, ◌++◌, length, map, filter, not, Option, Some, None, unwrap_or, codes, if◌then◌else◌}
 use Rattle.gc_values.specs.Whole.{NamesNumber}
 use Rattle.gc_catalogue.specs.Calls.{IsCall}
 use Rattle.gc_catalogue.specs.declared.call.Call.{Call}
 use Rattle.gc_console.specs.declared.fault.RunFault.{RunFault}
 use Rattle.gc_console.specs.declared.fault.RunFault.TheVariants.{Schedule, Memory, InputTooLong}
+use Rattle.gc_console.specs.declared.schedule.TheConstants.{TEXT_LIMIT}
 use Rattle.gc_world.specs.declared.event.Event.{Event}
 use Rattle.gc_world.specs.declared.event.Event.TheVariants.{Send, UpDeliver, UpLose, UpRepeat, DownDeliver, DownLose, DownRepeat, Expire, RestartClient, RestartInstrument}
 
@@ -86,9 +87,9 @@ IsWords RestartInstrument = Unit {0}
 IsWords _ = ⊥
 
 -- the pieces of a text, cut at each LF; what stands before is the beginning of the first
-abbrev pub pieces_behind : List ℕ → List ℕ → List (List ℕ)
-pieces_behind before [] = before ∷ []
-pieces_behind before (b ∷ bs) = if b == 10 then before ∷ pieces_behind [] bs else pieces_behind (before ++ b ∷ []) bs
+abbrev pub text_pieces : List ℕ → List ℕ → List (List ℕ)
+text_pieces before [] = before ∷ []
+text_pieces before (b ∷ bs) = if b == 10 then before ∷ text_pieces [] bs else text_pieces (before ++ b ∷ []) bs
 
 -- without one CR at the end
 abbrev pub without_cr : List ℕ → List ℕ
@@ -98,7 +99,7 @@ without_cr (b ∷ c ∷ bs) = b ∷ without_cr (c ∷ bs)
 
 -- the lines of a text; an empty piece behind the last LF is an empty line, which is skipped
 abbrev pub text_lines : List ℕ → List (List ℕ)
-text_lines text = map without_cr (pieces_behind [] text)
+text_lines text = map without_cr (text_pieces [] text)
 
 -- an empty line, or one that begins with `#`
 abbrev pub is_skipped : List ℕ → Bool
@@ -132,9 +133,21 @@ pub record IsFirstFaulty (text : List ℕ) (n : ℕ) : Type 0 where
   pub events : List Event
   pub before : AreEvents (filter is_kept front) events
 
+-- a line has the form of an event, and no line before it is faulty
+pub record IsBehindAnEvent (text : List ℕ) : Type 0 where
+  pub front : List (List ℕ)
+  pub line : List ℕ
+  pub rest : List (List ℕ)
+  pub lines_are : text_lines text ≡ front ++ line ∷ rest
+  pub kept : is_kept line ≡ true
+  pub event : Event
+  pub is_event : IsEvent line event
+  pub events : List Event
+  pub before : AreEvents (filter is_kept front) events
+
 -- why a text is no schedule, or none was read: it is too long, else its first faulty line, or a want of memory
 abbrev pub IsTextFault : List ℕ → RunFault → Type 0
-IsTextFault text InputTooLong = 65536 < length text
-IsTextFault text (Schedule n) = (length text ≤ 65536) × IsFirstFaulty text n
-IsTextFault text Memory = length text ≤ 65536
+IsTextFault text InputTooLong = TEXT_LIMIT < length text
+IsTextFault text (Schedule n) = (length text ≤ TEXT_LIMIT) × IsFirstFaulty text n
+IsTextFault text Memory = (length text ≤ TEXT_LIMIT) × IsBehindAnEvent text
 IsTextFault text _ = ⊥

@@ -1,17 +1,18 @@
 //! A schedule, read from a source, played on the simulator, and its settlements written into a sink.
 
-ghost use Rattle.std.specs.Prelude.{◌≡◌, ◌<◌, ℕ, List, true, IfOk};
+ghost use Rattle.std.specs.Prelude.{◌≡◌, ◌+◌, ◌<◌, ◌≤◌, ℕ, List, length, true, IfOk};
 ghost use Rattle.std.specs.Io.KnownBytes.{Consumes, IsAtEnd};
+ghost use Rattle.gc_console.specs.Texts.{end_reads};
+ghost use Rattle.gc_console.specs.declared.schedule.TheConstants.{TEXT_LIMIT};
 ghost use Rattle.gc_console.specs.Drill.{drill_text, Drills, is_read_whole, source_failed, sink_failed};
 
 use crate::fault::RunFault;
 use crate::schedule::read_schedule;
 use crate::settled::text_of;
 use crate::text::read_text;
-use crate::writing::write_whole;
 use gc_client::Slots;
 use gc_instrument::Instrument;
-use gc_lines::{Sink, Source};
+use gc_lines::{Sink, Source, write_whole};
 use gc_world::{Event, play};
 use std::alloc::{AllocError, Global};
 
@@ -29,8 +30,14 @@ pub fn run_drill<S: Source, K: Sink>(
     sink: &mut K,
     totals: bool,
 ) -> Result<(), RunFault>
-    // What the bytes that the source gave were, and what of their schedule's output the sink took.
-    ensures drills { (given : List ℕ) × Consumes (S.remaining source.old) (S.remaining source.new) given × Drills given totals (K.taken sink.old) (K.taken sink.new) result }
+    // What the bytes that the source gave were, and what of their schedule's output the sink took. Each read gave a byte at
+    // least, but the last where it was the end: behind the end nothing was read.
+    ensures drills { (given : List ℕ) × Consumes (S.remaining source.old) (S.remaining source.new) given
+        × (S.reads source.new ≤ S.reads source.old + length given + end_reads (S.ended source.new))
+        × Drills given totals (K.taken sink.old) (K.taken sink.new) result }
+
+    // At most 65,537 reads were answered.
+    ensures bounded { S.reads source.new ≤ S.reads source.old + (TEXT_LIMIT + 1) }
 
     // A schedule is played, or found faulty, only where the last read was the end, and the source has no byte left.
     ensures whole { is_read_whole result ≡ true

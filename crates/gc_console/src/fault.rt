@@ -1,8 +1,10 @@
 //! Why a run ended before its end: each fault has one number, one printed line, and says what stands afterwards.
 
-ghost use Rattle.std.specs.Prelude.{◌≡◌};
-ghost use Rattle.gc_console.specs.Faults.{run_fault_number};
+ghost use Rattle.std.specs.Prelude.{◌≡◌, OnOk};
+ghost use Rattle.std.specs.Io.KnownBytes.{Appends};
+ghost use Rattle.gc_console.specs.Faults.{run_fault_number, run_fault_text, fault_line};
 
+use std::io::{self, Write};
 use thiserror::Error;
 
 /// Why an engine of the program stopped. The text is what the program prints behind its name.
@@ -52,6 +54,27 @@ impl RunFault {
             RunFault::InputTooLong => 53,
             RunFault::Socket => 54,
             RunFault::Output => 55,
+        }
+    }
+
+    // Writes the line of the fault. It is the text that the derive prints, of which no clause can speak, since the derive
+    // states no output.
+    pub(crate) fn tell<E: Write>(self, messages: &mut E) -> io::Result<()>
+        ensures { OnOk result (Appends (E.contents messages.old) (E.contents messages.new) (fault_line (run_fault_text self))) }
+    {
+        match self {
+            RunFault::Read => writeln!(messages, "geocom: fault 42"),
+            RunFault::Write { replies, bytes } => writeln!(
+                messages,
+                "geocom: fault 43 reply {replies} byte {bytes}"
+            ),
+            RunFault::TooManyReads => writeln!(messages, "geocom: fault 44"),
+            RunFault::LinkClosed => writeln!(messages, "geocom: fault 45"),
+            RunFault::Schedule { line } => writeln!(messages, "geocom: fault 51 line {line}"),
+            RunFault::Memory => writeln!(messages, "geocom: fault 52"),
+            RunFault::InputTooLong => writeln!(messages, "geocom: fault 53"),
+            RunFault::Socket => writeln!(messages, "geocom: fault 54"),
+            RunFault::Output => writeln!(messages, "geocom: fault 55"),
         }
     }
 }

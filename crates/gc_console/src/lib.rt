@@ -6,18 +6,18 @@ mod drill;
 mod event;
 mod exec;
 mod fault;
+pub mod laws;
 mod program;
 mod schedule;
 mod settled;
 mod text;
-mod writing;
 
 pub use drill::run_drill;
 pub use exec::run_exec;
 pub use fault::RunFault;
 pub use gc_instrument::{ServeFault, Served, serve};
 pub use program::run_program;
-pub use schedule::read_schedule;
+pub use schedule::{TEXT_LIMIT, read_schedule};
 
 #[cfg(test)]
 mod tests;

@@ -1,13 +1,25 @@
 //! The command line of `geocom`: which subcommand runs, what is told on standard error, and the exit status.
 
-ghost use Rattle.std.specs.Prelude.{◌≤◌, IfOk};
+ghost use Rattle.std.specs.Prelude.{◌≡◌, ℕ, ◌+◌, ◌<◌, ◌≤◌, ◌↔◌, ◌⊎◌, List, Result, IfOk, OnOk, true, false};
+ghost use Rattle.std.specs.Io.KnownBytes.{Consumes, Appends};
 ghost use Rattle.std.specs.Process.{exit_status};
+ghost use Rattle.gc_lines.specs.Answering.{fault_text};
+ghost use Rattle.gc_lines.specs.declared.served.Served.{Served};
+ghost use Rattle.gc_lines.specs.declared.served.ServeFault.{ServeFault};
+ghost use Rattle.gc_instrument.specs.State.{State, simulator_opening};
+ghost use Rattle.gc_instrument.specs.Serving.{IsServing};
+ghost use Rattle.gc_world.specs.declared.event.Event.{Event};
+ghost use Rattle.gc_console.specs.declared.fault.RunFault.{RunFault};
+ghost use Rattle.gc_console.specs.Faults.{run_fault_text, fault_line, Tells};
+ghost use Rattle.gc_console.specs.Schedule.{IsSchedule};
+ghost use Rattle.gc_console.specs.Drill.{drill_text, Drills, source_failed, sink_failed};
 
 use crate::drill::run_drill;
 use crate::exec::run_exec;
+use crate::fault::RunFault;
 use clap::error::ErrorKind;
 use clap::{Arg, ArgAction, Command, Error};
-use gc_lines::{FromReader, ToWriter};
+use gc_lines::{FromReader, Sink, Source, ToWriter};
 use std::alloc::Global;
 use std::env::Args;
 use std::io::{self, Read, Write};
@@ -24,7 +36,34 @@ A fault is one line on standard error, `geocom: fault N`:
   51  a line of the schedule has no form: `line L` says which, counted from 1
   52  no memory was found
   53  the schedule has more than 65536 bytes
-  55  the settlements could not be written";
+  55  the settlements, or this text, could not be written";
+
+// What the help of `exec` ends with.
+const REQUESTS: &str =
+    "Each request is a line that ends in CR LF, and so is each reply. Other lines get none.
+
+Example:
+  printf '%%R1Q,5003,2:\\r\\n' | geocom exec
+writes
+  %R1P,0,2:0,123456";
+
+// What the help of `drill` ends with.
+const EVENTS: &str =
+    "A schedule has an event a line; empty lines and lines that begin with # are skipped:
+  send T D RPC PARAMS   asks target T, with the deadline D, for procedure RPC with parameters or none
+  up deliver            the first request on the line reaches the instrument
+  up lose K             the request behind K others on the line is lost
+  up repeat K           the request behind K others on the line is there twice
+  down deliver, down lose K, down repeat K   the same of the replies
+  expire M              the moment M is reached: requests whose deadline it is are given up
+  restart client, restart instrument
+
+A settlement is the end of a request: a line with its place, its target, and `answered`, `late` or `lost`.
+
+Example:
+  printf 'send 1 10 5003\\nup deliver\\ndown deliver\\n' | geocom drill
+writes
+  0 1 answered %R1P,0,0:0,123456";
 
 // What a command line asks for.
 enum Subcommand {
@@ -51,16 +90,37 @@ pub fn run_program<I: Read + Drop, O: Write + Drop, E: Write + Drop>(
         Err(error) => return refuse_words(&error, &mut messages),
     };
     match subcommand_of(alloc, words.as_slice()) {
-        Ok(Subcommand::Exec) => exec(input, output, &mut messages),
-        Ok(Subcommand::Drill { totals }) => drill(alloc, input, output, totals, &mut messages),
+        Ok(Subcommand::Exec) => exec(
+            &mut FromReader::new(input),
+            &mut ToWriter::new(output),
+            &mut messages,
+        ),
+        Ok(Subcommand::Drill { totals }) => drill(
+            alloc,
+            &mut FromReader::new(input),
+            &mut ToWriter::new(output),
+            totals,
+            &mut messages,
+        ),
         Err(error) if error.kind() == ErrorKind::OutOfMemory => want_of_memory(&mut messages),
         Err(error) if error.use_stderr() => {
             write!(messages, "{error}")?;
             Ok(ExitCode::from(2))
         }
-        Err(text) => {
-            write!(output, "{text}")?;
-            Ok(ExitCode::SUCCESS)
+        Err(text) => show(&text, &mut output, &mut messages),
+    }
+}
+
+// Writes the help or the version. A failed output has its fault line, as everywhere.
+fn show<O: Write, E: Write>(text: &Error, output: &mut O, messages: &mut E) -> io::Result<ExitCode>
+    ensures { IfOk result (λ status. ((exit_status status ≡ 0) × (E.contents messages.new ≡ E.contents messages.old))
+        ⊎ ((exit_status status ≡ 1) × Appends (E.contents messages.old) (E.contents messages.new) (fault_line (run_fault_text RunFault.Output)))) }
+{
+    match write!(output, "{text}") {
+        Ok(()) => Ok(ExitCode::SUCCESS),
+        Err(_) => {
+            RunFault::Output.tell(messages)?;
+            Ok(ExitCode::from(1))
         }
     }
 }
@@ -81,23 +141,25 @@ fn refuse_words<E: Write>(error: &io::Error, messages: &mut E) -> io::Result<Exi
 }
 
 fn want_of_memory<E: Write>(messages: &mut E) -> io::Result<ExitCode>
-    ensures { IfOk result (λ status. exit_status status ≤ 2) }
+    ensures status { IfOk result (λ status. exit_status status ≡ 1) }
+    ensures text { OnOk result (Appends (E.contents messages.old) (E.contents messages.new) (fault_line (run_fault_text RunFault.Memory))) }
 {
-    writeln!(messages, "geocom: fault 52")?;
+    RunFault::Memory.tell(messages)?;
     Ok(ExitCode::from(1))
 }
 
 // A subcommand is required.
 fn subcommand_of(alloc: Global, words: &[String]) -> Result<Subcommand, Error> {
-    let exec = Command::new(alloc, "exec").about(
-        "Answers the requests of standard input on standard output",
-    );
+    let exec = Command::new(alloc, "exec")
+        .about("Answers the requests of standard input on standard output")
+        .after_help(REQUESTS);
     let totals = Arg::new(alloc, "totals")
         .long("totals")
         .action(ArgAction::SetTrue)
         .help("Writes a line of totals behind the settlements");
     let drill = Command::new(alloc, "drill")
         .about("Plays the schedule of standard input, and writes a line for each settlement")
+        .after_help(EVENTS)
         .arg(totals)?;
     let command = Command::new(alloc, "geocom")
         .version("0.1.0")
@@ -116,16 +178,32 @@ fn subcommand_of(alloc: Global, words: &[String]) -> Result<Subcommand, Error> {
     }
 }
 
-fn exec<I: Read + Drop, O: Write + Drop, E: Write>(
-    input: I,
-    output: O,
+// Serves, and tells how it ended.
+fn exec<S: Source, K: Sink, E: Write>(
+    source: &mut S,
+    sink: &mut K,
     messages: &mut E,
 ) -> io::Result<ExitCode>
-    ensures { IfOk result (λ status. exit_status status ≤ 2) }
+    // What was served, why it ended, and that the messages and the status tell it.
+    ensures told { IfOk result (λ status. (end : Result Served ServeFault)
+        × ((after : State) × IsServing simulator_opening after
+        (record { remaining = S.remaining source.old; reads = S.reads source.old; ended = S.ended source.old; source_failed = S.failed source.old; taken = K.taken sink.old; sink_failed = K.failed sink.old })
+        (record { remaining = S.remaining source.new; reads = S.reads source.new; ended = S.ended source.new; source_failed = S.failed source.new; taken = K.taken sink.new; sink_failed = K.failed sink.new })
+        4294967295 end)
+        × Tells fault_text end (exit_status status) (E.contents messages.old) (E.contents messages.new)) }
+
+    // Status 0 exactly where the last read was the end.
+    ensures done { IfOk result (λ status. (exit_status status ≡ 0)
+        ↔ ((S.reads source.old < S.reads source.new) × (S.ended source.new ≡ true))) }
+
+    // Status 1 only where a port failed, or all reads that a u32 counts were used up.
+    ensures fault { S.failed source.old ≡ false → K.failed sink.old ≡ false
+        → IfOk result (λ status. exit_status status ≡ 1
+        → (S.failed source.new ≡ true) ⊎ ((K.failed sink.new ≡ true)
+        ⊎ (S.reads source.new ≡ S.reads source.old + 4294967295))) }
+    ensures bound { IfOk result (λ status. exit_status status ≤ 1) }
 {
-    let mut source = FromReader::new(input);
-    let mut sink = ToWriter::new(output);
-    match run_exec(&mut source, &mut sink, u32::MAX) {
+    match run_exec(source, sink, u32::MAX) {
         Ok(_) => Ok(ExitCode::SUCCESS),
         Err(fault) => {
             writeln!(messages, "geocom: {fault}")?;
@@ -134,21 +212,30 @@ fn exec<I: Read + Drop, O: Write + Drop, E: Write>(
     }
 }
 
-fn drill<I: Read + Drop, O: Write + Drop, E: Write>(
+// Plays a schedule, and tells how it ended.
+fn drill<S: Source, K: Sink, E: Write>(
     alloc: Global,
-    input: I,
-    output: O,
+    source: &mut S,
+    sink: &mut K,
     totals: bool,
     messages: &mut E,
 ) -> io::Result<ExitCode>
-    ensures { IfOk result (λ status. exit_status status ≤ 2) }
+    // What became of the schedule, and that the messages and the status tell it.
+    ensures told { IfOk result (λ status. (end : Result (Unit {0}) RunFault)
+        × ((given : List ℕ) × Consumes (S.remaining source.old) (S.remaining source.new) given × Drills given totals (K.taken sink.old) (K.taken sink.new) end)
+        × (S.failed source.new ≡ source_failed end (S.failed source.old))
+        × (K.failed sink.new ≡ sink_failed end (K.failed sink.old))
+        × Tells run_fault_text end (exit_status status) (E.contents messages.old) (E.contents messages.new)) }
+
+    // Status 0 only where the sink took the output of the text's events.
+    ensures done { IfOk result (λ status. exit_status status ≡ 0 → (given : List ℕ) × Consumes (S.remaining source.old) (S.remaining source.new) given
+        × ((events : List Event) × IsSchedule given events × Appends (K.taken sink.old) (K.taken sink.new) (drill_text events totals))) }
+    ensures bound { IfOk result (λ status. exit_status status ≤ 1) }
 {
-    let mut source = FromReader::new(input);
-    let mut sink = ToWriter::new(output);
-    match run_drill(alloc, &mut source, &mut sink, totals) {
+    match run_drill(alloc, source, sink, totals) {
         Ok(()) => Ok(ExitCode::SUCCESS),
         Err(fault) => {
-            writeln!(messages, "geocom: {fault}")?;
+            fault.tell(messages)?;
             Ok(ExitCode::from(1))
         }
     }

@@ -1,8 +1,8 @@
 //! The text of a schedule, read into its events.
 
-ghost use Rattle.std.specs.Prelude.{◌≡◌, ◌<◌, ◌≤◌, ◌↔◌, ℕ, length, IfOk, IfErr, IsTrue, IfSome, true};
+ghost use Rattle.std.specs.Prelude.{◌≡◌, ◌<◌, ◌≤◌, ◌↔◌, ℕ, length, IfOk, IfErr};
 ghost use Rattle.std.specs.Option.{option_copied};
-ghost use Rattle.gc_console.specs.Schedule.{IsSchedule, IsFirstFaulty, IsTextFault, without_cr, is_skipped};
+ghost use Rattle.gc_console.specs.Schedule.{IsSchedule, IsFirstFaulty, IsTextFault, IsBehindAnEvent, without_cr, is_skipped};
 ghost use Rattle.gc_console.specs.declared.fault.RunFault.{RunFault};
 
 use crate::cuts::cut_at;
@@ -12,7 +12,7 @@ use gc_world::Event;
 use std::alloc::Global;
 
 /// The greatest length of a schedule's text, in bytes.
-pub const TEXT: usize = 65536;
+pub const TEXT_LIMIT: usize = 65536;
 
 // Drops one CR at the end.
 fn without_cr(line: &[u8]) -> &[u8]
@@ -33,7 +33,7 @@ fn is_skipped(line: &[u8]) -> bool
 
 // Reads the lines of a text.
 fn read_lines(alloc: Global, text: &[u8]) -> Result<Vec<Event>, RunFault>
-    requires { length text.now ≤ 65536 }
+    requires { length text.now ≤ TEXT_LIMIT }
     ensures found { IfOk result (λ events. IsSchedule text.now events.items) }
     ensures fault { IfErr result (λ e. IsTextFault text.now e) }
 {
@@ -63,14 +63,15 @@ fn read_lines(alloc: Global, text: &[u8]) -> Result<Vec<Event>, RunFault>
 /// Reads the text of a schedule: its events, in order.
 ///
 /// Refused are a text of more than 65,536 bytes (`InputTooLong`, before any line is looked at), and the first line that
-/// has the form of no event (`Schedule`, with its number counted from 1). `Memory` comes only where a growth was refused.
+/// has the form of no event (`Schedule`, with its number counted from 1). `Memory` comes only where a growth was refused, behind a line that is an event.
 pub fn read_schedule(alloc: Global, text: &[u8]) -> Result<Vec<Event>, RunFault>
     ensures found { IfOk result (λ events. IsSchedule text.now events.items) }
-    ensures too_long { (result ≡ Err RunFault.InputTooLong) ↔ (65536 < length text.now) }
+    ensures too_long { (result ≡ Err RunFault.InputTooLong) ↔ (TEXT_LIMIT < length text.now) }
     ensures faulty { (n : ℕ) → result ≡ Err (RunFault.Schedule n) → IsFirstFaulty text.now n }
+    ensures memory { result ≡ Err RunFault.Memory → IsBehindAnEvent text.now }
     ensures faults { IfErr result (λ e. IsTextFault text.now e) }
 {
-    if text.len() > TEXT {
+    if text.len() > TEXT_LIMIT {
         return Err(RunFault::InputTooLong);
     }
     read_lines(alloc, text)

@@ -1,6 +1,7 @@
 -- What was made for a request is the reply that it has.
-use Rattle.std.proofs.Common.{◌≡◌, ◌≢◌, ◌⊎◌, inl, inr, ℕ, zero, suc, ◌<◌, arith, List, cond, ◌==◌, if◌then◌else◌, Some, None, Result, Ok, Err, refl, sym, ap, ◌∙◌, subst, Bool}
+use Rattle.std.proofs.Common.{◌≡◌, ◌≢◌, ◌⊎◌, inl, inr, ℕ, zero, suc, ◌<◌, arith, List, cond, ◌==◌, if◌then◌else◌, Some, None, Result, Ok, Err, refl, sym, ap, ◌∙◌, subst, Bool, [], true}
 use Rattle.std.proofs.lemmas.Bool.{ne_eqb}
+use Rattle.gc_lines.specs.Answering.{AppendsAnswer}
 use Rattle.gc_lines.specs.Headers.{Gives}
 use Rattle.gc_lines.specs.Requests.{RequestFields, IsRequest}
 use Rattle.gc_lines.specs.declared.fault.LineFault.{LineFault}
@@ -16,9 +17,9 @@ use Rattle.gc_catalogue.specs.Calls.{IsCall, IsFitting, IsRefusal}
 use Rattle.gc_catalogue.specs.Readings.{IsReading}
 use Rattle.gc_catalogue.specs.Texts.{reply_line, reply_of, request_line, request_of}
 use Rattle.gc_catalogue.specs.declared.answer.Answer.{Answer}
-use Rattle.gc_catalogue.specs.declared.answer.CallFault.{CallFault}
+use Rattle.gc_catalogue.specs.declared.fault.CallFault.{CallFault}
 use Rattle.gc_catalogue.specs.declared.call.Call.{Call}
-use Rattle.gc_instrument.proofs.Executions.{Outcome, exec_outcome}
+use Rattle.gc_instrument.proofs.Executions.{ComesOut, exec_outcome}
 use Rattle.gc_instrument.specs.State.{State, IsFittingState}
 use Rattle.gc_instrument.specs.Execution.{Executed, Executes, exec}
 use Rattle.gc_instrument.specs.Replying.{IsReplied, silent, answers, AnswersRequest, refuses, executes, IsAnswered, IsExchanged, handed, reading_of, refusal_line, executed_line, reply_id}
@@ -82,7 +83,7 @@ pub made_answered : (before after : State) (q : RequestFields) (call made : Call
     → IsAnswered before (reply_id q) call line
 made_answered before after q call made number code places answer line is_made is_call done same precision text back refused =
     let x : Executed = record { state = after; rc = code; answer = answer } in
-    let outcome : Outcome before made x = subst (λ (y : Executed). Outcome before made y) done (exec_outcome before made) in
+    let outcome : ComesOut before made x = subst (λ (y : Executed). ComesOut before made y) done (exec_outcome before made) in
     let value = λ (h : code ≡ 0). subst (λ (p : ℕ). ReadsBackAnswer made number code answer p (Value (rounded_answer p answer))) precision (back h (outcome.answers h)) in
     let refusal = λ (h : code ≢ 0). subst (λ (p : ℕ). ReadsBackAnswer made number code answer p (Refused code)) precision (refused h) in
     let whole : line ≡ executed_line number x = text ∙ ap (λ (p : ℕ). reply_line number code answer p) precision in
@@ -148,3 +149,10 @@ pub handed_replied : (s : State) (id : ℕ) (call : Call) → id < 8 → IsFitti
 unfolding handed
 handed_replied s id call small fits =
     answers (request_of (Some id) call) (own_request id call small fits) (executed_line id (exec s call)) (executes call (call_again (Some id) call small fits).is_call refl refl) refl
+
+-- what was appended to nothing is what stands there
+pub replied_alone : (s t : State) (line new : List ℕ) → AppendsAnswer (IsReplied s line t) [] new true → IsReplied s line t (Some new)
+replied_alone s t line new h = subst (λ (text : List ℕ). IsReplied s line t (Some text)) (sym h.2) h.1
+
+pub exchanged_alone : (s t : State) (id : ℕ) (call : Call) (new : List ℕ) → AppendsAnswer (IsExchanged s id call t) [] new true → IsExchanged s id call t (Some new)
+exchanged_alone s t id call new h = subst (λ (text : List ℕ). IsExchanged s id call t (Some text)) (sym h.2) h.1

@@ -7,23 +7,23 @@ use Rattle.gc_values.specs.Whole.{FitsLong, FitsShort}
 use Rattle.gc_values.specs.declared.decimal.Decimal.{Decimal}
 use Rattle.gc_catalogue.specs.Answers.{IsAnswerOf, IsFittingAnswer}
 use Rattle.gc_catalogue.specs.Calls.{IsFitting}
-use Rattle.gc_catalogue.specs.Lists.{AreValues}
+use Rattle.gc_values.specs.Lists.{AreValues}
 use Rattle.gc_catalogue.specs.Structs.{date_values}
 use Rattle.gc_catalogue.specs.declared.answer.Answer.{Answer}
-use Rattle.gc_catalogue.specs.declared.answer.Answer.TheVariants.{Nothing, Measured, MeasuredMode}
+use Rattle.gc_catalogue.specs.declared.answer.Answer.TheVariants.{Nothing}
 use Rattle.gc_catalogue.specs.declared.call.Call.{Call}
-use Rattle.gc_catalogue.specs.declared.call.Call.TheVariants.{NullProc, SetPrecision, GetPrecision, ComVersion, InstrumentNo, InstrumentName, SetDate, GetDate, IntTemp, CsvVersion, DoMeasure, GetStation, SetStation, GetHeight, SetHeight, GetFace, GetAngle, SimpleMea, MeasDistance, Position, ChangeFace, FineAdjust}
+use Rattle.gc_catalogue.specs.declared.call.Call.TheVariants.{NullProc}
 use Rattle.gc_catalogue.specs.declared.call.DateTime.{DateTime}
-use Rattle.gc_instrument.specs.Execution.{exec, done, refused, set_if, told, commanded, searched, adjusted, measured, unmeasured, pointed, turned_over, is_precision, is_date}
+use Rattle.gc_instrument.specs.Execution.{exec, done, refused, set_if, told, commanded, searched, adjusted, measured, unmeasured, pointed, is_precision, is_date}
 use Rattle.gc_instrument.specs.Faces.{face_number}
-pub use Rattle.gc_instrument.specs.Outcomes.{Outcome}
+pub use Rattle.gc_instrument.specs.Outcomes.{ComesOut}
 use Rattle.gc_instrument.specs.State.{State, IsFittingState, restarted, first_date}
 use Rattle.gc_instrument.specs.Targets.{first_within}
 use Rattle.gc_instrument.specs.declared.face.Face.{Face}
 use Rattle.gc_instrument.specs.declared.face.Face.TheVariants.{Normal, Turned}
 use Rattle.gc_instrument.specs.declared.target.Target.{Target}
 
-done_outcome : (s t : State) (call : Call) (a : Answer) → restarted t ≡ restarted s → (IsFittingState s → IsFittingState t) → IsAnswerOf call a → (IsFittingState s → IsFitting call → IsFittingAnswer a) → Outcome s call (done t a)
+done_outcome : (s t : State) (call : Call) (a : Answer) → restarted t ≡ restarted s → (IsFittingState s → IsFittingState t) → IsAnswerOf call a → (IsFittingState s → IsFitting call → IsFittingAnswer a) → ComesOut s call (done t a)
 done_outcome s t call a same fits of_call answer_fits = record {
   same = same;
   fits = fits;
@@ -33,7 +33,7 @@ done_outcome s t call a same fits of_call answer_fits = record {
   answer_fits = answer_fits;
 }
 
-refused_outcome : (s t : State) (call : Call) (code : ℕ) → restarted t ≡ restarted s → (IsFittingState s → IsFittingState t) → 0 < code → code < 65536 → Outcome s call (refused t code)
+refused_outcome : (s t : State) (call : Call) (code : ℕ) → restarted t ≡ restarted s → (IsFittingState s → IsFittingState t) → 0 < code → code < 65536 → ComesOut s call (refused t code)
 refused_outcome s t call code same fits some small = record {
   same = same;
   fits = fits;
@@ -44,7 +44,7 @@ refused_outcome s t call code same fits some small = record {
 }
 
 -- a call that only answers
-told_outcome : (s : State) (call : Call) (a : Answer) → IsAnswerOf call a → (IsFittingState s → IsFitting call → IsFittingAnswer a) → Outcome s call (done s a)
+told_outcome : (s : State) (call : Call) (a : Answer) → IsAnswerOf call a → (IsFittingState s → IsFitting call → IsFittingAnswer a) → ComesOut s call (done s a)
 told_outcome s call a of_call answer_fits = done_outcome s s call a refl (λ f. f) of_call answer_fits
 
 -- the facts on a state stand in these parts of it
@@ -56,30 +56,30 @@ moved s t p n l d f = record {
   date = subst (λ (x : DateTime). AreValues (date_values x)) d f.date;
 }
 
-set_outcome : (b : Bool) (s t : State) (call : Call) → restarted t ≡ restarted s → (b ≡ true → IsFittingState s → IsFittingState t) → IsAnswerOf call Nothing → Outcome s call (set_if b s t)
+set_outcome : (b : Bool) (s t : State) (call : Call) → restarted t ≡ restarted s → (b ≡ true → IsFittingState s → IsFittingState t) → IsAnswerOf call Nothing → ComesOut s call (set_if b s t)
 set_outcome true s t call same fits of_call = done_outcome s t call Nothing same (fits refl) of_call (λ _ _. tt)
 set_outcome false s t call same fits of_call = refused_outcome s s call 2 refl (λ f. f) (omega arith) (omega arith)
 
 with_outcome : (s t : State) (call : Call) (answer_with : Decimal → Answer) (d : Option Decimal) → restarted t ≡ restarted s → (IsFittingState s → IsFittingState t)
-    → ((x : Decimal) → IsAnswerOf call (answer_with x)) → ((x : Decimal) → IsFitting call → IsFittingAnswer (answer_with x)) → Outcome s call (told t answer_with d)
+    → ((x : Decimal) → IsAnswerOf call (answer_with x)) → ((x : Decimal) → IsFitting call → IsFittingAnswer (answer_with x)) → ComesOut s call (told t answer_with d)
 with_outcome s t call answer_with (Some d) same fits of_call answer_fits = done_outcome s t call (answer_with d) same fits (of_call d) (λ _ c. answer_fits d c)
 with_outcome s t call answer_with None same fits of_call answer_fits = refused_outcome s t call 1285 same fits (omega arith) (omega arith)
 
-commanded_outcome : (s : State) (call : Call) (command : ℤ) → IsAnswerOf call Nothing → Outcome s call (commanded s command)
+commanded_outcome : (s : State) (call : Call) (command : ℤ) → IsAnswerOf call Nothing → ComesOut s call (commanded s command)
 commanded_outcome s call command of_call = by_tests (int_eq command (pos 0)) (int_eq command (pos 1)) (int_eq command (pos 3)) where
-  by_tests : (a b c : Bool) → Outcome s call (cond a (done s Nothing) (cond b (done (measured s) Nothing) (cond c (done (unmeasured s) Nothing) (refused s 2))))
+  by_tests : (a b c : Bool) → ComesOut s call (cond a (done s Nothing) (cond b (done (measured s) Nothing) (cond c (done (unmeasured s) Nothing) (refused s 2))))
   by_tests true b c = told_outcome s call Nothing of_call (λ _ _. tt)
   by_tests false true c = done_outcome s (measured s) call Nothing refl (moved s (measured s) refl refl refl refl) of_call (λ _ _. tt)
   by_tests false false true = done_outcome s (unmeasured s) call Nothing refl (moved s (unmeasured s) refl refl refl refl) of_call (λ _ _. tt)
   by_tests false false false = refused_outcome s s call 2 refl (λ f. f) (omega arith) (omega arith)
 
-adjusted_outcome : (s : State) (call : Call) (t : Option Target) → IsAnswerOf call Nothing → Outcome s call (adjusted s t)
+adjusted_outcome : (s : State) (call : Call) (t : Option Target) → IsAnswerOf call Nothing → ComesOut s call (adjusted s t)
 adjusted_outcome s call (Some t) of_call = done_outcome s (pointed s t.hz t.v) call Nothing refl (moved s (pointed s t.hz t.v) refl refl refl refl) of_call (λ _ _. tt)
 adjusted_outcome s call None of_call = refused_outcome s s call 8710 refl (λ f. f) (omega arith) (omega arith)
 
-searched_outcome : (s : State) (call : Call) (area_hz area_v : Decimal) → IsAnswerOf call Nothing → Outcome s call (searched s area_hz area_v)
+searched_outcome : (s : State) (call : Call) (area_hz area_v : Decimal) → IsAnswerOf call Nothing → ComesOut s call (searched s area_hz area_v)
 searched_outcome s call area_hz area_v of_call = by_test (int_lt area_hz.digits (pos 0) || int_lt area_v.digits (pos 0)) where
-  by_test : (b : Bool) → Outcome s call (cond b (refused s 2) (adjusted s (first_within s.pointing area_hz area_v s.scene)))
+  by_test : (b : Bool) → ComesOut s call (cond b (refused s 2) (adjusted s (first_within s.pointing area_hz area_v s.scene)))
   by_test true = refused_outcome s s call 2 refl (λ f. f) (omega arith) (omega arith)
   by_test false = adjusted_outcome s call (first_within s.pointing area_hz area_v s.scene) of_call
 
@@ -145,35 +145,18 @@ precision_fits n h = (omega (arith, ints), omega (arith, ints, h))
 pub restarted_fits : (s : State) → IsFittingState s → IsFittingState (restarted s)
 restarted_fits s f = record { precision = omega arith; serial = f.serial; name = f.name; date = date_fits first_date refl }
 
--- every call's execution is one
-pub exec_outcome : (s : State) (call : Call) → Outcome s call (exec s call)
+-- a new precision, and a new date
+precise : (s : State) (n : ℤ) → is_precision n ≡ true → IsFittingState s → IsFittingState (record s { precision = unsigned_abs n })
+precise s n h f = record { precision = precision_few n h; serial = f.serial; name = f.name; date = f.date }
+
+dated : (s : State) (d : DateTime) → is_date d ≡ true → IsFittingState s → IsFittingState (record s { date = d })
+dated s d h f = record { precision = f.precision; serial = f.serial; name = f.name; date = date_fits d h }
+
+-- what the rows of the table are made of
+ruleset row_rules = (told_outcome, done_outcome, set_outcome, with_outcome, commanded_outcome, searched_outcome, moved, precise, dated, face_fits, precision_fits, arith)
+
+-- every call's execution is one; a new row is made of the same, so it needs nothing here
+pub exec_outcome : (s : State) (call : Call) → ComesOut s call (exec s call)
 unfolding exec
-exec_outcome s NullProc = told_outcome s NullProc Nothing refl (λ _ _. tt)
-exec_outcome s (SetPrecision n) =
-    set_outcome (is_precision n) s (record s { precision = unsigned_abs n }) (SetPrecision n) refl
-    (λ h f. record { precision = precision_few n h; serial = f.serial; name = f.name; date = f.date }) refl
-exec_outcome s GetPrecision = told_outcome s GetPrecision _ refl (λ f _. (precision_fits s.precision f.precision, tt))
-exec_outcome s ComVersion = told_outcome s ComVersion _ refl (λ _ _. (precision_fits 1 (lit≤ tt), (precision_fits 0 (lit≤ tt), (precision_fits 0 (lit≤ tt), tt))))
-exec_outcome s InstrumentNo = told_outcome s InstrumentNo _ refl (λ f _. (f.serial, tt))
-exec_outcome s InstrumentName = told_outcome s InstrumentName _ refl (λ f _. (f.name, tt))
-exec_outcome s (SetDate d) =
-    set_outcome (is_date d) s (record s { date = d }) (SetDate d) refl
-    (λ h f. record { precision = f.precision; serial = f.serial; name = f.name; date = date_fits d h }) refl
-exec_outcome s GetDate = told_outcome s GetDate _ refl (λ f _. f.date)
-exec_outcome s IntTemp = told_outcome s IntTemp _ refl (λ _ _. (tt, tt))
-exec_outcome s CsvVersion = told_outcome s CsvVersion _ refl (λ _ _. (precision_fits 1 (lit≤ tt), (precision_fits 2 (lit≤ tt), (precision_fits 0 (lit≤ tt), tt))))
-exec_outcome s (DoMeasure command mode) = commanded_outcome s (DoMeasure command mode) command refl
-exec_outcome s GetStation = told_outcome s GetStation _ refl (λ _ _. (tt, (tt, (tt, (tt, tt)))))
-exec_outcome s (SetStation p) = done_outcome s (record s { station = p }) (SetStation p) Nothing refl (moved s (record s { station = p }) refl refl refl refl) refl (λ _ _. tt)
-exec_outcome s GetHeight = told_outcome s GetHeight _ refl (λ _ _. (tt, tt))
-exec_outcome s (SetHeight h) = done_outcome s (record s { height = h }) (SetHeight h) Nothing refl (moved s (record s { height = h }) refl refl refl refl) refl (λ _ _. tt)
-exec_outcome s GetFace = told_outcome s GetFace _ refl (λ _ _. (face_fits s.face, tt))
-exec_outcome s (GetAngle mode) = told_outcome s (GetAngle mode) _ refl (λ _ _. (tt, (tt, tt)))
-exec_outcome s (SimpleMea wait mode) =
-    with_outcome s s (SimpleMea wait mode) (λ d. Measured s.pointing.hz s.pointing.v d) s.distance refl (λ f. f) (λ _. refl) (λ _ _. (tt, (tt, (tt, tt))))
-exec_outcome s (MeasDistance mode) =
-    with_outcome s (measured s) (MeasDistance mode) (λ d. MeasuredMode s.pointing.hz s.pointing.v d mode) (measured s).distance refl (moved s (measured s) refl refl refl refl) (λ _. refl)
-    (λ _ c. (tt, (tt, (tt, (c.0, tt)))))
-exec_outcome s (Position hz v pos_mode atr_mode dummy) = done_outcome s (pointed s hz v) (Position hz v pos_mode atr_mode dummy) Nothing refl (moved s (pointed s hz v) refl refl refl refl) refl (λ _ _. tt)
-exec_outcome s (ChangeFace pos_mode atr_mode dummy) = done_outcome s (turned_over s) (ChangeFace pos_mode atr_mode dummy) Nothing refl (moved s (turned_over s) refl refl refl refl) refl (λ _ _. tt)
-exec_outcome s (FineAdjust area_hz area_v dummy) = searched_outcome s (FineAdjust area_hz area_v dummy) area_hz area_v refl
+exec_outcome s NullProc = search row_rules
+exec_outcome s call = search row_rules

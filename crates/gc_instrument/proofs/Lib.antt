@@ -1,8 +1,6 @@
 pub mod Answering
-pub mod Completing
 pub mod Executions
-pub mod Given
-pub mod Going
-pub mod Known
-pub mod Runs
+pub mod HeardFrames
+pub mod Hearing
+pub mod Silence
 pub mod Turns

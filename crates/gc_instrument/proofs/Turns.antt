@@ -4,16 +4,15 @@ use Rattle.std.specs.Option.{option_to_list}
 use Rattle.gc_lines.specs.Frames.{lines, rest_of}
 use Rattle.gc_lines.specs.Requests.{RequestFields}
 use Rattle.gc_lines.proofs.Requests.{request_one}
-use Rattle.gc_catalogue.specs.declared.answer.CallFault.{CallFault}
+use Rattle.gc_catalogue.specs.declared.fault.CallFault.{CallFault}
 use Rattle.gc_catalogue.specs.declared.call.Call.{Call}
 use Rattle.gc_catalogue.proofs.CallLaws.{one_call, one_refusal, no_refusal}
 use Rattle.gc_instrument.specs.Execution.{exec}
-use Rattle.gc_instrument.specs.Hearing.{Hears, IsOutput, written}
-use Rattle.gc_instrument.specs.Lines.{lines_behind}
+use Rattle.gc_instrument.specs.Hearing.{Hears, IsOutput, replies_text}
 use Rattle.gc_instrument.specs.Replying.{IsReplied, silent, answers, AnswersRequest, refuses, executes, executed_line, refusal_line, reply_id}
 use Rattle.gc_instrument.specs.State.{State}
-use Rattle.gc_instrument.proofs.Completing.{lines-append}
-use Rattle.gc_instrument.proofs.Runs.{hears_then, written-append}
+use Rattle.gc_instrument.proofs.Hearing.{hears_then, replies_text-append}
+use Rattle.gc_instrument.proofs.HeardFrames.{lines-next}
 
 -- a request has one answer
 one_answer : (s t u : State) (q : RequestFields) (x y : List ℕ) → AnswersRequest s q t x → AnswersRequest s q u y → (t ≡ u) × (x ≡ y)
@@ -49,9 +48,9 @@ one_hearing s t u (line ∷ later) ps qs h k =
 -- a stream may be parted behind each line feed
 pub output_then : (s t u : State) (first next xs ys : List ℕ) → rest_of first ≡ [] → IsOutput s first t xs → IsOutput t next u ys → IsOutput s (first ++ next) u (xs ++ ys)
 output_then s t u first next xs ys none h k =
-    let parted : lines (first ++ next) ≡ lines first ++ lines next = lines-append first next ∙ ap (λ (rest : List ℕ). lines first ++ lines_behind rest next) none in
+    let parted = lines-next first next none in
     record {
       replies = h.replies ++ k.replies;
       hears = subst (λ (heard : List (List ℕ)). Hears s heard u (h.replies ++ k.replies)) (sym parted) (hears_then s t u (lines first) (lines next) h.replies k.replies h.hears k.hears);
-      bytes_are = ap (λ (zs : List ℕ). zs ++ ys) h.bytes_are ∙ ap (λ (zs : List ℕ). written h.replies ++ zs) k.bytes_are ∙ sym (written-append h.replies k.replies);
+      bytes_are = ap (λ (zs : List ℕ). zs ++ ys) h.bytes_are ∙ ap (λ (zs : List ℕ). replies_text h.replies ++ zs) k.bytes_are ∙ sym (replies_text-append h.replies k.replies);
     }

@@ -4,10 +4,10 @@ use Rattle.std.specs.Ordering.{int_eq}
 use Rattle.std.specs.Option.{option_map}
 use Rattle.gc_values.specs.declared.decimal.Decimal.{Decimal}
 use Rattle.gc_catalogue.specs.declared.call.Call.{Call}
-use Rattle.gc_catalogue.specs.declared.call.Call.TheVariants.{NullProc, SetPrecision, GetPrecision, ComVersion, InstrumentNo, InstrumentName, SetDate, GetDate, IntTemp, CsvVersion, DoMeasure, GetStation, SetStation, GetHeight, SetHeight, GetFace, GetAngle, SimpleMea, MeasDistance, Position, ChangeFace, FineAdjust}
+use Rattle.gc_catalogue.specs.declared.call.Call.TheVariants as call
 use Rattle.gc_catalogue.specs.declared.call.DateTime.{DateTime}
 use Rattle.gc_catalogue.specs.declared.answer.Answer.{Answer}
-use Rattle.gc_catalogue.specs.declared.answer.Answer.TheVariants.{Nothing, Short, Version, Long, Name, Date, Temperature, Place, Height, Angles, Measured, MeasuredMode}
+use Rattle.gc_catalogue.specs.declared.answer.Answer.TheVariants as answer
 use Rattle.gc_instrument.specs.Faces.{turned, face_number}
 use Rattle.gc_instrument.specs.Numbers.{temperature}
 use Rattle.gc_instrument.specs.State.{State}
@@ -26,11 +26,11 @@ done s a = record { state = s; rc = 0; answer = a }
 
 -- the call was refused with this code, and is answered by nothing
 abbrev pub refused : State → ℕ → Executed
-refused s code = record { state = s; rc = code; answer = Nothing }
+refused s code = record { state = s; rc = code; answer = answer.Nothing }
 
 -- the new state where the call's values are allowed, else the manual's "invalid parameter"
 abbrev pub set_if : Bool → State → State → Executed
-set_if true old new = done new Nothing
+set_if true old new = done new answer.Nothing
 set_if false old new = refused old 2
 
 -- an answer with the distance, and 1285 where there is none
@@ -67,13 +67,13 @@ turned_over s = record s { face = turned s.face; distance = None }
 -- measuring as commanded: 0 does nothing, 1 measures, 3 clears
 abbrev pub commanded : State → ℤ → Executed
 commanded s command =
-    if int_eq command (pos 0) then done s Nothing
-    else (if int_eq command (pos 1) then done (measured s) Nothing
-    else (if int_eq command (pos 3) then done (unmeasured s) Nothing else refused s 2))
+    if int_eq command (pos 0) then done s answer.Nothing
+    else (if int_eq command (pos 1) then done (measured s) answer.Nothing
+    else (if int_eq command (pos 3) then done (unmeasured s) answer.Nothing else refused s 2))
 
 -- pointing at the target that was met, and 8710 where there is none
 abbrev pub adjusted : State → Option Target → Executed
-adjusted s (Some t) = done (pointed s t.hz t.v) Nothing
+adjusted s (Some t) = done (pointed s t.hz t.v) answer.Nothing
 adjusted s None = refused s 8710
 
 -- looking for a target within the areas; neither may be below zero
@@ -84,34 +84,34 @@ searched s area_hz area_v =
 
 -- the call carried out in this state
 unfoldable pub exec : State → Call → Executed
-exec s NullProc = done s Nothing
-exec s (SetPrecision n) = set_if (is_precision n) s (record s { precision = unsigned_abs n })
-exec s GetPrecision = done s (Short (pos s.precision))
-exec s ComVersion = done s (Version (pos 1) (pos 0) (pos 0))
-exec s InstrumentNo = done s (Long s.serial)
-exec s InstrumentName = done s (Name s.name)
-exec s (SetDate d) = set_if (is_date d) s (record s { date = d })
-exec s GetDate = done s (Date s.date)
-exec s IntTemp = done s (Temperature temperature)
-exec s CsvVersion = done s (Version (pos 1) (pos 2) (pos 0))
-exec s (DoMeasure command mode) = commanded s command
-exec s GetStation = done s (Place s.station)
-exec s (SetStation p) = done (record s { station = p }) Nothing
-exec s GetHeight = done s (Height s.height)
-exec s (SetHeight h) = done (record s { height = h }) Nothing
-exec s GetFace = done s (Long (face_number s.face))
-exec s (GetAngle mode) = done s (Angles s.pointing.hz s.pointing.v)
-exec s (SimpleMea wait mode) = told s (λ d. Measured s.pointing.hz s.pointing.v d) s.distance
-exec s (MeasDistance mode) =
-    told (measured s) (λ d. MeasuredMode s.pointing.hz s.pointing.v d mode) (measured s).distance
-exec s (Position hz v pos_mode atr_mode dummy) = done (pointed s hz v) Nothing
-exec s (ChangeFace pos_mode atr_mode dummy) = done (turned_over s) Nothing
-exec s (FineAdjust area_hz area_v dummy) = searched s area_hz area_v
+exec s call.NullProc = done s answer.Nothing
+exec s (call.SetPrecision n) = set_if (is_precision n) s (record s { precision = unsigned_abs n })
+exec s call.GetPrecision = done s (answer.Short (pos s.precision))
+exec s call.ComVersion = done s (answer.Version (pos 1) (pos 0) (pos 0))
+exec s call.InstrumentNo = done s (answer.Long s.serial)
+exec s call.InstrumentName = done s (answer.Name s.name)
+exec s (call.SetDate d) = set_if (is_date d) s (record s { date = d })
+exec s call.GetDate = done s (answer.Date s.date)
+exec s call.IntTemp = done s (answer.Temperature temperature)
+exec s call.CsvVersion = done s (answer.Version (pos 1) (pos 2) (pos 0))
+exec s (call.DoMeasure command mode) = commanded s command
+exec s call.GetStation = done s (answer.Place s.station)
+exec s (call.SetStation p) = done (record s { station = p }) answer.Nothing
+exec s call.GetHeight = done s (answer.Height s.height)
+exec s (call.SetHeight h) = done (record s { height = h }) answer.Nothing
+exec s call.GetFace = done s (answer.Long (face_number s.face))
+exec s (call.GetAngle mode) = done s (answer.Angles s.pointing.hz s.pointing.v)
+exec s (call.SimpleMea wait mode) = told s (λ d. answer.Measured s.pointing.hz s.pointing.v d) s.distance
+exec s (call.MeasDistance mode) =
+    told (measured s) (λ d. answer.MeasuredMode s.pointing.hz s.pointing.v d mode) (measured s).distance
+exec s (call.Position hz v pos_mode atr_mode dummy) = done (pointed s hz v) answer.Nothing
+exec s (call.ChangeFace pos_mode atr_mode dummy) = done (turned_over s) answer.Nothing
+exec s (call.FineAdjust area_hz area_v dummy) = searched s area_hz area_v
 
 -- this state, return code and answer are what came of it
 abbrev pub Gives : Executed → State → ℕ → Answer → Type 0
-Gives x after code answer = x ≡ record { state = after; rc = code; answer = answer }
+Gives x after code said = x ≡ record { state = after; rc = code; answer = said }
 
 -- carrying out the call takes the one state to the other, with this return code and answer
 abbrev pub Executes : State → Call → State → ℕ → Answer → Type 0
-Executes before call after code answer = Gives (exec before call) after code answer
+Executes before asked after code said = Gives (exec before asked) after code said

@@ -1,4 +1,4 @@
--- The two faces of a telescope.
+-- The two faces of a telescope, and their numbers: the manual's.
 use Rattle.std.specs.Prelude.{ℤ, pos}
 use Rattle.gc_instrument.specs.declared.face.Face.{Face}
 use Rattle.gc_instrument.specs.declared.face.Face.TheVariants.{Normal, Turned}

@@ -1,7 +1,8 @@
--- Lines that are handed to an instrument one after the other, and what is written for a stream of bytes.
+-- Lines that are handed to an instrument one after the other, and what is written for a stream of bytes: this project's own.
 use Rattle.std.specs.Prelude.{◌≡◌, ℕ, List, [], ◌∷◌, ◌++◌, Option}
 use Rattle.std.specs.List.{flat_map}
 use Rattle.std.specs.Option.{option_to_list}
+use Rattle.gc_lines.specs.Lines.{with_end}
 use Rattle.gc_lines.specs.Frames.{lines}
 use Rattle.gc_instrument.specs.State.{State}
 use Rattle.gc_instrument.specs.Replying.{IsReplied}
@@ -13,16 +14,12 @@ Hears before (line ∷ later) after replies =
     (state : State) × (reply : Option (List ℕ)) × (rest : List (List ℕ))
     × IsReplied before line state reply × Hears state later after rest × (replies ≡ option_to_list reply ++ rest)
 
--- a line with its CR LF
-abbrev pub with_end : List ℕ → List ℕ
-with_end line = line ++ 13 ∷ 10 ∷ []
-
 -- replies as they are written
-abbrev pub written : List (List ℕ) → List ℕ
-written replies = flat_map with_end replies
+abbrev pub replies_text : List (List ℕ) → List ℕ
+replies_text replies = flat_map with_end replies
 
 -- the bytes are all that is written for the stream, and the state is that after its lines
 pub record IsOutput (before : State) (stream : List ℕ) (after : State) (bytes : List ℕ) : Type 0 where
   pub replies : List (List ℕ)
   pub hears : Hears before (lines stream) after replies
-  pub bytes_are : bytes ≡ written replies
+  pub bytes_are : bytes ≡ replies_text replies

@@ -1,18 +1,20 @@
--- What is claimed of the definitions themselves, apart from any call of a function.
-use Rattle.std.specs.Prelude.{◌≡◌, ℕ, ◌<◌, List, [], ◌++◌, Option, Some}
-use Rattle.gc_lines.specs.Frames.{rest_of}
+-- What is claimed of the definitions themselves, apart from any call of a function: this project's own.
+use Rattle.std.specs.Prelude.{◌≡◌, ◌↔◌, ◌⊎◌, ℕ, ◌<◌, List, [], ◌∷◌, ◌++◌, Option, Some}
+use Rattle.std.specs.List.{AllByRecursion}
+use Rattle.gc_lines.specs.Frames.{lines, rest_of}
+use Rattle.gc_lines.specs.Requests.{RequestFields, IsRequest}
 use Rattle.gc_catalogue.specs.Calls.{IsFitting}
 use Rattle.gc_catalogue.specs.Texts.{request_line}
 use Rattle.gc_catalogue.specs.declared.call.Call.{Call}
 use Rattle.gc_instrument.specs.Execution.{exec}
 use Rattle.gc_instrument.specs.Hearing.{Hears, IsOutput}
-use Rattle.gc_instrument.specs.Outcomes.{Outcome}
+use Rattle.gc_instrument.specs.Outcomes.{ComesOut}
 use Rattle.gc_instrument.specs.Replying.{IsReplied, IsAnswered, handed}
 use Rattle.gc_instrument.specs.State.{State, IsFittingState, restarted}
 
 -- every call comes out, in every state
 abbrev pub CallsComeOut : Type 0
-CallsComeOut = (s : State) (call : Call) → Outcome s call (exec s call)
+CallsComeOut = (s : State) (call : Call) → ComesOut s call (exec s call)
 
 -- starting twice is starting once, and a state that fits starts as one that fits
 pub record Restarts : Type 0 where
@@ -34,3 +36,16 @@ pub record AnswersInTurn : Type 0 where
   pub one : (s t u : State) (heard : List (List ℕ)) (ps qs : List (List ℕ)) → Hears s heard t ps → Hears s heard u qs → (t ≡ u) × (ps ≡ qs)
   pub next : (s t u : State) (xs ys : List (List ℕ)) (ps qs : List (List ℕ)) → Hears s xs t ps → Hears t ys u qs → Hears s (xs ++ ys) u (ps ++ qs)
   pub whole : (s t u : State) (first next : List ℕ) (xs ys : List ℕ) → rest_of first ≡ [] → IsOutput s first t xs → IsOutput t next u ys → IsOutput s (first ++ next) u (xs ++ ys)
+
+-- a stream is empty or ends in a line feed
+abbrev pub IsWhole : List ℕ → Type 0
+IsWhole stream = (stream ≡ []) ⊎ ((front : List ℕ) × (stream ≡ front ++ 10 ∷ []))
+
+-- no line of a stream reads as a request
+abbrev pub HasNoRequest : List ℕ → Type 0
+HasNoRequest stream = AllByRecursion (λ line. (q : RequestFields) → ¬ IsRequest line q) (lines stream)
+
+-- lines that are no requests change nothing: what is written for a stream, and the state after it, are the same without them
+abbrev pub ForeignLinesAreSilent : Type 0
+ForeignLinesAreSilent = (s t : State) (front foreign back bytes : List ℕ) → IsWhole front → IsWhole foreign → HasNoRequest foreign
+    → IsOutput s (front ++ (foreign ++ back)) t bytes ↔ IsOutput s (front ++ back) t bytes

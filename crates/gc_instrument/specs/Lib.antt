@@ -2,7 +2,6 @@ pub mod Execution
 pub mod Faces
 pub mod Hearing
 pub mod Laws
-pub mod Lines
 pub mod Numbers
 pub mod Outcomes
 pub mod Replying

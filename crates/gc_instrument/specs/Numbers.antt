@@ -1,8 +1,8 @@
--- Decimals of the instrument's own.
+-- The values that the instrument makes up: this project's own.
 use Rattle.std.specs.Prelude.{pos, refl}
 use Rattle.gc_values.specs.Decimals.{decimal}
 use Rattle.gc_values.specs.declared.decimal.Decimal.{Decimal}
 
--- the temperature inside every instrument, in degrees Celsius (this project's own)
+-- the temperature inside every instrument, in degrees Celsius
 abbrev pub temperature : Decimal
 temperature = decimal (pos 21) 0 refl

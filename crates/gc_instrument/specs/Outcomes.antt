@@ -1,4 +1,4 @@
--- What comes of every execution, whatever the call and the state.
+-- What comes of every execution, whatever the call and the state: this project's own.
 use Rattle.std.specs.Prelude.{◌≡◌, ◌≢◌, ◌<◌}
 use Rattle.gc_catalogue.specs.Answers.{IsAnswerOf, IsFittingAnswer}
 use Rattle.gc_catalogue.specs.Calls.{IsFitting}
@@ -8,7 +8,7 @@ use Rattle.gc_instrument.specs.Execution.{Executed}
 use Rattle.gc_instrument.specs.State.{State, IsFittingState, restarted}
 
 -- what came of carrying the call out in the state
-pub record Outcome (s : State) (call : Call) (x : Executed) : Type 0 where
+pub record ComesOut (s : State) (call : Call) (x : Executed) : Type 0 where
   -- the serial number, the name and the scene stay
   pub same : restarted x.state ≡ restarted s
   -- the state's values still lie in their types

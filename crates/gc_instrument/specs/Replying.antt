@@ -1,13 +1,14 @@
--- The reply to a line: what the instrument does with each line that it is handed.
+-- The reply to a line: what the instrument does with each line that it is handed. The communication codes are the manual's, the rest is this project's own.
 use Rattle.std.specs.Prelude.{◌≡◌, ℕ, List, [], Bool, true, Option, Some, None, Ok, if◌then◌else◌, ◌==◌, unwrap_or}
-use Rattle.gc_lines.specs.Replies.{ReplyFields, reply_at, reply_text}
+use Rattle.gc_lines.specs.Replies.{ReplyFields, reply_text}
+use Rattle.gc_lines.specs.Readers.{reply_at}
 use Rattle.gc_lines.specs.Requests.{RequestFields, IsRequest}
 use Rattle.gc_catalogue.specs.Answers.{rounded_answer}
 use Rattle.gc_catalogue.specs.Calls.{IsCall, IsRefusal}
 use Rattle.gc_catalogue.specs.Readings.{IsReading}
 use Rattle.gc_catalogue.specs.Texts.{reply_line}
-use Rattle.gc_catalogue.specs.declared.answer.CallFault.{CallFault}
-use Rattle.gc_catalogue.specs.declared.answer.CallFault.TheVariants.{Unknown, Parameters}
+use Rattle.gc_catalogue.specs.declared.fault.CallFault.{CallFault}
+use Rattle.gc_catalogue.specs.declared.fault.CallFault.TheVariants.{Unknown, Parameters}
 use Rattle.gc_catalogue.specs.declared.answer.Reading.{Reading}
 use Rattle.gc_catalogue.specs.declared.answer.Reading.TheVariants.{Value, Refused}
 use Rattle.gc_catalogue.specs.declared.call.Call.{Call}
@@ -45,14 +46,15 @@ pub data IsReplied (before : State) (line : List ℕ) (after : State) (reply : O
   -- it is a request
   answers : (q : RequestFields) → IsRequest line q → (text : List ℕ) → AnswersRequest before q after text → reply ≡ Some text → IsReplied before line after reply
 
--- what the instrument does with the request line of a call: the state after it, the reply, and whether it carried the call out
-pub record Handed : Type 0 where
+-- what handing over the request line of a call gives: the state after it, the reply, and whether the call was carried out
+-- (for a repeated request, which is to be answered from what is kept: that will carry out nothing; until then it is always true)
+pub record Handed (State : Type 0) : Type 0 where
   pub state : State
   pub reply : List ℕ
   pub executed : Bool
 
 -- the instrument is handed the request line with this id and call
-unfoldable pub handed : State → ℕ → Call → Handed
+unfoldable pub handed : State → ℕ → Call → Handed State
 handed s number call = record { state = (exec s call).state; reply = executed_line number (exec s call); executed = true }
 
 -- what the caller reads of an execution: the answer's value, rounded to the precision, or the refusal

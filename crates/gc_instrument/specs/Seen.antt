@@ -1,4 +1,4 @@
--- What a contract sees of an instrument, and what is known of every one.
+-- What a contract sees of an instrument, and what is known of every one: this project's own.
 use Rattle.gc_instrument.specs.State.{State, IsFittingState}
 use Rattle.gc_instrument.specs.declared.instrument.Instrument.TheInside.{Inside}
 

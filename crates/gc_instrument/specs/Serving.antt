@@ -1,41 +1,32 @@
--- What serving writes, and why it ends.
-use Rattle.std.specs.Prelude.{◌≡◌, ℕ, ◌+◌, ◌<◌, ◌≤◌, Bool, true, false, List, ◌∷◌, ◌++◌, length, take, Option, Some, Result, Ok, Err, codes}
-use Rattle.std.specs.Fmt.{decimal}
-use Rattle.std.specs.Io.KnownBytes.{Appends}
+-- What serving writes, and how it ends: this project's own.
+use Rattle.std.specs.Prelude.{◌≡◌, ℕ, ◌+◌, ◌-◌, ◌*◌, ◌<◌, ◌≤◌, List, ◌∷◌, ◌++◌, length, take, Option, Some, None, Result, Ok, Err}
+use Rattle.std.specs.Io.KnownBytes.{Appends, Consumes}
+use Rattle.std.specs.Option.{option_map}
+use Rattle.gc_lines.specs.Answering.{Ports, HasEnded}
+use Rattle.gc_lines.specs.Frames.{lines}
+use Rattle.gc_lines.specs.Lines.{with_end}
+use Rattle.gc_lines.specs.declared.frame.Frame.{Frame}
+use Rattle.gc_lines.specs.declared.frame.Frame.TheVariants.{Line, Cleared, Overlong, More}
+use Rattle.gc_lines.specs.declared.served.Served.{Served}
+use Rattle.gc_lines.specs.declared.served.ServeFault.{ServeFault}
+use Rattle.gc_lines.specs.declared.served.ServeFault.TheVariants.{Read, Write, TooManyReads}
 use Rattle.gc_instrument.specs.State.{State}
 use Rattle.gc_instrument.specs.Replying.{IsReplied}
-use Rattle.gc_instrument.specs.Hearing.{Hears, with_end, written}
-use Rattle.gc_instrument.specs.declared.serving.Served.{Served}
-use Rattle.gc_instrument.specs.declared.serving.ServeFault.{ServeFault}
-use Rattle.gc_instrument.specs.declared.serving.ServeFault.TheVariants.{Read, Write, TooManyReads}
+use Rattle.gc_instrument.specs.Hearing.{Hears, replies_text}
 
--- the number of a fault
-abbrev pub fault_number : ServeFault → ℕ
-fault_number (Read _) = 42
-fault_number (Write _ _) = 43
-fault_number (TooManyReads _) = 44
-
--- a fault as it is printed
-abbrev pub fault_text : ServeFault → List ℕ
-fault_text (Read _) = codes "fault 42"
-fault_text (Write count bytes) = codes "fault 43 reply " ++ decimal count ++ codes " byte " ++ decimal bytes
-fault_text (TooManyReads _) = codes "fault 44"
-
--- a sink failed where the call did, and else is as it was
-abbrev pub FailsWith : {X E : Type 0} → Result X E → Bool → Bool → Type 0
-FailsWith (Ok _) old new = new ≡ old
-FailsWith (Err _) old new = new ≡ true
-
--- a sink took the first n bytes of a text, which aren't all of it
-abbrev pub TakesFront : Option (List ℕ) → Option (List ℕ) → ℕ → List ℕ → Type 0
-TakesFront old new n text = (n < length text) × Appends old new (take n text)
+-- what an instrument does with a frame: the reply to a line goes out with its CR LF, and what is no line is answered by nothing
+abbrev pub AnswersFrame : State → Frame → State → Option (List ℕ) → Type 0
+AnswersFrame before (Line line) after text = (reply : Option (List ℕ)) × IsReplied before line.items after reply × (text ≡ option_map with_end reply)
+AnswersFrame before Cleared after text = (after ≡ before) × (text ≡ None)
+AnswersFrame before Overlong after text = (after ≡ before) × (text ≡ None)
+AnswersFrame before More after text = (after ≡ before) × (text ≡ None)
 
 -- all of these lines were handed on, and their replies went out whole, which makes count of before
 pub record ServesAll (from to : State) (heard : List (List ℕ)) (old new : Option (List ℕ)) (before count : ℕ) : Type 0 where
   pub replies : List (List ℕ)
   pub hears : Hears from heard to replies
   pub counts : count ≡ before + length replies
-  pub took : Appends old new (written replies)
+  pub took : Appends old new (replies_text replies)
 
 -- lines were handed on up to one whose reply went out in part; those after it weren't
 pub record ServesPart (from to : State) (heard : List (List ℕ)) (old new : Option (List ℕ)) (before count bytes : ℕ) : Type 0 where
@@ -50,7 +41,7 @@ pub record ServesPart (from to : State) (heard : List (List ℕ)) (old new : Opt
   pub draws : IsReplied state line to (Some reply)
   pub counts : count ≡ before + length replies
   pub not_all : bytes < length (with_end reply)
-  pub took : Appends old new (written replies ++ take bytes (with_end reply))
+  pub took : Appends old new (replies_text replies ++ take bytes (with_end reply))
 
 -- what serving did with the lines of what was read
 abbrev pub Serves : State → State → List (List ℕ) → Option (List ℕ) → Option (List ℕ) → Result Served ServeFault → Type 0
@@ -59,16 +50,10 @@ Serves from to heard old new (Err (Read count)) = ServesAll from to heard old ne
 Serves from to heard old new (Err (Write count bytes)) = ServesPart from to heard old new 0 count bytes
 Serves from to heard old new (Err (TooManyReads count)) = ServesAll from to heard old new 0 count
 
--- how many reads a source answered, whether the last was the end, and which port has failed
-pub record Ports : Type 0 where
-  pub reads : ℕ
-  pub ended : Bool
-  pub source_failed : Bool
-  pub sink_failed : Bool
-
--- why serving ended, in at most most reads
-abbrev pub Ends : Ports → Ports → ℕ → Result Served ServeFault → Type 0
-Ends old new most (Ok _) = (old.reads < new.reads) × (new.reads ≤ old.reads + most) × (new.ended ≡ true) × (new.source_failed ≡ false) × (new.sink_failed ≡ old.sink_failed)
-Ends old new most (Err (Read _)) = (new.reads < old.reads + most) × (old.reads < new.reads → new.ended ≡ false) × (new.source_failed ≡ true) × (new.sink_failed ≡ old.sink_failed)
-Ends old new most (Err (Write _ _)) = (old.reads < new.reads) × (new.reads ≤ old.reads + most) × (new.ended ≡ false) × (new.source_failed ≡ false) × (new.sink_failed ≡ true)
-Ends old new most (Err (TooManyReads _)) = (new.reads ≡ old.reads + most) × (old.reads < new.reads → new.ended ≡ false) × (new.source_failed ≡ old.source_failed) × (new.sink_failed ≡ old.sink_failed)
+-- serving in at most most reads took the instrument and the ports from old to new, and gave this result
+pub record IsServing (from to : State) (old new : Ports) (most : ℕ) (result : Result Served ServeFault) : Type 0 where
+  -- of the bytes that the source gave, the lines were handed to the instrument, and the sink took their replies, or the part that the fault says
+  pub serves : (given : List ℕ) × Consumes old.remaining new.remaining given
+      × (length given ≤ 256 * (new.reads - old.reads)) × Serves from to (lines given) old.taken new.taken result
+  -- why it ended, with which result exactly where, and what the ports then are
+  pub ended : HasEnded old new most result

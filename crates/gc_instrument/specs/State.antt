@@ -1,10 +1,10 @@
--- The state of a simulated instrument, as it is at the start and after a restart.
+-- The state of a simulated instrument, as it is at the start and after a restart: this project's own.
 use Rattle.std.specs.Prelude.{◌≤◌, ℕ, ℤ, pos, List, [], ◌∷◌, Option, None, codes, refl}
 use Rattle.gc_values.specs.Decimals.{decimal, zero}
 use Rattle.gc_values.specs.declared.decimal.Decimal.{Decimal}
 use Rattle.gc_values.specs.Text.{IsText}
 use Rattle.gc_values.specs.Whole.{FitsLong}
-use Rattle.gc_catalogue.specs.Lists.{AreValues}
+use Rattle.gc_values.specs.Lists.{AreValues}
 use Rattle.gc_catalogue.specs.Structs.{date_values}
 use Rattle.gc_catalogue.specs.declared.call.Station.{Station}
 use Rattle.gc_catalogue.specs.declared.call.DateTime.{DateTime}

@@ -15,6 +15,8 @@ use arrayvec::ArrayVec;
 use gc_catalogue::{DateTime, Station};
 use gc_values::{Decimal, Text};
 use settings::Settings;
+use std::error::Error;
+use std::fmt;
 use std::marker::Model;
 
 /// A scene has more than 32 targets.
@@ -29,6 +31,18 @@ impl SceneFull {
         41
     }
 }
+
+impl fmt::Display for SceneFull {
+    ghost use Rattle.std.specs.Prelude.{Some, codes};
+
+    ghost output = { λ full. Some (codes "a scene has more than 32 targets") };
+
+    fn fmt<W: fmt::Write>(&self, f: &mut fmt::Formatter<W>) -> fmt::Result {
+        f.write_str("a scene has more than 32 targets")
+    }
+}
+
+impl Error for SceneFull {}
 
 /// A simulated total station: its serial number, its name, a scene of at most 32 targets, and what
 /// calls have set. It holds no allocated memory.

@@ -1,6 +1,6 @@
 //! What is proved of the definitions themselves. Each function does nothing: its contract is the law.
 
-ghost use Rattle.gc_instrument.specs.Laws.{CallsComeOut, Restarts, OneReply, ExchangesCalls, AnswersInTurn};
+ghost use Rattle.gc_instrument.specs.Laws.{CallsComeOut, Restarts, OneReply, ExchangesCalls, AnswersInTurn, ForeignLinesAreSilent};
 
 /// Every call leaves the instrument's serial number, name and scene as they are, and gives an answer
 /// of its own with the return code 0, or nothing with another one.
@@ -27,4 +27,11 @@ pub fn exchanges_calls()
 /// has one output.
 pub fn answers_in_turn()
     ensures { AnswersInTurn }
+{}
+
+/// Noise, other programs' lines and halves of lines change nothing: where lines that are no requests
+/// stand between line feeds, what is written for the stream and the state after it are those without
+/// them.
+pub fn foreign_lines_are_silent()
+    ensures { ForeignLinesAreSilent }
 {}

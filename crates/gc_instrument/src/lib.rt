@@ -11,9 +11,10 @@ mod simulator;
 mod target;
 
 pub use face::Face;
+pub use gc_lines::{ServeFault, Served};
 pub use instrument::{Instrument, SceneFull};
 pub use pointing::Pointing;
-pub use serving::{ServeFault, Served, serve};
+pub use serving::serve;
 pub use target::Target;
 
 #[cfg(test)]

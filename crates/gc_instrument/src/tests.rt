@@ -1,8 +1,9 @@
 //! The worked examples that a simulated instrument answers, scenes, and the restart.
 
-use crate::{Instrument, Served, Target, serve};
+use crate::{Instrument, ServeFault, Served, Target, serve};
 use gc_catalogue::{Answer, Call};
 use gc_lines::{FromReader, Line, ToWriter};
+use gc_probes::{PieceSink, PieceSource};
 use gc_values::{Decimal, Text};
 use std::io::{Read, Write};
 use std::process::Abort;
@@ -117,8 +118,9 @@ fn scenes(rt: HostRuntime) {
         distance: Decimal::literal(5, 0),
     };
     let far = Target {
+        hz: one,
+        v: one,
         distance: Decimal::literal(6, 0),
-        ..near
     };
     let made = Instrument::new(1, name, &[near, far]);
     assert!(rt; made.is_ok());
@@ -205,4 +207,40 @@ fn embedded(rt: HostRuntime) {
         output.as_slice(),
         b"%R1P,0,0:0,42\r\n%R1P,0,1:0,\"BENCH\"\r\n".as_slice()
     );
+}
+
+#[test]
+fn short_write(rt: HostRuntime) {
+    let mut instrument = Instrument::simulator();
+    let mut source = PieceSource::new(b"%R1Q,0,1:", &[], u64::MAX);
+    let mut sink = PieceSink::new(rt.alloc(), 5, 1);
+    let result = serve(&mut instrument, &mut source, &mut sink, u32::MAX);
+    assert_eq!(rt;
+        result,
+        Ok(Served { replies: 0 }),
+        "a rest without a line feed"
+    );
+    let mut source = PieceSource::new(b"%R1Q,0,1:\r\n", &[], u64::MAX);
+    let result = serve(&mut instrument, &mut source, &mut sink, u32::MAX);
+    let fault = ServeFault::Write {
+        replies: 0,
+        bytes: 5,
+    };
+    assert_eq!(rt;
+        result,
+        Err(fault),
+        "a sink that takes five bytes and then fails"
+    );
+    assert_eq!(rt; sink.taken(), b"%R1P,".as_slice());
+    let text = format!(in rt.alloc(); "{fault}").expect(&rt, "memory is there");
+    assert_eq!(rt; text.as_str(), "fault 43 reply 0 byte 5");
+}
+
+#[test]
+fn no_reads_allowed(rt: HostRuntime) {
+    let mut source = PieceSource::new(b"%R1Q,0,1:\r\n", &[], u64::MAX);
+    let mut sink = PieceSink::new(rt.alloc(), 5, u64::MAX);
+    let result = serve(&mut Instrument::simulator(), &mut source, &mut sink, 0);
+    assert_eq!(rt; result, Err(ServeFault::TooManyReads { replies: 0 }));
+    assert_eq!(rt; sink.taken(), b"".as_slice());
 }

@@ -1,15 +1,22 @@
 -- What a few digits are worth.
-use Rattle.std.proofs.Common.{◌≡◌, ℕ, ◌+◌, ◌-◌, ◌*◌, ◌<◌, ◌≤◌, List, [], ◌∷◌, ◌++◌, true, false, cond, length, take, get_or, drop, arith, refl, ◌∙◌, sym, subst}
+use Rattle.std.proofs.Common.{◌≡◌, ℕ, ◌+◌, ◌-◌, ◌*◌, ◌/◌, ◌%◌, ◌^◌, ◌<◌, ◌≤◌, List, [], ◌∷◌, ◌++◌, true, false, cond, length, take, get_or, drop, slice_set, arith, refl, ap, ◌∙◌, sym, subst, inl, inr, lit<, append_assoc, add-one, Ok, Err, ◌⊎◌, length-drop}
+use Rattle.std.specs.Fmt.{decimal}
+use Rattle.std.proofs.lemmas.Fmt.{decimal_step, decimal_digit}
+use Rattle.std.proofs.lemmas.List.{length-set, drop-set, take-append-drop, length-take-le, take_all, length-take, nil_from_length, drop_more}
+use Rattle.std.proofs.lemmas.Bool.{cases_lt, lt-ltb, le-ltb}
+use Rattle.std.proofs.Math.Nat.{pow-suc, div-lt_iff_lt-mul}
+use Rattle.gc_lines.specs.declared.fault.LineFault.{LineFault}
 use Rattle.std.specs.Str.Parse.{digits_value, AllDigits}
 use Rattle.std.specs.List.{prefix_len}
 use Rattle.std.specs.Char.{is_ascii_digit, digit_value}
 use Rattle.std.proofs.Math.Numerals.{one-add}
 use Rattle.std.proofs.lemmas.Bool.Decides.{nat_tests}
 use Rattle.std.proofs.lemmas.Str.Parse.{IsNumeralModel, numerals_by_value, tells_digits, digits_value_short, digits_value-take-le, digit_at, digit_from_value}
-use Rattle.std.proofs.lemmas.Int.Digits.{digits_value_more}
+use Rattle.std.proofs.lemmas.Int.Digits.{digits_value_more, digits_more}
 use Rattle.std.proofs.lemmas.Str.{digit_value_digit}
 use Rattle.std.proofs.lemmas.List.Folds.{length-prefix_len}
-use Rattle.gc_lines.specs.Numbers.{NoDigitFirst, digits_len}
+use Rattle.gc_lines.specs.Numbers.{NoDigitFirst}
+use Rattle.gc_lines.specs.Readers.{digits_len, number_at}
 
 pub plain : IsNumeralModel (AllDigits 10) (digits_value 10)
 plain = numerals_by_value _ tells_digits
@@ -79,3 +86,85 @@ pub one_digit_runs : (i : ℕ) (rest : List ℕ) → i < 10 → NoDigitFirst res
 one_digit_runs i rest h stop = run_is ((48 + i) ∷ rest) ∙ rw (digit_of i h, stopped rest stop) refl where
   digit_of : (i : ℕ) → i < 10 → is_ascii_digit (48 + i) ≡ true
   digit_of i h = grind (arith, nat_tests)
+
+-- writing a number's digits into five places, from the last one on
+
+below_one_place : (left : ℕ) → left < 10 ^ (0 + 1) → 10 ≤ left → ⊥
+below_one_place left below more = omega arith
+
+some_place : (at left : ℕ) → left < 10 ^ (at + 1) → 10 ≤ left → 0 < at
+some_place at left below more = elim (cases_lt 0 at) [
+  | inl some ↦ some
+  | inr none ↦ let zero : at ≡ 0 = omega arith in absurd (below_one_place left (subst (λ (n : ℕ). left < 10 ^ (n + 1)) zero below) more)
+]
+
+pub digit_written : (digits : List ℕ) (at left n : ℕ) → at ≤ 4 → length digits ≡ 5 → left < 10 ^ (at + 1) → left < 2 ^ 16 → 10 ≤ left → decimal left ++ drop (at + 1) digits ≡ decimal n
+    → (0 < at) × (length (slice_set digits at (48 + left % 10)) ≡ 5) × (left / 10 < 10 ^ (at - 1 + 1)) × (decimal (left / 10) ++ drop (at - 1 + 1) (slice_set digits at (48 + left % 10)) ≡ decimal n)
+digit_written digits at left n room size below range more text =
+    let some : 0 < at = some_place at left below more in
+    let same : at - 1 + 1 ≡ at = omega arith in (
+      some,
+      length-set digits at (48 + left % 10) ∙ size,
+      subst (λ (m : ℕ). left / 10 < 10 ^ m) (sym same) ((div-lt_iff_lt-mul (lit< tt)).1 (subst (λ (m : ℕ). left < m) (pow-suc 10 at) (subst (λ (m : ℕ). left < 10 ^ m) (add-one at) below))),
+      rw (same, drop-set digits at (48 + left % 10) (omega (arith, size)))
+          (sym (append_assoc (decimal (left / 10)) ((48 + left % 10) ∷ []) (drop (at + 1) digits)) ∙ ap (λ ds. ds ++ drop (at + 1) digits) (sym (decimal_step left more (omega arith))) ∙ text),
+    )
+
+pub last_digit_written : (digits : List ℕ) (at left n : ℕ) → at ≤ 4 → length digits ≡ 5 → left < 10 → decimal left ++ drop (at + 1) digits ≡ decimal n
+    → take (5 - at) (drop at (slice_set digits at (48 + left))) ≡ decimal n
+last_digit_written digits at left n room size small text =
+    take_all (5 - at) (drop at (slice_set digits at (48 + left))) (omega (arith, length-drop at (slice_set digits at (48 + left)), length-set digits at (48 + left), size))
+    ∙ drop-set digits at (48 + left) (omega (arith, size)) ∙ ap (λ ds. ds ++ drop (at + 1) digits) (sym (decimal_digit left small)) ∙ text
+
+-- reading a run digit by digit
+
+pub run_more : (bytes : List ℕ) (i : ℕ) → i < length bytes → AllDigits 10 (take i bytes) → is_ascii_digit (get_or bytes i 0) ≡ true → AllDigits 10 (take (i + 1) bytes)
+run_more bytes i within all digit = digits_more 10 bytes i within all (digit_value_of (get_or bytes i 0) digit)
+
+pub digit_range : (b : ℕ) → is_ascii_digit b ≡ true → (48 ≤ b) × (b ≤ 57)
+digit_range b e = grind (arith, nat_tests)
+
+pub value_next : (bytes : List ℕ) (i : ℕ) → i < length bytes → is_ascii_digit (get_or bytes i 0) ≡ true
+    → digits_value 10 (take (i + 1) bytes) ≡ digits_value 10 (take i bytes) * 10 + (get_or bytes i 0 - 48)
+value_next bytes i within digit = let r = digit_range (get_or bytes i 0) digit in omega (arith, r, digits_value_more 10 bytes i within, digit_value_digit (get_or bytes i 0) r)
+
+pub value_small : (bytes : List ℕ) (i : ℕ) → AllDigits 10 (take i bytes) → i ≤ 5 → digits_value 10 (take i bytes) < 100000
+value_small bytes i all few = omega (arith, digits_value_short plain (take i bytes) 5 all (omega (arith, few, length-take i bytes)))
+
+prefix_run : (text rest : List ℕ) → AllDigits 10 text → prefix_len is_ascii_digit (text ++ rest) ≡ length text + prefix_len is_ascii_digit rest
+prefix_run [] rest a = omega arith
+prefix_run (c ∷ cs) rest a = rw (digit_is c a.0) (omega (arith, prefix_run cs rest a.1))
+
+-- the run is at least as long as the digits that were read
+pub run_long : (bytes : List ℕ) (i : ℕ) → i ≤ length bytes → AllDigits 10 (take i bytes) → i ≤ digits_len bytes
+run_long bytes i within all =
+    let cut : prefix_len is_ascii_digit (take i bytes ++ drop i bytes) ≡ prefix_len is_ascii_digit bytes = ap (λ xs. prefix_len is_ascii_digit xs) (take-append-drop i bytes) in
+    omega (arith, run_is bytes, cut, prefix_run (take i bytes) (drop i bytes) all, length-take-le i bytes within)
+
+-- no number stands where the run has more than five digits
+pub number_long : (fault : LineFault) (bytes : List ℕ) → 6 ≤ digits_len bytes → number_at fault bytes ≡ Err fault
+number_long fault bytes h = rw (lt-ltb 0 (digits_len bytes) (omega (arith, h)), le-ltb (digits_len bytes) 6 h) refl
+
+-- the digits that were read, up to one that isn't a digit, are the run
+run_read : (bytes : List ℕ) (len : ℕ) → len ≤ length bytes → AllDigits 10 (take len bytes) → NoDigitFirst (drop len bytes) → digits_len bytes ≡ len
+run_read bytes len within digits stops = ap digits_len (sym (take-append-drop len bytes)) ∙ run_length (take len bytes) (drop len bytes) digits stops ∙ length-take-le len bytes within
+
+pub number_read : (fault : LineFault) (bytes : List ℕ) (len : ℕ) → len ≤ length bytes → AllDigits 10 (take len bytes) → NoDigitFirst (drop len bytes)
+    → 0 < len → len ≤ 5 → digits_value 10 (take len bytes) < 65536 → number_at fault bytes ≡ Ok (digits_value 10 (take len bytes), drop len bytes)
+number_read fault bytes len within digits stops some few bound =
+    rw (run_read bytes len within digits stops, lt-ltb 0 len some, lt-ltb len 6 (omega (arith, few)), lt-ltb (digits_value 10 (take len bytes)) 65536 bound) refl
+
+pub number_refused : (fault : LineFault) (bytes : List ℕ) (len : ℕ) → len ≤ length bytes → AllDigits 10 (take len bytes) → NoDigitFirst (drop len bytes)
+    → (len ≡ 0) ⊎ (65536 ≤ digits_value 10 (take len bytes)) → len ≤ 5 → number_at fault bytes ≡ Err fault
+number_refused fault bytes len within digits stops (inl none) few = rw (run_read bytes len within digits stops, none) refl
+number_refused fault bytes len within digits stops (inr wide) few = elim (cases_lt 0 len) [
+  | inl some ↦ rw (run_read bytes len within digits stops, lt-ltb 0 len some, lt-ltb len 6 (omega (arith, few)), le-ltb (digits_value 10 (take len bytes)) 65536 wide) refl
+  | inr none ↦ rw (run_read bytes len within digits stops, le-ltb 0 len none) refl
+]
+
+-- the reading stops at a byte that isn't a digit, or at the end
+pub stops_at : (bytes : List ℕ) (len : ℕ) → len < length bytes → is_ascii_digit (get_or bytes len 0) ≡ false → NoDigitFirst (drop len bytes)
+stops_at bytes len within other = subst NoDigitFirst (sym (drop_more bytes len 0 within)) other
+
+pub stops_end : (bytes : List ℕ) (len : ℕ) → length bytes ≤ len → NoDigitFirst (drop len bytes)
+stops_end bytes len over = subst NoDigitFirst (sym (nil_from_length (drop len bytes) (omega (arith, length-drop len bytes)))) tt

@@ -7,8 +7,9 @@ use Rattle.std.specs.Cmp.Lexicographic.{bytes_decides}
 use Rattle.std.proofs.Math.Dec.{ltb}
 use Rattle.gc_lines.specs.declared.fault.LineFault.{LineFault}
 use Rattle.gc_lines.specs.declared.fault.LineFault.TheVariants.{Signature, Id, Colon}
-use Rattle.gc_lines.specs.Numbers.{IsNumber, HasNumber, NoDigitFirst, number_at, digits_len}
-use Rattle.gc_lines.specs.Headers.{HasId, EndsId, id_text, PastSignature, signature_at, id_at, colon_at}
+use Rattle.gc_lines.specs.Numbers.{IsNumber, HasNumber, NoDigitFirst}
+use Rattle.gc_lines.specs.Headers.{HasId, EndsId, id_text, PastSignature}
+use Rattle.gc_lines.specs.Readers.{number_at, digits_len, signature_at, id_at, colon_at}
 use Rattle.gc_lines.proofs.Digits.{run_is, run_digits, run_stops, run_length, run_of_one, one_digit_runs}
 use Rattle.gc_lines.proofs.Reading.{Reads, guard_ok, guard_err}
 

@@ -3,8 +3,9 @@ use Rattle.std.proofs.Common.{◌≡◌, ℕ, ◌<◌, inl, inr, List, ◌∷◌
 use Rattle.std.proofs.lemmas.Bool.{eq-eqb}
 use Rattle.gc_lines.specs.declared.fault.LineFault.{LineFault}
 use Rattle.gc_lines.specs.declared.fault.LineFault.TheVariants.{Signature, Number, Id, Colon, Code, TooLong}
-use Rattle.gc_lines.specs.Numbers.{IsNumber, NoDigitFirst, number_at}
-use Rattle.gc_lines.specs.Headers.{HeaderFields, EndsId, id_text, PastSignature, PastNumber, PastId, PastColon, FirstBadField, signature_at, id_at, colon_at, header_at, ◌>>=◌}
+use Rattle.gc_lines.specs.Numbers.{IsNumber, NoDigitFirst}
+use Rattle.gc_lines.specs.Headers.{EndsId, id_text, PastSignature, PastNumber, PastId, PastColon, FirstBadField}
+use Rattle.gc_lines.specs.Readers.{number_at, HeaderFields, signature_at, id_at, colon_at, header_at, ◌>>=◌}
 use Rattle.gc_lines.proofs.Reading.{refused, absent, bind_ok, bind_err, bind_on, bind_stop}
 use Rattle.gc_lines.proofs.Fields.{signature_reads, number_reads, id_reads, colon_reads}
 

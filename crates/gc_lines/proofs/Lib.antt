@@ -8,3 +8,9 @@ pub mod Requests
 pub mod Replies
 pub mod Written
 pub mod Plain
+pub mod Known
+pub mod Finding
+pub mod InOrder
+pub mod Passing
+pub mod Given
+pub mod Exactly

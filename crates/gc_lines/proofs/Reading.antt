@@ -1,7 +1,8 @@
 -- A reader of one field, and what it does against the field's form.
-use Rattle.std.proofs.Common.{◌≡◌, ℕ, ◌⊎◌, inl, inr, Bool, true, false, cond, List, Result, Ok, Err, refl, sym, ap}
+use Rattle.std.proofs.Common.{◌≡◌, ℕ, ◌⊎◌, inl, inr, Bool, true, false, cond, List, Result, Ok, Err, IfOk, IfErr, refl, sym, ap, subst}
 use Rattle.gc_lines.specs.declared.fault.LineFault.{LineFault}
-use Rattle.gc_lines.specs.Headers.{◌>>=◌}
+use Rattle.gc_lines.specs.Headers.{Gives}
+use Rattle.gc_lines.specs.Readers.{◌>>=◌}
 
 -- It finds just what has the form, and has one fault.
 pub record Reads {A : Type 0} (read : List ℕ → Result A LineFault) (Has : List ℕ → A → Type 0) (fault : LineFault) : Type 0 where
@@ -48,3 +49,35 @@ guard_ok false x y d e = (cc)
 pub guard_err : {A : Type 0} (b : Bool) (x : A) (c d : LineFault) → cond b (Ok x) (Err c) ≡ Err d → (b ≡ false) × (c ≡ d)
 guard_err true x c d e = (cc)
 guard_err false x c d e = (refl, cc)
+
+-- a reader of lines finds just what has the grammar, and names just the first bad field
+pub record ReadsLines {F : Type 0} (read : List ℕ → Result F LineFault) (Is : List ℕ → F → Type 0) (Bad : List ℕ → LineFault → Type 0) : Type 0 where
+  pub found : (line : List ℕ) (x : F) → read line ≡ Ok x → Is line x
+  pub again : (line : List ℕ) (x : F) → Is line x → read line ≡ Ok x
+  pub fault : (line : List ℕ) (d : LineFault) → read line ≡ Err d → Bad line d
+  pub bad : (line : List ℕ) (d : LineFault) → Bad line d → read line ≡ Err d
+
+-- what a caller of it learns, who sees what it returned by a view
+pub record Learns {F X : Type 0} (Is : List ℕ → F → Type 0) (Bad : List ℕ → LineFault → Type 0) (view : X → F) (line : List ℕ) (r : Result X LineFault) : Type 0 where
+  pub found : IfOk r (λ x. Is line (view x))
+  pub only : (y : F) → Is line y → Gives view r (Ok y)
+  pub fault : IfErr r (λ d. Bad line d)
+  pub faulty : (d : LineFault) → Bad line d → r ≡ Err d
+
+pub learns : {F X : Type 0} {read : List ℕ → Result F LineFault} {Is : List ℕ → F → Type 0} {Bad : List ℕ → LineFault → Type 0} → ReadsLines read Is Bad
+    → (view : X → F) (line : List ℕ) (r : Result X LineFault) → Gives view r (read line) → Learns Is Bad view line r
+learns {F} {X} {read} {Is} {Bad} reads view line r gives = record { found = found r gives; only = only; fault = fault r gives; faulty = faulty r gives } where
+  found : (r : Result X LineFault) → Gives view r (read line) → IfOk r (λ x. Is line (view x))
+  found (Ok x) e = reads.found line (view x) e
+  found (Err d) e = tt
+
+  only : (y : F) → Is line y → Gives view r (Ok y)
+  only y is = subst (λ (got : Result F LineFault). Gives view r got) (reads.again line y is) gives
+
+  fault : (r : Result X LineFault) → Gives view r (read line) → IfErr r (λ d. Bad line d)
+  fault (Ok x) e = tt
+  fault (Err d) e = reads.fault line d e
+
+  faulty : (r : Result X LineFault) → Gives view r (read line) → (d : LineFault) → Bad line d → r ≡ Err d
+  faulty (Ok x) e d bad = let f = reads.bad line d bad in (cc)
+  faulty (Err c) e d bad = let f = reads.bad line d bad in (cc)

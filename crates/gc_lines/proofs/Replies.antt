@@ -3,10 +3,11 @@ use Rattle.std.proofs.Common.{◌≡◌, ℕ, inl, inr, List, [], ◌∷◌, ◌
 use Rattle.std.proofs.lemmas.Bool.{eqb-true}
 use Rattle.gc_lines.specs.declared.fault.LineFault.{LineFault}
 use Rattle.gc_lines.specs.declared.fault.LineFault.TheVariants.{Code}
-use Rattle.gc_lines.specs.Numbers.{HasNumber, NoDigitFirst, number_at}
-use Rattle.gc_lines.specs.Headers.{HeaderFields, header_at, id_text, ◌>>=◌}
-use Rattle.gc_lines.specs.Replies.{ReplyFields, IsReply, HasCode, EndsCode, FirstBadOfReply, reply_signature, params_at, code_at, reply_at}
-use Rattle.gc_lines.proofs.Reading.{Reads, refused, absent, bind_ok, bind_err, bind_on, guard_ok, guard_err}
+use Rattle.gc_lines.specs.Numbers.{HasNumber, NoDigitFirst}
+use Rattle.gc_lines.specs.Headers.{id_text}
+use Rattle.gc_lines.specs.Replies.{ReplyFields, IsReply, HasCode, EndsCode, FirstBadOfReply, reply_signature}
+use Rattle.gc_lines.specs.Readers.{number_at, HeaderFields, header_at, ◌>>=◌, params_at, code_at, reply_at}
+use Rattle.gc_lines.proofs.Reading.{ReadsLines, Reads, refused, absent, bind_ok, bind_err, bind_on, guard_ok, guard_err}
 use Rattle.gc_lines.proofs.Fields.{number_reads}
 use Rattle.gc_lines.proofs.Headers.{header_found, header_again, ReadsBody, line_fault, line_bad}
 
@@ -122,3 +123,7 @@ reply_bad line f bad = line_bad reply_signature body Body reads line f bad
 -- a line has one reading
 pub reply_one : (line : List ℕ) (p r : ReplyFields) → IsReply line p → IsReply line r → p ≡ r
 reply_one line p r is_p is_r = let a = reply_again line p is_p in let b = reply_again line r is_r in cc
+
+-- it finds just what has the grammar, and names just the first bad field
+pub reply_reads : ReadsLines reply_at IsReply FirstBadOfReply
+reply_reads = record { found = reply_found; again = reply_again; fault = reply_fault; bad = reply_bad }

@@ -1,9 +1,9 @@
 -- Reading a request finds the fields of the grammar, or the first that is bad.
 use Rattle.std.proofs.Common.{◌≡◌, ℕ, List, Result, Ok, Err, subst}
 use Rattle.gc_lines.specs.declared.fault.LineFault.{LineFault}
-use Rattle.gc_lines.specs.Headers.{HeaderFields, header_at}
-use Rattle.gc_lines.specs.Requests.{RequestFields, IsRequest, FirstBadOfRequest, request_signature, request_at}
-use Rattle.gc_lines.proofs.Reading.{bind_ok, bind_on}
+use Rattle.gc_lines.specs.Requests.{RequestFields, IsRequest, FirstBadOfRequest, request_signature}
+use Rattle.gc_lines.specs.Readers.{HeaderFields, header_at, request_at}
+use Rattle.gc_lines.proofs.Reading.{ReadsLines, bind_ok, bind_on}
 use Rattle.gc_lines.proofs.Headers.{header_found, header_again, ReadsBody, line_fault, line_bad}
 
 abbrev body : HeaderFields → Result RequestFields LineFault
@@ -41,3 +41,7 @@ request_bad line f bad = line_bad request_signature body (λ _. Unit {0}) reads 
 -- a line has one reading
 pub request_one : (line : List ℕ) (p q : RequestFields) → IsRequest line p → IsRequest line q → p ≡ q
 request_one line p q is_p is_q = let a = request_again line p is_p in let b = request_again line q is_q in cc
+
+-- it finds just what has the grammar, and names just the first bad field
+pub request_reads : ReadsLines request_at IsRequest FirstBadOfRequest
+request_reads = record { found = request_found; again = request_again; fault = request_fault; bad = request_bad }

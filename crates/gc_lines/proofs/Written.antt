@@ -5,8 +5,9 @@ use Rattle.std.proofs.lemmas.Fmt.{length-decimal-le, decimal_nonempty, decimal_i
 use Rattle.std.proofs.lemmas.Bool.{cases_lt}
 use Rattle.gc_lines.specs.Numbers.{IsNumber, NoLeadingZero}
 use Rattle.gc_lines.specs.Headers.{id_text}
-use Rattle.gc_lines.specs.Requests.{RequestFields, IsRequest, IsWrittenRequest, request_signature, request_text, request_at}
-use Rattle.gc_lines.specs.Replies.{ReplyFields, IsReply, IsWrittenReply, EndsCode, params_text, reply_signature, reply_text, reply_at}
+use Rattle.gc_lines.specs.Requests.{RequestFields, IsRequest, IsWrittenRequest, request_signature, request_text}
+use Rattle.gc_lines.specs.Replies.{ReplyFields, IsReply, IsWrittenReply, EndsCode, params_text, reply_signature, reply_text}
+use Rattle.gc_lines.specs.Readers.{request_at, reply_at}
 use Rattle.gc_lines.specs.Laws.{IsRequestInRange, IsReplyInRange}
 use Rattle.gc_lines.proofs.Digits.{plain}
 use Rattle.gc_lines.proofs.Requests.{request_again}
@@ -50,11 +51,11 @@ tail_written tail (b ∷ bs) (inr e) comma = e
 
 -- requests
 
-request_has : (q : RequestFields) → IsRequestInRange q → IsRequest (request_text q) q
+abbrev request_has : (q : RequestFields) → IsRequestInRange q → IsRequest (request_text q) q
 request_has q r = record { number = decimal q.rpc; is_number = decimal_number q.rpc r.rpc; is_id = r.id; whole = refl }
 
 is_written : (q : RequestFields) → IsRequestInRange q → IsWrittenRequest (request_text q) q
-is_written q r = record { is = record { number = decimal q.rpc; is_number = decimal_number q.rpc r.rpc; is_id = r.id; whole = refl }; number = decimal_zeros q.rpc r.rpc }
+is_written q r = record { is = request_has q r; number = decimal_zeros q.rpc r.rpc }
 
 pub request_written : (line : List ℕ) (q : RequestFields) → IsWrittenRequest line q ↔ (IsRequestInRange q × (line ≡ request_text q))
 request_written line q = (
@@ -70,7 +71,7 @@ request_back q r = request_again (request_text q) q (request_has q r)
 
 -- replies
 
-reply_has : (r : ReplyFields) → IsReplyInRange r → IsReply (reply_text r) r
+abbrev reply_has : (r : ReplyFields) → IsReplyInRange r → IsReply (reply_text r) r
 reply_has r in_range = record {
   number = decimal r.rc_com;
   code = decimal r.rc;
@@ -83,21 +84,7 @@ reply_has r in_range = record {
 }
 
 reply_is_written : (r : ReplyFields) → IsReplyInRange r → IsWrittenReply (reply_text r) r
-reply_is_written r in_range = record {
-  is = record {
-    number = decimal r.rc_com;
-    code = decimal r.rc;
-    tail = params_text r.params;
-    is_number = decimal_number r.rc_com in_range.rc_com;
-    is_id = in_range.id;
-    is_code = decimal_number r.rc in_range.rc;
-    is_tail = params_end r.params;
-    whole = refl;
-  };
-  number = decimal_zeros r.rc_com in_range.rc_com;
-  code = decimal_zeros r.rc in_range.rc;
-  comma = params_comma r.params;
-}
+reply_is_written r in_range = record { is = reply_has r in_range; number = decimal_zeros r.rc_com in_range.rc_com; code = decimal_zeros r.rc in_range.rc; comma = params_comma r.params }
 
 pub reply_written : (line : List ℕ) (r : ReplyFields) → IsWrittenReply line r ↔ (IsReplyInRange r × (line ≡ reply_text r))
 reply_written line r = (

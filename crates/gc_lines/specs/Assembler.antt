@@ -1,4 +1,5 @@
--- What an assembler keeps of the bytes since the last line feed: this project's own.
+-- No part of a promise: what an assembler keeps of the bytes since the last line feed. Whatever standing for a rest meant, what the
+-- assembler's contracts say of it at the start, over a piece without a line feed and at a line feed would give a stream's frames.
 use Rattle.std.specs.Prelude.{◌≡◌, ℕ, ◌-◌, List, Bool, length, take, nat_lt, slice_index}
 
 -- the first 513 of them, the last one, and whether there are more than 513

@@ -1,5 +1,5 @@
--- The faults of a line and their numbers: this project's own.
-use Rattle.std.specs.Prelude.{ℕ}
+-- The faults of a line and of a port, their numbers and texts: this project's own.
+use Rattle.std.specs.Prelude.{ℕ, List, codes}
 use Rattle.gc_lines.specs.declared.fault.LineFault.{LineFault}
 use Rattle.gc_lines.specs.declared.fault.LineFault.TheVariants.{Signature, Number, Id, Colon, Code, TooLong}
 
@@ -11,3 +11,16 @@ fault_number Id = 3
 fault_number Colon = 4
 fault_number Code = 5
 fault_number TooLong = 6
+
+-- a fault in words
+abbrev pub fault_text : LineFault → List ℕ
+fault_text Signature = codes "the line doesn't begin as a request or a reply"
+fault_text Number = codes "the number behind the signature is missing or out of range"
+fault_text Id = codes "the transaction id isn't one digit from 0 to 7"
+fault_text Colon = codes "the colon is missing"
+fault_text Code = codes "the return code is missing, out of range, or followed by something else than a comma"
+fault_text TooLong = codes "the line would pass 512 bytes"
+
+-- a port's failure in words
+abbrev pub port_text : List ℕ
+port_text = codes "the port has failed"

@@ -1,21 +1,9 @@
 -- What requests and replies share: a signature, a number, an id where there is one, and a colon. The forms are the manual's, the ids from 0 to 7 are this project's own.
-use Rattle.std.specs.Prelude.{◌≡◌, ◌≢◌, ℕ, ◌+◌, ◌-◌, ◌<◌, ◌==◌, ◌&&◌, List, [], ◌∷◌, ◌++◌, length, take, drop, nat_lt, nat_eq, slice_index, if◌then◌else◌, Option, Some, None, Result, Ok, Err, IfSome}
-use Rattle.std.specs.Cmp.Lexicographic.{pointwise}
+use Rattle.std.specs.Prelude.{◌≡◌, ◌≢◌, ℕ, ◌+◌, ◌<◌, List, [], ◌∷◌, ◌++◌, Option, Some, None, Result, Ok, Err, IfSome}
 use Rattle.std.specs.Fmt.{decimal}
 use Rattle.gc_lines.specs.declared.fault.LineFault.{LineFault}
 use Rattle.gc_lines.specs.declared.fault.LineFault.TheVariants.{Signature, Number, Id, Colon, Code, TooLong}
-use Rattle.gc_lines.specs.declared.header.Header.{Header}
-use Rattle.gc_lines.specs.Numbers.{NoDigitFirst, HasNumber, number_at, digits_len}
-
--- what the fields up to the colon say, and what follows the colon
-pub record HeaderFields : Type 0 where
-  pub number : ℕ
-  pub id : Option ℕ
-  pub rest : List ℕ
-
--- what a contract sees of a header
-abbrev pub header_seen : Header → HeaderFields
-header_seen h = record { number = h.number; id = h.id; rest = h.rest.now }
+use Rattle.gc_lines.specs.Numbers.{NoDigitFirst, HasNumber}
 
 -- an id behind a comma, or nothing
 abbrev pub id_text : Option ℕ → List ℕ
@@ -68,38 +56,7 @@ FirstBadField signature Body line Colon = (from : List ℕ) × PastId signature 
 FirstBadField signature Body line Code = (from : List ℕ) × PastColon signature line from × (¬ Body from)
 FirstBadField signature Body line TooLong = ⊥
 
--- Reading from the left: each field's value and what follows it, or the fault.
-
--- go on where there was no fault
-infixl 10 ◌>>=◌
-abbrev pub ◌>>=◌ : {A B : Type 0} → Result A LineFault → (A → Result B LineFault) → Result B LineFault
-(Ok x) >>= f = f x
-(Err e) >>= f = Err e
-
--- what follows the signature
-abbrev pub signature_at : List ℕ → List ℕ → Result (List ℕ) LineFault
-signature_at signature line = if pointwise nat_eq (take (length signature) line) signature then Ok (drop (length signature) line) else Err Signature
-
--- the id at the front, where a comma is, and what follows it
-abbrev pub id_at : List ℕ → Result (Option ℕ × List ℕ) LineFault
-id_at bytes =
-    if slice_index bytes 0 == 44
-    then (if (digits_len (drop 1 bytes) == 1) && nat_lt (slice_index bytes 1) 56
-    then Ok (Some (slice_index bytes 1 - 48), drop 2 bytes) else Err Id)
-    else Ok (None, bytes)
-
--- what follows the colon
-abbrev pub colon_at : List ℕ → Result (List ℕ) LineFault
-colon_at bytes = if slice_index bytes 0 == 58 then Ok (drop 1 bytes) else Err Colon
-
--- the fields through the colon
-unfoldable pub header_at : List ℕ → List ℕ → Result HeaderFields LineFault
-header_at signature line = do
-  from ← signature_at signature line
-  number ← number_at Number from
-  id ← id_at number.1
-  rest ← colon_at id.1
-  Ok (record { number = number.0; id = id.0; rest = rest })
+-- What a reader answers.
 
 -- what a function returned, seen by a view, is what reading gives
 abbrev pub Gives : {X Y : Type 0} → (X → Y) → Result X LineFault → Result Y LineFault → Type 0

@@ -1,11 +1,12 @@
--- What is claimed of the definitions themselves, apart from any call.
+-- What is claimed of the definitions themselves, apart from any call: this project's own.
 use Rattle.std.specs.Prelude.{◌≡◌, ◌↔◌, ℕ, ◌<◌, ◌≤◌, List, [], ◌∷◌, ◌++◌, length, IfSome, Ok, Err}
 use Rattle.gc_lines.specs.declared.fault.LineFault.{LineFault}
 use Rattle.gc_lines.specs.declared.frame.Frame.TheVariants.{Line}
 use Rattle.gc_lines.specs.Lines.{IsPlain}
 use Rattle.gc_lines.specs.Frames.{IsCut, pieces, rest_of, frames}
-use Rattle.gc_lines.specs.Requests.{RequestFields, IsRequest, IsWrittenRequest, FirstBadOfRequest, request_at, request_text}
-use Rattle.gc_lines.specs.Replies.{ReplyFields, IsReply, IsWrittenReply, FirstBadOfReply, reply_at, reply_text}
+use Rattle.gc_lines.specs.Requests.{RequestFields, IsRequest, IsWrittenRequest, FirstBadOfRequest, request_text}
+use Rattle.gc_lines.specs.Replies.{ReplyFields, IsReply, IsWrittenReply, FirstBadOfReply, reply_text}
+use Rattle.gc_lines.specs.Readers.{request_at, reply_at}
 
 -- a stream has one cutting at its line feeds, and its pieces and rest are that one
 abbrev pub OneCut : Type 0

@@ -6,5 +6,9 @@ pub mod Numbers
 pub mod Headers
 pub mod Requests
 pub mod Replies
+pub mod Readers
 pub mod Faults
 pub mod Laws
+pub mod Lent
+pub mod Answering
+pub mod Passing

@@ -1,9 +1,7 @@
 -- The numbers of a line: the manual's, with this project's own leave to write leading zeros within five digits.
-use Rattle.std.specs.Prelude.{◌≡◌, ℕ, ◌<◌, ◌≤◌, ◌&&◌, false, List, [], ◌∷◌, ◌++◌, length, take, drop, nat_lt, slice_index, if◌then◌else◌, Result, Ok, Err}
-use Rattle.std.specs.List.{take_while}
+use Rattle.std.specs.Prelude.{◌≡◌, ℕ, ◌<◌, ◌≤◌, false, List, [], ◌∷◌, ◌++◌, length, slice_index}
 use Rattle.std.specs.Char.{is_ascii_digit}
 use Rattle.std.specs.Str.Parse.{digits_value, AllDigits}
-use Rattle.gc_lines.specs.declared.fault.LineFault.{LineFault}
 
 -- a text of one to five digits is worth a number, which is at most 65535
 pub record IsNumber (text : List ℕ) (n : ℕ) : Type 0 where
@@ -28,14 +26,3 @@ pub record HasNumber (bytes : List ℕ) (n : ℕ) (rest : List ℕ) : Type 0 whe
   pub is_number : IsNumber text n
   pub whole : bytes ≡ text ++ rest
   pub ends : NoDigitFirst rest
-
--- how many digits stand at the front
-abbrev pub digits_len : List ℕ → ℕ
-digits_len bytes = length (take_while is_ascii_digit bytes)
-
--- the number at the front and what follows it, or the fault that this place of the line has
-abbrev pub number_at : LineFault → List ℕ → Result (ℕ × List ℕ) LineFault
-number_at fault bytes =
-    let len = digits_len bytes in
-    if nat_lt 0 len && (nat_lt len 6 && nat_lt (digits_value 10 (take len bytes)) 65536)
-    then Ok (digits_value 10 (take len bytes), drop len bytes) else Err fault

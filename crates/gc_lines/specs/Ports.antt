@@ -21,3 +21,12 @@ Fails old new (Err _) = new ≡ true
 abbrev pub TakesBytes : {E : Type 0} → Option (List ℕ) → Option (List ℕ) → Result ℕ E → List ℕ → Type 0
 TakesBytes old new (Ok n) bytes = (n ≤ length bytes) × (0 < length bytes → 0 < n) × Appends old new (take n bytes)
 TakesBytes old new (Err _) bytes = Keeps old new
+
+-- a sink failed where the call did, and else is as it was
+abbrev pub FailsWith : {X E : Type 0} → Result X E → Bool → Bool → Type 0
+FailsWith (Ok _) old new = new ≡ old
+FailsWith (Err _) old new = new ≡ true
+
+-- a sink took the first n bytes of a text, which aren't all of it
+abbrev pub TakesFront : Option (List ℕ) → Option (List ℕ) → ℕ → List ℕ → Type 0
+TakesFront old new n text = (n < length text) × Appends old new (take n text)

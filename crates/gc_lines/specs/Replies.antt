@@ -1,11 +1,10 @@
 -- Reply lines: %R1P,<RC_COM>[,<TrId>]:<RC>[,<P0>,<P1>,...], as the manual's chapter on the ASCII protocol has them.
-use Rattle.std.specs.Prelude.{◌≡◌, ◌↔◌, ℕ, ◌<◌, ◌==◌, ◌⊎◌, List, [], ◌∷◌, ◌++◌, if◌then◌else◌, Option, Result, Ok, Err, IfSome, codes}
+use Rattle.std.specs.Prelude.{◌≡◌, ◌↔◌, ℕ, ◌<◌, ◌⊎◌, List, [], ◌∷◌, ◌++◌, Option, IfSome, codes}
 use Rattle.std.specs.Fmt.{decimal}
 use Rattle.gc_lines.specs.declared.fault.LineFault.{LineFault}
-use Rattle.gc_lines.specs.declared.fault.LineFault.TheVariants.{Code}
 use Rattle.gc_lines.specs.declared.reply.Reply.{Reply}
-use Rattle.gc_lines.specs.Numbers.{IsNumber, NoLeadingZero, number_at}
-use Rattle.gc_lines.specs.Headers.{id_text, FirstBadField, header_at, ◌>>=◌}
+use Rattle.gc_lines.specs.Numbers.{IsNumber, NoLeadingZero}
+use Rattle.gc_lines.specs.Headers.{id_text, FirstBadField}
 
 -- what a reply says
 pub record ReplyFields : Type 0 where
@@ -14,10 +13,6 @@ pub record ReplyFields : Type 0 where
   pub rc : ℕ
   pub params : List ℕ
 
--- what a contract sees of a reply
-abbrev pub reply_seen : Reply → ReplyFields
-reply_seen r = record { rc_com = r.rc_com; id = r.id; rc = r.rc; params = r.params.now }
-
 -- how a reply line begins
 abbrev pub reply_signature : List ℕ
 reply_signature = codes "%R1P,"
@@ -25,14 +20,6 @@ reply_signature = codes "%R1P,"
 -- behind a return code the line ends, or a comma and then the parameters follow
 abbrev pub EndsCode : List ℕ → List ℕ → Type 0
 EndsCode tail params = ((tail ≡ []) × (params ≡ [])) ⊎ (tail ≡ 44 ∷ params)
-
--- the bytes are a return code and, where any are there, the parameters behind a comma
-pub record HasCode (bytes : List ℕ) (rc : ℕ) (params : List ℕ) : Type 0 where
-  pub text : List ℕ
-  pub tail : List ℕ
-  pub is_number : IsNumber text rc
-  pub is_tail : EndsCode tail params
-  pub whole : bytes ≡ text ++ tail
 
 -- a line has the grammar of a reply with these fields: it is the fields' texts, one behind the other
 pub record IsReply (line : List ℕ) (fields : ReplyFields) : Type 0 where
@@ -45,28 +32,21 @@ pub record IsReply (line : List ℕ) (fields : ReplyFields) : Type 0 where
   pub is_tail : EndsCode tail fields.params
   pub whole : line ≡ reply_signature ++ (number ++ (id_text fields.id ++ 58 ∷ (code ++ tail)))
 
+-- what a contract sees of a reply
+abbrev pub reply_seen : Reply → ReplyFields
+reply_seen r = record { rc_com = r.rc_com; id = r.id; rc = r.rc; params = r.params.now }
+
+-- the bytes are a return code and, where any are there, the parameters behind a comma
+pub record HasCode (bytes : List ℕ) (rc : ℕ) (params : List ℕ) : Type 0 where
+  pub text : List ℕ
+  pub tail : List ℕ
+  pub is_number : IsNumber text rc
+  pub is_tail : EndsCode tail params
+  pub whole : bytes ≡ text ++ tail
+
 -- the first field of a reply from the left that has not its form
 abbrev pub FirstBadOfReply : List ℕ → LineFault → Type 0
 FirstBadOfReply line fault = FirstBadField reply_signature (λ bytes. (rc : ℕ) × (params : List ℕ) × HasCode bytes rc params) line fault
-
--- the parameters behind a return code
-abbrev pub params_at : List ℕ → Result (List ℕ) LineFault
-params_at [] = Ok []
-params_at (b ∷ bs) = if b == 44 then Ok bs else Err Code
-
--- the return code and the parameters behind it
-abbrev pub code_at : List ℕ → Result (ℕ × List ℕ) LineFault
-code_at bytes = do
-  code ← number_at Code bytes
-  params ← params_at code.1
-  Ok (code.0, params)
-
--- reading a reply from the left
-unfoldable pub reply_at : List ℕ → Result ReplyFields LineFault
-reply_at line = do
-  header ← header_at reply_signature line
-  code ← code_at header.rest
-  Ok (record { rc_com = header.number; id = header.id; rc = code.0; params = code.1 })
 
 -- a reply line is written where its numbers have no leading zeros, and a comma is behind the return code exactly where there are parameters
 pub record IsWrittenReply (line : List ℕ) (fields : ReplyFields) : Type 0 where

@@ -1,10 +1,10 @@
 -- Request lines: %R1Q,<RPC>[,<TrId>]:[<P0>][,<P1>,...], as the manual's chapter on the ASCII protocol has them.
-use Rattle.std.specs.Prelude.{◌≡◌, ℕ, ◌<◌, List, ◌∷◌, ◌++◌, Option, Result, Ok, IfSome, codes}
+use Rattle.std.specs.Prelude.{◌≡◌, ℕ, ◌<◌, List, ◌∷◌, ◌++◌, Option, IfSome, codes}
 use Rattle.std.specs.Fmt.{decimal}
 use Rattle.gc_lines.specs.declared.fault.LineFault.{LineFault}
 use Rattle.gc_lines.specs.declared.request.Request.{Request}
 use Rattle.gc_lines.specs.Numbers.{IsNumber, NoLeadingZero}
-use Rattle.gc_lines.specs.Headers.{id_text, FirstBadField, header_at, ◌>>=◌}
+use Rattle.gc_lines.specs.Headers.{id_text, FirstBadField}
 
 -- what a request says
 pub record RequestFields : Type 0 where
@@ -30,12 +30,6 @@ pub record IsRequest (line : List ℕ) (fields : RequestFields) : Type 0 where
 -- the first field of a request from the left that has not its form; any bytes are parameters
 abbrev pub FirstBadOfRequest : List ℕ → LineFault → Type 0
 FirstBadOfRequest line fault = FirstBadField request_signature (λ _. Unit {0}) line fault
-
--- reading a request from the left
-unfoldable pub request_at : List ℕ → Result RequestFields LineFault
-request_at line = do
-  header ← header_at request_signature line
-  Ok (record { rpc = header.number; id = header.id; params = header.rest })
 
 -- a request line is written where its number has no leading zeros
 pub record IsWrittenRequest (line : List ℕ) (fields : RequestFields) : Type 0 where

@@ -1,19 +1,21 @@
 //! Lines out of the pieces of a stream: a line ends at LF alone, wherever the stream is cut.
 
-ghost use Rattle.std.specs.Prelude.{◌≡◌, ℕ, ◌+◌, List, [], ◌++◌, ◌<◌, ◌↔◌, length, take, Some, None, IfSome, IsTrue};
+ghost use Rattle.std.specs.Prelude.{◌≡◌, ℕ, ◌+◌, List, [], ◌++◌, ◌<◌, ◌≤◌, ◌↔◌, length, take, Some, None, IfSome, IsTrue};
 ghost use Rattle.std.specs.List.{position};
 ghost use Rattle.gc_lines.specs.Assembler.{StandsFor};
 ghost use Rattle.gc_lines.specs.Frames.{is_line_feed, frame_of};
+ghost use Rattle.gc_lines.specs.Lent.{lent_seen, IsLineWithin};
 
-use crate::frame::Frame;
+use crate::frame::{Frame, Lent};
 use crate::line::{Line, append};
 use arrayvec::ArrayVec;
+use memchr::memchr;
 use std::marker::Model;
 
 /// Takes the pieces of a stream, and gives its frames.
 ///
-/// It stands for the bytes since the last line feed, at first for none. It keeps what the next frame needs of them and no
-/// more, so its size does not grow with the stream.
+/// It always stands for some bytes since the last line feed, at first for none. It keeps what the next frame needs of them
+/// and no more, so its size does not grow with the stream.
 #[derive(Drop)]
 pub struct Assembler {
     front: ArrayVec<u8, 513>,
@@ -22,11 +24,14 @@ pub struct Assembler {
 }
 
 impl Model for Assembler {
-    ghost use Rattle.gc_lines.specs.Assembler.{Kept};
+    ghost use Rattle.std.specs.Prelude.{ℕ, List};
+    ghost use Rattle.gc_lines.specs.Assembler.{Kept, StandsFor};
 
     ghost Value = { Kept };
 
     ghost view = { λ a. record { front = a.front.items; last = a.last; long = a.long } };
+
+    ghost invariant = { λ a. (rest : List ℕ) × StandsFor (record { front = a.front.items; last = a.last; long = a.long }) rest };
 }
 
 impl Assembler {
@@ -43,38 +48,64 @@ impl Assembler {
 
     /// Whether no byte came since the last line feed.
     pub fn at_start(&self) -> bool
-        ensures { (rest : List ℕ) → StandsFor self.now rest → IsTrue result ↔ (rest ≡ []) }
+        ensures stands { (rest : List ℕ) × StandsFor self.now rest }
+        ensures start { (rest : List ℕ) → StandsFor self.now rest → IsTrue result ↔ (rest ≡ []) }
     {
         self.front.is_empty()
     }
 
     /// Uses the piece through its first line feed, and says how many bytes that were and what they end.
     ///
-    /// Where the piece has no line feed, all of it is used and the frame is [`Frame::More`], also where it is empty. After
-    /// the other three frames the assembler is at the start of a line.
+    /// Where the piece has no line feed, all of it is used and the frame is [`Lent::More`], also where it is empty. After
+    /// the other three frames the assembler is at the start of a line. A line that stands whole in the piece is lent from
+    /// there; one that earlier pieces began is put together in `cut`, whatever stood there, and lent from there.
+    #[inline]
+    pub fn next<'a>(&mut self, piece: &'a [u8], cut: &'a mut Line) -> (usize, Lent<'a>)
+        ensures stands { (rest : List ℕ) × StandsFor self.old rest }
+        ensures used { (result.0 ≤ length piece.now) × (0 < length piece.now → 0 < result.0) }
+        ensures more { position is_line_feed piece.now ≡ None → (result.0 ≡ length piece.now) × (lent_seen result.1 ≡ Frame.More)
+            × ((rest : List ℕ) → StandsFor self.old rest → StandsFor self.new (rest ++ piece.now)) }
+        ensures frame { (at : ℕ) → position is_line_feed piece.now ≡ Some at → (result.0 ≡ at + 1)
+            × ((rest : List ℕ) → StandsFor self.old rest → lent_seen result.1 ≡ frame_of (rest ++ take at piece.now))
+            × StandsFor self.new [] }
+        ensures within { IsLineWithin result.1 }
+    {
+        let Some(at) = line_feed_at(piece) else {
+            self.keep(piece);
+            return (piece.len(), Lent::More);
+        };
+        if self.front.is_empty() {
+            return (at + 1, frame_in(&piece[..at]));
+        }
+        self.keep(&piece[..at]);
+        (at + 1, self.finish(cut))
+    }
+
+    /// As [`Assembler::next`], with the line handed over.
     #[inline]
     pub fn take(&mut self, piece: &[u8]) -> (usize, Frame)
+        ensures stands { (rest : List ℕ) × StandsFor self.old rest }
+        ensures used { (result.0 ≤ length piece.now) × (0 < length piece.now → 0 < result.0) }
         ensures more { position is_line_feed piece.now ≡ None → (result.0 ≡ length piece.now) × (result.1 ≡ Frame.More)
             × ((rest : List ℕ) → StandsFor self.old rest → StandsFor self.new (rest ++ piece.now)) }
         ensures frame { (at : ℕ) → position is_line_feed piece.now ≡ Some at → (result.0 ≡ at + 1)
             × ((rest : List ℕ) → StandsFor self.old rest → result.1 ≡ frame_of (rest ++ take at piece.now))
             × StandsFor self.new [] }
     {
-        let Some(at) = line_feed_at(piece) else {
-            self.keep(piece);
-            return (piece.len(), Frame::More);
-        };
-        self.keep(&piece[..at]);
-        self.finish(at + 1)
+        let mut cut = Line::new();
+        let (used, lent) = self.next(piece, &mut cut);
+        (used, lent.to_frame())
     }
 
     // Keeps what has to be kept of more bytes.
+    #[inline(never)]
     fn keep(&mut self, bytes: &[u8])
-        ensures { (rest : List ℕ) → StandsFor self.old rest → StandsFor self.new (rest ++ bytes.now) }
+        ensures stands { (rest : List ℕ) × StandsFor self.old rest }
+        ensures more { (rest : List ℕ) → StandsFor self.old rest → StandsFor self.new (rest ++ bytes.now) }
     {
+        let room = self.front.remaining_capacity();
         let Some(last) = bytes.last() else { return };
         self.last = *last;
-        let room = self.front.remaining_capacity();
         if bytes.len() <= room {
             append(&mut self.front, bytes);
         } else {
@@ -83,27 +114,26 @@ impl Assembler {
         }
     }
 
-    // What a line feed makes of what came so far, and then the start of a line. It gives the whole answer of `take`, so that
-    // a line is built where it is handed out.
-    #[inline]
-    fn finish(&mut self, used: usize) -> (usize, Frame)
-        ensures used { result.0 ≡ used }
-        ensures frame { (rest : List ℕ) → StandsFor self.old rest → result.1 ≡ frame_of rest }
+    // What a line feed makes of what came so far, its line put together in `cut`, and then the start of a line.
+    #[inline(never)]
+    fn finish<'a>(&mut self, cut: &'a mut Line) -> Lent<'a>
+        ensures frame { (rest : List ℕ) → StandsFor self.old rest → lent_seen result ≡ frame_of rest }
         ensures start { StandsFor self.new [] }
+        ensures within { IsLineWithin result }
     {
         if self.front.is_empty() || self.last != b'\r' {
             self.clear();
-            return (used, Frame::Cleared);
+            return Lent::Cleared;
         }
         if self.long {
             self.clear();
-            return (used, Frame::Overlong);
+            return Lent::Overlong;
         }
         let len = self.front.len() - 1;
-        let mut line = Line::new();
-        append(&mut line, &self.front[..len]);
+        cut.clear();
+        append(cut, &self.front[..len]);
         self.clear();
-        (used, Frame::Line(line))
+        Lent::Line(cut)
     }
 
     // Goes to the start of a line.
@@ -117,11 +147,26 @@ impl Assembler {
     }
 }
 
+// What a line feed makes of the bytes of a piece that began a line.
+#[inline]
+fn frame_in(bytes: &[u8]) -> Lent<'_>
+    ensures frame { lent_seen result ≡ frame_of bytes.now }
+    ensures within { IsLineWithin result }
+{
+    let [line @ .., b'\r'] = bytes else {
+        return Lent::Cleared;
+    };
+    if line.len() > 512 {
+        return Lent::Overlong;
+    }
+    Lent::Line(line)
+}
+
 // Where the first line feed is.
 #[inline]
 fn line_feed_at(piece: &[u8]) -> Option<usize>
     ensures at { result ≡ position is_line_feed piece.now }
     ensures within { IfSome result (λ at. at < length piece.now) }
 {
-    piece.iter().position(|b| *b == b'\n')
+    memchr(b'\n', piece)
 }

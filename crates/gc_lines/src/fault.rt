@@ -1,7 +1,10 @@
-//! The faults of a line, one for each field, and their numbers.
+//! The faults of a line, one for each field, their numbers and their texts.
 
-ghost use Rattle.std.specs.Prelude.{◌≡◌};
-ghost use Rattle.gc_lines.specs.Faults.{fault_number};
+ghost use Rattle.std.specs.Prelude.{◌≡◌, Some};
+ghost use Rattle.gc_lines.specs.Faults.{fault_number, fault_text};
+
+use std::error::Error;
+use std::fmt;
 
 /// Why a line was not read or written. A reader names the first faulty field from the left.
 ///
@@ -39,3 +42,22 @@ impl LineFault {
         }
     }
 }
+
+impl fmt::Display for LineFault {
+    ghost output = { λ fault. Some (fault_text fault) };
+
+    fn fmt<W: fmt::Write>(&self, f: &mut fmt::Formatter<W>) -> fmt::Result {
+        f.write_str(match self {
+            LineFault::Signature => "the line doesn't begin as a request or a reply",
+            LineFault::Number => "the number behind the signature is missing or out of range",
+            LineFault::Id => "the transaction id isn't one digit from 0 to 7",
+            LineFault::Colon => "the colon is missing",
+            LineFault::Code => {
+                "the return code is missing, out of range, or followed by something else than a comma"
+            }
+            LineFault::TooLong => "the line would pass 512 bytes",
+        })
+    }
+}
+
+impl Error for LineFault {}

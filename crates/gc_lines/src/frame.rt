@@ -1,6 +1,8 @@
 //! A frame is what a line feed, or the end of a piece, makes of the bytes before it.
 
-use crate::line::Line;
+ghost use Rattle.std.specs.Prelude.{◌≡◌};
+
+use crate::line::{Line, append};
 
 /// What stands between two line feeds of a stream.
 ///
@@ -16,4 +18,38 @@ pub enum Frame {
     Overlong,
     /// No line feed came yet.
     More,
+}
+
+/// A frame whose line is lent: as it stands in a piece, or where it was put together.
+#[derive(Clone, Copy, Debug, PartialEq, Eq)]
+pub enum Lent<'a> {
+    /// As [`Frame::Line`].
+    Line(&'a [u8]),
+    /// As [`Frame::Cleared`].
+    Cleared,
+    /// As [`Frame::Overlong`].
+    Overlong,
+    /// As [`Frame::More`].
+    More,
+}
+
+ghost use Rattle.gc_lines.specs.Lent.{lent_seen, IsLineWithin};
+
+impl Lent<'_> {
+    // The frame, its line copied.
+    pub(crate) fn to_frame(self) -> Frame
+        requires { IsLineWithin self }
+        ensures { result ≡ lent_seen self.entry }
+    {
+        match self {
+            Lent::Line(bytes) => {
+                let mut line = Line::new();
+                append(&mut line, bytes);
+                Frame::Line(line)
+            }
+            Lent::Cleared => Frame::Cleared,
+            Lent::Overlong => Frame::Overlong,
+            Lent::More => Frame::More,
+        }
+    }
 }

@@ -3,11 +3,13 @@
 ghost use Rattle.std.specs.Prelude.{◌≡◌, ◌+◌, ◌<◌, ◌≤◌, ◌++◌, [], length};
 ghost use Rattle.std.specs.Option.{ForSome};
 ghost use Rattle.arrayvec.specs.ArrayVec.{array_vec_len};
-ghost use Rattle.gc_lines.specs.Headers.{header_seen, signature_at, id_at, colon_at, header_at, Gives, id_text, header_text};
+ghost use Rattle.gc_lines.specs.Headers.{Gives, id_text, header_text};
+ghost use Rattle.gc_lines.specs.Readers.{header_seen, signature_at, id_at, colon_at, header_at};
 
 use crate::fault::LineFault;
-use crate::line::{Line, append};
-use crate::number::{append_number, count_digits, number_of};
+use crate::line::append;
+use crate::number::{count_digits, number_of, push_number};
+use arrayvec::ArrayVec;
 
 // The fields up to the colon, and what follows the colon.
 #[derive(Clone, Copy)]
@@ -18,8 +20,8 @@ pub(crate) struct Header<'a> {
 }
 
 // Reads the fields up to the colon from the left.
-#[inline]
-#[tactic(auto, unfolding(crate::specs::Headers::header_at))]
+#[inline(always)]
+#[tactic(auto, unfolding(crate::specs::Readers::header_at))]
 pub(crate) fn header_of<'a>(signature: &[u8], line: &'a [u8]) -> Result<Header<'a>, LineFault>
     ensures { Gives header_seen result (header_at signature.now line.now) }
 {
@@ -30,7 +32,7 @@ pub(crate) fn header_of<'a>(signature: &[u8], line: &'a [u8]) -> Result<Header<'
     Ok(Header { number, id, rest })
 }
 
-#[inline]
+#[inline(always)]
 fn after_signature<'a>(signature: &[u8], line: &'a [u8]) -> Result<&'a [u8], LineFault>
     ensures { Gives (λ rest. rest.now) result (signature_at signature.now line.now) }
 {
@@ -38,7 +40,7 @@ fn after_signature<'a>(signature: &[u8], line: &'a [u8]) -> Result<&'a [u8], Lin
 }
 
 // The id behind a comma, or none, and what follows.
-#[inline]
+#[inline(always)]
 fn id_of(bytes: &[u8]) -> Result<(Option<u8>, &[u8]), LineFault>
     ensures { Gives (λ x. (x.0, x.1.now)) result (id_at bytes.now) }
 {
@@ -51,7 +53,7 @@ fn id_of(bytes: &[u8]) -> Result<(Option<u8>, &[u8]), LineFault>
     Ok((Some(rest[0] - b'0'), &rest[1..]))
 }
 
-#[inline]
+#[inline(always)]
 fn after_colon(bytes: &[u8]) -> Result<&[u8], LineFault>
     ensures { Gives (λ rest. rest.now) result (colon_at bytes.now) }
 {
@@ -61,29 +63,34 @@ fn after_colon(bytes: &[u8]) -> Result<&[u8], LineFault>
     }
 }
 
-// Writes the fields up to the colon into an empty line.
-pub(crate) fn put_header(line: &mut Line, signature: &[u8], number: u16, id: Option<u8>)
-    requires empty { line.old.items ≡ [] }
-    requires signature { length signature.now ≤ 5 }
+// Appends the fields up to the colon.
+#[inline(always)]
+pub(crate) fn push_header<const N: usize>(
+    to: &mut ArrayVec<u8, N>,
+    signature: &[u8; 5],
+    number: u16,
+    id: Option<u8>,
+)
     requires id { ForSome id (λ i. i < 8) }
-    ensures items { line.new.items ≡ header_text signature.now number id }
-    ensures len { array_vec_len line.new ≤ 13 }
+    requires room { array_vec_len to.old + 13 ≤ N }
+    ensures items { to.new.items ≡ to.old.items ++ header_text signature.now number id }
+    ensures len { array_vec_len to.new ≤ array_vec_len to.old + 13 }
 {
-    append(line, signature);
-    append_number(line, number);
-    append_id(line, id);
-    line.push(b':');
+    append(to, signature);
+    push_number(to, number);
+    push_id(to, id);
+    to.push(b':');
 }
 
 // Appends an id behind a comma, if there is one.
-fn append_id(line: &mut Line, id: Option<u8>)
+#[inline(always)]
+fn push_id<const N: usize>(to: &mut ArrayVec<u8, N>, id: Option<u8>)
     requires id { ForSome id (λ i. i < 8) }
-    requires room { array_vec_len line.old + 2 ≤ 512 }
-    ensures items { line.new.items ≡ line.old.items ++ id_text id }
-    ensures len { array_vec_len line.new ≤ array_vec_len line.old + 2 }
+    requires room { array_vec_len to.old + 2 ≤ N }
+    ensures items { to.new.items ≡ to.old.items ++ id_text id }
+    ensures len { array_vec_len to.new ≤ array_vec_len to.old + 2 }
 {
     if let Some(id) = id {
-        line.push(b',');
-        line.push(b'0' + id);
+        append(to, &[b',', b'0' + id]);
     }
 }

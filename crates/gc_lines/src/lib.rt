@@ -1,9 +1,11 @@
 //! The lines of the GeoCOM ASCII protocol: ports, line assembly, requests and replies.
 //!
-//! Bytes come from a [`Source`] and go to a [`Sink`]. An [`Assembler`] makes lines of what was read, however it is cut.
+//! Bytes come from a [`Source`] and go to a [`Sink`]. An [`Assembler`] makes lines of what was read, however it is cut: a line
+//! that stands whole in what was read is lent from there, and only a cut one is put together.
 //! A line is read as a [`Request`] or a [`Reply`] and written again. Nothing here allocates.
 #![tactic(auto)]
 
+mod answering;
 mod assembler;
 mod fault;
 mod frame;
@@ -15,17 +17,22 @@ mod number;
 mod ports;
 mod reply;
 mod request;
+mod served;
 mod to_writer;
+mod writing;
 
+pub use answering::{Answers, Outgoing, answer_frames};
 pub use assembler::Assembler;
 pub use fault::LineFault;
-pub use frame::Frame;
+pub use frame::{Frame, Lent};
 pub use from_reader::FromReader;
-pub use line::{Line, is_plain};
+pub use line::{Line, append, copy_of, is_plain};
 pub use ports::{PortFailed, Sink, Source};
-pub use reply::{Reply, begin_reply, read_reply, write_reply};
-pub use request::{Request, begin_request, read_request, write_request};
+pub use reply::{Reply, begin_reply, push_reply, read_reply, write_reply};
+pub use request::{Request, begin_request, push_request, read_request, write_request};
+pub use served::{ServeFault, Served};
 pub use to_writer::ToWriter;
+pub use writing::{write_line, write_whole};
 
 #[cfg(test)]
 mod tests;

@@ -16,12 +16,22 @@ pub fn is_plain(bytes: &[u8]) -> bool
     bytes.iter().all(|b| *b != b'\n' && *b != b'\r')
 }
 
-// Appends bytes that fit.
+/// Appends bytes, for which there is room.
 #[inline]
-pub(crate) fn append<const N: usize>(to: &mut ArrayVec<u8, N>, bytes: &[u8])
+pub fn append<const N: usize>(to: &mut ArrayVec<u8, N>, bytes: &[u8])
     requires { array_vec_len to.old + length bytes.now ≤ N }
     ensures { to.new.items ≡ to.old.items ++ bytes.now }
 {
     // The caller has shown that there is room, so this is no fault that is passed over.
     let _ = to.try_extend_from_slice(bytes);
+}
+
+/// Another line with the same bytes.
+#[inline]
+pub fn copy_of(line: &Line) -> Line
+    ensures { result.items ≡ line.now.items }
+{
+    let mut copy = Line::new();
+    append(&mut copy, line);
+    copy
 }

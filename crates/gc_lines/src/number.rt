@@ -4,11 +4,12 @@ ghost use Rattle.std.specs.Prelude.{◌≡◌, ◌+◌, ◌++◌, ◌≤◌, len
 ghost use Rattle.std.specs.Fmt.{decimal};
 ghost use Rattle.std.specs.Str.Parse.{digits_value, AllDigits};
 ghost use Rattle.arrayvec.specs.ArrayVec.{array_vec_len};
-ghost use Rattle.gc_lines.specs.Numbers.{digits_len, number_at};
 ghost use Rattle.gc_lines.specs.Headers.{Gives};
+ghost use Rattle.gc_lines.specs.Readers.{digits_len, number_at};
 
 use crate::fault::LineFault;
-use crate::line::Line;
+use crate::line::append;
+use arrayvec::ArrayVec;
 
 // How many digits stand at the front.
 #[inline]
@@ -20,50 +21,53 @@ pub(crate) fn count_digits(bytes: &[u8]) -> usize
 }
 
 // The number at the front and what follows it. The fault is the one of the field that it stands in.
+#[inline(always)]
 pub(crate) fn number_of(bytes: &[u8], fault: LineFault) -> Result<(u16, &[u8]), LineFault>
     ensures { Gives (λ x. (x.0, x.1.now)) result (number_at fault bytes.now) }
 {
-    let len = count_digits(bytes);
-    if len == 0 || len > 5 {
+    let mut value = 0u32;
+    let mut len = 0;
+    while len < bytes.len() && bytes[len].is_ascii_digit() {
+        if len == 5 {
+            return Err(fault);
+        }
+        value = value * 10 + u32::from(bytes[len] - b'0');
+        len += 1;
+    }
+    if len == 0 || value > 65535 {
         return Err(fault);
     }
-    let (digits, rest) = bytes.split_at(len);
-    match u16::try_from(value_of(digits)) {
-        Ok(value) => Ok((value, rest)),
-        Err(_) => Err(fault),
-    }
-}
-
-// The number that a few digits write.
-fn value_of(digits: &[u8]) -> u32
-    requires few { length digits.now ≤ 5 }
-    requires digits { AllDigits 10 digits.now }
-    ensures { result ≡ digits_value 10 digits.now }
-{
-    let mut value = 0u32;
-    for digit in digits {
-        value = value * 10 + u32::from(*digit - b'0');
-    }
-    value
+    Ok((value as u16, &bytes[len..]))
 }
 
 // Appends a number without leading zeros.
-pub(crate) fn append_number(line: &mut Line, n: u16)
-    requires { array_vec_len line.old + 5 ≤ 512 }
-    ensures items { line.new.items ≡ line.old.items ++ decimal n }
-    ensures len { array_vec_len line.new ≤ array_vec_len line.old + 5 }
-{
-    append_decimal(line, n);
-}
-
-fn append_decimal(line: &mut Line, n: u16)
-    requires { array_vec_len line.old + length (decimal n) ≤ 512 }
-    ensures { line.new.items ≡ line.old.items ++ decimal n }
+#[inline]
+pub(crate) fn push_number<const N: usize>(to: &mut ArrayVec<u8, N>, n: u16)
+    requires { array_vec_len to.old + 5 ≤ N }
+    ensures items { to.new.items ≡ to.old.items ++ decimal n }
+    ensures len { array_vec_len to.new ≤ array_vec_len to.old + 5 }
 {
     if n < 10 {
-        line.push(b'0' + n as u8);
-        return;
+        to.push(b'0' + n as u8);
+    } else {
+        push_digits(to, n);
     }
-    append_decimal(line, n / 10);
-    line.push(b'0' + (n % 10) as u8);
+}
+
+// Appends a number of two digits and more.
+fn push_digits<const N: usize>(to: &mut ArrayVec<u8, N>, n: u16)
+    requires { array_vec_len to.old + 5 ≤ N }
+    ensures items { to.new.items ≡ to.old.items ++ decimal n }
+    ensures len { array_vec_len to.new ≤ array_vec_len to.old + 5 }
+{
+    let mut digits = [b'0'; 5];
+    let mut at = 4;
+    let mut left = n;
+    while left >= 10 {
+        digits[at] = b'0' + (left % 10) as u8;
+        left /= 10;
+        at -= 1;
+    }
+    digits[at] = b'0' + left as u8;
+    append(to, &digits[at..]);
 }

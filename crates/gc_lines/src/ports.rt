@@ -1,11 +1,25 @@
 //! Where bytes come from and where they go. A port that has failed stays failed.
 
-ghost use Rattle.std.specs.Prelude.{◌≡◌, ℕ, List, Option, Bool, ◌<◌, length};
+ghost use Rattle.std.specs.Prelude.{◌≡◌, ℕ, List, Option, Some, Bool, ◌<◌, length};
+ghost use Rattle.gc_lines.specs.Faults.{port_text};
 ghost use Rattle.gc_lines.specs.Ports.{GivesBytes, CountsRead, Fails, TakesBytes};
+
+use std::error::Error;
+use std::fmt;
 
 /// A call of a port failed, and so will each later one.
 #[derive(Clone, Copy, Debug, PartialEq, Eq)]
 pub struct PortFailed;
+
+impl fmt::Display for PortFailed {
+    ghost output = { λ _. Some port_text };
+
+    fn fmt<W: fmt::Write>(&self, f: &mut fmt::Formatter<W>) -> fmt::Result {
+        f.write_str("the port has failed")
+    }
+}
+
+impl Error for PortFailed {}
 
 /// Where bytes come from.
 ///

@@ -1,14 +1,15 @@
 //! A reply line: `%R1P,<RC_COM>[,<TrId>]:<RC>[,<P0>,<P1>,...]`, read leniently and written in one form.
 
-ghost use Rattle.std.specs.Prelude.{◌≡◌, ◌<◌, ◌≤◌, [], length, Ok, Err, IfOk, IfErr};
+ghost use Rattle.std.specs.Prelude.{◌≡◌, ◌+◌, ◌<◌, ◌≤◌, ◌++◌, [], length, Ok, Err, Some, IfOk, IfErr};
 ghost use Rattle.std.specs.Option.{ForSome};
 ghost use Rattle.arrayvec.specs.ArrayVec.{array_vec_len};
 ghost use Rattle.gc_lines.specs.Headers.{Gives};
 
 use crate::fault::LineFault;
-use crate::header::{header_of, put_header};
+use crate::header::{header_of, push_header};
 use crate::line::{Line, append};
-use crate::number::{append_number, number_of};
+use crate::number::{number_of, push_number};
+use arrayvec::ArrayVec;
 
 /// A reply: how the communication went, the request's transaction id, how the procedure went, and the bytes of the
 /// parameters.
@@ -23,11 +24,12 @@ pub struct Reply<'a> {
     pub params: &'a [u8],
 }
 
-ghost use Rattle.gc_lines.specs.Replies.{ReplyFields, reply_seen, IsReply, FirstBadOfReply, params_at, code_at, reply_at, reply_text};
+ghost use Rattle.gc_lines.specs.Replies.{ReplyFields, reply_seen, IsReply, FirstBadOfReply, reply_text};
+ghost use Rattle.gc_lines.specs.Readers.{params_at, code_at, reply_at};
 ghost use Rattle.gc_lines.specs.Lines.{IsPlain};
 
 // The parameters behind a return code: none at the end of the line, else all that follows a comma.
-#[inline]
+#[inline(always)]
 fn params_of(bytes: &[u8]) -> Result<&[u8], LineFault>
     ensures { Gives (λ params. params.now) result (params_at bytes.now) }
 {
@@ -39,7 +41,7 @@ fn params_of(bytes: &[u8]) -> Result<&[u8], LineFault>
 }
 
 // The return code and the parameters behind it.
-#[inline]
+#[inline(always)]
 fn code_of(bytes: &[u8]) -> Result<(u16, &[u8]), LineFault>
     ensures { Gives (λ x. (x.0, x.1.now)) result (code_at bytes.now) }
 {
@@ -49,8 +51,8 @@ fn code_of(bytes: &[u8]) -> Result<(u16, &[u8]), LineFault>
 }
 
 // Reads a reply from the left.
-#[inline]
-#[tactic(auto, unfolding(crate::specs::Replies::reply_at))]
+#[inline(always)]
+#[tactic(auto, unfolding(crate::specs::Readers::reply_at))]
 fn reply_of(line: &[u8]) -> Result<Reply<'_>, LineFault>
     ensures { Gives reply_seen result (reply_at line.now) }
 {
@@ -66,7 +68,7 @@ fn reply_of(line: &[u8]) -> Result<Reply<'_>, LineFault>
 
 /// Reads a reply line, given without its CR LF. A refusal names the first faulty field from the left, and is never
 /// [`LineFault::TooLong`].
-#[inline]
+#[inline(always)]
 pub fn read_reply(line: &[u8]) -> Result<Reply<'_>, LineFault>
     ensures found { IfOk result (λ r. IsReply line.now (reply_seen r)) }
     ensures only { (q : ReplyFields) → IsReply line.now q → Gives reply_seen result (Ok q) }
@@ -77,6 +79,46 @@ pub fn read_reply(line: &[u8]) -> Result<Reply<'_>, LineFault>
     reply_of(line)
 }
 
+/// Appends a reply through its return code; parameters may follow, each behind a comma.
+#[inline]
+pub fn push_reply<const N: usize>(to: &mut ArrayVec<u8, N>, rc_com: u16, id: u8, rc: u16)
+    requires id { id < 8 }
+    requires room { array_vec_len to.old + 18 ≤ N }
+    ensures items { to.new.items ≡ to.old.items ++ reply_text (record { rc_com = rc_com; id = Some id; rc = rc; params = [] }) }
+    ensures len { array_vec_len to.new ≤ array_vec_len to.old + 18 }
+{
+    if rc_com == 0 && rc == 0 {
+        append(
+            to,
+            &[
+                b'%',
+                b'R',
+                b'1',
+                b'P',
+                b',',
+                b'0',
+                b',',
+                b'0' + id,
+                b':',
+                b'0',
+            ],
+        );
+    } else {
+        put_reply(to, rc_com, Some(id), rc);
+    }
+}
+
+// Appends a reply through its return code.
+fn put_reply<const N: usize>(to: &mut ArrayVec<u8, N>, rc_com: u16, id: Option<u8>, rc: u16)
+    requires id { ForSome id (λ i. i < 8) }
+    requires room { array_vec_len to.old + 18 ≤ N }
+    ensures items { to.new.items ≡ to.old.items ++ reply_text (record { rc_com = rc_com; id = id; rc = rc; params = [] }) }
+    ensures len { array_vec_len to.new ≤ array_vec_len to.old + 18 }
+{
+    push_header(to, b"%R1P,", rc_com, id);
+    push_number(to, rc);
+}
+
 /// Begins a reply line: it is written through the return code, and parameters may be appended, each behind a comma.
 pub fn begin_reply(rc_com: u16, id: Option<u8>, rc: u16) -> Line
     requires { ForSome id (λ i. i < 8) }
@@ -84,8 +126,7 @@ pub fn begin_reply(rc_com: u16, id: Option<u8>, rc: u16) -> Line
     ensures room { array_vec_len result ≤ 18 }
 {
     let mut line = Line::new();
-    put_header(&mut line, b"%R1P,", rc_com, id);
-    append_number(&mut line, rc);
+    put_reply(&mut line, rc_com, id, rc);
     line
 }
 

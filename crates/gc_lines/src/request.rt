@@ -1,14 +1,15 @@
 //! A request line: `%R1Q,<RPC>[,<TrId>]:[<P0>][,<P1>,...]`, read leniently and written in one form.
 
-ghost use Rattle.std.specs.Prelude.{◌≡◌, ◌<◌, ◌≤◌, [], length, Ok, Err, IfOk, IfErr};
+ghost use Rattle.std.specs.Prelude.{◌≡◌, ◌+◌, ◌<◌, ◌≤◌, ◌++◌, [], length, Ok, Err, IfOk, IfErr};
 ghost use Rattle.std.specs.Option.{ForSome};
 ghost use Rattle.arrayvec.specs.ArrayVec.{array_vec_len};
 ghost use Rattle.gc_lines.specs.Lines.{IsPlain};
 ghost use Rattle.gc_lines.specs.Headers.{Gives};
 
 use crate::fault::LineFault;
-use crate::header::{header_of, put_header};
+use crate::header::{header_of, push_header};
 use crate::line::{Line, append};
+use arrayvec::ArrayVec;
 
 /// A request: a procedure's number, a transaction id, and the bytes of its parameters.
 ///
@@ -21,11 +22,12 @@ pub struct Request<'a> {
     pub params: &'a [u8],
 }
 
-ghost use Rattle.gc_lines.specs.Requests.{RequestFields, request_seen, IsRequest, FirstBadOfRequest, request_at, request_text};
+ghost use Rattle.gc_lines.specs.Requests.{RequestFields, request_seen, IsRequest, FirstBadOfRequest, request_text};
+ghost use Rattle.gc_lines.specs.Readers.{request_at};
 
 // Reads a request from the left.
-#[inline]
-#[tactic(auto, unfolding(crate::specs::Requests::request_at))]
+#[inline(always)]
+#[tactic(auto, unfolding(crate::specs::Readers::request_at))]
 fn request_of(line: &[u8]) -> Result<Request<'_>, LineFault>
     ensures { Gives request_seen result (request_at line.now) }
 {
@@ -39,7 +41,7 @@ fn request_of(line: &[u8]) -> Result<Request<'_>, LineFault>
 
 /// Reads a request line, given without its CR LF. A refusal names the first faulty field from the left, and is never
 /// [`LineFault::Code`] or [`LineFault::TooLong`].
-#[inline]
+#[inline(always)]
 pub fn read_request(line: &[u8]) -> Result<Request<'_>, LineFault>
     ensures found { IfOk result (λ r. IsRequest line.now (request_seen r)) }
     ensures only { (q : RequestFields) → IsRequest line.now q → Gives request_seen result (Ok q) }
@@ -50,6 +52,17 @@ pub fn read_request(line: &[u8]) -> Result<Request<'_>, LineFault>
     request_of(line)
 }
 
+/// Appends a request through its colon; the parameters may follow.
+#[inline]
+pub fn push_request<const N: usize>(to: &mut ArrayVec<u8, N>, rpc: u16, id: Option<u8>)
+    requires id { ForSome id (λ i. i < 8) }
+    requires room { array_vec_len to.old + 13 ≤ N }
+    ensures items { to.new.items ≡ to.old.items ++ request_text (record { rpc = rpc; id = id; params = [] }) }
+    ensures len { array_vec_len to.new ≤ array_vec_len to.old + 13 }
+{
+    push_header(to, b"%R1Q,", rpc, id);
+}
+
 /// Begins a request line: it is written through the colon, and the parameters may be appended.
 pub fn begin_request(rpc: u16, id: Option<u8>) -> Line
     requires { ForSome id (λ i. i < 8) }
@@ -57,7 +70,7 @@ pub fn begin_request(rpc: u16, id: Option<u8>) -> Line
     ensures room { array_vec_len result ≤ 13 }
 {
     let mut line = Line::new();
-    put_header(&mut line, b"%R1Q,", rpc, id);
+    push_request(&mut line, rpc, id);
     line
 }
 

@@ -3,9 +3,11 @@
 ghost use Rattle.std.specs.Prelude.{None};
 
 use crate::{
-    FromReader, Line, PortFailed, Sink, Source, ToWriter, read_reply, read_request, write_reply,
-    write_request,
+    Assembler, FromReader, Lent, Line, PortFailed, Sink, Source, ToWriter, begin_request,
+    push_reply, push_request, read_reply, read_request, write_line, write_reply, write_request,
+    write_whole,
 };
+use arrayvec::ArrayVec;
 use std::io::{self, ErrorKind, Read};
 use std::test::Fail;
 
@@ -128,4 +130,40 @@ fn a_writer_that_fills_up(rt: HostRuntime) {
     assert_eq!(rt; write_some(&mut sink), (Ok(1), false));
     assert_eq!(rt; write_some(&mut sink), (Err(PortFailed), true));
     assert_eq!(rt; write_some(&mut sink), (Err(PortFailed), true));
+}
+
+#[test]
+fn a_line_written_whole(rt: HostRuntime) {
+    let line: Line = begin_request(0, Some(1));
+    let mut room = [0u8; 16];
+    let mut sink = ToWriter::new(&mut room[..]);
+    assert_eq!(rt; write_line(&mut sink, &line), Ok(()));
+    assert_eq!(rt; write_whole(&mut sink, b"%R1Q,1"), Err(5));
+    assert_eq!(rt; write_line(&mut sink, &line), Err(0));
+    drop(sink);
+    assert_eq!(rt; room.as_slice(), b"%R1Q,0,1:\r\n%R1Q,".as_slice());
+}
+
+#[test]
+fn a_line_whole_and_cut(rt: HostRuntime) {
+    let mut assembler = Assembler::new();
+    let mut cut = Line::new();
+    let piece = b"one\r\ntw".as_slice();
+    assert_eq!(rt; assembler.next(piece, &mut cut), (5, Lent::Line(b"one")));
+    assert_eq!(rt; assembler.next(b"tw", &mut cut), (2, Lent::More));
+    assert_eq!(rt; assembler.next(b"o\r\n", &mut cut), (3, Lent::Line(b"two")));
+    assert_eq!(rt; assembler.next(b"lone\n", &mut cut), (5, Lent::Cleared));
+    assert!(rt; assembler.at_start());
+}
+
+#[test]
+fn lines_appended(rt: HostRuntime) {
+    let mut text = ArrayVec::<u8, 49>::new();
+    push_reply(&mut text, 0, 7, 0);
+    push_reply(&mut text, 3081, 0, 65535);
+    push_request(&mut text, 17036, None);
+    assert_eq!(rt;
+        text.as_slice(),
+        b"%R1P,0,7:0%R1P,3081,0:65535%R1Q,17036:".as_slice()
+    );
 }

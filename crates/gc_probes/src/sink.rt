@@ -1,20 +1,22 @@
 //! A sink that takes a few bytes for each call, and fails at the call that the test names.
 
-ghost use Rattle.std.specs.Prelude.{◌≡◌, ◌<◌, [], Some, false};
-ghost use Rattle.gc_probes.specs.Seen.{SinkSeen};
+ghost use Rattle.std.specs.Prelude.{◌≡◌, ◌<◌, [], Some, false, length};
+ghost use Rattle.gc_lines.specs.Ports.{TakesBytes, Fails};
+ghost use Rattle.gc_probes.specs.Seen.{SinkSeen, WritesAsTold};
 
 use gc_lines::{PortFailed, Sink};
 use std::alloc::Global;
 use std::marker::Model;
 
 /// Takes at most a given number of bytes for each call, and keeps them. It fails where it can't
-/// store them.
+/// store them, and says so.
 #[derive(Drop)]
 pub struct PieceSink {
     taken: Vec<u8>,
     most: usize,
     answers: u64,
     failed: bool,
+    lacks_memory: bool,
 }
 
 impl Model for PieceSink {
@@ -23,7 +25,13 @@ impl Model for PieceSink {
 
     ghost Value = { SinkSeen };
 
-    ghost view = { λ s. record { taken = s.taken.items; failed = s.failed } };
+    ghost view = { λ s. record {
+      taken = s.taken.items;
+      most = s.most;
+      answers = s.answers;
+      failed = s.failed;
+      lacks_memory = s.lacks_memory;
+    } };
 
     ghost invariant = { λ s. 0 < s.most };
 }
@@ -33,13 +41,14 @@ impl PieceSink {
     /// at the next one: so 0 fails at once, and `u64::MAX` never fails in a test but for memory.
     pub fn new(alloc: Global, most: usize, answers: u64) -> PieceSink
         requires { 0 < most }
-        ensures { result ≡ record { taken = []; failed = false } }
+        ensures { result ≡ record { taken = []; most = most; answers = answers; failed = false; lacks_memory = false } }
     {
         PieceSink {
             taken: Vec::new(alloc),
             most,
             answers,
             failed: false,
+            lacks_memory: false,
         }
     }
 
@@ -49,6 +58,13 @@ impl PieceSink {
     {
         self.taken.as_slice()
     }
+
+    /// Whether a write failed for want of memory.
+    pub fn lacks_memory(&self) -> bool
+        ensures { result ≡ self.now.lacks_memory }
+    {
+        self.lacks_memory
+    }
 }
 
 impl Sink for PieceSink {
@@ -56,7 +72,14 @@ impl Sink for PieceSink {
 
     ghost failed = { λ s. s.failed };
 
-    fn write(&mut self, bytes: &[u8]) -> Result<usize, PortFailed> {
+    fn write(&mut self, bytes: &[u8]) -> Result<usize, PortFailed>
+        requires { 0 < length bytes.now }
+        ensures bytes { TakesBytes (Some self.old.taken) (Some self.new.taken) result bytes.now }
+        ensures fails { Fails self.old.failed self.new.failed result }
+
+        // It takes as many bytes as the test told, and fails exactly at the call that it told, or for want of memory.
+        ensures told { WritesAsTold self.old self.new bytes.now result }
+    {
         if self.failed || self.answers == 0 {
             self.failed = true;
             return Err(PortFailed);
@@ -64,6 +87,7 @@ impl Sink for PieceSink {
         let n = self.most.min(bytes.len());
         if self.taken.extend_from_slice(&bytes[..n]).is_err() {
             self.failed = true;
+            self.lacks_memory = true;
             return Err(PortFailed);
         }
         self.answers -= 1;

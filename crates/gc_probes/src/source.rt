@@ -1,7 +1,8 @@
 //! A source that gives the bytes of a test in pieces, and fails at the call that the test names.
 
-ghost use Rattle.std.specs.Prelude.{◌≡◌, ◌<◌, Some, false};
-ghost use Rattle.gc_probes.specs.Seen.{SourceSeen};
+ghost use Rattle.std.specs.Prelude.{◌≡◌, ◌<◌, ◌≤◌, Some, false, length, max, drop, min};
+ghost use Rattle.gc_lines.specs.Ports.{GivesBytes, CountsRead, Fails};
+ghost use Rattle.gc_probes.specs.Seen.{SourceSeen, ReadsAsTold, piece_size};
 
 use gc_lines::{PortFailed, Source};
 use std::marker::Model;
@@ -23,14 +24,28 @@ impl<'a> Model for PieceSource<'a> {
 
     ghost Value = { SourceSeen };
 
-    ghost view = { λ s. record { left = s.left.now; reads = s.reads; ended = s.ended; failed = s.failed } };
+    ghost view = { λ s. record {
+      left = s.left.now;
+      sizes = s.sizes.now;
+      answers = s.answers;
+      reads = s.reads;
+      ended = s.ended;
+      failed = s.failed;
+    } };
 }
 
 impl<'a> PieceSource<'a> {
     /// A source of `bytes` in pieces of these sizes. It answers `answers` reads and fails at the
     /// next one: so 0 fails at once, and `u64::MAX` never fails in a test.
     pub fn new(bytes: &'a [u8], sizes: &'a [usize], answers: u64) -> PieceSource<'a>
-        ensures { result ≡ record { left = bytes.entry.now; reads = 0; ended = false; failed = false } }
+        ensures { result ≡ record {
+          left = bytes.entry.now;
+          sizes = sizes.entry.now;
+          answers = answers;
+          reads = 0;
+          ended = false;
+          failed = false;
+        } }
     {
         PieceSource {
             left: bytes,
@@ -42,17 +57,20 @@ impl<'a> PieceSource<'a> {
         }
     }
 
-    // The size of the next piece.
-    fn next_size(&mut self) -> usize
-        ensures same { self.new ≡ self.old }
-        ensures some { 0 < result }
+    // The size of the next piece, where so much room is there.
+    fn next_size(&mut self, room: usize) -> usize
+        ensures size { result ≡ piece_size self.old.sizes (length self.old.left) room }
+        ensures within { (result ≤ length self.old.left) × (result ≤ room) }
+        ensures some { 0 < room → result ≡ 0 → length self.old.left ≡ 0 }
+        ensures next { self.new ≡ record self.old { sizes = drop 1 self.old.sizes } }
     {
+        let most = self.left.len().min(room);
         match self.sizes {
             [size, later @ ..] => {
                 self.sizes = later;
-                (*size).max(1)
+                (*size).max(1).min(most)
             }
-            [] => usize::MAX,
+            [] => most,
         }
     }
 }
@@ -66,14 +84,21 @@ impl<'a> Source for PieceSource<'a> {
 
     ghost failed = { λ s. s.failed };
 
-    fn read(&mut self, buf: &mut [u8]) -> Result<usize, PortFailed> {
+    fn read(&mut self, buf: &mut [u8]) -> Result<usize, PortFailed>
+        requires { 0 < length buf.old }
+        ensures bytes { GivesBytes (Some self.old.left) (Some self.new.left) result buf.new }
+        ensures counts { CountsRead self.old.reads self.new.reads self.old.ended self.new.ended result }
+        ensures fails { Fails self.old.failed self.new.failed result }
+
+        // It gives the pieces that the test told, and fails exactly at the call that it told.
+        ensures told { ReadsAsTold self.old self.new (length buf.old) result }
+    {
         if self.failed || self.reads >= self.answers {
             self.failed = true;
             return Err(PortFailed);
         }
-        let size = self.next_size();
+        let n = self.next_size(buf.len());
         let left = self.left;
-        let n = size.min(left.len()).min(buf.len());
         buf[..n].copy_from_slice(&left[..n]);
         self.left = &left[n..];
         self.reads += 1;

@@ -30,6 +30,9 @@ written_is_read (value.Byte n) h = byte_reads n h
 written_is_read (value.Bool b) h = boolean_reads b
 written_is_read (value.Text bytes) h = record { string = record { item_is = refl; plain = h.plain }; few = h.few }
 
+pub written_reads : (v : Value) (item : List ℕ) → item ≡ text v → IsValue v → IsItem item v
+written_reads v item e h = subst (λ t. IsItem t v) (sym e) (written_is_read v h)
+
 one_boolean : (a b : Bool) → pos (number_of a) ≡ pos (number_of b) → a ≡ b
 one_boolean true true e = refl
 one_boolean false false e = refl

@@ -6,7 +6,8 @@ use Rattle.std.proofs.lemmas.Nat.{pow-add}
 use Rattle.std.proofs.lemmas.List.{take_all, get_or_past, take-append-drop, length-take-le}
 use Rattle.std.proofs.lemmas.Bool.Decides.{nat_tests}
 use Rattle.std.proofs.lemmas.Bool.{cases_lt}
-use Rattle.gc_values.specs.Digits.{IsDigit, AreDigits, number, digit_or_zero, kept, carry, kept_and_rounded}
+use Rattle.gc_values.specs.Digits.{IsDigit, AreDigits, number}
+use Rattle.gc_values.specs.KeptDigits.{digit_or_zero, kept, carry, kept_and_rounded}
 use Rattle.gc_values.proofs.Powers.{ten_pow_le}
 use Rattle.gc_values.proofs.Rounding.{RoundsHalfUp, rounds_same_value, rounds_whole, rounds_down, rounds_up}
 
@@ -186,3 +187,29 @@ pub number-take_more : (ds : List ℕ) (i : ℕ) → i < length ds → number (t
 number-take_more ds i inside =
     let pushed : take (i + 1) ds ≡ take i ds ++ (get_or ds i 0 ∷ []) = rw add-one (take-suc ds i 0 inside) in
     omega (arith, ap number pushed, number-append (take i ds) (get_or ds i 0 ∷ []))
+
+AreDigits-take : (ds : List ℕ) (i : ℕ) → AreDigits ds → AreDigits (take i ds)
+AreDigits-take ds zero h = tt
+AreDigits-take [] (suc i) h = tt
+AreDigits-take (d ∷ ds) (suc i) h = (h.0, AreDigits-take ds i h.1)
+
+-- a front and the digits behind it, one at a time
+pub followed_more : (front value more : ℕ) (ds : List ℕ) (i : ℕ) → i < length ds → value ≡ front * 10 ^ i + number (take i ds) → more ≡ value * 10 + (get_or ds i 0 - 48) → more ≡ front * 10 ^ (i + 1) + number (take (i + 1) ds)
+followed_more front value more ds i inside e f =
+    let power : 10 ^ (i + 1) ≡ 10 ^ i * 10 = rw add-one (pow-suc 10 i) in
+    omega (arith, e, f, number-take_more ds i inside, ap (λ p. front * p) power)
+
+-- and never as much as the room that is left for them
+pub followed_small : (front value : ℕ) (ds : List ℕ) (i : ℕ) → AreDigits ds → i < length ds → value ≡ front * 10 ^ i + number (take i ds) → (front + 1) * 10 ^ length ds ≤ 10 ^ 18 → value < 10 ^ 18
+followed_small front value ds i digits inside e room =
+    let small : number (take i ds) < 10 ^ length (take i ds) = number-lt (take i ds) (AreDigits-take ds i digits) in
+    let size : length (take i ds) ≡ i = length-take-le i ds (omega arith) in
+    let most : 10 ^ i ≤ 10 ^ length ds = ten_pow_le i (length ds) (omega arith) in
+    let all : (front + 1) * 10 ^ i ≤ (front + 1) * 10 ^ length ds = mul-le-mul_left {m = 10 ^ i} {n = 10 ^ length ds} (front + 1) most in
+    omega (arith, e, small, ap (λ k. 10 ^ k) size, all, room)
+
+-- few digits in two runs
+pub room_behind : (ws fs : List ℕ) → AreDigits ws → length ws + length fs ≤ 18 → (number ws + 1) * 10 ^ length fs ≤ 10 ^ 18
+room_behind ws fs digits few =
+    let most : (number ws + 1) * 10 ^ length fs ≤ 10 ^ length ws * 10 ^ length fs = mul-le-mul_right {m = number ws + 1} {n = 10 ^ length ws} (10 ^ length fs) (let n = number-lt ws digits in omega arith) in
+    omega (arith, most, pow-add 10 (length ws) (length fs), ten_pow_le (length ws + length fs) 18 few)

@@ -1,3 +1,5 @@
+pub mod AsciiText
+pub mod Asking
 pub mod ByteLemmas
 pub mod DecimalLaws
 pub mod DecimalLemmas
@@ -5,8 +7,11 @@ pub mod Examples
 pub mod HexPair
 pub mod ItemLaws
 pub mod Kept
+pub mod ListLaws
+pub mod OneText
 pub mod OrderLemmas
 pub mod ParamLists
+pub mod PlainLists
 pub mod Powers
 pub mod Quotes
 pub mod ReadLemmas

@@ -1,5 +1,5 @@
-use Rattle.std.proofs.Common.{◌≡◌, ◌≢◌, ℕ, zero, suc, ◌+◌, ◌/◌, ◌%◌, ◌<◌, ◌≤◌, ◌^◌, Bool, true, false, eqb, ltb, ℤ, pos, negsuc, unsigned_abs, List, [], ◌∷◌, ◌++◌, length, map, refl, sym, ap, ◌∙◌, inl, inr, arith, lit<, lit≤, length-append}
-use Rattle.std.proofs.lemmas.Bool.{ne_eqb, ltb-true, agree_below_at, cond_both}
+use Rattle.std.proofs.Common.{◌≡◌, ◌≢◌, ℕ, zero, suc, ◌+◌, ◌/◌, ◌%◌, ◌<◌, ◌≤◌, ◌^◌, Bool, true, false, ltb, ℤ, pos, negsuc, unsigned_abs, List, [], ◌∷◌, ◌++◌, length, map, refl, sym, ap, ◌∙◌, inl, inr, arith, lit<, lit≤, length-append}
+use Rattle.std.proofs.lemmas.Bool.{ne_eqb, ltb-true, agree_below_at}
 use Rattle.std.proofs.lemmas.Nat.{div_below}
 use Rattle.std.specs.List.{All, AllByRecursion}
 use Rattle.std.specs.Prelude.{slice_index}
@@ -12,14 +12,14 @@ use Rattle.gc_values.specs.Whole.{signed_text}
 use Rattle.gc_values.specs.Boolean.{boolean_text}
 use Rattle.gc_values.specs.Byte.{byte_text}
 use Rattle.gc_values.specs.Fraction.{IsInRange}
-use Rattle.gc_values.specs.Written.{minus_text, whole_text, last_digits, behind_text, written}
+use Rattle.gc_values.specs.Written.{minus_text, whole_text, behind_text, written}
 use Rattle.gc_values.specs.declared.value.Value.{Value}
 use Rattle.gc_values.specs.declared.value.Value.TheVariants as value
 use Rattle.gc_values.proofs.Quotes.{quotes-append, quotes-cons, quotes_same, push_cut}
 use Rattle.gc_values.proofs.Powers.{ten_pow_pos}
 use Rattle.gc_values.proofs.Trimming.{last_of}
 use Rattle.gc_values.proofs.WholeText.{length-whole_text, length-minus_text, length-long, length-short}
-use Rattle.gc_values.proofs.WrittenLemmas.{length-last_digits}
+use Rattle.gc_values.proofs.WrittenLemmas.{length-behind_text}
 use Rattle.gc_values.proofs.ParamLists.{joined_params}
 use Rattle.gc_values.proofs.WrittenSpells.{writes_whole, behind}
 
@@ -184,10 +184,7 @@ all_from P (x ∷ xs) h (suc k) d within = all_from P xs h.1 k d (omega arith)
 pub text_is_plain : (v : Value) → IsValue v → All EndsNoLine (text v)
 text_is_plain v h = all_from EndsNoLine (text v) (ends_no_line v h)
 
-length-behind_text : (s n : ℕ) → s ≤ 24 → length (behind_text s n) ≤ 24
-length-behind_text s n few = cond_both (eqb s 0) (48 ∷ []) (last_digits s n) (λ ds. length ds ≤ 24) (λ _. lit≤ tt) (λ _. omega (arith, length-last_digits s n))
-
-length-written : (m : ℤ) (s : ℕ) → IsInRange m s → s ≤ 24 → length (written m s) ≤ 40
+pub length-written : (m : ℤ) (s : ℕ) → IsInRange m s → s ≤ 24 → length (written m s) ≤ 40
 length-written m s small few =
     let n = unsigned_abs m in
     let top : n / 10 ^ s < 10 ^ 14 = div_below n (10 ^ s) (10 ^ 14) (ten_pow_pos s) (omega (arith, small, ten_pow_pos s)) in

@@ -1,11 +1,12 @@
 use Rattle.std.proofs.Common.{◌≡◌, ℕ, ◌+◌, ◌-◌, ◌*◌, ◌^◌, ◌<◌, ◌≤◌, List, length, min, sym, ap, ◌∙◌, subst, arith, lit≤}
 use Rattle.std.proofs.Math.Nat.{mul-lt-mul_of_pos_left}
 use Rattle.std.proofs.lemmas.Nat.{pow-add}
-use Rattle.gc_values.specs.Digits.{AreDigits, number, kept, kept_and_rounded}
+use Rattle.gc_values.specs.Digits.{AreDigits, number}
+use Rattle.gc_values.specs.KeptDigits.{kept, kept_and_rounded}
 use Rattle.gc_values.specs.Nearest.{IsCapped}
 use Rattle.gc_values.proofs.Kept.{number-lt, rounds_digits, kept_behind, min_mul}
 use Rattle.gc_values.proofs.Powers.{ten_pow_pos, ten_pow_le}
-use Rattle.gc_values.proofs.Rounding.{RoundsHalfUp, rounds_same_value, rounds_to_zero}
+use Rattle.gc_values.proofs.Rounding.{RoundsHalfUp, rounds_same_value, rounds_whole, rounds_to_zero}
 
 times_one : (n : ℕ) → n ≡ n * 10 ^ (24 - 24)
 times_one n = omega arith
@@ -79,3 +80,19 @@ capped_many ds w f up down cap k size more x units digits is_size sum places beh
 -- with no digit
 pub capped_none : (ds : List ℕ) (w f up down cap : ℕ) → AreDigits ds → length ds ≡ w + f → w + up + 24 < down → IsCapped (number ds * 10 ^ up) (f + down) cap 0 24
 capped_none ds w f up down cap digits size places = record { m = 0; rounds = units_none ds w f up down 24 digits size places; capped = omega arith; places = lit≤ tt }
+
+-- few digits, as they are
+pub capped_short : (ds : List ℕ) (f up down cap units : ℕ) → AreDigits ds → f ≤ length ds → length ds ≤ 18 → up ≡ 0 → down ≡ 0 → 10 ^ 18 ≤ cap → units ≡ number ds →
+    IsCapped (number ds * 10 ^ up) (f + down) cap units f
+capped_short ds f up down cap units digits part few no_up no_down room e =
+    let power : 10 ^ (24 - f) * 10 ^ f ≡ 10 ^ 24 = sym (pow-add 10 (24 - f) f) ∙ ap (λ k. 10 ^ k) (let back : 24 - f + f ≡ 24 = omega arith in back) in
+    let same : number ds * 10 ^ (24 - f) * 10 ^ f ≡ number ds * 10 ^ 0 * 10 ^ 24 = omega (arith, ap (λ p. number ds * p) power) in
+    let exact : RoundsHalfUp (number ds * 10 ^ 0 * 10 ^ 24) (10 ^ f) (number ds * 10 ^ (24 - f)) =
+    subst (λ a. RoundsHalfUp a (10 ^ f) (number ds * 10 ^ (24 - f))) same (rounds_whole (number ds * 10 ^ (24 - f)) (10 ^ f) (ten_pow_pos f)) in
+    record {
+      m = number ds;
+      rounds = subst (λ u. RoundsHalfUp (number ds * 10 ^ u * 10 ^ 24) (10 ^ (f + down)) (number ds * 10 ^ (24 - f))) (sym no_up)
+          (subst (λ k. RoundsHalfUp (number ds * 10 ^ 0 * 10 ^ 24) (10 ^ k) (number ds * 10 ^ (24 - f))) (let k : f ≡ f + down = omega (arith, no_down) in k) exact);
+      capped = omega (arith, e, number-lt ds digits, ten_pow_le (length ds) 18 few, room);
+      places = omega arith;
+    }

@@ -1,10 +1,11 @@
-use Rattle.std.proofs.Common.{◌≡◌, ℕ, zero, suc, ◌+◌, ◌-◌, ◌*◌, ◌/◌, ◌%◌, ◌^◌, ◌<◌, ◌≤◌, List, [], ◌∷◌, ◌++◌, length, map, refl, sym, ap, ◌∙◌, arith, lit<, lit≤, length-append, append_assoc}
+use Rattle.std.proofs.Common.{◌≡◌, ℕ, zero, suc, ◌+◌, ◌-◌, ◌*◌, ◌/◌, ◌%◌, ◌^◌, ◌<◌, ◌≤◌, List, [], ◌∷◌, ◌++◌, length, map, refl, sym, ap, ◌∙◌, arith, lit<, lit≤, cond, eqb, length-append, append_assoc}
 use Rattle.std.proofs.Math.Nat.{pow-suc, div-div-eq-div-mul, div-one, mul_comm, mod-eq-sub-div-mul}
 use Rattle.std.proofs.Math.Arith.{mod-mul}
 use Rattle.std.proofs.lemmas.List.{length-map, map-append, append-nil}
 use Rattle.std.specs.Int.Digits.{digits_of}
 use Rattle.std.proofs.lemmas.Int.Digits.{digits_of_step, length-digits_of-le}
-use Rattle.gc_values.specs.Written.{digits_text, last_digits}
+use Rattle.std.proofs.lemmas.Bool.{ne_eqb, cond_both}
+use Rattle.gc_values.specs.Written.{digits_text, last_digits, behind_text}
 use Rattle.gc_values.proofs.Powers.{ten_pow_pos}
 
 -- one place to the right
@@ -46,7 +47,7 @@ unit_below unit p some e =
 mod_over : (n k : ℕ) → n % 10 ^ suc k ≡ n / 10 % 10 ^ k * 10 + n % 10
 mod_over n k = ap (λ p. n % p) (pow-suc 10 k) ∙ mod-mul n {m = 10 ^ k} {c = 10} (ten_pow_pos k) (lit< tt)
 
-last_over : (n k : ℕ) → n % 10 ^ suc k % 10 ≡ n % 10
+pub last_over : (n k : ℕ) → n % 10 ^ suc k % 10 ≡ n % 10
 last_over n k = omega (arith, mod_over n k)
 
 others_over : (n k : ℕ) → n % 10 ^ suc k / 10 ≡ n / 10 % 10 ^ k
@@ -70,11 +71,51 @@ last_digits-split j (suc k) n =
     ∙ ap (λ d. last_digits j (n / 10 ^ suc k) ++ (last_digits k (n % 10 ^ suc k / 10) ++ (48 + d) ∷ [])) (sym (last_over n k))
 
 -- two runs of digits in a row
-pub two_runs : (old front out : List ℕ) (n count k : ℕ) → k ≤ count → front ≡ old ++ last_digits (count - k) (n / 10 ^ k) → out ≡ front ++ last_digits k (n - n / 10 ^ k * 10 ^ k) → out ≡ old ++ last_digits count n
-two_runs old front out n count k within e f =
-    let back : count - k + k ≡ count = omega arith in
+pub two_runs : (old back out : List ℕ) (n count k : ℕ) → k ≤ count → back ≡ last_digits k (n - n / 10 ^ k * 10 ^ k) ++ old → out ≡ last_digits (count - k) (n / 10 ^ k) ++ back → out ≡ last_digits count n ++ old
+two_runs old back out n count k within e f =
+    let back_is : count - k + k ≡ count = omega arith in
     let rest : n - n / 10 ^ k * 10 ^ k ≡ n % 10 ^ k = sym (mod-eq-sub-div-mul n (10 ^ k)) in
-    f ∙ ap (λ xs. xs ++ last_digits k (n - n / 10 ^ k * 10 ^ k)) e
-    ∙ append_assoc old (last_digits (count - k) (n / 10 ^ k)) (last_digits k (n - n / 10 ^ k * 10 ^ k))
-    ∙ ap (λ m. old ++ (last_digits (count - k) (n / 10 ^ k) ++ last_digits k m)) rest
-    ∙ ap (λ ds. old ++ ds) (sym (last_digits-split (count - k) k n)) ∙ ap (λ c. old ++ last_digits c n) back
+    f ∙ ap (λ xs. last_digits (count - k) (n / 10 ^ k) ++ xs) e
+    ∙ sym (append_assoc (last_digits (count - k) (n / 10 ^ k)) (last_digits k (n - n / 10 ^ k * 10 ^ k)) old)
+    ∙ ap (λ m. (last_digits (count - k) (n / 10 ^ k) ++ last_digits k m) ++ old) rest
+    ∙ ap (λ ds. ds ++ old) (sym (last_digits-split (count - k) k n)) ∙ ap (λ c. last_digits c n ++ old) back_is
+
+-- the digits in front of the last ones don't count
+pub last_digits-below : (k n : ℕ) → last_digits k (n % 10 ^ k) ≡ last_digits k n
+last_digits-below k n = let none : 0 + k ≡ k = omega arith in sym (last_digits-split 0 k n) ∙ ap (λ c. last_digits c n) none
+
+-- one digit more, in front
+pub last_digits-front : (k n : ℕ) → last_digits (k + 1) n ≡ (48 + n / 10 ^ k % 10) ∷ last_digits k n
+last_digits-front k n =
+    let more : k + 1 ≡ 1 + k = omega arith in
+    ap (λ c. last_digits c n) more ∙ last_digits-split 1 k n ∙ ap (λ ds. (48 + n / 10 ^ k % 10) ∷ ds) (last_digits-below k n)
+
+pub div_more : (n k : ℕ) → n / 10 ^ k / 10 ≡ n / 10 ^ (k + 1)
+div_more n k =
+    let power : 10 ^ (k + 1) ≡ 10 ^ k * 10 = ap (λ e. 10 ^ e) (let e : k + 1 ≡ suc k = omega arith in e) ∙ pow-suc 10 k in
+    div-div-eq-div-mul n (10 ^ k) 10 ∙ ap (λ x. n / x) (sym power)
+
+-- digits in front of digits that stand there
+pub put_more : (old self new : List ℕ) (n k rest : ℕ) → self ≡ last_digits k n ++ old → rest ≡ n / 10 ^ k → new ≡ (48 + rest % 10) ∷ self → new ≡ last_digits (k + 1) n ++ old
+put_more old self new n k rest e r f =
+    f ∙ ap (λ x. (48 + x % 10) ∷ self) r ∙ ap (λ xs. (48 + n / 10 ^ k % 10) ∷ xs) e ∙ ap (λ ds. ds ++ old) (sym (last_digits-front k n))
+
+pub whole_more : (all self new : List ℕ) (rest : ℕ) → 0 < rest → digits_text rest ++ self ≡ all → new ≡ (48 + rest % 10) ∷ self → digits_text (rest / 10) ++ new ≡ all
+whole_more all self new rest some e f =
+    ap (λ xs. digits_text (rest / 10) ++ xs) f ∙ sym (append_assoc (digits_text (rest / 10)) ((48 + rest % 10) ∷ []) self) ∙ ap (λ ds. ds ++ self) (sym (digits_text_step rest some)) ∙ e
+
+pub whole_room : (old self : List ℕ) (n rest : ℕ) → digits_text rest ++ self ≡ digits_text n ++ old → n < 10 ^ 14 → 0 < rest → length old + 14 ≤ 40 → length self < 40
+whole_room old self n rest e small some room =
+    omega (arith, ap length e, length-append (digits_text rest) self, length-append (digits_text n) old, length-digits_text n 14 small, ap length (digits_text_step rest some), length-append (digits_text (rest / 10)) ((48 + rest % 10) ∷ []))
+
+-- the digits behind the point
+pub behind_short : (s m n : ℕ) (xs : List ℕ) → 0 < s → n ≡ m → xs ≡ last_digits s n ++ [] → xs ≡ behind_text s (m % 10 ^ s)
+behind_short s m n xs some e f =
+    f ∙ append-nil (last_digits s n) ∙ ap (last_digits s) e ∙ sym (last_digits-below s m)
+    ∙ ap (λ b. cond b (48 ∷ []) (last_digits s (m % 10 ^ s))) (sym (ne_eqb s 0 (λ h. omega (arith, h, some))))
+
+pub length-behind_text : (s n : ℕ) → s ≤ 24 → length (behind_text s n) ≤ 24
+length-behind_text s n few = cond_both (eqb s 0) (48 ∷ []) (last_digits s n) (λ ds. length ds ≤ 24) (λ _. lit≤ tt) (λ _. omega (arith, length-last_digits s n))
+
+pub length-put : (k n : ℕ) (old new : List ℕ) → new ≡ last_digits k n ++ old → old ≡ [] → length new ≡ k
+length-put k n old new e none = omega (arith, ap length e, length-append (last_digits k n) old, length-last_digits k n, ap length none)

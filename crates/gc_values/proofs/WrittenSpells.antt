@@ -18,11 +18,11 @@ use Rattle.gc_values.proofs.WrittenLemmas.{digits_text_step, length-last_digits}
 a_digit : (d : ℕ) → d < 10 → IsDigit (48 + d)
 a_digit d h = (omega arith, omega arith)
 
-AreDigits-last_digits : (k n : ℕ) → AreDigits (last_digits k n)
+pub AreDigits-last_digits : (k n : ℕ) → AreDigits (last_digits k n)
 AreDigits-last_digits zero n = tt
 AreDigits-last_digits (suc k) n = AreDigits-append (last_digits k (n / 10)) _ (AreDigits-last_digits k (n / 10)) (a_digit (n % 10) (mod-lt n (lit< tt)), tt)
 
-number-last_digits : (k n : ℕ) → n < 10 ^ k → number (last_digits k n) ≡ n
+pub number-last_digits : (k n : ℕ) → n < 10 ^ k → number (last_digits k n) ≡ n
 number-last_digits zero n h = omega arith
 number-last_digits (suc k) n h =
     let small : n / 10 < 10 ^ k = div_below n 10 (10 ^ k) (lit< tt) (subst (λ x. n < x) (pow-suc 10 k) h) in

@@ -1,3 +1,4 @@
+-- Booleans: 0 and 1, as in the GeoCOM manual's chapter on the ASCII protocol. That signs and leading zeros are read is this project's own.
 use Rattle.std.specs.Prelude.{ℕ, Bool, true, false, List, [], ◌∷◌, pos}
 use Rattle.gc_values.specs.Whole.{NamesWhole}
 

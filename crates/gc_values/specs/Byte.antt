@@ -1,3 +1,5 @@
+-- Bytes: two hexadecimal digits between single quotes, as in the GeoCOM manual's chapter on the ASCII protocol. That both
+-- cases are read and lower case is written is this project's own.
 use Rattle.std.specs.Prelude.{◌≡◌, ℕ, ◌+◌, ◌*◌, ◌/◌, ◌%◌, List, [], ◌∷◌, Some, slice_index}
 use Rattle.hex.specs.Hex.{hex_digit_value, lower_digits}
 

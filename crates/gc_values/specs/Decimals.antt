@@ -1,3 +1,4 @@
+-- A decimal's value, its order and its rounding. Which way a tie is rounded is this project's own.
 use Rattle.std.specs.Prelude.{ℕ, IsTrue, ◌*◌, ◌^◌, ◌==◌, ◌&&◌, Bool, ℤ, pos, ◌*ℤ◌, int_le, unsigned_abs}
 use Rattle.std.specs.Ordering.{int_cmp, int_eq, on}
 use Rattle.std.specs.declared.cmp.Ordering.{Ordering}
@@ -18,7 +19,7 @@ decimal m s h = record { digits = m; scale = s; has_few_places = decimal_few m s
 abbrev pub zero : Decimal
 zero = record { digits = pos 0; scale = 0; has_few_places = zero_few; is_in_range = zero_in_range; is_canonical = zero_canonical }
 
--- the decimal rounded to p places, half away from zero
+-- the decimal rounded to p places, half away from zero: the law `rounded_is_the_rounding` says that it is
 unfoldable pub rounded : Decimal → ℕ → Decimal
 rounded d p = record {
   digits = signed (is_negative d.digits) (rounded_to (unsigned_abs d.digits) d.scale p).digits;

@@ -1,3 +1,5 @@
+-- Numbers over a power of ten: their values, their order, their distance and their rounding, half away from zero. The
+-- limits of a decimal (24 places, 10^13) and which way a tie is rounded are this project's own.
 use Rattle.std.specs.Prelude.{◌≡◌, ◌≢◌, ℕ, ◌*◌, ◌%◌, ◌^◌, ◌<◌, ◌≤◌, ◌==◌, Bool, true, false, not, ◌&&◌, ◌||◌, nat_le, ℤ, pos, negsuc, neg_ℤ, ◌*ℤ◌, ◌-ℤ◌, ◌-◌, ◌≤ℤ◌, ◌<ℤ◌, unsigned_abs}
 
 -- n / 10^k: a whole number of any size, over a power of ten

@@ -1,3 +1,5 @@
+-- The table of kinds: which item is read as which value, which fault another item has, and the one text that a value
+-- has. The kinds are those of the GeoCOM manual's chapter on the ASCII protocol; the faults are this project's own.
 use Rattle.std.specs.Prelude.{◌≡◌, ℕ, ◌<◌, ◌⊎◌, List}
 use Rattle.gc_values.specs.Boolean.{NamesBoolean, boolean_text}
 use Rattle.gc_values.specs.Byte.{IsByte, IsNoByte, byte_text}

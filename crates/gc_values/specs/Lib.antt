@@ -1,3 +1,4 @@
+pub mod Asked
 pub mod Boolean
 pub mod Byte
 pub mod Cut
@@ -6,9 +7,12 @@ pub mod Decimals
 pub mod Digits
 pub mod Fraction
 pub mod Item
+pub mod KeptDigits
+pub mod Lists
 pub mod Nearest
 pub mod Padding
 pub mod Params
+pub mod Plainly
 pub mod Pieces
 pub mod RoundedFacts
 pub mod Spelling
@@ -16,4 +20,5 @@ pub mod Text
 pub mod ValueFault
 pub mod Whole
 pub mod Written
+pub mod WrittenForm
 pub mod Zeros

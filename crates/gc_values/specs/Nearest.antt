@@ -1,3 +1,4 @@
+-- No part of a promise: how the rounding of `Fraction` is computed.
 use Rattle.std.specs.Prelude.{◌≡◌, ℕ, ◌+◌, ◌-◌, ◌*◌, ◌/◌, ◌^◌, ◌<◌, ◌≤◌, min, ℤ, Bool}
 use Rattle.gc_values.specs.Fraction.{signed}
 use Rattle.gc_values.specs.Zeros.{WithoutZeros, Placed, stripped}

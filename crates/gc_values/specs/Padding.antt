@@ -1,3 +1,4 @@
+-- No part of a promise: how a text's bytes and the unused ones behind them lie in memory.
 use Rattle.std.specs.Prelude.{◌≡◌, ◌≤◌, ◌-◌, ◌++◌, length, take, drop, replicate, refl}
 use Rattle.std.proofs.Common.{arith, length-take-le}
 use Rattle.std.proofs.lemmas.List.{take-append-drop}

@@ -1,3 +1,5 @@
+-- Parameter lists: parameters between commas, and strings in double quotes, as in the GeoCOM manual's chapter on the ASCII
+-- protocol. That spaces round a parameter don't count is this project's own.
 use Rattle.std.specs.Prelude.{◌≡◌, ℕ, ◌%◌, ◌==◌, List, [], ◌∷◌, ◌++◌, replicate, count_by}
 use Rattle.std.specs.List.{flat_map}
 

@@ -1,3 +1,4 @@
+-- No part of a promise: how a parameter list is cut from the left, and spaces are taken off.
 use Rattle.std.specs.Prelude.{◌≡◌, ℕ, ◌%◌, List, ◌∷◌, [], ◌++◌, replicate, Option, None, Some}
 use Rattle.gc_values.specs.Params.{quotes, IsPadded}
 

@@ -1,4 +1,4 @@
--- the facts that a rounded decimal keeps, which stand in the decimal itself
+-- No part of a promise: the facts that a rounded decimal keeps, which stand in the decimal itself.
 use Rattle.std.proofs.Common.{◌≡◌, ℕ, zero, suc, ◌+◌, ◌-◌, ◌*◌, ◌/◌, ◌%◌, ◌^◌, ◌<◌, ◌≤◌, Bool, true, false, cond, not, ◌&&◌, ◌||◌, ◌==◌, nat_le, min, ℤ, pos, unsigned_abs, refl, sym, ap, ◌∙◌, subst, inl, inr, arith, lit<, lit≤}
 use Rattle.std.proofs.Math.Nat.{pow-suc, one-le-pow, div-add-mod', mod-lt, mul-le-mul_right, le_of_mul-le-mul_right}
 use Rattle.std.proofs.lemmas.Nat.{pow-add}

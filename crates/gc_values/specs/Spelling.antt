@@ -1,3 +1,6 @@
+-- The texts of a decimal: an optional sign, digits with an optional point, and an optional exponent, as in the GeoCOM
+-- manual's chapter on the ASCII protocol. The exponent's at most three digits and the rounding to 24 places are this
+-- project's own.
 use Rattle.std.specs.Prelude.{◌≡◌, ℕ, ◌+◌, ◌*◌, ◌^◌, ◌<◌, ◌≤◌, Bool, true, false, List, [], ◌∷◌, ◌++◌, length, Option, Some, None, ℤ, unsigned_abs, if◌then◌else◌}
 use Rattle.gc_values.specs.Digits.{AreDigits, number}
 use Rattle.gc_values.specs.Fraction.{Fraction, signed, IsRounded}

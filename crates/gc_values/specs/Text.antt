@@ -1,3 +1,5 @@
+-- Strings between double quotes, as in the GeoCOM manual's chapter on the ASCII protocol. At most 64 bytes, and that a
+-- backslash is a plain byte, are this project's own.
 use Rattle.std.specs.Prelude.{◌≡◌, ◌≢◌, ℕ, ◌<◌, ◌≤◌, List, [], ◌∷◌, ◌++◌, length}
 use Rattle.std.specs.List.{AllByRecursion}
 

@@ -1,3 +1,5 @@
+-- Whole numbers: their texts, and the ranges of Long and Short, which are those of the GeoCOM manual's chapter on the ASCII
+-- protocol. That a plus and leading zeros are read is this project's own.
 use Rattle.std.specs.Prelude.{◌≡◌, ℕ, ◌<◌, ◌⊎◌, List, ◌++◌, length, ℤ, pos, neg_ℤ, ◌≤ℤ◌, unsigned_abs}
 use Rattle.gc_values.specs.Digits.{AreDigits, number}
 use Rattle.gc_values.specs.Fraction.{signed}

@@ -1,3 +1,4 @@
+-- No part of a promise: how the zeros at the end of a decimal's digits are taken off.
 use Rattle.std.specs.Prelude.{◌≡◌, ◌≢◌, ℕ, zero, suc, ◌*◌, ◌/◌, ◌%◌, ◌^◌, ◌==◌, ◌<◌, ◌≤◌, if◌then◌else◌}
 
 -- n / 10^t is m / 10^s without the zeros at its end

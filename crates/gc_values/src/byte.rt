@@ -1,7 +1,8 @@
 //! Byte parameters: two hexadecimal digits between single quotes, as in the GeoCOM manual. That
 //! both cases are read and lower case is written is this project's own.
 
-ghost use Rattle.std.specs.Prelude.{◌≡◌, ◌∷◌, [], ℕ, List, IfOk, IfErr, IfSome, IfNone, IsSomeAnd, MatchResult};
+ghost use Rattle.std.specs.Prelude.{◌≡◌, ◌+◌, ◌≤◌, ◌++◌, ◌∷◌, [], ℕ, List, IfOk, IfErr, IfSome, IfNone, IsSomeAnd, MatchResult};
+ghost use Rattle.arrayvec.specs.ArrayVec.{array_vec_len};
 ghost use Rattle.hex.specs.Hex.{decode_sized, encode_lower};
 ghost use Rattle.gc_values.specs.Byte.{IsByte, IsNoByte, byte_text};
 
@@ -49,12 +50,23 @@ pub fn read_byte(item: &[u8]) -> Result<u8, ValueFault>
     }
 }
 
+/// Appends a byte as two hexadecimal digits in lower case between single quotes.
+pub fn push_byte<const N: usize>(out: &mut ArrayVec<u8, N>, v: u8)
+    requires room { array_vec_len out.old + 4 ≤ N }
+    ensures items { out.new.items ≡ out.old.items ++ byte_text v }
+    ensures len { array_vec_len out.new ≡ array_vec_len out.old + 4 }
+{
+    let mut digits = [0u8; 2];
+    let _ = encode_to_slice([v], &mut digits);
+    let _ = out.try_extend_from_slice(&[b'\'', digits[0], digits[1], b'\'']);
+}
+
 /// Writes a byte as two hexadecimal digits in lower case between single quotes.
 pub fn write_byte(v: u8) -> ArrayVec<u8, 4>
     ensures text { result.items ≡ byte_text v }
     ensures reads_back { IsByte result.items v }
 {
-    let mut digits = [0u8; 2];
-    let _ = encode_to_slice([v], &mut digits);
-    ArrayVec::from([b'\'', digits[0], digits[1], b'\''])
+    let mut out = ArrayVec::new();
+    push_byte(&mut out, v);
+    out
 }

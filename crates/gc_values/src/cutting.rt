@@ -1,9 +1,9 @@
-//! The parts of a number's text: the longest run of digits is cut off each time, so there is one way to cut.
+//! What is cut off the front of a number's text: a sign, the longest run of digits, a point with digits behind it.
 
 ghost use Rattle.std.specs.Prelude.{◌≡◌, ℕ, ◌+◌, ◌<◌, ◌≤◌, ◌++◌, ◌∷◌, Bool, List, length, Option, IfSome, IfNone};
-ghost use Rattle.gc_values.specs.Cut.{CutsDigits, CutsSign, StartsNoDigit, StartsNoPoint, ReadsExponent, StartsNoMark, CutsFraction, ReadsNumeral};
+ghost use Rattle.gc_values.specs.Cut.{CutsDigits, CutsSign, StartsNoDigit, StartsNoPoint, ReadsExponent, StartsNoMark, CutsFraction};
 ghost use Rattle.gc_values.specs.Digits.{AreDigits, number};
-ghost use Rattle.gc_values.specs.Spelling.{Exponent, IsExponent, IsShort, exponent_text, mark, Parts, IsNumeral, spelling};
+ghost use Rattle.gc_values.specs.Spelling.{Exponent, IsExponent, IsShort, exponent_text, mark};
 
 /// Cuts the longest run of digits off the front.
 pub fn cut_digits(text: &[u8]) -> (&[u8], &[u8])
@@ -86,7 +86,7 @@ fn cut_point(text: &[u8]) -> Option<&[u8]>
 }
 
 /// Cuts off a point and the digits behind it.
-fn cut_fraction(text: &[u8]) -> (&[u8], &[u8])
+pub fn cut_fraction(text: &[u8]) -> (&[u8], &[u8])
     requires { StartsNoDigit text.now }
     ensures { CutsFraction text.now result.0.now result.1.now }
 {
@@ -94,37 +94,4 @@ fn cut_fraction(text: &[u8]) -> (&[u8], &[u8])
         Some(rest) => cut_digits(rest),
         None => (&[], text),
     }
-}
-
-/// A number's text, cut into its parts.
-#[derive(Clone, Copy)]
-pub struct Numeral<'a> {
-    pub negative: bool,
-    pub whole: &'a [u8],
-    pub fraction: &'a [u8],
-    pub up: u16,
-    pub down: u16,
-}
-
-/// Reads a number's text.
-pub fn cut_numeral(text: &[u8]) -> Option<Numeral<'_>>
-    ensures found { IfSome result
-        (λ n. ReadsNumeral text.now n.negative n.whole.now n.fraction.now n.up n.down) }
-    ensures small { IfSome result (λ n. (n.up < 1000) × (n.down < 1000)) }
-    ensures none { IfNone result ((p : Parts) → IsNumeral p → text.now ≡ spelling p → ⊥) }
-{
-    let (negative, rest) = cut_sign(text);
-    let (whole, rest) = cut_digits(rest);
-    let (fraction, rest) = cut_fraction(rest);
-    if whole.is_empty() && fraction.is_empty() {
-        return None;
-    }
-    let (up, down) = exponent(rest)?;
-    Some(Numeral {
-        negative,
-        whole,
-        fraction,
-        up,
-        down,
-    })
 }

@@ -3,28 +3,26 @@
 //! Both limits, and which way a tie is rounded, are this project's own. Nothing here is a floating point
 //! number, so that 1.99975 at three places is 2.0 for everybody.
 
-ghost use Rattle.std.specs.Prelude.{◌≡◌, ◌≢◌, ◌*◌, ◌%◌, ◌^◌, ◌<◌, ◌≤◌, ◌↔◌, IsOk, IfOk, IfErr, MatchResult, IsTrue, ◌⊎◌, ◌∷◌, [], if◌then◌else◌, ℕ, unsigned_abs};
+ghost use Rattle.std.specs.Prelude.{◌≡◌, ◌≢◌, ◌+◌, ◌*◌, ◌/◌, ◌%◌, ◌^◌, ◌<◌, ◌≤◌, ◌++◌, ◌↔◌, IsOk, IfOk, IfErr, MatchResult, IsTrue, ◌⊎◌, ◌∷◌, [], length, if◌then◌else◌, ℕ, unsigned_abs};
 ghost use Rattle.std.proofs.Common.{rules};
 ghost use Rattle.std.specs.Cmp.Rules.{comparing};
 ghost use Rattle.std.specs.Ordering.{as_partial_cmp};
 ghost use Rattle.gc_values.specs.Fraction.{signed, SameValue, IsCanonical, IsInRange};
 ghost use Rattle.gc_values.specs.Nearest.{MadeOf, RoundsHalfUp};
 ghost use Rattle.gc_values.specs.Spelling.{Spells, SpellsBeyond, SpellsNothing};
+ghost use Rattle.gc_values.specs.Written.{written, behind_text};
 ghost use Rattle.gc_values.specs.Zeros.{WithoutZeros};
+ghost use Rattle.arrayvec.specs.ArrayVec.{array_vec_len};
 
-use crate::cutting::cut_numeral;
 use crate::fault::ValueFault;
-use crate::numeral::units;
-use crate::written::{push_fraction, push_whole};
+use crate::limits::{BOUND, PLACES};
+use crate::numeral::cut_numeral;
+use crate::power::power_of_ten;
+use crate::tail::Tail;
+use crate::units::units;
 use arrayvec::ArrayVec;
 use std::cmp::Ordering;
-use std::fmt;
-
-/// A decimal's greatest absolute value. It is inclusive, so that rounding never leaves the range.
-pub const BOUND: u128 = 10_000_000_000_000;
-
-/// A decimal's greatest number of places.
-pub const PLACES: u8 = 24;
+use std::{fmt, str};
 
 /// The decimal number `digits / 10^scale`, with no place more than it needs.
 ///
@@ -39,15 +37,41 @@ pub struct Decimal {
     pub ghost is_canonical: { IsCanonical digits scale },
 }
 
+/// Takes off the zeros behind the point, in 64 bits.
+fn without_short_zeros(mut digits: u64, mut scale: u8) -> (u64, u8)
+    ensures { WithoutZeros digits scale result.0 result.1 }
+{
+    while scale > 0 && digits % 10 == 0 {
+        digits /= 10;
+        scale -= 1;
+    }
+    (digits, scale)
+}
+
 /// Takes off the zeros behind the point.
 fn without_zeros(mut magnitude: u128, mut scale: u8) -> (u128, u8)
     ensures { WithoutZeros magnitude scale result.0 result.1 }
 {
+    if let Ok(short) = u64::try_from(magnitude) {
+        let (short, scale) = without_short_zeros(short, scale);
+        return (u128::from(short), scale);
+    }
     while scale > 0 && magnitude % 10 == 0 {
         magnitude /= 10;
         scale -= 1;
     }
     (magnitude, scale)
+}
+
+/// `a / b`, cut off: in 64 bits where both fit in them, since a division of 128 bits is slow.
+fn quotient(a: u128, b: u128) -> u128
+    requires { 0 < b }
+    ensures { result ≡ a / b }
+{
+    match (u64::try_from(a), u64::try_from(b)) {
+        (Ok(short), Ok(by)) => u128::from(short / by),
+        _ => a / b,
+    }
 }
 
 /// The whole number nearest to `a / b`, and the greater of two.
@@ -56,9 +80,31 @@ fn nearest(a: u128, b: u128) -> u128
     ensures rounds { RoundsHalfUp a b result }
     ensures bound { (m : ℕ) → a ≤ m * b → result ≤ m }
 {
-    let below = a / b;
+    let below = quotient(a, b);
     let rest = a - below * b;
     if rest >= b - rest { below + 1 } else { below }
+}
+
+/// Puts the digits behind the point in front, and answers the number before the point.
+fn put_places(tail: &mut Tail, magnitude: u128, scale: u8) -> u64
+    requires empty { tail.old ≡ [] }
+    requires places { scale ≤ 24 }
+    requires range { magnitude ≤ 10 ^ 13 * 10 ^ scale }
+    ensures digits { tail.new ≡ behind_text scale (magnitude % 10 ^ scale) }
+    ensures few { length tail.new ≤ 24 }
+    ensures rest { result ≡ magnitude / 10 ^ scale }
+{
+    if scale == 0 {
+        tail.put(b'0');
+        return magnitude as u64;
+    }
+    if let Ok(short) = u64::try_from(magnitude) {
+        return tail.put_last(short, scale);
+    }
+    let unit = power_of_ten(scale);
+    let whole = magnitude / unit;
+    tail.put_fraction(magnitude - whole * unit, scale);
+    whole as u64
 }
 
 /// The number with this sign and magnitude.
@@ -70,11 +116,22 @@ fn with_sign(negative: bool, magnitude: u128) -> i128
     if negative { -digits } else { digits }
 }
 
+/// Appends a decimal's written form, which has at most 40 bytes.
+pub fn push_decimal<const N: usize>(out: &mut ArrayVec<u8, N>, d: &Decimal)
+    requires room { array_vec_len out.old + 40 ≤ N }
+    ensures items { out.new.items ≡ out.old.items ++ written d.now.digits d.now.scale }
+    ensures len { array_vec_len out.new ≤ array_vec_len out.old + 40 }
+{
+    let mut tail = Tail::new();
+    d.put(&mut tail);
+    let _ = out.try_extend_from_slice(tail.as_bytes());
+}
+
 impl Decimal {
     ghost use Rattle.gc_values.specs.declared.decimal.Decimal.{Decimal};
     ghost use Rattle.gc_values.specs.Fraction.{is_decimal, IsRounded, IsWithin, units_of};
     ghost use Rattle.gc_values.specs.Decimals.{decimal, fraction, is_within, rounded, zero};
-    ghost use Rattle.gc_values.specs.Written.{written, minus_text};
+    ghost use Rattle.gc_values.specs.Written.{minus_text};
 
     /// 0.0.
     pub fn zero() -> Decimal
@@ -115,7 +172,7 @@ impl Decimal {
         ensures exact { MatchResult result (λ _. magnitude ≤ 10 ^ 13 * 10 ^ scale)
             (λ e. (e ≡ ValueFault.Range) × (10 ^ 13 * 10 ^ scale < magnitude)) }
     {
-        if magnitude > BOUND * 10u128.pow(u32::from(scale)) {
+        if magnitude > BOUND * power_of_ten(scale) {
             return Err(ValueFault::Range);
         }
         Ok(Decimal::from_parts(negative, magnitude, scale))
@@ -165,7 +222,7 @@ impl Decimal {
         if self.scale <= places {
             return *self;
         }
-        let unit = 10u128.pow(u32::from(self.scale - places));
+        let unit = power_of_ten(self.scale - places);
         let (negative, magnitude) = self.parts();
         Decimal::from_parts(negative, nearest(magnitude, unit), places)
     }
@@ -176,21 +233,23 @@ impl Decimal {
         ensures text { result.items ≡ written self.now.digits self.now.scale }
         ensures reads_back { Spells result.items self.now.digits self.now.scale }
     {
-        let (negative, magnitude) = self.parts();
-        let unit = 10u128.pow(u32::from(self.scale));
         let mut out = ArrayVec::new();
-        if negative {
-            out.push(b'-');
-        }
-        let whole = magnitude / unit;
-        push_whole(&mut out, whole as u64);
-        out.push(b'.');
-        if self.scale == 0 {
-            out.push(b'0');
-        } else {
-            push_fraction(&mut out, magnitude - whole * unit, self.scale);
-        }
+        push_decimal(&mut out, self);
         out
+    }
+
+    /// Puts the written form into an end that has no bytes yet.
+    fn put(&self, tail: &mut Tail)
+        requires { tail.old ≡ [] }
+        ensures { tail.new ≡ written self.now.digits self.now.scale }
+    {
+        let (negative, magnitude) = self.parts();
+        let whole = put_places(tail, magnitude, self.scale());
+        tail.put(b'.');
+        tail.put_whole(whole);
+        if negative {
+            tail.put(b'-');
+        }
     }
 
     /// Whether the absolute difference of two values is at most the area; an area below zero takes in nothing.
@@ -208,10 +267,7 @@ impl Decimal {
         ensures bound { unsigned_abs result ≤ 10 ^ 37 }
     {
         let (negative, magnitude) = self.parts();
-        with_sign(
-            negative,
-            magnitude * 10u128.pow(u32::from(PLACES - self.scale)),
-        )
+        with_sign(negative, magnitude * power_of_ten(PLACES - self.scale))
     }
 
     /// The digits as a sign and a magnitude.
@@ -238,12 +294,19 @@ impl Decimal {
     }
 }
 
+/// The written form.
 impl fmt::Display for Decimal {
+    ghost use Rattle.std.specs.Prelude.{Some};
+    ghost use Rattle.gc_values.specs.Written.{written};
+
+    ghost output = { λ d. Some (written d.digits d.scale) };
+
     fn fmt<W: fmt::Write>(&self, f: &mut fmt::Formatter<W>) -> fmt::Result {
-        for byte in self.write().as_slice() {
-            f.write_char(char::from(*byte))?;
-        }
-        Ok(())
+        let text = self.write();
+        let Ok(text) = str::from_utf8(text.as_slice()) else {
+            unreachable!();
+        };
+        f.write_str(text)
     }
 }
 

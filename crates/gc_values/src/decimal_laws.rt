@@ -7,6 +7,7 @@ ghost use Rattle.gc_values.specs.Decimals.{fraction, rounded, decimal_eq, decima
 ghost use Rattle.gc_values.specs.Fraction.{Fraction, SameValue, IsRounded, IsBelow, IsWithin};
 ghost use Rattle.gc_values.specs.Spelling.{Names, Spells, SpellsBeyond, SpellsNothing};
 ghost use Rattle.gc_values.specs.Written.{written};
+ghost use Rattle.gc_values.specs.WrittenForm.{HasDecimalForm};
 ghost use Rattle.gc_values.specs.declared.decimal.Decimal.{Decimal};
 
 /// A text names one fraction at most.
@@ -36,6 +37,14 @@ pub fn text_has_one_fault()
 /// A decimal's written text spells it.
 pub fn written_text_spells()
     ensures { (d : Decimal) → Spells (written d.digits d.scale) d.digits d.scale }
+{}
+
+/// A decimal's written text is the one text that spells it and has the form: an optional minus and no plus, a
+/// digit on each side of the point, at most 24 places, no other zero at either end, no minus on zero, and no
+/// exponent.
+pub fn one_text_has_the_form()
+    ensures { (d : Decimal) (text : List ℕ) → (text ≡ written d.digits d.scale)
+        ↔ (HasDecimalForm text × Spells text d.digits d.scale) }
 {}
 
 /// Two decimals are equal exactly if their written texts are.

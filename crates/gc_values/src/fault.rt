@@ -39,14 +39,19 @@ impl ValueFault {
 }
 
 impl fmt::Display for ValueFault {
+    ghost use Rattle.std.specs.Prelude.{Some};
+    ghost use Rattle.gc_values.specs.ValueFault.{fault_text};
+
+    ghost output = { λ e. Some (fault_text e) };
+
     fn fmt<W: fmt::Write>(&self, f: &mut fmt::Formatter<W>) -> fmt::Result {
-        f.write_str(match self {
-            ValueFault::Spelling => "the parameter hasn't the form of its kind",
-            ValueFault::Range => "the parameter is out of its kind's range",
-            ValueFault::OpenQuote => "a string isn't closed",
-            ValueFault::TooMany => "there are more than 16 parameters",
-            ValueFault::Count => "the number of parameters is another",
-        })
+        match self {
+            ValueFault::Spelling => f.write_str("the parameter hasn't the form of its kind"),
+            ValueFault::Range => f.write_str("the parameter is out of its kind's range"),
+            ValueFault::OpenQuote => f.write_str("a string isn't closed"),
+            ValueFault::TooMany => f.write_str("there are more than 16 parameters"),
+            ValueFault::Count => f.write_str("the number of parameters is another"),
+        }
     }
 }
 

@@ -12,7 +12,7 @@ use arrayvec::ArrayVec;
 use std::marker::Model;
 
 /// The greatest number of parameters of a line.
-const MOST_ITEMS: usize = 16;
+pub const MOST_ITEMS: usize = 16;
 
 /// The items of a parameter list: at most 16 slices of the line, without the spaces round them.
 #[derive(Drop)]
@@ -79,7 +79,7 @@ fn trim_front(text: &[u8]) -> &[u8]
             return &text[i..];
         }
     }
-    &[]
+    &text[text.len()..]
 }
 
 /// Takes the spaces off the end.
@@ -102,7 +102,7 @@ fn trim(text: &[u8]) -> &[u8]
 
 /// Splits a parameter list at each comma that has an even number of double quotes before it, and
 /// takes the spaces off both ends of each item. A text of spaces alone, or an empty one, has no
-/// items.
+/// items. Each item, also an empty one, is a slice of the list.
 ///
 /// An odd number of double quotes is refused as `OpenQuote`, and else more than 16 items as
 /// `TooMany`.

@@ -1,10 +1,12 @@
 //! The laws of items and of parameter lists, which the crates above cite. Each is the contract of a
 //! function that does nothing.
 
-ghost use Rattle.std.specs.Prelude.{◌≡◌, ◌≢◌, ◌<◌, ◌≤◌, ℕ, List, All, length, map};
+ghost use Rattle.std.specs.Prelude.{◌≡◌, ◌≢◌, ◌↔◌, ◌<◌, ◌≤◌, ℕ, ℤ, List, All, length, map};
 ghost use Rattle.std.specs.List.{AllByRecursion};
 ghost use Rattle.gc_values.specs.Item.{kind_of, IsItem, IsItemFault, IsValue, text};
 ghost use Rattle.gc_values.specs.Params.{IsParams, joined};
+ghost use Rattle.gc_values.specs.Whole.{NamesWhole, signed_text};
+ghost use Rattle.gc_values.specs.WrittenForm.{HasWholeForm};
 ghost use Rattle.gc_values.specs.declared.fault.ValueFault.{ValueFault};
 ghost use Rattle.gc_values.specs.declared.value.Kind.{Kind};
 ghost use Rattle.gc_values.specs.declared.value.Value.{Value};
@@ -12,6 +14,13 @@ ghost use Rattle.gc_values.specs.declared.value.Value.{Value};
 /// What is written is read.
 pub fn written_is_read()
     ensures { (v : Value) → IsValue v → IsItem (text v) v }
+{}
+
+/// A whole number's written text is the one text that names it and has the form: an optional minus and no
+/// plus, no leading zero, and no minus on zero.
+pub fn one_text_has_the_form()
+    ensures { (z : ℤ) (text : List ℕ) → (text ≡ signed_text z)
+        ↔ (HasWholeForm text × NamesWhole text z) }
 {}
 
 /// An item is one value of a kind.

@@ -1,6 +1,7 @@
 //! Decimals, typed parameters and parameter lists.
 #![tactic(auto)]
 
+mod appending;
 mod byte;
 mod cutting;
 mod decimal;
@@ -8,18 +9,28 @@ pub mod decimal_laws;
 mod fault;
 mod items;
 pub mod laws;
+mod limits;
 mod numeral;
+mod parameters;
+mod power;
+mod quick;
+mod tail;
 mod text;
+mod units;
 mod value;
 mod whole;
-mod written;
 
-pub use byte::{read_byte, write_byte};
-pub use decimal::Decimal;
+pub use appending::push_rounded;
+pub use byte::{push_byte, read_byte, write_byte};
+pub use decimal::{Decimal, push_decimal};
 pub use fault::ValueFault;
-pub use items::{Items, split};
-pub use text::{Text, read_text, write_text};
+pub use items::{Items, MOST_ITEMS, split};
+pub use limits::{BOUND, PLACES};
+pub use parameters::{Listed, Parameters};
+pub use quick::Quick;
+pub use text::{TEXT_BYTES, Text, push_text, read_text, write_text};
 pub use value::{Kind, Value};
 pub use whole::{
-    read_bool, read_long, read_short, read_whole, write_bool, write_long, write_short,
+    push_bool, push_long, push_short, read_bool, read_long, read_short, read_whole, write_bool,
+    write_long, write_short,
 };

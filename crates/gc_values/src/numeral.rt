@@ -1,89 +1,40 @@
-//! The digits of a number's text, and the whole number that the first of them write.
+//! A number's text, cut into its parts. The longest run of digits is cut off each time, so there is one way to cut.
 
-ghost use Rattle.std.specs.Prelude.{◌≡◌, ℕ, ◌+◌, ◌*◌, ◌^◌, ◌<◌, ◌≤◌, ◌++◌, length, min};
-ghost use Rattle.gc_values.specs.Digits.{AreDigits, number, digit_or_zero, kept, kept_and_rounded};
-ghost use Rattle.gc_values.specs.Nearest.{IsCapped};
+ghost use Rattle.std.specs.Prelude.{◌≡◌, ◌<◌, IfSome, IfNone};
+ghost use Rattle.gc_values.specs.Cut.{ReadsNumeral};
+ghost use Rattle.gc_values.specs.Spelling.{Parts, IsNumeral, spelling};
 
-use crate::decimal::PLACES;
+use crate::cutting::{cut_digits, cut_fraction, cut_sign, exponent};
 
-/// One more than a decimal's greatest number of units of the last place: where a number stops to grow.
-const CAP: u128 = 10_000_000_000_000_000_000_000_000_000_000_000_001;
-
-/// The digit at a place of both runs in a row, and 0 behind the last one.
-#[tactic(auto, using(crate::proofs::Kept::at_first, crate::proofs::Kept::at_second, crate::proofs::Kept::at_neither, crate::proofs::Kept::is_digit))]
-fn digit_at(whole: &[u8], fraction: &[u8], place: usize) -> u8
-    requires whole { AreDigits whole.now }
-    requires fraction { AreDigits fraction.now }
-    ensures { result ≡ digit_or_zero (whole.now ++ fraction.now) place }
-{
-    let length = whole.len();
-    if place < length {
-        whole[place] - b'0'
-    } else if place - length < fraction.len() {
-        fraction[place - length] - b'0'
-    } else {
-        0
-    }
+/// A number's text, cut into its parts.
+#[derive(Clone, Copy)]
+pub struct Numeral<'a> {
+    pub negative: bool,
+    pub whole: &'a [u8],
+    pub fraction: &'a [u8],
+    pub up: u16,
+    pub down: u16,
 }
 
-/// The number that the first `count` digits write.
-fn kept_digits(whole: &[u8], fraction: &[u8], count: usize) -> u128
-    requires whole { AreDigits whole.now }
-    requires fraction { AreDigits fraction.now }
-    ensures { result ≡ min CAP (kept (whole.now ++ fraction.now) count) }
+/// Reads a number's text.
+pub fn cut_numeral(text: &[u8]) -> Option<Numeral<'_>>
+    ensures found { IfSome result
+        (λ n. ReadsNumeral text.now n.negative n.whole.now n.fraction.now n.up n.down) }
+    ensures small { IfSome result (λ n. (n.up < 1000) × (n.down < 1000)) }
+    ensures none { IfNone result ((p : Parts) → IsNumeral p → text.now ≡ spelling p → ⊥) }
 {
-    let mut kept = 0;
-    for place in 0..count {
-        let digit = digit_at(whole, fraction, place);
-        kept = (kept * 10 + u128::from(digit)).min(CAP);
+    let (negative, rest) = cut_sign(text);
+    let (whole, rest) = cut_digits(rest);
+    let (fraction, rest) = cut_fraction(rest);
+    if whole.is_empty() && fraction.is_empty() {
+        return None;
     }
-    kept
-}
-
-/// The number that the first `count` digits write, with the next digit rounded in.
-fn rounded(whole: &[u8], fraction: &[u8], count: usize) -> u128
-    requires whole { AreDigits whole.now }
-    requires fraction { AreDigits fraction.now }
-    ensures { result ≡ min CAP (kept_and_rounded (whole.now ++ fraction.now) count) }
-{
-    let kept = kept_digits(whole, fraction, count);
-    if digit_at(whole, fraction, count) >= 5 {
-        (kept + 1).min(CAP)
-    } else {
-        kept
-    }
-}
-
-/// A number with zeros behind it; more of them than lead past the cap make no difference.
-fn with_zeros(kept: u128, zeros: usize) -> u128
-    ensures { result ≡ min CAP (kept * 10 ^ zeros) }
-{
-    let power = 10u128.pow(zeros.min(38) as u32);
-    kept.saturating_mul(power).min(CAP)
-}
-
-/// The number's value as a whole number over a power of ten: the digits in front of the point, and as many
-/// behind it as the last place and the exponent leave. No zero is appended that the value doesn't need, so
-/// this takes as many steps as there are digits, whatever the exponent is.
-pub fn units(whole: &[u8], fraction: &[u8], up: u16, down: u16) -> (u128, u8)
-    requires whole { AreDigits whole.now }
-    requires fraction { AreDigits fraction.now }
-    ensures { IsCapped (number (whole.now ++ fraction.now) * 10 ^ up)
-        (length fraction.now + down) CAP result.0 result.1 }
-{
-    let last = whole.len() + usize::from(up) + usize::from(PLACES);
-    let Some(count) = last.checked_sub(usize::from(down)) else {
-        return (0, PLACES);
-    };
-    let length = whole.len() + fraction.len();
-    if count < length {
-        return (rounded(whole, fraction, count), PLACES);
-    }
-    let kept = kept_digits(whole, fraction, length);
-    let zeros = count - length;
-    if zeros <= usize::from(PLACES) {
-        (kept, PLACES - zeros as u8)
-    } else {
-        (with_zeros(kept, zeros - usize::from(PLACES)), 0)
-    }
+    let (up, down) = exponent(rest)?;
+    Some(Numeral {
+        negative,
+        whole,
+        fraction,
+        up,
+        down,
+    })
 }

@@ -2,18 +2,22 @@
 //! as one. The form is the GeoCOM manual's; the limit, and that a backslash is a plain byte, are
 //! this project's own.
 
-ghost use Rattle.std.specs.Prelude.{◌≡◌, ◌↔◌, ◌⊎◌, ◌<◌, ◌≤◌, ◌-◌, ◌++◌, ◌∷◌, length, take, replicate, List, [], ℕ, IsOk, IfOk, IfErr, IfSome, IfNone, IsTrue};
+ghost use Rattle.std.specs.Prelude.{◌≡◌, ◌↔◌, ◌⊎◌, ◌+◌, ◌<◌, ◌≤◌, ◌-◌, ◌++◌, ◌∷◌, length, take, replicate, List, [], ℕ, IsOk, IfOk, IfErr, IfSome, IfNone, IsTrue};
+ghost use Rattle.arrayvec.specs.ArrayVec.{array_vec_len};
 ghost use Rattle.gc_values.specs.Text.{IsStringByte, AreStringBytes, IsText, quoted, IsString, IsTextItem, IsNoString, IsLongString};
 
 use crate::fault::ValueFault;
 use arrayvec::ArrayVec;
 use std::marker::Model;
 
+/// The greatest number of bytes of a string parameter.
+pub const TEXT_BYTES: usize = 64;
+
 /// The bytes of a string parameter: at most 64, none of them a double quote, CR or LF. The unused
 /// bytes are zero.
 #[derive(Clone, Copy, Debug, PartialEq, Eq)]
 pub struct Text {
-    bytes: [u8; 64],
+    bytes: [u8; TEXT_BYTES],
     len: u8,
 }
 
@@ -53,11 +57,11 @@ fn are_string_bytes(bytes: &[u8]) -> bool
 }
 
 /// The bytes, and zeros behind them.
-fn filled_up(bytes: &[u8]) -> [u8; 64]
+fn filled_up(bytes: &[u8]) -> [u8; TEXT_BYTES]
     requires { length bytes.now ≤ 64 }
     ensures { result ≡ bytes.now ++ replicate (64 - length bytes.now) 0 }
 {
-    let mut all = [0; 64];
+    let mut all = [0; TEXT_BYTES];
     all[..bytes.len()].copy_from_slice(bytes);
     all
 }
@@ -68,7 +72,7 @@ impl Text {
         ensures { result ≡ [] }
     {
         Text {
-            bytes: [0; 64],
+            bytes: [0; TEXT_BYTES],
             len: 0,
         }
     }
@@ -86,7 +90,7 @@ impl Text {
         if !are_string_bytes(bytes) {
             return Err(ValueFault::Spelling);
         }
-        if bytes.len() > 64 {
+        if bytes.len() > TEXT_BYTES {
             return Err(ValueFault::Range);
         }
         Ok(Text {
@@ -130,14 +134,24 @@ pub fn read_text(item: &[u8]) -> Result<Text, ValueFault>
     }
 }
 
+/// Appends a string between double quotes, which has at most 66 bytes.
+pub fn push_text<const N: usize>(out: &mut ArrayVec<u8, N>, v: &Text)
+    requires room { array_vec_len out.old + 66 ≤ N }
+    ensures items { out.new.items ≡ out.old.items ++ quoted v.now }
+    ensures text { IsText v.now }
+    ensures len { array_vec_len out.new ≤ array_vec_len out.old + 66 }
+{
+    out.push(b'"');
+    let _ = out.try_extend_from_slice(v.as_bytes());
+    out.push(b'"');
+}
+
 /// Writes a string between double quotes.
 pub fn write_text(v: &Text) -> ArrayVec<u8, 66>
     ensures text { result.items ≡ quoted v.now }
     ensures reads_back { IsTextItem result.items v.now }
 {
     let mut out = ArrayVec::new();
-    out.push(b'"');
-    let _ = out.try_extend_from_slice(v.as_bytes());
-    out.push(b'"');
+    push_text(&mut out, v);
     out
 }

@@ -2,13 +2,13 @@
 //! The kinds and their forms are those of the GeoCOM manual's ASCII protocol; what is read
 //! leniently, the ranges and the one written form are this project's own.
 
-ghost use Rattle.std.specs.Prelude.{◌≡◌, ◌≤◌, IfOk, IfErr, length};
+ghost use Rattle.std.specs.Prelude.{◌≡◌, IfOk, IfErr};
 
-use crate::byte::{read_byte, write_byte};
-use crate::decimal::Decimal;
+use crate::byte::{push_byte, read_byte};
+use crate::decimal::{Decimal, push_decimal};
 use crate::fault::ValueFault;
-use crate::text::{Text, read_text, write_text};
-use crate::whole::{read_bool, read_long, read_short, write_bool, write_long, write_short};
+use crate::text::{Text, push_text, read_text};
+use crate::whole::{push_bool, push_long, push_short, read_bool, read_long, read_short};
 use arrayvec::ArrayVec;
 
 /// The kind of a parameter.
@@ -49,16 +49,6 @@ impl Default for Value {
     fn default() -> Value {
         Value::Bool(false)
     }
-}
-
-/// The bytes, in an array that has room for every value's text.
-fn widened(bytes: &[u8]) -> ArrayVec<u8, 66>
-    requires { length bytes.now ≤ 66 }
-    ensures { result.items ≡ bytes.now }
-{
-    let mut out = ArrayVec::new();
-    let _ = out.try_extend_from_slice(bytes);
-    out
 }
 
 impl Value {
@@ -114,14 +104,16 @@ impl Value {
         ensures value { IsValue self.now }
         ensures reads_back { IsItem result.items self.now }
     {
+        let mut out = ArrayVec::new();
         match self {
-            Value::Double(d) => widened(d.write().as_slice()),
-            Value::Long(v) => widened(write_long(*v).as_slice()),
-            Value::Short(v) => widened(write_short(*v).as_slice()),
-            Value::Byte(v) => widened(write_byte(*v).as_slice()),
-            Value::Bool(v) => widened(write_bool(*v).as_slice()),
-            Value::Text(v) => write_text(v),
+            Value::Double(d) => push_decimal(&mut out, d),
+            Value::Long(v) => push_long(&mut out, *v),
+            Value::Short(v) => push_short(&mut out, *v),
+            Value::Byte(v) => push_byte(&mut out, *v),
+            Value::Bool(v) => push_bool(&mut out, *v),
+            Value::Text(v) => push_text(&mut out, v),
         }
+        out
     }
 }
 

@@ -2,13 +2,14 @@
 //! at afterwards, so that leading zeros never matter. The ranges are those of the GeoCOM manual's
 //! types; signs and leading zeros are read as this project's own leniency.
 
-ghost use Rattle.std.specs.Prelude.{◌≡◌, ◌⊎◌, ◌<◌, ◌≤◌, ◌^◌, ℕ, ℤ, pos, ◌∷◌, [], Bool, IfOk, IfErr, length};
+ghost use Rattle.std.specs.Prelude.{◌≡◌, ◌⊎◌, ◌+◌, ◌<◌, ◌≤◌, ◌^◌, ◌++◌, ℕ, ℤ, pos, ◌∷◌, [], Bool, IfOk, IfErr, length};
 ghost use Rattle.gc_values.specs.Whole.{NamesNumber, IsNumberFault, NamesWhole, IsBetween, IsWholeFault, FitsLong, FitsShort, signed_text};
+ghost use Rattle.arrayvec.specs.ArrayVec.{array_vec_len};
 ghost use Rattle.gc_values.specs.Boolean.{NamesBoolean, boolean_text};
 
 use crate::cutting::cut_sign;
 use crate::fault::ValueFault;
-use crate::written::push_whole;
+use crate::tail::Tail;
 use arrayvec::ArrayVec;
 
 /// Reads one or more digits, without a sign, as a number of at most `max`. Anything else is refused
@@ -78,16 +79,47 @@ pub fn read_bool(item: &[u8]) -> Result<bool, ValueFault>
     Ok(read_between(item, 0, 1)? == 1)
 }
 
-/// A whole number's text: a minus where it is below zero, and digits without leading zeros.
-fn signed_text(v: i32) -> ArrayVec<u8, 40>
-    ensures { result.items ≡ signed_text v }
+/// Puts a whole number's text into an end that has no bytes yet: a minus where it is below zero, and digits without
+/// leading zeros.
+fn put_signed(tail: &mut Tail, v: i32)
+    requires { tail.old ≡ [] }
+    ensures { tail.new ≡ signed_text v }
 {
-    let mut out = ArrayVec::new();
+    tail.put_whole(u64::from(v.unsigned_abs()));
     if v < 0 {
-        out.push(b'-');
+        tail.put(b'-');
     }
-    push_whole(&mut out, v.unsigned_abs().into());
-    out
+}
+
+/// Appends a Long, which has at most 11 bytes.
+pub fn push_long<const N: usize>(out: &mut ArrayVec<u8, N>, v: i32)
+    requires room { array_vec_len out.old + 11 ≤ N }
+    ensures items { out.new.items ≡ out.old.items ++ signed_text v }
+    ensures len { array_vec_len out.new ≤ array_vec_len out.old + 11 }
+{
+    let mut tail = Tail::new();
+    put_signed(&mut tail, v);
+    let _ = out.try_extend_from_slice(tail.as_bytes());
+}
+
+/// Appends a Short, which has at most 6 bytes.
+pub fn push_short<const N: usize>(out: &mut ArrayVec<u8, N>, v: i16)
+    requires room { array_vec_len out.old + 6 ≤ N }
+    ensures items { out.new.items ≡ out.old.items ++ signed_text v }
+    ensures len { array_vec_len out.new ≤ array_vec_len out.old + 6 }
+{
+    let mut tail = Tail::new();
+    put_signed(&mut tail, i32::from(v));
+    let _ = out.try_extend_from_slice(tail.as_bytes());
+}
+
+/// Appends a Boolean: `0` or `1`.
+pub fn push_bool<const N: usize>(out: &mut ArrayVec<u8, N>, v: bool)
+    requires room { array_vec_len out.old + 1 ≤ N }
+    ensures items { out.new.items ≡ out.old.items ++ boolean_text v }
+    ensures len { array_vec_len out.new ≡ array_vec_len out.old + 1 }
+{
+    out.push(if v { b'1' } else { b'0' });
 }
 
 /// Writes a Long.
@@ -96,7 +128,7 @@ pub fn write_long(v: i32) -> ArrayVec<u8, 11>
     ensures reads_back { NamesWhole result.items v }
 {
     let mut out = ArrayVec::new();
-    let _ = out.try_extend_from_slice(signed_text(v).as_slice());
+    push_long(&mut out, v);
     out
 }
 
@@ -106,7 +138,7 @@ pub fn write_short(v: i16) -> ArrayVec<u8, 6>
     ensures reads_back { NamesWhole result.items v }
 {
     let mut out = ArrayVec::new();
-    let _ = out.try_extend_from_slice(signed_text(i32::from(v)).as_slice());
+    push_short(&mut out, v);
     out
 }
 
@@ -115,5 +147,7 @@ pub fn write_bool(v: bool) -> ArrayVec<u8, 1>
     ensures text { result.items ≡ boolean_text v }
     ensures reads_back { NamesBoolean result.items v }
 {
-    ArrayVec::from([if v { b'1' } else { b'0' }])
+    let mut out = ArrayVec::new();
+    push_bool(&mut out, v);
+    out
 }

@@ -4,10 +4,12 @@ use mathlib.Core.Path.{ap₂}
 use Rattle.std.proofs.lemmas.List.{drop-drop, drop-append-le, length_push, drop_all}
 use Rattle.std.proofs.lemmas.Bool.{ltb-true, ltb-false, lt-ltb, le-ltb}
 use Rattle.gc_catalogue.specs.declared.call.Call.{Call}
+use Rattle.gc_catalogue.specs.Texts.{request_line}
 use Rattle.gc_client.specs.declared.pending.Pending.{Pending}
-use Rattle.gc_client.specs.Rule.{Settled, ById, asked, expired, lost, settle, place, id_send, id_settled, hears}
-use Rattle.gc_world.specs.World.{Request, Numbered, Ends, Happening, Send, Up_deliver, Up_lose, Up_repeat, Down_deliver, Down_lose, Down_repeat, Expire, Restart_client, Restart_instrument, Nothing, Wire, World, Written, without, doubled, idle, up_delivered, with_up, with_down, started, instrument_restarted, on_wire, requested, booked, down_delivered, client_restarted, happens, run}
-use Rattle.gc_world.specs.Clients.{ByNumber, with_id, by_ids, ids_open, number_send, number_reply, by_numbers, numbers_open, run_by_ids, run_by_numbers}
+use Rattle.gc_client.specs.Rule.{Settled, ById, pending_of, expired, lost, settle, place, id_send, id_settled, hears}
+use Rattle.gc_client.specs.Rule.{Sending}
+use Rattle.gc_world.specs.World.{Request, Numbered, Ends, Step, Send, Up_deliver, Up_lose, Up_repeat, Down_deliver, Down_lose, Down_repeat, Expire, Restart_client, Restart_instrument, Nothing, Wire, World, without, doubled, idle, up_delivered, with_up, with_down, started, instrument_restarted, on_wire, requested, with_settled, down_delivered, client_restarted, happens, run}
+use Rattle.gc_world.specs.Clients.{ByNumber, by_ids, ids_open, number_send, number_reply, by_numbers, numbers_open, run_by_ids, run_by_numbers}
 use Rattle.gc_world.specs.Exchange.{IsExchange}
 use Rattle.gc_world.specs.Order.{Each, Rising, numbers, under_way, IsOrderly}
 use Rattle.gc_world.proofs.Ids.{place_within, place_before}
@@ -15,17 +17,17 @@ use Rattle.gc_world.proofs.Sound.{IsComing, Sound, length_expired, all_sent, sou
 
 -- the two clients stand for the same
 pub record Alike (a : ById) (b : ByNumber) : Type 0 where
-  pub window : a.waiting ≡ drop b.count b.asked
-  pub next : a.next ≡ (length b.asked - b.since) % 8
+  pub window : a.waiting ≡ drop b.count b.requests
+  pub next : a.next ≡ (length b.requests - b.since) % 8
 
 -- the two clients did the same
-pub record SameWritten (a : Written ById) (b : Written ByNumber) : Type 0 where
+pub record SameSending (a : Sending ById) (b : Sending ByNumber) : Type 0 where
   pub id : a.id ≡ b.id
   pub client : Alike a.client b.client
 
-abbrev SameSend : Option (Written ById) → Option (Written ByNumber) → Type 0
+abbrev SameSend : Option (Sending ById) → Option (Sending ByNumber) → Type 0
 SameSend None None = Unit {0}
-SameSend (Some x) (Some y) = SameWritten x y
+SameSend (Some x) (Some y) = SameSending x y
 SameSend None (Some y) = ⊥
 SameSend (Some x) None = ⊥
 
@@ -33,18 +35,18 @@ pub record SameSettled (a : Settled ById) (b : Settled ByNumber) : Type 0 where
   pub settlements : a.settlements ≡ b.settlements
   pub client : Alike a.client b.client
 
-waiting_count : (a : ById) (b : ByNumber) → Alike a b → length a.waiting ≡ length b.asked - b.count
-waiting_count a b h = ap length h.window ∙ length-drop b.count b.asked
+waiting_count : (a : ById) (b : ByNumber) → Alike a b → length a.waiting ≡ length b.requests - b.count
+waiting_count a b h = ap length h.window ∙ length-drop b.count b.requests
 
-same_send : (a : ById) (b : ByNumber) (target : ℕ) (call : Call) (deadline : ℕ) (full : Bool) → b.since ≤ b.count → b.count ≤ length b.asked → Alike a b → SameSend (with_id a.next (id_send a target call deadline full)) (number_send b target call deadline full)
+same_send : (a : ById) (b : ByNumber) (target : ℕ) (call : Call) (deadline : ℕ) (full : Bool) → b.since ≤ b.count → b.count ≤ length b.requests → Alike a b → SameSend (id_send a target call deadline full) (number_send b target call deadline full)
 same_send a b target call deadline true h1 h2 h = tt
 same_send a b target call deadline false h1 h2 h =
-    let p : Pending = asked target call deadline in
+    let p : Pending = pending_of target call deadline in
     record {
       id = h.next;
       client = record {
-        window = ap (λ w. w ++ p ∷ []) h.window ∙ sym (drop-append-le b.count b.asked (p ∷ []) h2);
-        next = omega (arith, h.next, length_push b.asked p, h1, h2);
+        window = ap (λ w. w ++ p ∷ []) h.window ∙ sym (drop-append-le b.count b.requests (p ∷ []) h2);
+        next = omega (arith, h.next, length_push b.requests p, h1, h2);
       };
     }
 
@@ -59,41 +61,41 @@ module _ {State : Type 0} (width : ℕ) (narrow : width ≤ 7) (ends : Ends Stat
     pub wire : a.wire ≡ b.wire
     pub client : Alike a.client b.client
 
-  same_reply : (a : ById) (b : ByNumber) (x : Numbered (List ℕ)) (old : Bool) → ltb x.number b.count ≡ old → b.since ≤ b.count → b.count ≤ length b.asked → length b.asked ≤ b.count + width → b.count ≤ x.number + 1 → IsComing width ends Good b.since (length b.asked) x → Alike a b → SameSettled (hears a x.line (Some ((x.number - b.since) % 8))) (number_reply b x old)
+  same_reply : (a : ById) (b : ByNumber) (x : Numbered (List ℕ)) (old : Bool) → ltb x.number b.count ≡ old → b.since ≤ b.count → b.count ≤ length b.requests → length b.requests ≤ b.count + width → b.count ≤ x.number + 1 → IsComing width ends Good b.since (length b.requests) x → Alike a b → SameSettled (hears a x.line (Some ((x.number - b.since) % 8))) (number_reply b x old)
   same_reply a b x true t h1 h2 h3 h4 coming h =
       let lt : x.number < b.count = ltb-true _ _ t in
       let n = waiting_count a b h in
       let k : place a.next (length a.waiting) ((x.number - b.since) % 8) ≡ 7 =
-      ap (λ v. place v (length a.waiting) ((x.number - b.since) % 8)) h.next ∙ ap (λ v. place ((length b.asked - b.since) % 8) v ((x.number - b.since) % 8)) n
-      ∙ place_before b.since b.count (length b.asked) x.number coming.recent (omega arith) h2 (omega arith) in
+      ap (λ v. place v (length a.waiting) ((x.number - b.since) % 8)) h.next ∙ ap (λ v. place ((length b.requests - b.since) % 8) v ((x.number - b.since) % 8)) n
+      ∙ place_before b.since b.count (length b.requests) x.number coming.recent (omega arith) h2 (omega arith) in
       let far : ltb (place a.next (length a.waiting) ((x.number - b.since) % 8)) (length a.waiting) ≡ false = le-ltb _ _ (omega (arith, k, n, h3, h2)) in
       subst (λ v. SameSettled (id_settled a x.line (place a.next (length a.waiting) ((x.number - b.since) % 8)) v) (number_reply b x true)) (sym far)
       (record { settlements = refl; client = h })
   same_reply a b x false t h1 h2 h3 h4 coming h =
       let ge : b.count ≤ x.number = ltb-false _ _ t in
-      let lt : x.number < length b.asked = coming.sent in
+      let lt : x.number < length b.requests = coming.sent in
       let n = waiting_count a b h in
       let k : place a.next (length a.waiting) ((x.number - b.since) % 8) ≡ x.number - b.count =
-      ap (λ v. place v (length a.waiting) ((x.number - b.since) % 8)) h.next ∙ ap (λ v. place ((length b.asked - b.since) % 8) v ((x.number - b.since) % 8)) n
-      ∙ place_within b.since b.count (length b.asked) x.number h1 ge lt (omega arith) in
+      ap (λ v. place v (length a.waiting) ((x.number - b.since) % 8)) h.next ∙ ap (λ v. place ((length b.requests - b.since) % 8) v ((x.number - b.since) % 8)) n
+      ∙ place_within b.since b.count (length b.requests) x.number h1 ge lt (omega arith) in
       let near : ltb (x.number - b.count) (length a.waiting) ≡ true = lt-ltb _ _ (omega (arith, n, ge, lt)) in
       subst (λ v. SameSettled (id_settled a x.line v (ltb v (length a.waiting))) (number_reply b x false)) (sym k)
       (subst (λ v. SameSettled (id_settled a x.line (x.number - b.count) v) (number_reply b x false)) (sym near)
       (record {
         settlements = ap (λ ps. settle (x.number - b.count) x.line ps) h.window;
         client = record {
-          window = ap (λ ps. drop (x.number - b.count + 1) ps) h.window ∙ drop-drop (x.number - b.count + 1) b.count b.asked ∙ ap (λ m. drop m b.asked) (let e : b.count + (x.number - b.count + 1) ≡ x.number + 1 = omega (arith, ge) in e);
+          window = ap (λ ps. drop (x.number - b.count + 1) ps) h.window ∙ drop-drop (x.number - b.count + 1) b.count b.requests ∙ ap (λ m. drop m b.requests) (let e : b.count + (x.number - b.count + 1) ≡ x.number + 1 = omega (arith, ge) in e);
           next = h.next;
         };
       }))
 
-  same_requested : (a : World ById State) (b : World ByNumber State) (target : ℕ) (call : Call) (o : Option (Written ById)) (o' : Option (Written ByNumber)) → SameSend o o' → Agree a b → Agree (requested a target call o) (requested b target call o')
+  same_requested : (a : World ById State) (b : World ByNumber State) (target : ℕ) (call : Call) (o : Option (Sending ById)) (o' : Option (Sending ByNumber)) → SameSend o o' → Agree a b → Agree (requested a target call o) (requested b target call o')
   same_requested a b target call None None s h = record { wire = ap (λ (w : Wire State). record w { refused = w.refused + 1 }) h.wire; client = h.client }
   same_requested a b target call (Some x) (Some y) s h =
       record {
         wire =
             ap₂ (λ (w : Wire State) (id : ℕ). record w {
-              sent = w.sent ++ record { target = target; request = record { id = id; call = call } } ∷ [];
+              sent = w.sent ++ record { target = target; call = call; line = request_line (Some id) call } ∷ [];
               up = w.up ++ record { number = length w.sent; line = record { id = id; call = call } } ∷ [];
             }) h.wire s.id;
         client = s.client;
@@ -101,7 +103,7 @@ module _ {State : Type 0} (width : ℕ) (narrow : width ≤ 7) (ends : Ends Stat
   same_requested a b target call None (Some y) s h = absurd s
   same_requested a b target call (Some x) None s h = absurd s
 
-  same_booked : (v w : Wire State) (x : Settled ById) (y : Settled ByNumber) → v ≡ w → SameSettled x y → Agree (booked v x) (booked w y)
+  same_booked : (v w : Wire State) (x : Settled ById) (y : Settled ByNumber) → v ≡ w → SameSettled x y → Agree (with_settled v x) (with_settled w y)
   same_booked v w x y e s =
       record { wire = ap₂ (λ (u : Wire State) (l : List _). record u { settled = u.settled ++ l }) e s.settlements; client = s.client }
 
@@ -109,7 +111,7 @@ module _ {State : Type 0} (width : ℕ) (narrow : width ≤ 7) (ends : Ends Stat
   agree_down a b [] e s h = record { wire = ap idle h.wire; client = h.client }
   agree_down a b (x ∷ rest) e s h =
       let c = b.client in
-      let coming = (subst (λ q. Each (IsComing width ends Good c.since (length c.asked)) q) e s.coming).0 in
+      let coming = (subst (λ q. Each (IsComing width ends Good c.since (length c.requests)) q) e s.coming).0 in
       let order = (subst (λ q. Rising c.count (numbers q ++ numbers b.wire.up)) e s.order).0 in
       same_booked _ _ _ _ (ap (λ (w : Wire State). record w { down = rest }) h.wire)
       (subst (λ o. SameSettled (hears a.client x.line o) (number_reply c x (ltb x.number c.count))) (sym coming.id)
@@ -118,15 +120,15 @@ module _ {State : Type 0} (width : ℕ) (narrow : width ≤ 7) (ends : Ends Stat
   agree_expire : (now : ℕ) (a : ById) (b : ByNumber) → Alike a b → Alike ((by_ids width ends).expire a now) ((by_numbers width).expire b now)
   agree_expire now a b h =
       record {
-        window = ap (λ ps. map (expired now) ps) h.window ∙ drop_expired now b.count b.asked;
-        next = h.next ∙ ap (λ n. (n - b.since) % 8) (sym (length_expired now b.count b.asked));
+        window = ap (λ ps. map (expired now) ps) h.window ∙ drop_expired now b.count b.requests;
+        next = h.next ∙ ap (λ n. (n - b.since) % 8) (sym (length_expired now b.count b.requests));
       }
 
   agree_lost : (a : ById) (b : ByNumber) → Alike a b → SameSettled ((by_ids width ends).restart a) ((by_numbers width).restart b)
   agree_lost a b h =
       record {
         settlements = ap (λ ps. map lost ps) h.window;
-        client = record { window = sym (drop_all (length b.asked) b.asked (omega arith)); next = omega arith };
+        client = record { window = sym (drop_all (length b.requests) b.requests (omega arith)); next = omega arith };
       }
 
   agree_restart_client : (a : World ById State) (b : World ByNumber State) (up : List (Numbered Request)) (down : List (Numbered (List ℕ))) → Agree a b → Agree (client_restarted ends (by_ids width ends) a up down) (client_restarted ends (by_numbers width) b up down)
@@ -138,11 +140,11 @@ module _ {State : Type 0} (width : ℕ) (narrow : width ≤ 7) (ends : Ends Stat
   agree_wire : (f : Wire State → Wire State) (a : World ById State) (b : World ByNumber State) → Agree a b → Agree (on_wire a (f a.wire)) (on_wire b (f b.wire))
   agree_wire f a b h = record { wire = ap f h.wire; client = h.client }
 
-  pub agrees : (a : World ById State) (b : World ByNumber State) (e : Happening) → Sound width ends Good b → Agree a b → Agree (happens ends (by_ids width ends) a e) (happens ends (by_numbers width) b e)
+  pub agrees : (a : World ById State) (b : World ByNumber State) (e : Step) → Sound width ends Good b → Agree a b → Agree (happens ends (by_ids width ends) a e) (happens ends (by_numbers width) b e)
   agrees a b (Send target call deadline) s h =
       same_requested a b target call _ _
-      (subst (λ n. SameSend (with_id a.client.next (id_send a.client target call deadline (eqb n width))) (number_send b.client target call deadline (eqb (length b.client.asked - b.client.count) width))) (sym (waiting_count a.client b.client h.client))
-      (same_send a.client b.client target call deadline (eqb (length b.client.asked - b.client.count) width) s.begun s.within h.client)) h
+      (subst (λ n. SameSend (id_send a.client target call deadline (eqb n width)) (number_send b.client target call deadline (eqb (length b.client.requests - b.client.count) width))) (sym (waiting_count a.client b.client h.client))
+      (same_send a.client b.client target call deadline (eqb (length b.client.requests - b.client.count) width) s.begun s.within h.client)) h
   agrees a b Up_deliver s h = agree_wire (λ w. up_delivered ends w w.up) a b h
   agrees a b (Up_lose k) s h = agree_wire (λ w. with_up w (without k w.up) (ltb k (length w.up))) a b h
   agrees a b (Up_repeat k) s h = agree_wire (λ w. with_up w (doubled k w.up) (ltb k (length w.up))) a b h
@@ -158,7 +160,7 @@ module _ {State : Type 0} (width : ℕ) (narrow : width ≤ 7) (ends : Ends Stat
   agrees a b Restart_instrument s h = agree_wire (λ w. instrument_restarted ends w w.up w.down) a b h
   agrees a b Nothing s h = agree_wire idle a b h
 
-  pub agrees_all : IsExchange ends Good → (es : List Happening) (a : World ById State) (b : World ByNumber State) → Sound width ends Good b → Agree a b → Agree (run ends (by_ids width ends) es a) (run ends (by_numbers width) es b)
+  pub agrees_all : IsExchange ends Good → (es : List Step) (a : World ById State) (b : World ByNumber State) → Sound width ends Good b → Agree a b → Agree (run ends (by_ids width ends) es a) (run ends (by_numbers width) es b)
   agrees_all ex [] a b s h = h
   agrees_all ex (e ∷ es) a b s h = agrees_all ex es _ _ (sound_step width ends Good ex b e s) (agrees a b e s h)
 
@@ -171,18 +173,18 @@ module _ {State : Type 0} (width : ℕ) (narrow : width ≤ 7) (ends : Ends Stat
         settled = omega (arith, s.booked, s.counted, s.within);
         few = omega (arith, s.booked, s.counted, s.few);
         order = subst (λ n. Rising n (under_way w.wire)) (sym s.booked) s.order;
-        sent = subst (λ n. Each (λ m. m < n) (under_way w.wire)) s.counted (all_sent width ends Good w.client.since (length w.client.asked) w.wire.down w.wire.up s.coming s.going);
+        sent = subst (λ n. Each (λ m. m < n) (under_way w.wire)) s.counted (all_sent width ends Good w.client.since (length w.client.requests) w.wire.down w.wire.up s.coming s.going);
       }
 
   -- what the two runs have at their ends
-  pub agree_at : IsExchange ends Good → (es : List Happening) (state : State) → Good state → Agree (run_by_ids width ends es state) (run_by_numbers width ends es state)
+  pub agree_at : IsExchange ends Good → (es : List Step) (state : State) → Good state → Agree (run_by_ids width ends es state) (run_by_numbers width ends es state)
   agree_at ex es state g = agrees_all ex es (ids_open state) (numbers_open state) (sound_open width ends Good state g) (agree_open state)
 
-  pub sound_at : IsExchange ends Good → (es : List Happening) (state : State) → Good state → Sound width ends Good (run_by_numbers width ends es state)
+  pub sound_at : IsExchange ends Good → (es : List Step) (state : State) → Good state → Sound width ends Good (run_by_numbers width ends es state)
   sound_at ex es state g = sound_all width ends Good ex es (numbers_open state) (sound_open width ends Good state g)
 
-  pub same_wire : IsExchange ends Good → (es : List Happening) (state : State) → Good state → (run_by_ids width ends es state).wire ≡ (run_by_numbers width ends es state).wire
+  pub same_wire : IsExchange ends Good → (es : List Step) (state : State) → Good state → (run_by_ids width ends es state).wire ≡ (run_by_numbers width ends es state).wire
   same_wire ex es state g = (agree_at ex es state g).wire
 
-  pub orderly_at : IsExchange ends Good → (es : List Happening) (state : State) → Good state → IsOrderly width (run_by_ids width ends es state).wire
+  pub orderly_at : IsExchange ends Good → (es : List Step) (state : State) → Good state → IsOrderly width (run_by_ids width ends es state).wire
   orderly_at ex es state g = subst (λ w. IsOrderly width w) (sym (same_wire ex es state g)) (orderly _ (sound_at ex es state g))

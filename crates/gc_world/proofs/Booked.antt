@@ -4,7 +4,8 @@ use Rattle.std.specs.Prelude.{slice_get}
 use Rattle.std.proofs.lemmas.Bool.{ltb-false}
 use Rattle.gc_client.specs.declared.pending.Pending.{Pending}
 use Rattle.gc_client.specs.Rule.{Outcome, Answered, Late, Lost, Settlement, lost, met, settle}
-use Rattle.gc_world.specs.World.{Request, Numbered, Ends, Handed, Happening, World, Wire, answered, started, booked}
+use Rattle.gc_instrument.specs.Replying.{Handed}
+use Rattle.gc_world.specs.World.{Request, Numbered, Ends, Step, World, Wire, replied, started, with_settled}
 use Rattle.gc_world.specs.Clients.{ByNumber, number_reply, by_numbers, numbers_open, run_by_numbers}
 use Rattle.gc_world.specs.Exchange.{IsExchange}
 use Rattle.gc_world.specs.Order.{Each}
@@ -81,7 +82,7 @@ module _ {State : Type 0} (width : ℕ) (ends : Ends State) (Good : State → Ty
     pub sound : Sound width ends Good w
     pub backed : IsBacked w.wire.made w.wire.down w.wire.settled
 
-  backed_answer : (w : Wire State) (n : ℕ) (rest : List (Numbered Request)) (hd : Handed State) → IsBacked w.made w.down w.settled → (let v = answered w n rest hd in IsBacked v.made v.down v.settled)
+  backed_answer : (w : Wire State) (n : ℕ) (rest : List (Numbered Request)) (hd : Handed State) → IsBacked w.made w.down w.settled → (let v = replied w n rest hd in IsBacked v.made v.down v.settled)
   backed_answer w n rest hd h =
       let x : Numbered (List ℕ) = record { number = n; line = hd.reply } in
       record {
@@ -103,14 +104,14 @@ module _ {State : Type 0} (width : ℕ) (ends : Ends State) (Good : State → Ty
         under_way = g.1;
         booked =
             all_made_append w.wire.made 0 w.client.count w.wire.settled _ (omega (arith, s)) h.booked
-            (all_made_settle w.wire.made w.client.count x.number (x.number - w.client.count) x.line (drop w.client.count w.client.asked) (omega (arith, ge)) g.0);
+            (all_made_settle w.wire.made w.client.count x.number (x.number - w.client.count) x.line (drop w.client.count w.client.requests) (omega (arith, ge)) g.0);
       }
 
-  backed_restart : (w : World ByNumber State) (b : Bool) → length w.wire.settled ≡ w.client.count → IsBacked w.wire.made w.wire.down w.wire.settled → (let v = (booked (started ends w.wire b) ((by_numbers width).restart w.client)).wire in IsBacked v.made v.down v.settled)
+  backed_restart : (w : World ByNumber State) (b : Bool) → length w.wire.settled ≡ w.client.count → IsBacked w.wire.made w.wire.down w.wire.settled → (let v = (with_settled (started ends w.wire b) ((by_numbers width).restart w.client)).wire in IsBacked v.made v.down v.settled)
   backed_restart w false s h =
-      record { under_way = h.under_way; booked = all_made_append w.wire.made 0 w.client.count w.wire.settled _ (omega (arith, s)) h.booked (all_made_lost w.wire.made w.client.count (drop w.client.count w.client.asked)) }
+      record { under_way = h.under_way; booked = all_made_append w.wire.made 0 w.client.count w.wire.settled _ (omega (arith, s)) h.booked (all_made_lost w.wire.made w.client.count (drop w.client.count w.client.requests)) }
   backed_restart w true s h =
-      record { under_way = h.under_way; booked = all_made_append w.wire.made 0 w.client.count w.wire.settled _ (omega (arith, s)) h.booked (all_made_lost w.wire.made w.client.count (drop w.client.count w.client.asked)) }
+      record { under_way = h.under_way; booked = all_made_append w.wire.made 0 w.client.count w.wire.settled _ (omega (arith, s)) h.booked (all_made_lost w.wire.made w.client.count (drop w.client.count w.client.requests)) }
 
   keeps_backed : IsExchange ends Good → IsStable ends (by_numbers width) Backed
   keeps_backed ex =
@@ -130,5 +131,5 @@ module _ {State : Type 0} (width : ℕ) (ends : Ends State) (Good : State → Ty
         starts = λ w u d h. record { sound = k.starts w u d h.sound; backed = h.backed };
       }
 
-  pub backed_at : IsExchange ends Good → (es : List Happening) (state : State) → Good state → Backed (run_by_numbers width ends es state)
+  pub backed_at : IsExchange ends Good → (es : List Step) (state : State) → Good state → Backed (run_by_numbers width ends es state)
   backed_at ex es state g = stable_all ends (by_numbers width) Backed (keeps_backed ex) es (numbers_open state) (record { sound = sound_open width ends Good state g; backed = record { under_way = tt; booked = tt } })

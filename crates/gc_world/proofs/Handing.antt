@@ -1,7 +1,7 @@
 -- What the instrument does with a request that a client wrote, and how its reply reads.
-use Rattle.std.proofs.Common.{◌≡◌, ℕ, ◌<◌, Bool, true, false, cond, List, Some, Result, Ok, refl, sym, ◌∙◌, ap, subst, lit<, eqb}
-use Rattle.gc_lines.specs.declared.fault.LineFault.{LineFault}
-use Rattle.gc_lines.specs.Replies.{ReplyFields, reply_at}
+use Rattle.std.proofs.Common.{◌≡◌, ℕ, ◌<◌, Bool, true, false, cond, List, Some, refl, sym, ◌∙◌, ap, subst, lit<, eqb}
+use Rattle.gc_lines.specs.Readers.{reply_at}
+use Rattle.gc_lines.proofs.Replies.{reply_found, reply_one}
 use Rattle.gc_lines.proofs.Written.{reply_back}
 use Rattle.gc_catalogue.specs.declared.answer.Reading.{Reading}
 use Rattle.gc_catalogue.specs.declared.answer.Reading.TheVariants.{Value, Refused}
@@ -22,7 +22,8 @@ use Rattle.gc_instrument.proofs.Executions.{exec_outcome, restarted_fits}
 use Rattle.gc_world.specs.Exchange.{IsExchange, IsSimple}
 use Rattle.gc_world.specs.Faithful.{IsValueOrRefusal}
 use Rattle.gc_world.specs.Record.{IsReplyTo}
-use Rattle.gc_world.specs.Simulated.{handed, ends}
+use Rattle.gc_world.specs.Clients.{ends}
+use Rattle.gc_instrument.specs.Replying.{handed}
 
 -- whatever an instrument's state is, its reply to a request reads as one with the request's id
 pub reads : IsExchange ends (λ s. Unit {0})
@@ -61,9 +62,6 @@ pub after_is : (s : State) (id : ℕ) (call : Call) → (handed s id call).state
 unfolding Replying.handed
 after_is s id call = refl
 
-read_once : (r : Result ReplyFields LineFault) (p q : ReplyFields) → r ≡ Ok p → r ≡ Ok q → p ≡ q
-read_once r p q e f = cc
-
 fine_if : (b : Bool) (value refusal : Reading) → IsValueOrRefusal value → IsValueOrRefusal refusal → IsValueOrRefusal (cond b value refusal)
 fine_if true value refusal v r = v
 fine_if false value refusal v r = r
@@ -75,6 +73,6 @@ fine_reading x = fine_if (eqb x.rc 0) (Value (rounded_answer x.state.precision x
 pub fine : (call : Call) (bytes : List ℕ) (reading : Reading) → IsReplyTo ends IsFittingState call bytes → IsFitting call → ReadsAs call bytes reading → IsValueOrRefusal reading
 fine call bytes reading made fits read =
     let a = handed_answered made.state made.id call made.good made.small fits in
-    let same : a.fields ≡ read.reply = read_once (reply_at bytes) a.fields read.reply (ap reply_at made.reply ∙ a.reads) read.is_reply in
+    let same : a.fields ≡ read.reply = reply_one bytes a.fields read.reply (reply_found bytes a.fields (ap reply_at made.reply ∙ a.reads)) read.is_reply in
     let one : reading_of (exec made.state call) ≡ reading = one_reading call read.reply _ reading (subst (λ f. IsReading call f (reading_of (exec made.state call))) same a.reading) read.is_reading in
     subst IsValueOrRefusal one (fine_reading (exec made.state call))

@@ -1,4 +1,5 @@
 pub mod Options
+pub mod Places
 pub mod Ids
 pub mod Rows
 pub mod Stable
@@ -13,6 +14,12 @@ pub mod Queues
 pub mod Showing
 pub mod Counts
 pub mod Turns
+pub mod Sparing
 pub mod Handing
 pub mod Reporting
 pub mod Faithfulness
+pub mod Width
+pub mod Marks
+pub mod Moments
+pub mod Sends
+pub mod FirstReply

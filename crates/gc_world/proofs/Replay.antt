@@ -1,23 +1,18 @@
 -- What was executed, and the replies to it, are a run of the instrument.
-use Rattle.std.proofs.Common.{◌≡◌, ℕ, zero, suc, ◌+◌, ◌<◌, ◌||◌, Bool, true, false, List, [], ◌∷◌, ◌++◌, length, Some, cond, refl, sym, ◌∙◌, ap, subst, arith, eqb}
+use Rattle.std.proofs.Common.{◌≡◌, ℕ, ◌+◌, ◌<◌, ◌||◌, Bool, true, false, List, [], ◌∷◌, ◌++◌, length, Some, cond, refl, sym, ◌∙◌, ap, subst, arith, eqb}
 use Rattle.std.specs.Prelude.{slice_get}
 use Rattle.std.proofs.lemmas.Bool.{ne_eqb, eq-eqb}
 use Rattle.std.proofs.lemmas.List.{length_push}
-use Rattle.gc_world.specs.World.{Request, Dispatch, Numbered, Ends, Rule, Happening, Wire, World, Written, answered, started, requested, run}
+use Rattle.gc_catalogue.specs.declared.call.Call.{Call}
+use Rattle.gc_catalogue.specs.Texts.{request_line}
+use Rattle.gc_client.specs.Rule.{Sending}
+use Rattle.gc_world.specs.World.{Request, Sent, Numbered, Ends, Rule, Step, Wire, World, replied, started, requested, run}
 use Rattle.gc_world.specs.Exchange.{IsSimple}
 use Rattle.gc_world.specs.Order.{Each}
-use Rattle.gc_world.specs.Record.{has_number, begun}
+use Rattle.gc_world.specs.Faithful.{has_number, begun}
+use Rattle.gc_world.proofs.Places.{get_more, get_push}
 use Rattle.gc_world.proofs.Rows.{each_append, each_more, each_without, each_doubled}
 use Rattle.gc_world.proofs.Stable.{IsStable, stable_all}
-
-get_more : {A : Type 0} (xs ys : List A) (n : ℕ) (x : A) → slice_get xs n ≡ Some x → slice_get (xs ++ ys) n ≡ Some x
-get_more [] ys n x e = cc
-get_more (y ∷ xs) ys zero x e = e
-get_more (y ∷ xs) ys (suc n) x e = get_more xs ys n x e
-
-get_push : {A : Type 0} (xs : List A) (x : A) → slice_get (xs ++ x ∷ []) (length xs) ≡ Some x
-get_push [] x = refl
-get_push (y ∷ xs) x = get_push xs x
 
 -- above all of them
 no_number : (n : ℕ) (xs : List ℕ) → Each (λ x. x < n) xs → has_number n xs ≡ false
@@ -38,32 +33,35 @@ has_number_pushed n (x ∷ xs) = ap (λ b. eqb x n || b) (has_number_pushed n xs
 
 module _ {State : Type 0} (ends : Ends State) where
   -- the instrument executes request n in this state, makes this entry and goes on to the next state
-  pub record IsReply (sent : List Dispatch) (state : State) (n : ℕ) (entry : Numbered (List ℕ)) (after : State) : Type 0 where
-    pub request : Dispatch
+  pub record IsReply (sent : List Sent) (state : State) (n : ℕ) (entry : Numbered (List ℕ)) (after : State) : Type 0 where
+    pub request : Sent
     pub found : slice_get sent n ≡ Some request
+    pub id : ℕ
+    pub small : id < 8
+    pub text : request.line ≡ request_line (Some id) request.call
     pub number : entry.number ≡ n
-    pub line : entry.line ≡ (ends.handed state request.request.id request.request.call).reply
-    pub leads : (ends.handed state request.request.id request.request.call).state ≡ after
+    pub line : entry.line ≡ (ends.handed state id request.call).reply
+    pub leads : (ends.handed state id request.call).state ≡ after
 
   -- these requests are executed one after another from that state on, with these replies, and lead to a last state
-  abbrev pub Replays : List Dispatch → List ℕ → ℕ → State → List ℕ → List (Numbered (List ℕ)) → State → Type 0
+  abbrev pub Replays : List Sent → List ℕ → ℕ → State → List ℕ → List (Numbered (List ℕ)) → State → Type 0
   Replays sent starts j s [] [] t = s ≡ t
   Replays sent starts j s (n ∷ ns) (m ∷ ms) t = (mid : _) × IsReply sent s n m mid × Replays sent starts (j + 1) (begun ends.restarted (has_number (j + 1) starts) mid) ns ms t
   Replays sent starts j s [] (m ∷ ms) t = ⊥
   Replays sent starts j s (n ∷ ns) [] t = ⊥
 
-  reply_more : (sent more : List Dispatch) (s : State) (n : ℕ) (m : Numbered (List ℕ)) (t : State) → IsReply sent s n m t → IsReply (sent ++ more) s n m t
-  reply_more sent more s n m t h = record { request = h.request; found = get_more sent more n h.request h.found; number = h.number; line = h.line; leads = h.leads }
+  reply_more : (sent more : List Sent) (s : State) (n : ℕ) (m : Numbered (List ℕ)) (t : State) → IsReply sent s n m t → IsReply (sent ++ more) s n m t
+  reply_more sent more s n m t h = record { request = h.request; found = get_more sent more n h.request h.found; id = h.id; small = h.small; text = h.text; number = h.number; line = h.line; leads = h.leads }
 
   -- further requests change nothing
-  replays_more : (sent more : List Dispatch) (starts : List ℕ) (j : ℕ) (s : State) (ns : List ℕ) (ms : List (Numbered (List ℕ))) (t : State) → Replays sent starts j s ns ms t → Replays (sent ++ more) starts j s ns ms t
+  replays_more : (sent more : List Sent) (starts : List ℕ) (j : ℕ) (s : State) (ns : List ℕ) (ms : List (Numbered (List ℕ))) (t : State) → Replays sent starts j s ns ms t → Replays (sent ++ more) starts j s ns ms t
   replays_more sent more starts j s [] [] t h = h
   replays_more sent more starts j s (n ∷ ns) (m ∷ ms) t h = (h.0, reply_more sent more s n m h.0 h.1, replays_more sent more starts (j + 1) _ ns ms t h.2)
   replays_more sent more starts j s [] (m ∷ ms) t h = h
   replays_more sent more starts j s (n ∷ ns) [] t h = h
 
   -- one more request is executed, after the last start
-  replays_push : (sent : List Dispatch) (starts : List ℕ) (j l : ℕ) (s : State) (ns : List ℕ) (ms : List (Numbered (List ℕ))) (t : State) (n : ℕ) (m : Numbered (List ℕ)) (u : State) → j + length ns + 1 ≡ l → has_number l starts ≡ false → IsReply sent t n m u → Replays sent starts j s ns ms t → Replays sent starts j s (ns ++ n ∷ []) (ms ++ m ∷ []) u
+  replays_push : (sent : List Sent) (starts : List ℕ) (j l : ℕ) (s : State) (ns : List ℕ) (ms : List (Numbered (List ℕ))) (t : State) (n : ℕ) (m : Numbered (List ℕ)) (u : State) → j + length ns + 1 ≡ l → has_number l starts ≡ false → IsReply sent t n m u → Replays sent starts j s ns ms t → Replays sent starts j s (ns ++ n ∷ []) (ms ++ m ∷ []) u
   replays_push sent starts j l s [] [] t n m u e none r h =
       let e1 : l ≡ j + 1 = omega (arith, e) in
       (u, subst (λ x. IsReply sent x n m u) (sym h) r, ap (λ b. begun ends.restarted b u) (subst (λ k. has_number k starts ≡ false) e1 none))
@@ -76,7 +74,7 @@ module _ {State : Type 0} (ends : Ends State) where
   begun_twice twice true s = sym (twice s)
 
   -- a start after the last that was executed
-  replays_start : ((s : State) → ends.restarted (ends.restarted s) ≡ ends.restarted s) → (sent : List Dispatch) (starts : List ℕ) (j l : ℕ) (s : State) (n : ℕ) (ns : List ℕ) (ms : List (Numbered (List ℕ))) (t : State) → j + length ns + 1 ≡ l → Replays sent starts j s (n ∷ ns) ms t → Replays sent (starts ++ l ∷ []) j s (n ∷ ns) ms (ends.restarted t)
+  replays_start : ((s : State) → ends.restarted (ends.restarted s) ≡ ends.restarted s) → (sent : List Sent) (starts : List ℕ) (j l : ℕ) (s : State) (n : ℕ) (ns : List ℕ) (ms : List (Numbered (List ℕ))) (t : State) → j + length ns + 1 ≡ l → Replays sent starts j s (n ∷ ns) ms t → Replays sent (starts ++ l ∷ []) j s (n ∷ ns) ms (ends.restarted t)
   replays_start twice sent starts j l s n [] (m ∷ []) t e h =
       let e1 : j + 1 ≡ l = omega (arith, e) in
       (h.0, h.1, ap (λ b. begun ends.restarted b h.0) (ap (λ k. has_number k (starts ++ l ∷ [])) e1 ∙ has_number_pushed l starts) ∙ begun_twice twice (has_number (j + 1) starts) h.0 ∙ ap ends.restarted h.2)
@@ -87,38 +85,40 @@ module _ {State : Type 0} (ends : Ends State) where
   replays_start twice sent starts j l s n [] (m ∷ (x ∷ ms)) t e h = absurd h.2
   replays_start twice sent starts j l s n (k ∷ ns) [] t e h = absurd h
 
-  replays_started : ((s : State) → ends.restarted (ends.restarted s) ≡ ends.restarted s) → (sent : List Dispatch) (starts : List ℕ) (opening : State) (ns : List ℕ) (ms : List (Numbered (List ℕ))) (t : State) → Replays sent starts 0 (ends.restarted opening) ns ms t → Replays sent (starts ++ length ns ∷ []) 0 (ends.restarted opening) ns ms (ends.restarted t)
+  replays_started : ((s : State) → ends.restarted (ends.restarted s) ≡ ends.restarted s) → (sent : List Sent) (starts : List ℕ) (opening : State) (ns : List ℕ) (ms : List (Numbered (List ℕ))) (t : State) → Replays sent starts 0 (ends.restarted opening) ns ms t → Replays sent (starts ++ length ns ∷ []) 0 (ends.restarted opening) ns ms (ends.restarted t)
   replays_started twice sent starts opening [] [] t h = sym (twice opening) ∙ ap ends.restarted h
   replays_started twice sent starts opening (n ∷ ns) ms t h = replays_start twice sent starts 0 (length (n ∷ ns)) (ends.restarted opening) n ns ms t (omega arith) h
   replays_started twice sent starts opening [] (m ∷ ms) t h = absurd h
 
 -- a request under way is the one of its number
-pub record IsOf (sent : List Dispatch) (x : Numbered Request) : Type 0 where
-  pub request : Dispatch
+pub record IsOf (sent : List Sent) (x : Numbered Request) : Type 0 where
+  pub request : Sent
   pub found : slice_get sent x.number ≡ Some request
-  pub same : request.request ≡ x.line
+  pub small : x.line.id < 8
+  pub call : request.call ≡ x.line.call
+  pub text : request.line ≡ request_line (Some x.line.id) x.line.call
 
-of_more : (sent more : List Dispatch) (x : Numbered Request) → IsOf sent x → IsOf (sent ++ more) x
-of_more sent more x h = record { request = h.request; found = get_more sent more x.number h.request h.found; same = h.same }
+of_more : (sent more : List Sent) (x : Numbered Request) → IsOf sent x → IsOf (sent ++ more) x
+of_more sent more x h = record { request = h.request; found = get_more sent more x.number h.request h.found; small = h.small; call = h.call; text = h.text }
 
-module _ {Client State : Type 0} (ends : Ends State) (rule : Rule Client) (simple : IsSimple ends) (opening : State) where
+module _ {Client State : Type 0} (ends : Ends State) (rule : Rule Client) (simple : IsSimple ends) (digits : (c : Client) (target : ℕ) (call : Call) (deadline : ℕ) (x : Sending Client) → rule.send c target call deadline ≡ Some x → x.id < 8) (opening : State) where
   pub record IsReplayed (w : Wire State) : Type 0 where
     pub replays : Replays ends w.sent w.starts 0 (ends.restarted opening) w.executed w.made w.state
     pub begins : Each (λ x. x < length w.executed + 1) w.starts
     pub lines : Each (IsOf w.sent) w.up
 
-  replayed_sent : (w : World Client State) (target : ℕ) (call : _) (x : Written Client) → IsReplayed w.wire → IsReplayed (requested w target call (Some x)).wire
-  replayed_sent w target call x h =
-      let r : Dispatch = record { target = target; request = record { id = x.id; call = call } } in
+  replayed_sent : (w : World Client State) (target : ℕ) (call : Call) (x : Sending Client) → x.id < 8 → IsReplayed w.wire → IsReplayed (requested w target call (Some x)).wire
+  replayed_sent w target call x digit h =
+      let r : Sent = record { target = target; call = call; line = request_line (Some x.id) call } in
       record {
         replays = replays_more ends w.wire.sent (r ∷ []) w.wire.starts 0 (ends.restarted opening) w.wire.executed w.wire.made w.wire.state h.replays;
         begins = h.begins;
         lines =
             each_append _ w.wire.up _ (each_more _ _ (of_more w.wire.sent (r ∷ [])) w.wire.up h.lines)
-            (record { request = r; found = get_push w.wire.sent r; same = refl }, tt);
+            (record { request = r; found = get_push w.wire.sent r; small = digit; call = refl; text = refl }, tt);
       }
 
-  replayed_answer : (w : Wire State) (x : Numbered Request) (rest : List (Numbered Request)) → w.up ≡ x ∷ rest → IsReplayed w → IsReplayed (answered w x.number rest (ends.handed w.state x.line.id x.line.call))
+  replayed_answer : (w : Wire State) (x : Numbered Request) (rest : List (Numbered Request)) → w.up ≡ x ∷ rest → IsReplayed w → IsReplayed (replied w x.number rest (ends.handed w.state x.line.id x.line.call))
   replayed_answer w x rest q h =
       let hd = ends.handed w.state x.line.id x.line.call in
       let of = subst (λ l. Each (IsOf w.sent) l) q h.lines in
@@ -131,9 +131,12 @@ module _ {Client State : Type 0} (ends : Ends State) (rule : Rule Client) (simpl
             (record {
               request = of.0.request;
               found = of.0.found;
+              id = x.line.id;
+              small = of.0.small;
+              text = of.0.text ∙ ap (λ c. request_line (Some x.line.id) c) (sym of.0.call);
               number = refl;
-              line = ap (λ (r : Request). (ends.handed w.state r.id r.call).reply) (sym of.0.same);
-              leads = ap (λ (r : Request). (ends.handed w.state r.id r.call).state) of.0.same;
+              line = ap (λ c. (ends.handed w.state x.line.id c).reply) (sym of.0.call);
+              leads = ap (λ c. (ends.handed w.state x.line.id c).state) of.0.call;
             })
             h.replays;
         begins = each_more (λ n. n < length w.executed + 1) (λ n. n < length (w.executed ++ x.number ∷ []) + 1) (λ n l. omega (arith, l, length_push w.executed x.number)) w.starts h.begins;
@@ -163,7 +166,7 @@ module _ {Client State : Type 0} (ends : Ends State) (rule : Rule Client) (simpl
       record {
         idles = λ w h. replayed_else w.wire w.wire.settled w.wire.down w.wire.refused _ h;
         refuses = λ w h. replayed_else w.wire w.wire.settled w.wire.down _ w.wire.idle h;
-        sends = λ w target call deadline x e h. replayed_sent w target call x h;
+        sends = λ w target call deadline x e h. replayed_sent w target call x (digits w.client target call deadline x e) h;
         answers = λ w x rest q h. replayed_answer w.wire x rest q h;
         loses_up = λ w k h. replayed_up w.wire _ (each_without _ k w.wire.up h.lines) h;
         repeats_up = λ w k h. replayed_up w.wire _ (each_doubled _ k w.wire.up h.lines) h;
@@ -175,5 +178,5 @@ module _ {Client State : Type 0} (ends : Ends State) (rule : Rule Client) (simpl
         starts = λ w u d h. replayed_started w.wire true h;
       }
 
-  pub replayed_all : (es : List Happening) (w : World Client State) → IsReplayed w.wire → IsReplayed (run ends rule es w).wire
+  pub replayed_all : (es : List Step) (w : World Client State) → IsReplayed w.wire → IsReplayed (run ends rule es w).wire
   replayed_all es w h = stable_all ends rule (λ (v : World Client State). IsReplayed v.wire) keeps_replayed es w h

@@ -1,11 +1,12 @@
 -- A report that shows a run has what the run has.
-use Rattle.std.proofs.Common.{◌≡◌, ℕ, zero, suc, ◌+◌, ◌<◌, ◌≤◌, List, [], ◌∷◌, length, map, Some, refl, sym, ◌∙◌, ap, subst, arith}
+use Rattle.std.proofs.Common.{◌≡◌, ℕ, zero, suc, ◌+◌, ◌≤◌, List, [], ◌∷◌, length, Some, refl, sym, ◌∙◌, ap, subst, arith}
 use Rattle.std.specs.Prelude.{slice_get, All}
 use Rattle.std.proofs.lemmas.List.{length-map}
 use Rattle.std.proofs.lemmas.List.Elements.{All-head, All-tail}
 use Rattle.gc_catalogue.specs.Calls.{IsFitting}
 use Rattle.gc_catalogue.specs.declared.answer.Reading.{Reading}
 use Rattle.gc_catalogue.specs.declared.call.Call.{Call}
+use Rattle.gc_catalogue.specs.Texts.{request_line}
 use Rattle.gc_client.specs.declared.settlement.Settlement.{Settlement}
 use Rattle.gc_client.specs.declared.settlement.Outcome.{Outcome}
 use Rattle.gc_client.specs.declared.settlement.Outcome.TheVariants.{Answered, Late, Lost}
@@ -14,53 +15,30 @@ use Rattle.gc_client.specs.Settlements.{ReadsAs, IsWellRead, settlement_seen, ou
 use Rattle.gc_instrument.specs.State.{State, restarted}
 use Rattle.gc_world.specs.declared.report.Report.{Report}
 use Rattle.gc_world.specs.declared.report.Sent.{Sent}
-use Rattle.gc_world.specs.Faithful.{OneForOne, IsValueOrRefusal, IsBookedAnswer, BooksAnswers, IsExecutionOf, RecordsExecution, AgreesWith}
+use Rattle.gc_world.specs.Faithful.{OneForOne, IsValueOrRefusal, IsBookedAnswer, BooksAnswers, has_number, begun, IsExecutionOf, RecordsExecution, sent_seen, AgreesWith}
 use Rattle.gc_world.specs.Order.{Each}
-use Rattle.gc_world.specs.Record.{IsOneForOne, IsReplyTo, IsBooked, IsExecuted, IsExecution, has_number, begun}
-use Rattle.gc_world.specs.Reports.{Posted, line_of, numbered, posted, posted_of, IsReport, IsNoLongerThan}
-use Rattle.gc_world.specs.Simulated.{handed, ends}
+use Rattle.gc_world.specs.Record.{IsOneForOne, IsReplyTo, IsBooked, IsExecuted, IsExecution}
+use Rattle.gc_world.specs.Reports.{made_seen, IsReport, IsNoLongerThan}
+use Rattle.gc_world.specs.Clients.{ends}
+use Rattle.gc_instrument.specs.Replying.{handed}
+use Rattle.gc_world.specs.World
 use Rattle.gc_world.specs.World.{Numbered, Wire}
 use Rattle.gc_world.proofs.Counts.{IsWithin}
-use Rattle.gc_world.proofs.Execution.{each_get}
 use Rattle.gc_world.proofs.Handing.{replied_as, after_is}
 use Rattle.gc_world.proofs.Options.{some_is, none_is_not}
-
-get_map : {A B : Type 0} (f : A → B) (xs : List A) (n : ℕ) (x : A) → slice_get xs n ≡ Some x → slice_get (map f xs) n ≡ Some (f x)
-get_map f [] n x e = absurd (none_is_not x e)
-get_map f (y ∷ xs) zero x e = ap (λ z. Some (f z)) (some_is y x e)
-get_map f (y ∷ xs) (suc n) x e = get_map f xs n x e
-
--- what a list seen by a function has at a place is seen of what the list has there
-get_seen : {A B : Type 0} (f : A → B) (xs : List A) (n : ℕ) (y : B) → slice_get (map f xs) n ≡ Some y → (x : A) × (slice_get xs n ≡ Some x) × (f x ≡ y)
-get_seen f [] n y e = absurd (none_is_not y e)
-get_seen f (x ∷ xs) zero y e = (x, refl, some_is (f x) y e)
-get_seen f (x ∷ xs) (suc n) y e = get_seen f xs n y e
+use Rattle.gc_world.proofs.Places.{get_map, get_seen, below, in_range, each_get}
 
 all_get : {A : Type 0} (P : A → Type 0) (xs : List A) (n : ℕ) (x : A) → All P xs → slice_get xs n ≡ Some x → P x
 all_get P [] n x h e = absurd (none_is_not x e)
 all_get P (y ∷ xs) zero x h e = subst P (some_is y x e) (All-head P y xs h)
 all_get P (y ∷ xs) (suc n) x h e = all_get P xs n x (All-tail P y xs h) e
 
-below : {A : Type 0} (xs : List A) (k : ℕ) (x : A) → slice_get xs k ≡ Some x → k < length xs
-below [] k x e = absurd (none_is_not x e)
-below (y ∷ xs) zero x e = omega arith
-below (y ∷ xs) (suc k) x e = let lt : k < length xs = below xs k x e in omega arith
-
-in_range : {A : Type 0} (xs : List A) (k : ℕ) → k < length xs → (x : A) × (slice_get xs k ≡ Some x)
-in_range [] k lt = absurd (omega arith)
-in_range (x ∷ xs) zero lt = (x, refl)
-in_range (x ∷ xs) (suc k) lt = in_range xs k (omega arith)
-
--- one of the one list at a place, where the two lists are seen alike
-matched : {A B C : Type 0} (f : A → C) (g : B → C) (xs : List A) (ys : List B) (n : ℕ) (x : A) → map f xs ≡ map g ys → slice_get xs n ≡ Some x → (y : B) × (slice_get ys n ≡ Some y) × (g y ≡ f x)
-matched f g xs ys n x e h = get_seen g ys n (f x) (ap (λ l. slice_get l n) (sym e) ∙ get_map f xs n x h)
-
 module _ (r : Report) (w : Wire State) (h : IsReport r w) where
   sent_length : length r.sent ≡ length w.sent
-  sent_length = sym (length-map r.sent posted) ∙ ap length h.sent ∙ length-map w.sent posted_of
+  sent_length = sym (length-map r.sent sent_seen) ∙ ap length h.sent
 
   made_length : length r.made ≡ length w.made
-  made_length = sym (length-map r.made numbered) ∙ ap length h.made
+  made_length = sym (length-map r.made made_seen) ∙ ap length h.made
 
   settled_length : length r.settled ≡ length w.settled
   settled_length = sym (length-map r.settled settlement_seen) ∙ ap length h.settled.seen
@@ -73,9 +51,7 @@ module _ (r : Report) (w : Wire State) (h : IsReport r w) where
       record {
         count = omega (arith, one.count, sent_length, settled_length);
         same = λ m s q e f.
-            let d = matched posted posted_of r.sent w.sent m q h.sent f in
-            let same = one.same m (settlement_seen s) d.0 (settled_at m s e) d.1 in
-            (same.0 ∙ ap (λ (p : Posted). p.target) d.2, same.1 ∙ ap (λ (p : Posted). p.call) d.2);
+            one.same m (settlement_seen s) (sent_seen q) (settled_at m s e) (ap (λ l. slice_get l m) (sym h.sent) ∙ get_map sent_seen r.sent m q f);
       }
 
   -- a reply in a state that fits to a call that fits reads as a value or a refusal
@@ -86,7 +62,7 @@ module _ (r : Report) (w : Wire State) (h : IsReport r w) where
     booked_at one booked m s (Answered reading line) o e read =
         let b = booked m (settlement_seen s) (settled_at m s e) line.items (ap outcome_seen o) in
         let at = b.0.0 in
-        let entry = get_seen numbered r.made at (record { number = m; line = line.items }) (ap (λ l. slice_get l at) h.made ∙ b.0.1) in
+        let entry = get_seen made_seen r.made at (record { number = m; line = line.items }) (ap (λ l. slice_get l at) h.made ∙ b.0.1) in
         let q = in_range r.sent m (omega (arith, one.count, below r.settled m s e)) in
         let same = (one.same m s q.0 e q.1).1 in
         record {
@@ -106,11 +82,11 @@ module _ (r : Report) (w : Wire State) (h : IsReport r w) where
     execution_of : (before : ℕ → State) (j n : ℕ) → IsExecuted ends w before j n → IsExecutionOf r before j n
     execution_of before j n x =
         let d = x.request in
-        let id = d.request.id in
-        let q = matched posted_of posted w.sent r.sent n d (sym h.sent) x.found in
-        let call : q.0.call ≡ d.request.call = ap (λ (p : Posted). p.call) q.2 in
-        let line = ap (λ (p : Posted). p.line) q.2 ∙ ap (λ c. line_of (record { id = id; call = c })) (sym call) in
-        let entry = get_seen numbered r.made j _ (ap (λ l. slice_get l j) h.made ∙ x.made) in
+        let id = x.id in
+        let q = get_seen sent_seen r.sent n d (ap (λ l. slice_get l n) h.sent ∙ x.found) in
+        let call : q.0.call ≡ d.call = ap (λ (p : World.Sent). p.call) q.2 in
+        let line = ap (λ (p : World.Sent). p.line) q.2 ∙ x.line ∙ ap (λ c. request_line (Some id) c) (sym call) in
+        let entry = get_seen made_seen r.made j _ (ap (λ l. slice_get l j) h.made ∙ x.made) in
         let reply = ap (λ (y : Numbered (List ℕ)). y.line) entry.2 ∙ ap (λ c. (handed (before j) id c).reply) (sym call) in
         record {
           request = q.0;
@@ -124,7 +100,7 @@ module _ (r : Report) (w : Wire State) (h : IsReport r w) where
           replied = replied_as (before j) id q.0.call q.0.line.items entry.0.line.items x.small (each_get (λ (p : Sent). IsFitting p.call) r.sent n q.0 fits q.1) line reply;
           next =
               x.next
-              ∙ ap (λ starts. begun restarted (has_number (j + 1) starts) (handed (before j) id d.request.call).state) (sym h.starts)
+              ∙ ap (λ starts. begun restarted (has_number (j + 1) starts) (handed (before j) id d.call).state) (sym h.starts)
               ∙ ap (λ c. begun restarted (has_number (j + 1) r.starts) (handed (before j) id c).state) (sym call)
               ∙ ap (λ s. begun restarted (has_number (j + 1) r.starts) s) (after_is (before j) id q.0.call);
         }

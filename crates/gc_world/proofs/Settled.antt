@@ -4,9 +4,10 @@ use Rattle.std.specs.Prelude.{slice_get}
 use Rattle.std.proofs.lemmas.List.{map-append, append-nil, length-map}
 use Rattle.gc_catalogue.specs.declared.call.Call.{Call}
 use Rattle.gc_client.specs.declared.pending.Pending.{Pending}
-use Rattle.gc_client.specs.Rule.{Settlement, Settled, ById, asked, expired, lost, settle, place, id_send, id_settled, hears}
-use Rattle.gc_world.specs.World.{Dispatch, Ends, Happening, Wire, World, Written, started, requested, booked, run}
-use Rattle.gc_world.specs.Clients.{with_id, by_ids, ids_open}
+use Rattle.gc_client.specs.Rule.{Settlement, Settled, ById, pending_of, expired, lost, settle, place, id_send, id_settled, hears}
+use Rattle.gc_client.specs.Rule.{Sending}
+use Rattle.gc_world.specs.World.{Sent, Ends, Step, Wire, World, started, requested, with_settled, run}
+use Rattle.gc_world.specs.Clients.{by_ids, ids_open}
 use Rattle.gc_world.specs.Record.{IsOneForOne}
 use Rattle.gc_world.proofs.Stable.{IsStable, stable_all}
 use Rattle.gc_world.proofs.Options.{some_is, none_is_not}
@@ -16,8 +17,8 @@ pub record Asked : Type 0 where
   pub target : ℕ
   pub call : Call
 
-abbrev pub of_sent : Dispatch → Asked
-of_sent r = record { target = r.target; call = r.request.call }
+abbrev pub of_sent : Sent → Asked
+of_sent r = record { target = r.target; call = r.call }
 
 abbrev pub of_settled : Settlement → Asked
 of_settled s = record { target = s.target; call = s.call }
@@ -50,21 +51,21 @@ module _ {State : Type 0} (width : ℕ) (ends : Ends State) where
   abbrev pub Whole : World ById State → Type 0
   Whole w = map of_settled w.wire.settled ++ map of_pending w.client.waiting ≡ map of_sent w.wire.sent
 
-  whole_sent : (w : World ById State) (target : ℕ) (call : Call) (deadline : ℕ) (full : Bool) (x : Written ById) → with_id w.client.next (id_send w.client target call deadline full) ≡ Some x → Whole w → Whole (requested w target call (Some x))
+  whole_sent : (w : World ById State) (target : ℕ) (call : Call) (deadline : ℕ) (full : Bool) (x : Sending ById) → id_send w.client target call deadline full ≡ Some x → Whole w → Whole (requested w target call (Some x))
   whole_sent w target call deadline true x e h = absurd (none_is_not x e)
   whole_sent w target call deadline false x e h =
-      let y : Written ById = record { id = w.client.next; client = record { next = (w.client.next + 1) % 8; waiting = w.client.waiting ++ asked target call deadline ∷ [] } } in
+      let y : Sending ById = record { id = w.client.next; client = record { next = (w.client.next + 1) % 8; waiting = w.client.waiting ++ pending_of target call deadline ∷ [] } } in
       let done : Whole (requested w target call (Some y)) = simp map-append (sym (append_assoc (map of_settled w.wire.settled) (map of_pending w.client.waiting) _) ∙ ap (λ l. l ++ record { target = target; call = call } ∷ []) h) in
       subst (λ z. Whole (requested w target call (Some z))) (some_is y x e) done
 
-  whole_booked : (w : World ById State) (wire : Wire State) (x : Settled ById) → wire.settled ≡ w.wire.settled → wire.sent ≡ w.wire.sent → map of_settled x.settlements ++ map of_pending x.client.waiting ≡ map of_pending w.client.waiting → Whole w → Whole (booked wire x)
+  whole_booked : (w : World ById State) (wire : Wire State) (x : Settled ById) → wire.settled ≡ w.wire.settled → wire.sent ≡ w.wire.sent → map of_settled x.settlements ++ map of_pending x.client.waiting ≡ map of_pending w.client.waiting → Whole w → Whole (with_settled wire x)
   whole_booked w wire x e1 e2 p h =
       pieces ∙ ap (λ l. map of_settled wire.settled ++ l) p ∙ ap (λ l. map of_settled l ++ map of_pending w.client.waiting) e1 ∙ h ∙ ap (λ l. map of_sent l) (sym e2)
     where
       pieces : map of_settled (wire.settled ++ x.settlements) ++ map of_pending x.client.waiting ≡ map of_settled wire.settled ++ (map of_settled x.settlements ++ map of_pending x.client.waiting)
       pieces = simp (map-append, append_assoc)
 
-  whole_restarted : (w : World ById State) (b : Bool) → Whole w → Whole (booked (started ends w.wire b) ((by_ids width ends).restart w.client))
+  whole_restarted : (w : World ById State) (b : Bool) → Whole w → Whole (with_settled (started ends w.wire b) ((by_ids width ends).restart w.client))
   whole_restarted w false h = whole_booked w w.wire ((by_ids width ends).restart w.client) refl refl (append-nil _ ∙ lost_parts w.client.waiting) h
   whole_restarted w true h = whole_booked w (started ends w.wire true) ((by_ids width ends).restart w.client) refl refl (append-nil _ ∙ lost_parts w.client.waiting) h
 
@@ -85,11 +86,11 @@ module _ {State : Type 0} (width : ℕ) (ends : Ends State) where
         starts = λ w u d h. h;
       }
 
-  pub whole_at : (es : List Happening) (state : State) → Whole (run ends (by_ids width ends) es (ids_open state))
+  pub whole_at : (es : List Step) (state : State) → Whole (run ends (by_ids width ends) es (ids_open state))
   whole_at es state = stable_all ends (by_ids width ends) Whole keeps_whole es (ids_open state) refl
 
 -- the same at the same place
-same_at : (settled : List Settlement) (rest : List Asked) (sent : List Dispatch) (m : ℕ) (s : Settlement) (r : Dispatch) → map of_settled settled ++ rest ≡ map of_sent sent → slice_get settled m ≡ Some s → slice_get sent m ≡ Some r → of_settled s ≡ of_sent r
+same_at : (settled : List Settlement) (rest : List Asked) (sent : List Sent) (m : ℕ) (s : Settlement) (r : Sent) → map of_settled settled ++ rest ≡ map of_sent sent → slice_get settled m ≡ Some s → slice_get sent m ≡ Some r → of_settled s ≡ of_sent r
 same_at [] rest sent m s r e g h = absurd (none_is_not s g)
 same_at (x ∷ xs) rest [] m s r e g h = absurd (none_is_not r h)
 same_at (x ∷ xs) rest (y ∷ ys) zero s r e g h =
@@ -99,7 +100,7 @@ same_at (x ∷ xs) rest (y ∷ ys) (suc m) s r e g h =
     let tail : map of_settled xs ++ rest ≡ map of_sent ys = cc in
     same_at xs rest ys m s r tail g h
 
-pub one_for_one : (settled : List Settlement) (waiting : List Pending) (sent : List Dispatch) → map of_settled settled ++ map of_pending waiting ≡ map of_sent sent → IsOneForOne sent settled
+pub one_for_one : (settled : List Settlement) (waiting : List Pending) (sent : List Sent) → map of_settled settled ++ map of_pending waiting ≡ map of_sent sent → IsOneForOne sent settled
 one_for_one settled waiting sent e =
     record {
       count = omega (arith, length-append (map of_settled settled) (map of_pending waiting), length-map settled of_settled, length-map sent of_sent, ap length e);

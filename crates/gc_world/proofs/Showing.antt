@@ -1,25 +1,39 @@
 -- What each step of a stage has to show, over plain variables.
-use Rattle.std.proofs.Common.{◌≡◌, ℕ, ◌+◌, ◌<◌, ◌≤◌, Bool, true, false, List, [], ◌∷◌, ◌++◌, length, map, Option, Some, None, refl, sym, ◌∙◌, ap, subst, ltb}
+use Rattle.std.proofs.Common.{◌≡◌, ℕ, ◌+◌, ◌<◌, ◌≤◌, Bool, true, false, List, [], ◌∷◌, ◌++◌, length, map, Option, Some, None, refl, sym, ◌∙◌, ap, subst, ltb, eqb, arith}
 use mathlib.Core.Path.{ap₂}
-use Rattle.std.proofs.lemmas.List.{map-append, length-map}
+use Rattle.std.specs.Prelude.{slice_get}
+use Rattle.std.proofs.lemmas.List.{map-append, length-map, append-nil}
+use Rattle.std.proofs.lemmas.List.Elements.{All-append}
 use Rattle.std.proofs.lemmas.Bool.{ltb-false}
 use Rattle.gc_catalogue.specs.declared.call.Call.{Call}
 use Rattle.gc_catalogue.specs.Calls.{IsFitting}
 use Rattle.gc_catalogue.specs.Texts.{request_line}
-use Rattle.gc_client.specs.Rule.{ById}
-use Rattle.gc_instrument.specs.State.{State}
+use Rattle.gc_client.specs.declared.client.TheConstants.{WINDOW, IDS}
+use Rattle.gc_client.specs.declared.heard.Heard.{Heard}
+use Rattle.gc_client.specs.declared.heard.Heard.TheVariants.{Settled, Stray, Unread}
+use Rattle.gc_client.specs.declared.settlement.Settlement.{Settlement}
+use Rattle.gc_client.specs.Hearing.{settlements_in}
+use Rattle.gc_client.specs.Rule.{ById, Sending, heard, hears, place_in, id_settled, id_send, sends, restarts}
+use Rattle.gc_client.specs.Rule
+use Rattle.gc_client.specs.Settlements.{AreSettlements, settlement_seen, IsWellRead}
+use Rattle.gc_instrument.specs.State.{State, restarted}
 use Rattle.gc_instrument.specs.Replying
-use Rattle.gc_instrument.specs.Replying.{IsExchanged}
+use Rattle.gc_instrument.specs.Replying.{handed, IsExchanged}
 use Rattle.gc_world.specs.declared.report.Made.{Made}
 use Rattle.gc_world.specs.declared.report.Report.{Report}
-use Rattle.gc_world.specs.World.{Request, Numbered, Wire, World, Up_deliver, Up_lose, Up_repeat, Down_lose, Down_repeat, without, doubled, idle, up_delivered, with_up, with_down, on_wire}
-use Rattle.gc_world.specs.Order.{Each}
-use Rattle.gc_world.specs.Reports.{line_of, numbered, written, IsReport}
-use Rattle.gc_world.specs.Simulated.{handed, ends, does}
-use Rattle.gc_world.specs.Stages.{IsProper, AreOf}
+use Rattle.gc_world.specs.declared.report.Sent.{Sent}
+use Rattle.gc_world.specs.World
+use Rattle.gc_world.specs.World.{Request, Numbered, Wire, World, Send, Up_deliver, Up_lose, Up_repeat, Down_deliver, Down_lose, Down_repeat, Restart_client, Restart_instrument, without, doubled, idle, up_delivered, with_up, with_down, on_wire, requested, down_delivered, client_restarted, instrument_restarted}
+use Rattle.gc_world.specs.Clients.{by_ids, ends}
+use Rattle.gc_world.specs.Faithful.{sent_seen}
+use Rattle.gc_world.specs.Memory.{IsBusy}
+use Rattle.gc_world.specs.Order.{Each, numbers}
+use Rattle.gc_world.specs.Reports.{made_seen, IsReport}
+use Rattle.gc_world.specs.Stages.{does, bytes_of, IsSentIn, named, AreOf}
 use Rattle.gc_world.proofs.Queues.{without_map, doubled_map, without_past, doubled_past}
-use Rattle.gc_world.proofs.Rows.{each_without, each_doubled}
+use Rattle.gc_world.proofs.Rows.{each_append, each_more, each_without, each_doubled}
 use Rattle.gc_world.proofs.Options.{some_is, none_is_not}
+use Rattle.gc_world.proofs.Places.{get_map, get_more, get_push, below}
 
 -- what the instrument does with a line that a client wrote
 abbrev pub ExchangesAny : State → List ℕ → State → Option (List ℕ) → Type 0
@@ -39,101 +53,206 @@ reports_queues : (r : Report) (w : Wire State) (up : List (Numbered Request)) (d
 reports_queues r w up down h =
     record { sent = h.sent; executed = h.executed; made = h.made; settled = h.settled; starts = h.starts; instrument = h.instrument; refused = h.refused; idle = h.idle }
 
-module _ (r : Report) (up down : List (Numbered (List ℕ))) (c : ById) (w : World ById State) (h : AreOf r up down c w) where
+-- settlements behind settlements
+are_more : (xs ys : List Settlement) (us vs : List Rule.Settlement) → AreSettlements xs us → AreSettlements ys vs → AreSettlements (xs ++ ys) (us ++ vs)
+are_more xs ys us vs h g =
+    record {
+      seen = map-append settlement_seen xs ys ∙ ap₂ (λ (a b : List Rule.Settlement). a ++ b) h.seen g.seen;
+      read = All-append (λ (s : Settlement). IsWellRead s.call s.outcome) xs ys h.read g.read;
+    }
+
+-- a reply leaves the next id
+settled_next : (c : ById) (line : List ℕ) (k : ℕ) (b : Bool) → (id_settled c line k b).client.next ≡ c.next
+settled_next c line k false = refl
+settled_next c line k true = refl
+
+hears_next : (c : ById) (line : List ℕ) (o : Option ℕ) → (hears c line o).client.next ≡ c.next
+hears_next c line None = refl
+hears_next c line (Some id) = settled_next c line (place_in c id) (ltb (place_in c id) (length c.waiting))
+
+-- and a send one that is a digit below 8
+sends_next : (width : ℕ) (c : ById) (target : ℕ) (call : Call) (deadline : ℕ) (x : Sending ById) → sends width c target call deadline ≡ Some x → x.client.next < IDS
+sends_next width c target call deadline x e = by_room (eqb (length c.waiting) width) e
+  where
+    by_room : (full : Bool) → id_send c target call deadline full ≡ Some x → x.client.next < IDS
+    by_room true e = absurd (none_is_not x e)
+    by_room false e = subst (λ (y : Sending ById). y.client.next < IDS) (some_is _ x e) (omega arith)
+
+-- a reply more takes none away
+made_more : (made : List Made) (entry : Made) (p : ℕ) (x : Numbered (List ℕ)) → slice_get (map made_seen made) p ≡ Some x → slice_get (map made_seen (made ++ entry ∷ [])) p ≡ Some x
+made_more made entry p x e = ap (λ l. slice_get l p) (map-append made_seen made (entry ∷ [])) ∙ get_more (map made_seen made) (made_seen entry ∷ []) p x e
+
+made_last : (made : List Made) (entry : Made) → slice_get (map made_seen (made ++ entry ∷ [])) (length made) ≡ Some (made_seen entry)
+made_last made entry =
+    ap (λ l. slice_get l (length made)) (map-append made_seen made (entry ∷ []))
+    ∙ subst (λ n. slice_get (map made_seen made ++ made_seen entry ∷ []) n ≡ Some (made_seen entry)) (length-map made made_seen) (get_push (map made_seen made) (made_seen entry))
+
+named_more : (made : List Made) (entry : Made) (places : List ℕ) (xs : List (Numbered (List ℕ))) → named made places ≡ map Some xs → named (made ++ entry ∷ []) places ≡ map Some xs
+named_more made entry [] [] h = refl
+named_more made entry [] (x ∷ xs) h = cc
+named_more made entry (p ∷ ps) [] h = cc
+named_more made entry (p ∷ ps) (x ∷ xs) h =
+    let one : slice_get (map made_seen made) p ≡ Some x = cc in
+    let others : named made ps ≡ map Some xs = cc in
+    ap₂ (λ (a : Option (Numbered (List ℕ))) b. a ∷ b) (made_more made entry p x one) (named_more made entry ps xs others)
+
+named_push : (made : List Made) (entry : Made) (places : List ℕ) (xs : List (Numbered (List ℕ))) → named made places ≡ map Some xs → named (made ++ entry ∷ []) (places ++ length made ∷ []) ≡ map Some (xs ++ made_seen entry ∷ [])
+named_push made entry places xs h =
+    map-append (slice_get (map made_seen (made ++ entry ∷ []))) places (length made ∷ [])
+    ∙ ap₂ (λ (a : List (Option (Numbered (List ℕ)))) b. a ++ b ∷ []) (named_more made entry places xs h) (made_last made entry)
+    ∙ sym (map-append Some xs (made_seen entry ∷ []))
+
+-- a line that settles nothing
+pub none_settled : (o : Heard) (settled : List Settlement) → ((x : _) → o ≡ Settled x → ⊥) → settled ≡ settled ++ settlements_in o
+none_settled (Settled x) settled not = absurd (not x refl)
+none_settled Stray settled not = sym (append-nil settled)
+none_settled (Unread fault) settled not = sym (append-nil settled)
+
+pub map_none : {A B : Type 0} (f : A → B) (xs : List A) → map f xs ≡ [] → xs ≡ []
+map_none f [] e = refl
+map_none f (x ∷ xs) e = cc
+
+module _ (r : Report) (up down : List ℕ) (c : ById) (w : World ById State) (h : AreOf r up down c w) where
   -- an event that is not possible
   pub shows_idle : AreOf (counted false r) up down c (on_wire w (idle w.wire))
   shows_idle =
       record { reports = reports_idle r w.wire h.reports; up_is = h.up_is; down_is = h.down_is; client_is = h.client_is; next = h.next; requests = h.requests; calls = h.calls }
 
-  same_up : length up ≡ length w.wire.up
-  same_up = ap length h.up_is ∙ length-map w.wire.up written
+  pub same_up : length up ≡ length w.wire.up
+  same_up = ap length h.up_is ∙ length-map w.wire.up (λ x. x.number)
+
+  pub same_down : length down ≡ length w.wire.down
+  same_down = sym (length-map down (slice_get (map made_seen r.made))) ∙ ap length h.down_is ∙ length-map w.wire.down Some
+
+  pub no_up : up ≡ [] → w.wire.up ≡ []
+  no_up e = map_none (λ x. x.number) w.wire.up (sym h.up_is ∙ e)
+
+  pub no_down : down ≡ [] → w.wire.down ≡ []
+  no_down e = map_none Some w.wire.down (sym h.down_is ∙ ap (named r.made) e)
+
+  -- the upward queue is another one, if there is a line at place k
+  up_changed : (k : ℕ) (b : Bool) (places : List ℕ) (us : List (Numbered Request)) → b ≡ ltb k (length up) → (length up ≤ k → places ≡ up) → places ≡ numbers us → Each (IsSentIn r.sent) us → AreOf (counted b r) places down c (on_wire w (with_up w.wire us (ltb k (length w.wire.up))))
+  up_changed k true places us e past is each =
+      let e1 : ltb k (length w.wire.up) ≡ true = ap (λ n. ltb k n) (sym same_up) ∙ sym e in
+      subst (λ v. AreOf r places down c (on_wire w (with_up w.wire us v))) (sym e1)
+      (record { reports = reports_queues r w.wire us w.wire.down h.reports; up_is = is; down_is = h.down_is; client_is = h.client_is; next = h.next; requests = each; calls = h.calls })
+  up_changed k false places us e past is each =
+      let e1 : ltb k (length w.wire.up) ≡ false = ap (λ n. ltb k n) (sym same_up) ∙ sym e in
+      subst (λ v. AreOf (counted false r) places down c (on_wire w (with_up w.wire us v))) (sym e1)
+      (subst (λ q. AreOf (counted false r) q down c (on_wire w (idle w.wire))) (sym (past (ltb-false _ _ (sym e)))) shows_idle)
 
   pub shows_up_lose : (k : ℕ) (b : Bool) → b ≡ ltb k (length up) → AreOf (counted b r) (without k up) down c (does w (Up_lose k))
-  shows_up_lose k true e =
-      let e1 : ltb k (length w.wire.up) ≡ true = ap (λ n. ltb k n) (sym same_up) ∙ sym e in
-      subst (λ v. AreOf r (without k up) down c (on_wire w (with_up w.wire (without k w.wire.up) v))) (sym e1) (record {
-        reports = reports_queues r w.wire (without k w.wire.up) w.wire.down h.reports;
-        up_is = ap (without k) h.up_is ∙ without_map written k w.wire.up;
-        down_is = h.down_is;
-        client_is = h.client_is;
-        next = h.next;
-        requests = each_without IsProper k w.wire.up h.requests;
-        calls = h.calls;
-      })
-  shows_up_lose k false e =
-      let e1 : ltb k (length w.wire.up) ≡ false = ap (λ n. ltb k n) (sym same_up) ∙ sym e in
-      let past : length up ≤ k = ltb-false _ _ (sym e) in
-      subst (λ v. AreOf (counted false r) (without k up) down c (on_wire w (with_up w.wire (without k w.wire.up) v))) (sym e1)
-      (subst (λ q. AreOf (counted false r) q down c (on_wire w (idle w.wire))) (sym (without_past k up past)) shows_idle)
+  shows_up_lose k b e =
+      up_changed k b (without k up) (without k w.wire.up) e (without_past k up)
+      (ap (without k) h.up_is ∙ without_map (λ x. x.number) k w.wire.up) (each_without (IsSentIn r.sent) k w.wire.up h.requests)
 
   pub shows_up_repeat : (k : ℕ) (b : Bool) → b ≡ ltb k (length up) → AreOf (counted b r) (doubled k up) down c (does w (Up_repeat k))
-  shows_up_repeat k true e =
-      let e1 : ltb k (length w.wire.up) ≡ true = ap (λ n. ltb k n) (sym same_up) ∙ sym e in
-      subst (λ v. AreOf r (doubled k up) down c (on_wire w (with_up w.wire (doubled k w.wire.up) v))) (sym e1) (record {
-        reports = reports_queues r w.wire (doubled k w.wire.up) w.wire.down h.reports;
-        up_is = ap (doubled k) h.up_is ∙ doubled_map written k w.wire.up;
-        down_is = h.down_is;
-        client_is = h.client_is;
-        next = h.next;
-        requests = each_doubled IsProper k w.wire.up h.requests;
-        calls = h.calls;
-      })
-  shows_up_repeat k false e =
-      let e1 : ltb k (length w.wire.up) ≡ false = ap (λ n. ltb k n) (sym same_up) ∙ sym e in
-      let past : length up ≤ k = ltb-false _ _ (sym e) in
-      subst (λ v. AreOf (counted false r) (doubled k up) down c (on_wire w (with_up w.wire (doubled k w.wire.up) v))) (sym e1)
-      (subst (λ q. AreOf (counted false r) q down c (on_wire w (idle w.wire))) (sym (doubled_past k up past)) shows_idle)
+  shows_up_repeat k b e =
+      up_changed k b (doubled k up) (doubled k w.wire.up) e (doubled_past k up)
+      (ap (doubled k) h.up_is ∙ doubled_map (λ x. x.number) k w.wire.up) (each_doubled (IsSentIn r.sent) k w.wire.up h.requests)
+
+  -- the downward queue is another one, if there is a line at place k
+  down_changed : (k : ℕ) (b : Bool) (places : List ℕ) (ds : List (Numbered (List ℕ))) → b ≡ ltb k (length down) → (length down ≤ k → places ≡ down) → named r.made places ≡ map Some ds → AreOf (counted b r) up places c (on_wire w (with_down w.wire ds (ltb k (length w.wire.down))))
+  down_changed k true places ds e past is =
+      let e1 : ltb k (length w.wire.down) ≡ true = ap (λ n. ltb k n) (sym same_down) ∙ sym e in
+      subst (λ v. AreOf r up places c (on_wire w (with_down w.wire ds v))) (sym e1)
+      (record { reports = reports_queues r w.wire w.wire.up ds h.reports; up_is = h.up_is; down_is = is; client_is = h.client_is; next = h.next; requests = h.requests; calls = h.calls })
+  down_changed k false places ds e past is =
+      let e1 : ltb k (length w.wire.down) ≡ false = ap (λ n. ltb k n) (sym same_down) ∙ sym e in
+      subst (λ v. AreOf (counted false r) up places c (on_wire w (with_down w.wire ds v))) (sym e1)
+      (subst (λ q. AreOf (counted false r) up q c (on_wire w (idle w.wire))) (sym (past (ltb-false _ _ (sym e)))) shows_idle)
 
   pub shows_down_lose : (k : ℕ) (b : Bool) → b ≡ ltb k (length down) → AreOf (counted b r) up (without k down) c (does w (Down_lose k))
-  shows_down_lose k true e =
-      let e1 : ltb k (length w.wire.down) ≡ true = ap (λ q. ltb k (length q)) (sym h.down_is) ∙ sym e in
-      subst (λ v. AreOf r up (without k down) c (on_wire w (with_down w.wire (without k w.wire.down) v))) (sym e1)
-      (record { reports = reports_queues r w.wire w.wire.up (without k w.wire.down) h.reports; up_is = h.up_is; down_is = ap (without k) h.down_is; client_is = h.client_is; next = h.next; requests = h.requests; calls = h.calls })
-  shows_down_lose k false e =
-      let e1 : ltb k (length w.wire.down) ≡ false = ap (λ q. ltb k (length q)) (sym h.down_is) ∙ sym e in
-      let past : length down ≤ k = ltb-false _ _ (sym e) in
-      subst (λ v. AreOf (counted false r) up (without k down) c (on_wire w (with_down w.wire (without k w.wire.down) v))) (sym e1)
-      (subst (λ q. AreOf (counted false r) up q c (on_wire w (idle w.wire))) (sym (without_past k down past)) shows_idle)
+  shows_down_lose k b e =
+      down_changed k b (without k down) (without k w.wire.down) e (without_past k down)
+      (sym (without_map (slice_get (map made_seen r.made)) k down) ∙ ap (without k) h.down_is ∙ without_map Some k w.wire.down)
 
   pub shows_down_repeat : (k : ℕ) (b : Bool) → b ≡ ltb k (length down) → AreOf (counted b r) up (doubled k down) c (does w (Down_repeat k))
-  shows_down_repeat k true e =
-      let e1 : ltb k (length w.wire.down) ≡ true = ap (λ q. ltb k (length q)) (sym h.down_is) ∙ sym e in
-      subst (λ v. AreOf r up (doubled k down) c (on_wire w (with_down w.wire (doubled k w.wire.down) v))) (sym e1)
-      (record { reports = reports_queues r w.wire w.wire.up (doubled k w.wire.down) h.reports; up_is = h.up_is; down_is = ap (doubled k) h.down_is; client_is = h.client_is; next = h.next; requests = h.requests; calls = h.calls })
-  shows_down_repeat k false e =
-      let e1 : ltb k (length w.wire.down) ≡ false = ap (λ q. ltb k (length q)) (sym h.down_is) ∙ sym e in
-      let past : length down ≤ k = ltb-false _ _ (sym e) in
-      subst (λ v. AreOf (counted false r) up (doubled k down) c (on_wire w (with_down w.wire (doubled k w.wire.down) v))) (sym e1)
-      (subst (λ q. AreOf (counted false r) up q c (on_wire w (idle w.wire))) (sym (doubled_past k down past)) shows_idle)
+  shows_down_repeat k b e =
+      down_changed k b (doubled k down) (doubled k w.wire.down) e (doubled_past k down)
+      (sym (doubled_map (slice_get (map made_seen r.made)) k down) ∙ ap (doubled k) h.down_is ∙ doubled_map Some k w.wire.down)
 
-  -- the queue's front is a request's line
-  up_front : (x : Numbered (List ℕ)) (rest : List (Numbered (List ℕ))) → up ≡ x ∷ rest → (y : Numbered Request) × (ys : List (Numbered Request)) × (w.wire.up ≡ y ∷ ys) × (written y ≡ x) × (rest ≡ map written ys)
-  up_front x rest e = front w.wire.up (sym h.up_is ∙ e)
+  -- the request in front is the one of that number
+  up_front : (n : ℕ) (rest : List ℕ) → up ≡ n ∷ rest → (y : Numbered Request) × (ys : List (Numbered Request)) × (w.wire.up ≡ y ∷ ys) × (y.number ≡ n) × (rest ≡ numbers ys)
+  up_front n rest e = front w.wire.up (sym h.up_is ∙ e)
     where
-      front : (us : List (Numbered Request)) → map written us ≡ x ∷ rest → (y : Numbered Request) × (ys : List (Numbered Request)) × (us ≡ y ∷ ys) × (written y ≡ x) × (rest ≡ map written ys)
+      front : (us : List (Numbered Request)) → numbers us ≡ n ∷ rest → (y : Numbered Request) × (ys : List (Numbered Request)) × (us ≡ y ∷ ys) × (y.number ≡ n) × (rest ≡ numbers ys)
       front [] g = cc
-      front (y ∷ ys) g = let one : written y ≡ x = cc in let more : map written ys ≡ rest = cc in (y, ys, refl, one, sym more)
+      front (y ∷ ys) g = let one : y.number ≡ n = cc in let others : numbers ys ≡ rest = cc in (y, ys, refl, one, sym others)
+
+  -- which was sent
+  pub in_sent : (n : ℕ) (rest : List ℕ) → up ≡ n ∷ rest → n < length r.sent
+  in_sent n rest e =
+      let f = up_front n rest e in
+      let s = (subst (λ q. Each (IsSentIn r.sent) q) f.2 h.requests).0 in
+      subst (λ m. m < length r.sent) f.3 (below r.sent f.0.number s.request s.found)
+
+  -- the reply in front is the one at that place
+  pub down_front : (p : ℕ) (rest : List ℕ) → down ≡ p ∷ rest → (x : Numbered (List ℕ)) × (xs : List (Numbered (List ℕ))) × (w.wire.down ≡ x ∷ xs) × (slice_get (map made_seen r.made) p ≡ Some x) × (named r.made rest ≡ map Some xs)
+  down_front p rest e = front w.wire.down (ap (named r.made) (sym e) ∙ h.down_is)
+    where
+      front : (ds : List (Numbered (List ℕ))) → named r.made (p ∷ rest) ≡ map Some ds → (x : Numbered (List ℕ)) × (xs : List (Numbered (List ℕ))) × (ds ≡ x ∷ xs) × (slice_get (map made_seen r.made) p ≡ Some x) × (named r.made rest ≡ map Some xs)
+      front [] g = cc
+      front (x ∷ xs) g = let one : slice_get (map made_seen r.made) p ≡ Some x = cc in let others : named r.made rest ≡ map Some xs = cc in (x, xs, refl, one, others)
+
+  -- which was made
+  pub in_made : (p : ℕ) (rest : List ℕ) → down ≡ p ∷ rest → p < length r.made
+  in_made p rest e = let f = down_front p rest e in subst (λ n. p < n) (length-map r.made made_seen) (below (map made_seen r.made) p f.0 f.3)
+
+  -- its line
+  pub down_line : (p : ℕ) (rest : List ℕ) (m : Made) (e : down ≡ p ∷ rest) → slice_get r.made p ≡ Some m → made_seen m ≡ (down_front p rest e).0
+  down_line p rest m e found = let f = down_front p rest e in some_is (made_seen m) f.0 (sym (get_map made_seen r.made p m found) ∙ f.3)
+
+  -- a request was sent, and its line is under way
+  pub shows_send : (entry : Sent) (deadline : ℕ) (client : ById) (sent : List Sent) (up' : List ℕ) → sends WINDOW c entry.target entry.call deadline ≡ Some (record { id = c.next; client = client }) → entry.line.items ≡ request_line (Some c.next) entry.call → IsFitting entry.call → sent ≡ r.sent ++ entry ∷ [] → up' ≡ up ++ length r.sent ∷ [] → AreOf (record r { sent = sent }) up' down client (does w (Send entry.target entry.call deadline))
+  shows_send entry deadline client sent up' sends_is line fits sent_is up_is =
+      let x : Sending ById = record { id = c.next; client = client } in
+      let ruled : sends WINDOW w.client entry.target entry.call deadline ≡ Some x = ap (λ k. sends WINDOW k entry.target entry.call deadline) (sym h.client_is) ∙ sends_is in
+      let total : length r.sent ≡ length w.wire.sent = sym (length-map r.sent sent_seen) ∙ ap length h.reports.sent in
+      let number : slice_get (r.sent ++ entry ∷ []) (length w.wire.sent) ≡ Some entry = subst (λ n. slice_get (r.sent ++ entry ∷ []) n ≡ Some entry) total (get_push r.sent entry) in
+      let digit : c.next < IDS = subst (λ (k : ById). k.next < IDS) (sym h.client_is) h.next in
+      subst (λ l. AreOf (record r { sent = l }) up' down client (does w (Send entry.target entry.call deadline))) (sym sent_is)
+      (subst (λ o. AreOf (record r { sent = r.sent ++ entry ∷ [] }) up' down client (requested w entry.target entry.call o)) (sym ruled) (record {
+        reports = record {
+          sent = map-append sent_seen r.sent (entry ∷ []) ∙ ap₂ (λ (l : List World.Sent) t. l ++ record { target = entry.target; call = entry.call; line = t } ∷ []) h.reports.sent line;
+          executed = h.reports.executed;
+          made = h.reports.made;
+          settled = h.reports.settled;
+          starts = h.reports.starts;
+          instrument = h.reports.instrument;
+          refused = h.reports.refused;
+          idle = h.reports.idle;
+        };
+        up_is = up_is ∙ ap₂ (λ (l : List ℕ) n. l ++ n ∷ []) h.up_is total ∙ sym (map-append (λ (y : Numbered Request). y.number) w.wire.up _);
+        down_is = h.down_is;
+        client_is = refl;
+        next = sends_next WINDOW c entry.target entry.call deadline x sends_is;
+        requests =
+            each_append _ w.wire.up _ (each_more _ _ (λ y s. record { request = s.request; found = get_more r.sent (entry ∷ []) y.number s.request s.found; line = s.line; digit = s.digit; fits = s.fits }) w.wire.up h.requests)
+            (record { request = entry; found = number; line = line; digit = digit; fits = fits }, tt);
+        calls = each_append _ r.sent (entry ∷ []) h.calls (fits, tt);
+      }))
 
   -- the line in front of the upward queue was handed to the instrument
-  pub shows_up_deliver : (front entry : Made) (rest down' : List (Numbered (List ℕ))) (executed : List ℕ) (made : List Made) (state : State) (o : Option (List ℕ)) → up ≡ numbered front ∷ rest → ExchangesAny r.instrument front.line.items state o → o ≡ Some entry.line.items → entry.number ≡ front.number → executed ≡ r.executed ++ front.number ∷ [] → made ≡ r.made ++ entry ∷ [] → down' ≡ down ++ numbered entry ∷ [] → AreOf (record r { executed = executed; made = made; instrument = state }) rest down' c (does w Up_deliver)
+  pub shows_up_deliver : (n : ℕ) (rest down' : List ℕ) (request : Sent) (entry : Made) (executed : List ℕ) (made : List Made) (state : State) (o : Option (List ℕ)) → up ≡ n ∷ rest → slice_get r.sent n ≡ Some request → ExchangesAny r.instrument request.line.items state o → o ≡ Some entry.line.items → entry.number ≡ n → executed ≡ r.executed ++ n ∷ [] → made ≡ r.made ++ entry ∷ [] → down' ≡ down ++ length r.made ∷ [] → AreOf (record r { executed = executed; made = made; instrument = state }) rest down' c (does w Up_deliver)
   unfolding Replying.handed
-  shows_up_deliver front entry rest down' executed made state o e replied told same executed_is made_is down'_is =
-      let f = up_front (numbered front) rest e in
+  shows_up_deliver n rest down' request entry executed made state o e found replied told same executed_is made_is down'_is =
+      let f = up_front n rest e in
       let y = f.0 in
       let ys = f.1 in
-      let sound = subst (λ q. Each IsProper q) f.2 h.requests in
-      let line : front.line.items ≡ line_of y.line = ap (λ (x : Numbered (List ℕ)). x.line) (sym f.3) in
+      let sound = subst (λ q. Each (IsSentIn r.sent) q) f.2 h.requests in
+      let this : request ≡ sound.0.request = some_is request sound.0.request (sym found ∙ ap (λ k. slice_get r.sent k) (sym f.3) ∙ sound.0.found) in
+      let line : request.line.items ≡ bytes_of y.line = ap (λ (q : Sent). q.line.items) this ∙ sound.0.line in
       let did = replied y.line.id y.line.call sound.0.digit sound.0.fits line in
-      let number : y.number ≡ front.number = ap (λ (x : Numbered (List ℕ)). x.number) f.3 in
       let reply : entry.line.items ≡ (handed w.wire.state y.line.id y.line.call).reply =
       some_is _ _ (sym told ∙ did.line) ∙ ap (λ s. (handed s y.line.id y.line.call).reply) h.reports.instrument in
-      let entry_is : numbered entry ≡ record { number = y.number; line = (handed w.wire.state y.line.id y.line.call).reply } =
-      ap₂ (λ n (l : List ℕ). record { number = n; line = l }) (same ∙ sym number) reply in
+      let entry_is : made_seen entry ≡ record { number = y.number; line = (handed w.wire.state y.line.id y.line.call).reply } =
+      ap₂ (λ k (l : List ℕ). record { number = k; line = l }) (same ∙ sym f.3) reply in
       subst (λ q. AreOf (record r { executed = executed; made = made; instrument = state }) rest down' c (on_wire w (up_delivered ends w.wire q))) (sym f.2) (record {
         reports = record {
           sent = h.reports.sent;
-          executed = executed_is ∙ ap₂ (λ l n. l ++ n ∷ []) h.reports.executed (sym number);
-          made = ap (map numbered) made_is ∙ map-append numbered r.made (entry ∷ []) ∙ ap₂ (λ l m. l ++ m ∷ []) h.reports.made entry_is;
+          executed = executed_is ∙ ap₂ (λ l k. l ++ k ∷ []) h.reports.executed (sym f.3);
+          made = ap (map made_seen) made_is ∙ map-append made_seen r.made (entry ∷ []) ∙ ap₂ (λ l m. l ++ m ∷ []) h.reports.made entry_is;
           settled = h.reports.settled;
           starts = h.reports.starts;
           instrument = did.state ∙ ap (λ s. (handed s y.line.id y.line.call).state) h.reports.instrument;
@@ -141,7 +260,9 @@ module _ (r : Report) (up down : List (Numbered (List ℕ))) (c : ById) (w : Wor
           idle = h.reports.idle;
         };
         up_is = f.4;
-        down_is = down'_is ∙ ap₂ (λ l m. l ++ m ∷ []) h.down_is entry_is;
+        down_is =
+            ap₂ named made_is down'_is ∙ named_push r.made entry down w.wire.down h.down_is
+            ∙ ap (λ m. map Some (w.wire.down ++ m ∷ [])) entry_is;
         client_is = h.client_is;
         next = h.next;
         requests = sound.1;
@@ -149,10 +270,110 @@ module _ (r : Report) (up down : List (Numbered (List ℕ))) (c : ById) (w : Wor
       })
 
   -- which the instrument answers
-  pub up_answered : (front : Made) (rest : List (Numbered (List ℕ))) (state : State) (o : Option (List ℕ)) → up ≡ numbered front ∷ rest → ExchangesAny r.instrument front.line.items state o → o ≡ None → ⊥
-  up_answered front rest state o e replied told =
-      let f = up_front (numbered front) rest e in
-      let sound = subst (λ q. Each IsProper q) f.2 h.requests in
-      let line : front.line.items ≡ line_of f.0.line = ap (λ (x : Numbered (List ℕ)). x.line) (sym f.3) in
+  pub up_answered : (n : ℕ) (rest : List ℕ) (request : Sent) (state : State) (o : Option (List ℕ)) → up ≡ n ∷ rest → slice_get r.sent n ≡ Some request → ExchangesAny r.instrument request.line.items state o → o ≡ None → ⊥
+  up_answered n rest request state o e found replied told =
+      let f = up_front n rest e in
+      let sound = subst (λ q. Each (IsSentIn r.sent) q) f.2 h.requests in
+      let this : request ≡ sound.0.request = some_is request sound.0.request (sym found ∙ ap (λ k. slice_get r.sent k) (sym f.3) ∙ sound.0.found) in
+      let line : request.line.items ≡ bytes_of f.0.line = ap (λ (q : Sent). q.line.items) this ∙ sound.0.line in
       let did = replied f.0.line.id f.0.line.call sound.0.digit sound.0.fits line in
       none_is_not _ (sym told ∙ did.line)
+
+  -- the line in front of the downward queue was handed to the client
+  pub shows_down_deliver : (p : ℕ) (rest : List ℕ) (m : Made) (more settled : List Settlement) (client : ById) → down ≡ p ∷ rest → slice_get r.made p ≡ Some m → AreSettlements more (hears c m.line.items (heard m.line.items)).settlements → client ≡ (hears c m.line.items (heard m.line.items)).client → settled ≡ r.settled ++ more → AreOf (record r { settled = settled }) up rest client (does w Down_deliver)
+  shows_down_deliver p rest m more settled client e found more_are client_is settled_is =
+      let f = down_front p rest e in
+      let x = f.0 in
+      let line : m.line.items ≡ x.line = ap (λ (y : Numbered (List ℕ)). y.line) (down_line p rest m e found) in
+      let same : hears c m.line.items (heard m.line.items) ≡ hears w.client x.line (heard x.line) = ap₂ (λ k l. hears k l (heard l)) h.client_is line in
+      let are : AreSettlements more (hears w.client x.line (heard x.line)).settlements = subst (λ (s : Rule.Settled ById). AreSettlements more s.settlements) same more_are in
+      subst (λ q. AreOf (record r { settled = settled }) up rest client (down_delivered (by_ids WINDOW ends) w q)) (sym f.2) (record {
+        reports = record {
+          sent = h.reports.sent;
+          executed = h.reports.executed;
+          made = h.reports.made;
+          settled = subst (λ l. AreSettlements l (w.wire.settled ++ (hears w.client x.line (heard x.line)).settlements)) (sym settled_is) (are_more r.settled more w.wire.settled (hears w.client x.line (heard x.line)).settlements h.reports.settled are);
+          starts = h.reports.starts;
+          instrument = h.reports.instrument;
+          refused = h.reports.refused;
+          idle = h.reports.idle;
+        };
+        up_is = h.up_is;
+        down_is = f.4;
+        client_is = client_is ∙ ap (λ (s : Rule.Settled ById). s.client) same;
+        next = subst (λ n. n < IDS) (sym (hears_next w.client x.line (heard x.line))) h.next;
+        requests = h.requests;
+        calls = h.calls;
+      })
+
+  -- no line is under way, and the client was restarted
+  pub shows_restart_client : (more settled : List Settlement) (client : ById) → up ≡ [] → down ≡ [] → AreSettlements more (restarts c).settlements → client ≡ (restarts c).client → settled ≡ r.settled ++ more → AreOf (record r { settled = settled }) up down client (does w Restart_client)
+  shows_restart_client more settled client eu ed more_are client_is settled_is =
+      let are : AreSettlements more (restarts w.client).settlements = subst (λ k. AreSettlements more (restarts k).settlements) h.client_is more_are in
+      subst (λ u. AreOf (record r { settled = settled }) up down client (client_restarted ends (by_ids WINDOW ends) w u w.wire.down)) (sym (no_up eu))
+      (subst (λ d. AreOf (record r { settled = settled }) up down client (client_restarted ends (by_ids WINDOW ends) w [] d)) (sym (no_down ed)) (record {
+        reports = record {
+          sent = h.reports.sent;
+          executed = h.reports.executed;
+          made = h.reports.made;
+          settled = subst (λ l. AreSettlements l (w.wire.settled ++ (restarts w.client).settlements)) (sym settled_is) (are_more r.settled more w.wire.settled (restarts w.client).settlements h.reports.settled are);
+          starts = h.reports.starts;
+          instrument = h.reports.instrument;
+          refused = h.reports.refused;
+          idle = h.reports.idle;
+        };
+        up_is = h.up_is;
+        down_is = h.down_is;
+        client_is = client_is;
+        next = omega arith;
+        requests = h.requests;
+        calls = h.calls;
+      }))
+
+  -- and the instrument was
+  pub shows_restart_instrument : (starts : List ℕ) (state : State) → up ≡ [] → down ≡ [] → starts ≡ r.starts ++ length r.executed ∷ [] → state ≡ restarted r.instrument → AreOf (record r { starts = starts; instrument = state }) up down c (does w Restart_instrument)
+  shows_restart_instrument starts state eu ed starts_is state_is =
+      let after = record r { starts = starts; instrument = state } in
+      subst (λ u. AreOf after up down c (on_wire w (instrument_restarted ends w.wire u w.wire.down))) (sym (no_up eu))
+      (subst (λ d. AreOf after up down c (on_wire w (instrument_restarted ends w.wire [] d))) (sym (no_down ed)) (record {
+        reports = record {
+          sent = h.reports.sent;
+          executed = h.reports.executed;
+          made = h.reports.made;
+          settled = h.reports.settled;
+          starts = starts_is ∙ ap₂ (λ (l m : List ℕ). l ++ length m ∷ []) h.reports.starts h.reports.executed;
+          instrument = state_is ∙ ap restarted h.reports.instrument;
+          refused = h.reports.refused;
+          idle = h.reports.idle;
+        };
+        up_is = h.up_is;
+        down_is = h.down_is;
+        client_is = h.client_is;
+        next = h.next;
+        requests = h.requests;
+        calls = h.calls;
+      }))
+
+  -- a line is under way, so neither was
+  pub busy_client : IsBusy up down → AreOf (counted false r) up down c (does w Restart_client)
+  busy_client b = by_queues w.wire.up w.wire.down refl refl
+    where
+      by_queues : (us : List (Numbered Request)) (ds : List (Numbered (List ℕ))) → w.wire.up ≡ us → w.wire.down ≡ ds → AreOf (counted false r) up down c (client_restarted ends (by_ids WINDOW ends) w us ds)
+      by_queues [] [] eu ed = absurd (b (h.up_is ∙ ap numbers eu, map_none (slice_get (map made_seen r.made)) down (h.down_is ∙ ap (map Some) ed)))
+      by_queues [] (y ∷ ds) eu ed = shows_idle
+      by_queues (x ∷ us) ds eu ed = shows_idle
+
+  pub busy_instrument : IsBusy up down → AreOf (counted false r) up down c (does w Restart_instrument)
+  busy_instrument b = by_queues w.wire.up w.wire.down refl refl
+    where
+      by_queues : (us : List (Numbered Request)) (ds : List (Numbered (List ℕ))) → w.wire.up ≡ us → w.wire.down ≡ ds → AreOf (counted false r) up down c (on_wire w (instrument_restarted ends w.wire us ds))
+      by_queues [] [] eu ed = absurd (b (h.up_is ∙ ap numbers eu, map_none (slice_get (map made_seen r.made)) down (h.down_is ∙ ap (map Some) ed)))
+      by_queues [] (y ∷ ds) eu ed = shows_idle
+      by_queues (x ∷ us) ds eu ed = shows_idle
+
+  -- no line is under way in this direction
+  pub idle_up : up ≡ [] → AreOf (counted false r) up down c (does w Up_deliver)
+  idle_up e = subst (λ q. AreOf (counted false r) up down c (on_wire w (up_delivered ends w.wire q))) (sym (no_up e)) shows_idle
+
+  pub idle_down : down ≡ [] → AreOf (counted false r) up down c (does w Down_deliver)
+  idle_down e = subst (λ q. AreOf (counted false r) up down c (down_delivered (by_ids WINDOW ends) w q)) (sym (no_down e)) shows_idle

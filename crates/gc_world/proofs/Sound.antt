@@ -3,9 +3,11 @@ use Rattle.std.proofs.Common.{◌≡◌, ℕ, zero, suc, ◌+◌, ◌-◌, ◌%�
 use Rattle.std.proofs.lemmas.List.{length-map}
 use Rattle.std.proofs.lemmas.Bool.{ltb-false, eqb-false}
 use Rattle.gc_catalogue.specs.declared.call.Call.{Call}
+use Rattle.gc_catalogue.specs.Texts.{request_line}
 use Rattle.gc_client.specs.declared.pending.Pending.{Pending}
-use Rattle.gc_client.specs.Rule.{asked, expired, lost}
-use Rattle.gc_world.specs.World.{Request, Numbered, Ends, Happening, World, Written, without, doubled, answered, started, on_wire, requested, booked, happens, run}
+use Rattle.gc_client.specs.Rule.{pending_of, expired, lost}
+use Rattle.gc_client.specs.Rule.{Sending}
+use Rattle.gc_world.specs.World.{Request, Numbered, Ends, Step, World, without, doubled, replied, started, on_wire, requested, with_settled, happens, run}
 use Rattle.gc_world.specs.Clients.{ByNumber, number_send, number_reply, by_numbers, numbers_open}
 use Rattle.gc_world.specs.Exchange.{IsExchange}
 use Rattle.gc_world.specs.Order.{Each, Rising, numbers}
@@ -33,14 +35,14 @@ module _ {State : Type 0} (width : ℕ) (ends : Ends State) (Good : State → Ty
 
   pub record IsSound (c : ByNumber) (sent settled : ℕ) (down : List (Numbered (List ℕ))) (up : List (Numbered Request)) (state : State) : Type 0 where
     pub good : Good state
-    pub counted : length c.asked ≡ sent
+    pub counted : length c.requests ≡ sent
     pub booked : settled ≡ c.count
     pub begun : c.since ≤ c.count
-    pub within : c.count ≤ length c.asked
-    pub few : length c.asked ≤ c.count + width
+    pub within : c.count ≤ length c.requests
+    pub few : length c.requests ≤ c.count + width
     pub order : Rising c.count (numbers down ++ numbers up)
-    pub going : Each (IsGoing c.since (length c.asked)) up
-    pub coming : Each (IsComing c.since (length c.asked)) down
+    pub going : Each (IsGoing c.since (length c.requests)) up
+    pub coming : Each (IsComing c.since (length c.requests)) down
 
   abbrev pub Sound : World ByNumber State → Type 0
   Sound w = IsSound w.client (length w.wire.sent) (length w.wire.settled) w.wire.down w.wire.up w.wire.state
@@ -58,42 +60,42 @@ module _ {State : Type 0} (width : ℕ) (ends : Ends State) (Good : State → Ty
       (each_number (λ n. n < total) down (each_more (IsComing since total) (λ x. x.number < total) (λ x h. h.sent) down cs))
       (each_number (λ n. n < total) up (each_more (IsGoing since total) (λ x. x.number < total) (λ x h. h.sent) up gs))
 
-  sound_sent : (w : World ByNumber State) (target : ℕ) (call : Call) (deadline : ℕ) (full : Bool) (x : Written ByNumber) → eqb (length w.client.asked - w.client.count) width ≡ full → number_send w.client target call deadline full ≡ Some x → Sound w → Sound (requested w target call (Some x))
+  sound_sent : (w : World ByNumber State) (target : ℕ) (call : Call) (deadline : ℕ) (full : Bool) (x : Sending ByNumber) → eqb (length w.client.requests - w.client.count) width ≡ full → number_send w.client target call deadline full ≡ Some x → Sound w → Sound (requested w target call (Some x))
   sound_sent w target call deadline true x e s h = cc
   sound_sent w target call deadline false x e s h =
       let c = w.client in
-      let total = length c.asked in
+      let total = length c.requests in
       let ne : (total - c.count ≡ width) → ⊥ = eqb-false _ _ e in
-      let y : Written ByNumber = record { id = (total - c.since) % 8; client = record { count = c.count; asked = c.asked ++ asked target call deadline ∷ []; since = c.since } } in
-      let sent1 : length (w.wire.sent ++ record { target = target; request = record { id = y.id; call = call } } ∷ []) ≡ length w.wire.sent + 1 = length-append w.wire.sent _ in
-      let asked1 : length (c.asked ++ asked target call deadline ∷ []) ≡ total + 1 = length-append c.asked _ in
+      let y : Sending ByNumber = record { id = (total - c.since) % 8; client = record { count = c.count; requests = c.requests ++ pending_of target call deadline ∷ []; since = c.since } } in
+      let sent1 : length (w.wire.sent ++ record { target = target; call = call; line = request_line (Some y.id) call } ∷ []) ≡ length w.wire.sent + 1 = length-append w.wire.sent _ in
+      let requests1 : length (c.requests ++ pending_of target call deadline ∷ []) ≡ total + 1 = length-append c.requests _ in
       let done : Sound (requested w target call (Some y)) = record {
         good = h.good;
-        counted = asked1 ∙ ap (λ n. n + 1) h.counted ∙ sym sent1;
+        counted = requests1 ∙ ap (λ n. n + 1) h.counted ∙ sym sent1;
         booked = h.booked;
         begun = h.begun;
-        within = omega (arith, h.within, asked1);
-        few = omega (arith, h.few, h.within, asked1, ne);
+        within = omega (arith, h.within, requests1);
+        few = omega (arith, h.few, h.within, requests1, ne);
         order =
             rising_push c.count (length w.wire.sent) _ (numbers w.wire.down) w.wire.up (omega (arith, h.within, h.counted))
             (subst (λ n. Each (λ m. m < n) (numbers w.wire.down ++ numbers w.wire.up)) h.counted (all_sent c.since total w.wire.down w.wire.up h.coming h.going)) h.order;
         going =
-            each_append _ w.wire.up _ (each_more _ _ (going_more c.since total _ (omega (arith, asked1))) w.wire.up h.going) (
+            each_append _ w.wire.up _ (each_more _ _ (going_more c.since total _ (omega (arith, requests1))) w.wire.up h.going) (
               record {
                 recent = omega (arith, h.begun, h.within, h.counted);
-                sent = omega (arith, asked1, h.counted);
+                sent = omega (arith, requests1, h.counted);
                 id = ap (λ n. (n - c.since) % 8) h.counted;
               },
               tt,
             );
-        coming = each_more _ _ (coming_more c.since total _ (omega (arith, asked1))) w.wire.down h.coming;
+        coming = each_more _ _ (coming_more c.since total _ (omega (arith, requests1))) w.wire.down h.coming;
       } in
       subst (λ z. Sound (requested w target call (Some z))) (some_is _ x s) done
 
-  sound_answer : IsExchange ends Good → (w : World ByNumber State) (x : Numbered Request) (rest : List (Numbered Request)) → w.wire.up ≡ x ∷ rest → Sound w → Sound (on_wire w (answered w.wire x.number rest (ends.handed w.wire.state x.line.id x.line.call)))
+  sound_answer : IsExchange ends Good → (w : World ByNumber State) (x : Numbered Request) (rest : List (Numbered Request)) → w.wire.up ≡ x ∷ rest → Sound w → Sound (on_wire w (replied w.wire x.number rest (ends.handed w.wire.state x.line.id x.line.call)))
   sound_answer ex w x rest e h =
       let c = w.client in
-      let g = subst (λ q. Each (IsGoing c.since (length c.asked)) q) e h.going in
+      let g = subst (λ q. Each (IsGoing c.since (length c.requests)) q) e h.going in
       let small : x.line.id < 8 = omega (arith, g.0.id) in
       record {
         good = ex.stays_good w.wire.state x.line.id x.line.call h.good small;
@@ -110,11 +112,11 @@ module _ {State : Type 0} (width : ℕ) (ends : Ends State) (Good : State → Ty
       }
 
   -- the two queues are other ones
-  sound_queues : (w : World ByNumber State) (down : List (Numbered (List ℕ))) (up : List (Numbered Request)) → Rising w.client.count (numbers down ++ numbers up) → Each (IsGoing w.client.since (length w.client.asked)) up → Each (IsComing w.client.since (length w.client.asked)) down → Sound w → Sound (on_wire w (record w.wire { down = down; up = up }))
+  sound_queues : (w : World ByNumber State) (down : List (Numbered (List ℕ))) (up : List (Numbered Request)) → Rising w.client.count (numbers down ++ numbers up) → Each (IsGoing w.client.since (length w.client.requests)) up → Each (IsComing w.client.since (length w.client.requests)) down → Sound w → Sound (on_wire w (record w.wire { down = down; up = up }))
   sound_queues w down up order going coming h =
       record { good = h.good; counted = h.counted; booked = h.booked; begun = h.begun; within = h.within; few = h.few; order = order; going = going; coming = coming }
 
-  sound_reply : (w : World ByNumber State) (x : Numbered (List ℕ)) (rest : List (Numbered (List ℕ))) (old : Bool) → w.wire.down ≡ x ∷ rest → ltb x.number w.client.count ≡ old → Sound w → Sound (booked (record w.wire { down = rest }) (number_reply w.client x old))
+  sound_reply : (w : World ByNumber State) (x : Numbered (List ℕ)) (rest : List (Numbered (List ℕ))) (old : Bool) → w.wire.down ≡ x ∷ rest → ltb x.number w.client.count ≡ old → Sound w → Sound (with_settled (record w.wire { down = rest }) (number_reply w.client x old))
   sound_reply w x rest true e t h =
       let c = w.client in
       let order = subst (λ q. Rising c.count (numbers q ++ numbers w.wire.up)) e h.order in
@@ -127,16 +129,16 @@ module _ {State : Type 0} (width : ℕ) (ends : Ends State) (Good : State → Ty
         few = h.few;
         order = rising_lower c.count (x.number + 1) (numbers rest ++ numbers w.wire.up) order.0 order.1;
         going = h.going;
-        coming = (subst (λ q. Each (IsComing c.since (length c.asked)) q) e h.coming).1;
+        coming = (subst (λ q. Each (IsComing c.since (length c.requests)) q) e h.coming).1;
       }
   sound_reply w x rest false e t h =
       let c = w.client in
       let ge : c.count ≤ x.number = ltb-false _ _ t in
       let order = subst (λ q. Rising c.count (numbers q ++ numbers w.wire.up)) e h.order in
-      let coming = subst (λ q. Each (IsComing c.since (length c.asked)) q) e h.coming in
-      let lt : x.number < length c.asked = coming.0.sent in
-      let ld : length (drop c.count c.asked) ≡ length c.asked - c.count = length-drop c.count c.asked in
-      let ls = length-settle (x.number - c.count) x.line (drop c.count c.asked) (omega (arith, lt, ld, ge)) in
+      let coming = subst (λ q. Each (IsComing c.since (length c.requests)) q) e h.coming in
+      let lt : x.number < length c.requests = coming.0.sent in
+      let ld : length (drop c.count c.requests) ≡ length c.requests - c.count = length-drop c.count c.requests in
+      let ls = length-settle (x.number - c.count) x.line (drop c.count c.requests) (omega (arith, lt, ld, ge)) in
       record {
         good = h.good;
         counted = h.counted;
@@ -152,7 +154,7 @@ module _ {State : Type 0} (width : ℕ) (ends : Ends State) (Good : State → Ty
   sound_expired : (w : World ByNumber State) (now : ℕ) → Sound w → Sound (record { wire = w.wire; client = (by_numbers width).expire w.client now })
   sound_expired w now h =
       let c = w.client in
-      let same = length_expired now c.count c.asked in
+      let same = length_expired now c.count c.requests in
       record {
         good = h.good;
         counted = same ∙ h.counted;
@@ -171,15 +173,15 @@ module _ {State : Type 0} (width : ℕ) (ends : Ends State) (Good : State → Ty
       record { good = ex.restart_good w.wire.state h.good; counted = h.counted; booked = h.booked; begun = h.begun; within = h.within; few = h.few; order = h.order; going = h.going; coming = h.coming }
 
   -- all that wait are settled, while no line is under way
-  sound_lost : (w : World ByNumber State) → w.wire.up ≡ [] → w.wire.down ≡ [] → Sound w → Sound (booked w.wire ((by_numbers width).restart w.client))
+  sound_lost : (w : World ByNumber State) → w.wire.up ≡ [] → w.wire.down ≡ [] → Sound w → Sound (with_settled w.wire ((by_numbers width).restart w.client))
   sound_lost w eu ed h =
       let c = w.client in
-      let total = length c.asked in
-      let lm : length (map lost (drop c.count c.asked)) ≡ length (drop c.count c.asked) = length-map (drop c.count c.asked) lost in
+      let total = length c.requests in
+      let lm : length (map lost (drop c.count c.requests)) ≡ length (drop c.count c.requests) = length-map (drop c.count c.requests) lost in
       record {
         good = h.good;
         counted = h.counted;
-        booked = length-append w.wire.settled _ ∙ omega (arith, h.booked, h.within, length-drop c.count c.asked, lm);
+        booked = length-append w.wire.settled _ ∙ omega (arith, h.booked, h.within, length-drop c.count c.requests, lm);
         begun = omega arith;
         within = omega arith;
         few = omega arith;
@@ -188,7 +190,7 @@ module _ {State : Type 0} (width : ℕ) (ends : Ends State) (Good : State → Ty
         coming = subst (λ q. Each (IsComing total total) q) (sym ed) tt;
       }
 
-  sound_restarted : IsExchange ends Good → (w : World ByNumber State) (b : Bool) → w.wire.up ≡ [] → w.wire.down ≡ [] → Sound w → Sound (booked (started ends w.wire b) ((by_numbers width).restart w.client))
+  sound_restarted : IsExchange ends Good → (w : World ByNumber State) (b : Bool) → w.wire.up ≡ [] → w.wire.down ≡ [] → Sound w → Sound (with_settled (started ends w.wire b) ((by_numbers width).restart w.client))
   sound_restarted ex w false eu ed h = sound_lost w eu ed h
   sound_restarted ex w true eu ed h = sound_lost (on_wire w (started ends w.wire true)) eu ed (sound_started ex w true h)
 
@@ -198,7 +200,7 @@ module _ {State : Type 0} (width : ℕ) (ends : Ends State) (Good : State → Ty
       record {
         idles = λ w h. h;
         refuses = λ w h. h;
-        sends = λ w target call deadline x e h. sound_sent w target call deadline (eqb (length w.client.asked - w.client.count) width) x refl e h;
+        sends = λ w target call deadline x e h. sound_sent w target call deadline (eqb (length w.client.requests - w.client.count) width) x refl e h;
         answers = λ w x rest q h. sound_answer ex w x rest q h;
         loses_up = λ w k h. sound_queues w w.wire.down (without k w.wire.up) (rising_without_behind w.client.count k (numbers w.wire.down) w.wire.up h.order) (each_without _ k w.wire.up h.going) h.coming h;
         repeats_up = λ w k h. sound_queues w w.wire.down (doubled k w.wire.up) (rising_doubled_behind w.client.count k (numbers w.wire.down) w.wire.up h.order) (each_doubled _ k w.wire.up h.going) h.coming h;
@@ -210,10 +212,10 @@ module _ {State : Type 0} (width : ℕ) (ends : Ends State) (Good : State → Ty
         starts = λ w u d h. sound_started ex w true h;
       }
 
-  pub sound_step : IsExchange ends Good → (w : World ByNumber State) (e : Happening) → Sound w → Sound (happens ends (by_numbers width) w e)
+  pub sound_step : IsExchange ends Good → (w : World ByNumber State) (e : Step) → Sound w → Sound (happens ends (by_numbers width) w e)
   sound_step ex w e h = stable ends (by_numbers width) Sound (keeps ex) w e h
 
-  pub sound_all : IsExchange ends Good → (es : List Happening) (w : World ByNumber State) → Sound w → Sound (run ends (by_numbers width) es w)
+  pub sound_all : IsExchange ends Good → (es : List Step) (w : World ByNumber State) → Sound w → Sound (run ends (by_numbers width) es w)
   sound_all ex es w h = stable_all ends (by_numbers width) Sound (keeps ex) es w h
 
   pub sound_open : (state : State) → Good state → Sound (numbers_open state)

@@ -1,25 +1,26 @@
 -- What each elementary change keeps, each step keeps, and each run.
 use Rattle.std.proofs.Common.{◌≡◌, ℕ, ◌+◌, Bool, true, false, List, [], ◌∷◌, length, Option, Some, None, refl, ltb}
 use Rattle.gc_catalogue.specs.declared.call.Call.{Call}
-use Rattle.gc_world.specs.World.{Request, Numbered, Ends, Rule, Happening, Send, Up_deliver, Up_lose, Up_repeat, Down_deliver, Down_lose, Down_repeat, Expire, Restart_client, Restart_instrument, Nothing, World, Written, without, doubled, idle, answered, up_delivered, with_up, with_down, started, instrument_restarted, on_wire, requested, booked, down_delivered, client_restarted, happens, run}
+use Rattle.gc_client.specs.Rule.{Sending}
+use Rattle.gc_world.specs.World.{Request, Numbered, Ends, Rule, Step, Send, Up_deliver, Up_lose, Up_repeat, Down_deliver, Down_lose, Down_repeat, Expire, Restart_client, Restart_instrument, Nothing, World, without, doubled, idle, replied, up_delivered, with_up, with_down, started, instrument_restarted, on_wire, requested, with_settled, down_delivered, client_restarted, happens, run}
 
 module _ {Client State : Type 0} (ends : Ends State) (rule : Rule Client) (P : World Client State → Type 0) where
   pub record IsStable : Type 0 where
     pub idles : (w : World Client State) → P w → P (on_wire w (idle w.wire))
     pub refuses : (w : World Client State) → P w → P (on_wire w (record w.wire { refused = w.wire.refused + 1 }))
-    pub sends : (w : World Client State) (target : ℕ) (call : Call) (deadline : ℕ) (x : Written Client) → rule.send w.client target call deadline ≡ Some x → P w → P (requested w target call (Some x))
-    pub answers : (w : World Client State) (x : Numbered Request) (rest : List (Numbered Request)) → w.wire.up ≡ x ∷ rest → P w → P (on_wire w (answered w.wire x.number rest (ends.handed w.wire.state x.line.id x.line.call)))
+    pub sends : (w : World Client State) (target : ℕ) (call : Call) (deadline : ℕ) (x : Sending Client) → rule.send w.client target call deadline ≡ Some x → P w → P (requested w target call (Some x))
+    pub answers : (w : World Client State) (x : Numbered Request) (rest : List (Numbered Request)) → w.wire.up ≡ x ∷ rest → P w → P (on_wire w (replied w.wire x.number rest (ends.handed w.wire.state x.line.id x.line.call)))
     pub loses_up : (w : World Client State) (k : ℕ) → P w → P (on_wire w (record w.wire { up = without k w.wire.up }))
     pub repeats_up : (w : World Client State) (k : ℕ) → P w → P (on_wire w (record w.wire { up = doubled k w.wire.up }))
     pub loses_down : (w : World Client State) (k : ℕ) → P w → P (on_wire w (record w.wire { down = without k w.wire.down }))
     pub repeats_down : (w : World Client State) (k : ℕ) → P w → P (on_wire w (record w.wire { down = doubled k w.wire.down }))
-    pub hears : (w : World Client State) (x : Numbered (List ℕ)) (rest : List (Numbered (List ℕ))) → w.wire.down ≡ x ∷ rest → P w → P (booked (record w.wire { down = rest }) (rule.reply w.client x))
+    pub hears : (w : World Client State) (x : Numbered (List ℕ)) (rest : List (Numbered (List ℕ))) → w.wire.down ≡ x ∷ rest → P w → P (with_settled (record w.wire { down = rest }) (rule.reply w.client x))
     pub expires : (w : World Client State) (now : ℕ) → P w → P (record { wire = w.wire; client = rule.expire w.client now })
-    pub restarts : (w : World Client State) → w.wire.up ≡ [] → w.wire.down ≡ [] → P w → P (booked (started ends w.wire ends.joint) (rule.restart w.client))
+    pub restarts : (w : World Client State) → w.wire.up ≡ [] → w.wire.down ≡ [] → P w → P (with_settled (started ends w.wire ends.joint) (rule.restart w.client))
     pub starts : (w : World Client State) → w.wire.up ≡ [] → w.wire.down ≡ [] → P w → P (on_wire w (started ends w.wire true))
 
   module _ (st : IsStable) where
-    at_send : (w : World Client State) (target : ℕ) (call : Call) (deadline : ℕ) (o : Option (Written Client)) → rule.send w.client target call deadline ≡ o → P w → P (requested w target call o)
+    at_send : (w : World Client State) (target : ℕ) (call : Call) (deadline : ℕ) (o : Option (Sending Client)) → rule.send w.client target call deadline ≡ o → P w → P (requested w target call o)
     at_send w target call deadline None e h = st.refuses w h
     at_send w target call deadline (Some x) e h = st.sends w target call deadline x e h
 
@@ -49,7 +50,7 @@ module _ {Client State : Type 0} (ends : Ends State) (rule : Rule Client) (P : W
     at_start w [] (y ∷ down) u d h = st.idles w h
     at_start w (x ∷ up) down u d h = st.idles w h
 
-    pub stable : (w : World Client State) (e : Happening) → P w → P (happens ends rule w e)
+    pub stable : (w : World Client State) (e : Step) → P w → P (happens ends rule w e)
     stable w (Send target call deadline) h = at_send w target call deadline (rule.send w.client target call deadline) refl h
     stable w Up_deliver h = at_up w w.wire.up refl h
     stable w (Up_lose k) h = at_with_up w _ (ltb k (length w.wire.up)) (st.loses_up w k h) h
@@ -62,6 +63,6 @@ module _ {Client State : Type 0} (ends : Ends State) (rule : Rule Client) (P : W
     stable w Restart_instrument h = at_start w w.wire.up w.wire.down refl refl h
     stable w Nothing h = st.idles w h
 
-    pub stable_all : (es : List Happening) (w : World Client State) → P w → P (run ends rule es w)
+    pub stable_all : (es : List Step) (w : World Client State) → P w → P (run ends rule es w)
     stable_all [] w h = h
     stable_all (e ∷ es) w h = stable_all es (happens ends rule w e) (stable w e h)

@@ -7,22 +7,23 @@ use Rattle.gc_world.specs.declared.report.Report.{Report}
 use Rattle.gc_world.specs.Reports.{IsReport}
 use Rattle.gc_world.specs.World.{run}
 use Rattle.gc_world.specs.Clients.{by_ids}
-use Rattle.gc_world.specs.Events.{happening, happenings}
-use Rattle.gc_world.specs.Simulated.{ends, does, ids_begin, played}
+use Rattle.gc_world.specs.World.{step_of, steps_of}
+use Rattle.gc_world.specs.Clients.{ends, played}
+use Rattle.gc_world.specs.Stages.{does, begins}
 use Rattle.gc_world.proofs.Counts.{IsWithin, within_all, run_push}
 
 -- one event more
-pub played_more : (opening : State) (events : List Event) (i : ℕ) (e : Event) → i < length events → e ≡ get_or events i e → played opening (take (i + 1) events) ≡ does (played opening (take i events)) (happening e)
+pub played_more : (opening : State) (events : List Event) (i : ℕ) (e : Event) → i < length events → e ≡ get_or events i e → played opening (take (i + 1) events) ≡ does (played opening (take i events)) (step_of e)
 played_more opening events i e lt is =
     ap (played opening) (take_more events i e lt ∙ ap (λ x. take i events ++ x ∷ []) (sym is))
-    ∙ ap (λ es. run ends (by_ids 7 ends) es (ids_begin opening)) (map-append happening (take i events) (e ∷ []))
-    ∙ run_push ends (by_ids 7 ends) (happenings (take i events)) (happening e) (ids_begin opening)
+    ∙ ap (λ es. run ends (by_ids 7 ends) es (begins opening)) (map-append step_of (take i events) (e ∷ []))
+    ∙ run_push ends (by_ids 7 ends) (steps_of (take i events)) (step_of e) (begins opening)
 
 pub played_within : (opening : State) (events : List Event) → IsWithin (length events) (played opening events).wire
 played_within opening events =
-    let e : 0 + length (happenings events) ≡ length events = omega (arith, length-map events happening) in
+    let e : 0 + length (steps_of events) ≡ length events = omega (arith, length-map events step_of) in
     subst (λ n. IsWithin n (played opening events).wire) e
-    (within_all ends (by_ids 7 ends) (happenings events) (ids_begin opening) 0 (record { sent = omega arith; executed = omega arith; made = omega arith; starts = omega arith; refused = omega arith; idle = omega arith }))
+    (within_all ends (by_ids 7 ends) (steps_of events) (begins opening) 0 (record { sent = omega arith; executed = omega arith; made = omega arith; starts = omega arith; refused = omega arith; idle = omega arith }))
 
 -- a stage after so many events has counted no more
 pub counts_at : (opening : State) (events : List Event) (i : ℕ) (report : Report) → IsReport report (played opening (take i events)).wire → i ≤ length events → (report.refused_sends ≤ i) × (report.idle_events ≤ i)

@@ -1,10 +1,11 @@
 -- When the report of a list of events is faithful. It has four parts; each stands here first in a sentence, then in symbols.
 -- The report's lists are counted from 0, and request m is the one at place m of `sent`. This project's own.
-use Rattle.std.specs.Prelude.{◌≡◌, ℕ, ◌+◌, ◌<◌, ◌≤◌, List, length, Some, map, slice_get, ⊤}
+use Rattle.std.specs.Prelude.{◌≡◌, ℕ, ◌+◌, ◌<◌, ◌≤◌, ◌||◌, Bool, true, false, List, [], ◌∷◌, length, Some, map, nat_eq, slice_get, ⊤}
 use Rattle.gc_catalogue.specs.declared.answer.Reading.{Reading}
 use Rattle.gc_catalogue.specs.declared.answer.Reading.TheVariants.{Value, Refused, ComFault, Unreadable}
 use Rattle.gc_catalogue.specs.declared.call.Call.{Call}
 use Rattle.gc_catalogue.specs.Texts.{request_line}
+use Rattle.gc_client.specs.declared.client.TheConstants.{IDS}
 use Rattle.gc_client.specs.declared.settlement.Settlement.{Settlement}
 use Rattle.gc_client.specs.declared.settlement.Outcome.{Outcome}
 use Rattle.gc_client.specs.declared.settlement.Outcome.TheVariants.{Answered, Late, Lost}
@@ -16,9 +17,8 @@ use Rattle.gc_world.specs.declared.event.Event.{Event}
 use Rattle.gc_world.specs.declared.report.Made.{Made}
 use Rattle.gc_world.specs.declared.report.Report.{Report}
 use Rattle.gc_world.specs.declared.report.Sent.{Sent}
-use Rattle.gc_world.specs.Record.{has_number, begun}
-use Rattle.gc_world.specs.Reports.{posted, posted_of}
-use Rattle.gc_world.specs.Simulated.{played_by_numbers}
+use Rattle.gc_world.specs.Clients.{played_by_numbers}
+use Rattle.gc_world.specs.World
 use Rattle.gc_world.specs.World.{Wire}
 
 -- one for one: there are no more settlements than requests, and settlement m has the target and the call of request m.
@@ -58,6 +58,16 @@ abbrev pub BooksAnswers : Report → Type 0
 BooksAnswers r =
     (m : ℕ) (settlement : Settlement) → slice_get r.settled m ≡ Some settlement → IsBookedAnswer r m settlement.call settlement.outcome
 
+-- one of the numbers is this
+abbrev pub has_number : ℕ → List ℕ → Bool
+has_number n [] = false
+has_number n (x ∷ xs) = nat_eq x n || has_number n xs
+
+-- the state after a restart, where there was one
+abbrev pub begun : {State : Type 0} → (State → State) → Bool → State → State
+begun restarted false state = state
+begun restarted true state = restarted state
+
 -- execution j is that of request n: the request's line is that of its call with some id from 0 to 7, entry j of `made` has
 -- the number n and the line that the instrument replies to it in the state before, and the next state is the one that
 -- carrying out the call leaves, restarted where `starts` has the number of executions so far
@@ -65,7 +75,7 @@ pub record IsExecutionOf (r : Report) (before : ℕ → State) (j n : ℕ) : Typ
   pub request : Sent
   pub sent : slice_get r.sent n ≡ Some request
   pub id : ℕ
-  pub digit : id < 8
+  pub digit : id < IDS
   pub request_is : request.line.items ≡ request_line (Some id) request.call
   pub entry : Made
   pub made : slice_get r.made j ≡ Some entry
@@ -82,11 +92,19 @@ pub record RecordsExecution (opening : State) (r : Report) : Type 0 where
   pub each : (j n : ℕ) → slice_get r.executed j ≡ Some n → IsExecutionOf r before j n
   pub last : r.instrument ≡ before (length r.executed)
 
+-- a request of the report as the world speaks of it: its target, its call and its line's bytes
+abbrev pub sent_seen : Sent → World.Sent
+sent_seen s = record { target = s.target; call = s.call; line = s.line.items }
+
 -- agreement: requests and settlements, with their lines and readings, the count of refused sends and the count of idle
 -- events are those of the run by numbers of the same events: what the client would do if every reply carried its
--- request's number.
+-- request's number. By that run each request's first reply, if it comes unsettled and in time, is booked. First: it is the
+-- first of the replies to its request that is delivered. Unsettled: the request's number isn't below the count of requests
+-- settled until then. In time: no `Expire` with a moment at or past the request's deadline came between its send and this
+-- delivery. Where one had come, the reply settles the request as late; and the requests before it that weren't settled are
+-- lost.
 pub record AgreesWith (w : Wire State) (r : Report) : Type 0 where
-  pub sent : map posted r.sent ≡ map posted_of w.sent
+  pub sent : map sent_seen r.sent ≡ w.sent
   pub settled : AreSettlements r.settled w.settled
   pub refused : r.refused_sends ≡ w.refused
   pub idle : r.idle_events ≡ w.idle

@@ -1,35 +1,34 @@
--- What holds of every list of events, whatever the width of the window, up to seven.
+-- What holds of every list of events, whatever the width of the window, up to seven: laws of this project's own definitions.
 use Rattle.std.specs.Prelude.{◌≡◌, ℕ, ◌≤◌, List, Some, slice_get}
 use Rattle.gc_catalogue.specs.Calls.{IsFitting}
 use Rattle.gc_catalogue.specs.declared.answer.Reading.{Reading}
 use Rattle.gc_catalogue.specs.declared.call.Call.{Call}
+use Rattle.gc_client.specs.declared.client.TheConstants.{WINDOW}
 use Rattle.gc_client.specs.Rule.{Settlement}
 use Rattle.gc_client.specs.Settlements.{ReadsAs}
 use Rattle.gc_instrument.specs.State.{State, IsFittingState, restarted}
 use Rattle.gc_world.specs.declared.event.Event.{Event}
-use Rattle.gc_world.specs.Clients.{run_by_ids, run_by_numbers}
-use Rattle.gc_world.specs.Events.{happenings}
+use Rattle.gc_world.specs.Clients.{ends, run_by_ids, run_by_numbers}
 use Rattle.gc_world.specs.Faithful.{IsValueOrRefusal}
 use Rattle.gc_world.specs.Order.{IsOrderly}
 use Rattle.gc_world.specs.Record.{IsOneForOne, IsReplyTo, IsBooked, IsExecution}
-use Rattle.gc_world.specs.Simulated.{ends}
-use Rattle.gc_world.specs.World.{Wire}
+use Rattle.gc_world.specs.World.{Wire, steps_of}
 
 -- what the run by ids leaves, apart from its client
 abbrev pub left_by_ids : ℕ → State → List Event → Wire State
-left_by_ids width opening events = (run_by_ids width ends (happenings events) (restarted opening)).wire
+left_by_ids width opening events = (run_by_ids width ends (steps_of events) (restarted opening)).wire
 
 -- what the run by numbers leaves, apart from its client
 abbrev pub left_by_numbers : ℕ → State → List Event → Wire State
-left_by_numbers width opening events = (run_by_numbers width ends (happenings events) (restarted opening)).wire
+left_by_numbers width opening events = (run_by_numbers width ends (steps_of events) (restarted opening)).wire
 
 -- the line keeps its order
 abbrev pub KeepsOrder : Type 0
-KeepsOrder = (width : ℕ) → width ≤ 7 → (opening : State) (events : List Event) → IsOrderly width (left_by_ids width opening events)
+KeepsOrder = (width : ℕ) → width ≤ WINDOW → (opening : State) (events : List Event) → IsOrderly width (left_by_ids width opening events)
 
 -- the run by ids and the run by numbers leave the same
 abbrev pub RunsAgree : Type 0
-RunsAgree = (width : ℕ) → width ≤ 7 → (opening : State) (events : List Event) → left_by_ids width opening events ≡ left_by_numbers width opening events
+RunsAgree = (width : ℕ) → width ≤ WINDOW → (opening : State) (events : List Event) → left_by_ids width opening events ≡ left_by_numbers width opening events
 
 -- settlement m stands for request m
 abbrev pub SettlesInOrder : Type 0
@@ -40,7 +39,7 @@ SettlesInOrder =
 -- an answer that is booked at place m is a line that was made for request m, in reply to that very call
 abbrev pub BooksItsOwn : Type 0
 BooksItsOwn =
-    (width : ℕ) → width ≤ 7 → (opening : State) → IsFittingState (restarted opening) → (events : List Event) (m : ℕ) (s : Settlement) →
+    (width : ℕ) → width ≤ WINDOW → (opening : State) → IsFittingState (restarted opening) → (events : List Event) (m : ℕ) (s : Settlement) →
     slice_get (left_by_ids width opening events).settled m ≡ Some s → IsBooked ends IsFittingState (left_by_ids width opening events).made m s
 
 -- such a line reads as a value or a refusal
@@ -52,4 +51,4 @@ RepliesAreFine =
 -- the replies are those to what was executed, in the state before each execution
 abbrev pub RecordsExecutions : Type 0
 RecordsExecutions =
-    (width : ℕ) → width ≤ 7 → (opening : State) (events : List Event) → IsExecution ends opening (left_by_ids width opening events)
+    (width : ℕ) → width ≤ WINDOW → (opening : State) (events : List Event) → IsExecution ends opening (left_by_ids width opening events)

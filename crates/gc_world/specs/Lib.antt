@@ -3,9 +3,10 @@ pub mod Clients
 pub mod Order
 pub mod Exchange
 pub mod Record
-pub mod Events
-pub mod Simulated
 pub mod Reports
 pub mod Stages
 pub mod Faithful
+pub mod Memory
 pub mod Laws
+pub mod FirstReply
+pub mod Width

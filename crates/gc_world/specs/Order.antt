@@ -1,4 +1,4 @@
--- The order of the line: which numbers can be under way.
+-- What the laws of the runs say of the order of the line: which numbers can be under way. This project's own.
 use Rattle.std.specs.Prelude.{ℕ, ◌+◌, ◌<◌, ◌≤◌, List, [], ◌∷◌, ◌++◌, length, map}
 use Rattle.gc_world.specs.World.{Numbered, Wire}
 

@@ -1,25 +1,18 @@
--- What the lists of a run say of one another.
-use Rattle.std.specs.Prelude.{◌≡◌, ℕ, ◌+◌, ◌<◌, ◌≤◌, ◌||◌, Bool, true, false, List, [], ◌∷◌, length, Some, nat_eq, slice_get}
+-- What the laws of the runs say of the lists of a run: how they stand to one another. This project's own.
+use Rattle.std.specs.Prelude.{◌≡◌, ℕ, ◌+◌, ◌<◌, ◌≤◌, List, length, Some, slice_get}
 use Rattle.gc_catalogue.specs.declared.call.Call.{Call}
+use Rattle.gc_catalogue.specs.Texts.{request_line}
+use Rattle.gc_client.specs.declared.client.TheConstants.{IDS}
 use Rattle.gc_client.specs.Rule.{Settlement, Answered}
-use Rattle.gc_world.specs.World.{Dispatch, Numbered, Ends, Wire}
-
--- one of the numbers is this
-abbrev pub has_number : ℕ → List ℕ → Bool
-has_number n [] = false
-has_number n (x ∷ xs) = nat_eq x n || has_number n xs
-
--- the state after a restart, where there was one
-abbrev pub begun : {State : Type 0} → (State → State) → Bool → State → State
-begun restarted false state = state
-begun restarted true state = restarted state
+use Rattle.gc_world.specs.Faithful.{has_number, begun}
+use Rattle.gc_world.specs.World.{Sent, Numbered, Ends, Wire}
 
 -- settlement m has the target and the call of request m, and there are no more settlements than requests
-pub record IsOneForOne (sent : List Dispatch) (settled : List Settlement) : Type 0 where
+pub record IsOneForOne (sent : List Sent) (settled : List Settlement) : Type 0 where
   pub count : length settled ≤ length sent
   pub same :
-      (m : ℕ) (s : Settlement) (r : Dispatch) → slice_get settled m ≡ Some s → slice_get sent m ≡ Some r →
-      (s.target ≡ r.target) × (s.call ≡ r.request.call)
+      (m : ℕ) (s : Settlement) (r : Sent) → slice_get settled m ≡ Some s → slice_get sent m ≡ Some r →
+      (s.target ≡ r.target) × (s.call ≡ r.call)
 
 module _ {State : Type 0} (ends : Ends State) where
   -- the instrument wrote these bytes in answer to this call
@@ -27,7 +20,7 @@ module _ {State : Type 0} (ends : Ends State) where
     pub state : State
     pub good : Good state
     pub id : ℕ
-    pub small : id < 8
+    pub small : id < IDS
     pub reply : bytes ≡ (ends.handed state id call).reply
 
   -- where settlement m is answered, its line is among those that were made for request m, in answer to that very call
@@ -36,13 +29,16 @@ module _ {State : Type 0} (ends : Ends State) where
       (bytes : List ℕ) → s.outcome ≡ Answered bytes →
       ((j : ℕ) × (slice_get made j ≡ Some (record { number = m; line = bytes }))) × IsReplyTo Good s.call bytes
 
-  -- execution j is that of request n: its entry is the reply in the state before it, and this is the next state
+  -- execution j is that of request n: its line is that of its call with some id from 0 to 7, its entry is the reply in the
+  -- state before it, and this is the next state
   pub record IsExecuted (w : Wire State) (before : ℕ → State) (j n : ℕ) : Type 0 where
-    pub request : Dispatch
+    pub request : Sent
     pub found : slice_get w.sent n ≡ Some request
-    pub small : request.request.id < 8
-    pub made : slice_get w.made j ≡ Some (record { number = n; line = (ends.handed (before j) request.request.id request.request.call).reply })
-    pub next : before (j + 1) ≡ begun ends.restarted (has_number (j + 1) w.starts) (ends.handed (before j) request.request.id request.request.call).state
+    pub id : ℕ
+    pub small : id < IDS
+    pub line : request.line ≡ request_line (Some id) request.call
+    pub made : slice_get w.made j ≡ Some (record { number = n; line = (ends.handed (before j) id request.call).reply })
+    pub next : before (j + 1) ≡ begun ends.restarted (has_number (j + 1) w.starts) (ends.handed (before j) id request.call).state
 
   -- the replies are those to what was executed, from the restarted opening state on
   pub record IsExecution (opening : State) (w : Wire State) : Type 0 where

@@ -1,59 +1,34 @@
--- The world, this project's own: a client and an instrument, the line between them, and what may happen on it.
-use Rattle.std.specs.Prelude.{ℕ, zero, suc, ◌+◌, Bool, true, false, List, [], ◌∷◌, ◌++◌, length, Option, Some, None, if◌then◌else◌, nat_lt}
+-- The world, this project's own: a client and an instrument, the line between them, what may happen on it, and a run.
+use Rattle.std.specs.Prelude.{ℕ, zero, suc, ◌+◌, Bool, true, false, List, [], ◌∷◌, ◌++◌, length, map, Option, Some, None, if◌then◌else◌, nat_lt}
 use Rattle.gc_catalogue.specs.declared.call.Call.{Call}
-use Rattle.gc_client.specs.Rule.{Settlement, Settled}
+use Rattle.gc_catalogue.specs.Texts.{request_line}
+use Rattle.gc_client.specs.Rule.{Settlement, Settled, Sending}
+use Rattle.gc_instrument.specs.Replying.{Handed}
+use Rattle.gc_world.specs.declared.event.Event.{Event}
+use Rattle.gc_world.specs.declared.event.Event.TheVariants as event
 
--- a request as its client wrote it: its line is the request line of this id and this call
+-- The line.
+
+-- a request that was sent: its target, its call, and the line that its client wrote; its number is its place in the list of these
+pub record Sent : Type 0 where
+  pub target : ℕ
+  pub call : Call
+  pub line : List ℕ
+
+-- a request under way: its line is the request line of this id and this call
 pub record Request : Type 0 where
   pub id : ℕ
   pub call : Call
-
--- a request that was sent to a target; its number is its place in the list of these
-pub record Dispatch : Type 0 where
-  pub target : ℕ
-  pub request : Request
 
 -- a line with the number of the request that it belongs to
 pub record Numbered (Line : Type 0) : Type 0 where
   pub number : ℕ
   pub line : Line
 
--- what an instrument does with a request: its state afterwards, the reply's bytes, and whether it executed the call
-pub record Handed (State : Type 0) : Type 0 where
-  pub state : State
-  pub reply : List ℕ
-  pub executed : Bool
-
--- the two ends of the line
-pub record Ends (State : Type 0) : Type 0 where
-  -- what the instrument does with the request line of this id and call
-  pub handed : State → ℕ → Call → Handed State
-  -- the state in which it starts anew
-  pub restarted : State → State
-  -- the id that the client reads in a line, where the line is a reply with one
-  pub heard : List ℕ → Option ℕ
-  -- whether a restart of the client restarts the instrument too
-  pub joint : Bool
-
--- what may happen
-pub data Happening : Type 0 where
-  Send : (target : ℕ) (call : Call) (deadline : ℕ) → Happening
-  Up_deliver : Happening
-  Up_lose : (which : ℕ) → Happening
-  Up_repeat : (which : ℕ) → Happening
-  Down_deliver : Happening
-  Down_lose : (which : ℕ) → Happening
-  Down_repeat : (which : ℕ) → Happening
-  Expire : (now : ℕ) → Happening
-  Restart_client : Happening
-  Restart_instrument : Happening
-  -- something that is not possible
-  Nothing : Happening
-
 -- all of the world but its client
 pub record Wire (State : Type 0) : Type 0 where
   -- the requests that were sent
-  pub sent : List Dispatch
+  pub sent : List Sent
   -- the numbers of the requests that the instrument executed
   pub executed : List ℕ
   -- the replies that it made, each with the number of its request
@@ -75,20 +50,66 @@ pub record World (Client State : Type 0) : Type 0 where
   pub wire : Wire State
   pub client : Client
 
--- the id that a request was written with, and the client behind it
-pub record Written (Client : Type 0) : Type 0 where
-  pub id : ℕ
-  pub client : Client
+-- a wire on which nothing has happened
+abbrev pub opened : {State : Type 0} → State → Wire State
+opened state = record { sent = []; executed = []; made = []; settled = []; starts = []; up = []; down = []; state = state; refused = 0; idle = 0 }
+
+-- Its two ends.
+
+-- what an instrument does, and what a client reads in a line
+pub record Ends (State : Type 0) : Type 0 where
+  -- what the instrument does with the request line of this id and call
+  pub handed : State → ℕ → Call → Handed State
+  -- the state in which it starts anew
+  pub restarted : State → State
+  -- the id that the client reads in a line, where the line is a reply with one
+  pub heard : List ℕ → Option ℕ
+  -- whether a restart of the client restarts the instrument too: for one that keeps its last reply by the client's ids
+  pub joint : Bool
 
 -- how a client behaves
 pub record Rule (Client : Type 0) : Type 0 where
   -- a send to a target, with its deadline; none is a refusal
-  pub send : Client → ℕ → Call → ℕ → Option (Written Client)
+  pub send : Client → ℕ → Call → ℕ → Option (Sending Client)
   -- a reply line, with the number of the request that it belongs to
   pub reply : Client → Numbered (List ℕ) → Settled Client
   -- a moment
   pub expire : Client → ℕ → Client
   pub restart : Client → Settled Client
+
+-- What may happen.
+
+-- a step of the world
+pub data Step : Type 0 where
+  Send : (target : ℕ) (call : Call) (deadline : ℕ) → Step
+  Up_deliver : Step
+  Up_lose : (which : ℕ) → Step
+  Up_repeat : (which : ℕ) → Step
+  Down_deliver : Step
+  Down_lose : (which : ℕ) → Step
+  Down_repeat : (which : ℕ) → Step
+  Expire : (now : ℕ) → Step
+  Restart_client : Step
+  Restart_instrument : Step
+  -- something that is not possible: for bytes that complete no line
+  Nothing : Step
+
+-- an event is one step
+abbrev pub step_of : Event → Step
+step_of (event.Send target call deadline) = Send target call deadline
+step_of event.UpDeliver = Up_deliver
+step_of (event.UpLose k) = Up_lose k
+step_of (event.UpRepeat k) = Up_repeat k
+step_of event.DownDeliver = Down_deliver
+step_of (event.DownLose k) = Down_lose k
+step_of (event.DownRepeat k) = Down_repeat k
+step_of (event.Expire now) = Expire now
+step_of event.RestartClient = Restart_client
+step_of event.RestartInstrument = Restart_instrument
+
+-- the steps of a list of events
+abbrev pub steps_of : List Event → List Step
+steps_of events = map step_of events
 
 -- without element k
 abbrev pub without : {A : Type 0} → ℕ → List A → List A
@@ -108,8 +129,8 @@ module _ {State : Type 0} where
   idle w = record w { idle = w.idle + 1 }
 
   -- the instrument has done this with the front request, and the rest is behind it
-  abbrev pub answered : Wire State → ℕ → List (Numbered Request) → Handed State → Wire State
-  answered w n rest h =
+  abbrev pub replied : Wire State → ℕ → List (Numbered Request) → Handed State → Wire State
+  replied w n rest h =
       record w {
         up = rest;
         executed = if h.executed then w.executed ++ n ∷ [] else w.executed;
@@ -121,7 +142,7 @@ module _ {State : Type 0} where
   -- the front of the upward queue is handed to the instrument
   abbrev pub up_delivered : Ends State → Wire State → List (Numbered Request) → Wire State
   up_delivered ends w [] = idle w
-  up_delivered ends w (x ∷ rest) = answered w x.number rest (ends.handed w.state x.line.id x.line.call)
+  up_delivered ends w (x ∷ rest) = replied w x.number rest (ends.handed w.state x.line.id x.line.call)
 
   -- the upward queue is this one from now on, where that is possible
   abbrev pub with_up : Wire State → List (Numbered Request) → Bool → Wire State
@@ -143,44 +164,40 @@ module _ {State : Type 0} where
   instrument_restarted ends w [] [] = started ends w true
   instrument_restarted ends w _ _ = idle w
 
-  -- a wire on which nothing has happened
-  abbrev pub opened : State → Wire State
-  opened state = record { sent = []; executed = []; made = []; settled = []; starts = []; up = []; down = []; state = state; refused = 0; idle = 0 }
-
 module _ {Client State : Type 0} where
   -- the client has no part in it
   abbrev pub on_wire : World Client State → Wire State → World Client State
   on_wire w wire = record { wire = wire; client = w.client }
 
   -- the client has sent this, or refused
-  abbrev pub requested : World Client State → ℕ → Call → Option (Written Client) → World Client State
+  abbrev pub requested : World Client State → ℕ → Call → Option (Sending Client) → World Client State
   requested w target call None = on_wire w (record w.wire { refused = w.wire.refused + 1 })
   requested w target call (Some x) =
       record {
         wire =
             record w.wire {
-              sent = w.wire.sent ++ record { target = target; request = record { id = x.id; call = call } } ∷ [];
+              sent = w.wire.sent ++ record { target = target; call = call; line = request_line (Some x.id) call } ∷ [];
               up = w.wire.up ++ record { number = length w.wire.sent; line = record { id = x.id; call = call } } ∷ [];
             };
         client = x.client;
       }
 
   -- the client has settled this
-  abbrev pub booked : Wire State → Settled Client → World Client State
-  booked wire x = record { wire = record wire { settled = wire.settled ++ x.settlements }; client = x.client }
+  abbrev pub with_settled : Wire State → Settled Client → World Client State
+  with_settled wire x = record { wire = record wire { settled = wire.settled ++ x.settlements }; client = x.client }
 
   -- the front of the downward queue is handed to the client
   abbrev pub down_delivered : Rule Client → World Client State → List (Numbered (List ℕ)) → World Client State
   down_delivered rule w [] = on_wire w (idle w.wire)
-  down_delivered rule w (x ∷ rest) = booked (record w.wire { down = rest }) (rule.reply w.client x)
+  down_delivered rule w (x ∷ rest) = with_settled (record w.wire { down = rest }) (rule.reply w.client x)
 
   -- a restart of the client, possible with no line under way
   abbrev pub client_restarted : Ends State → Rule Client → World Client State → List (Numbered Request) → List (Numbered (List ℕ)) → World Client State
-  client_restarted ends rule w [] [] = booked (started ends w.wire ends.joint) (rule.restart w.client)
+  client_restarted ends rule w [] [] = with_settled (started ends w.wire ends.joint) (rule.restart w.client)
   client_restarted ends rule w _ _ = on_wire w (idle w.wire)
 
   -- one step
-  abbrev pub happens : Ends State → Rule Client → World Client State → Happening → World Client State
+  abbrev pub happens : Ends State → Rule Client → World Client State → Step → World Client State
   happens ends rule w (Send target call deadline) = requested w target call (rule.send w.client target call deadline)
   happens ends rule w Up_deliver = on_wire w (up_delivered ends w.wire w.wire.up)
   happens ends rule w (Up_lose k) = on_wire w (with_up w.wire (without k w.wire.up) (nat_lt k (length w.wire.up)))
@@ -194,6 +211,6 @@ module _ {Client State : Type 0} where
   happens ends rule w Nothing = on_wire w (idle w.wire)
 
   -- a step for each of the list, in order
-  abbrev pub run : Ends State → Rule Client → List Happening → World Client State → World Client State
+  abbrev pub run : Ends State → Rule Client → List Step → World Client State → World Client State
   run ends rule [] w = w
-  run ends rule (e ∷ es) w = run ends rule es (happens ends rule w e)
+  run ends rule (step ∷ steps) w = run ends rule steps (happens ends rule w step)

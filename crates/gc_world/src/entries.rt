@@ -1,6 +1,6 @@
 //! Entries: a list on the heap that contracts see as a list.
 
-ghost use Rattle.std.specs.Prelude.{◌≡◌, ◌↔◌, [], ◌∷◌, ◌++◌, length, OnOk, IsTrue};
+ghost use Rattle.std.specs.Prelude.{◌≡◌, ◌<◌, ◌↔◌, [], ◌∷◌, ◌++◌, length, slice_get, Some, OnOk, IsTrue};
 
 use arrayvec::ArrayVec;
 use gc_client::Settlement;
@@ -69,11 +69,28 @@ impl<T: Drop> Entries<T> {
     }
 }
 
-impl Entries<Settlement> {
-    /// Appends each of these, in order.
-    pub(crate) fn append(&mut self, settlements: ArrayVec<Settlement, 7>) -> Result<(), AllocError>
-        ensures { OnOk result (self.new ≡ self.old ++ settlements.items) }
+impl<T> Entries<T> {
+    /// The entry at a place.
+    pub(crate) fn at(&self, place: usize) -> &T
+        requires { place < length self.now }
+        ensures { slice_get self.now place ≡ Some result.now }
     {
-        self.entries.extend(settlements)
+        &self.entries[place]
+    }
+}
+
+impl Entries<Settlement> {
+    /// Appends each of these, in order, and takes them out of the list that is handed in.
+    pub(crate) fn append_from(
+        &mut self,
+        settlements: &mut ArrayVec<Settlement, 7>,
+    ) -> Result<(), AllocError>
+        ensures appended { OnOk result (self.new ≡ self.old ++ settlements.old.items) }
+        ensures taken { OnOk result (settlements.new.items ≡ []) }
+    {
+        for settlement in settlements.drain(..) {
+            self.entries.push(settlement)?;
+        }
+        Ok(())
     }
 }

@@ -1,6 +1,8 @@
 //! What is proved of the runs themselves. Each function does nothing: its contract is the law.
 
+ghost use Rattle.gc_world.specs.FirstReply.{BooksFirstReply, FirstReplyIsLate, IsNeverBoth, IsOneOrOther, NoSecondReply};
 ghost use Rattle.gc_world.specs.Laws.{KeepsOrder, RunsAgree, SettlesInOrder, BooksItsOwn, RepliesAreFine, RecordsExecutions};
+ghost use Rattle.gc_world.specs.Width.{EightDiffers, EightSettlesNine, NumbersSettleOne};
 
 /// In each queue the numbers never fall from front to back, no number downward passes one upward, every number under
 /// way is at least the count settled less one and below the count sent, and at most the width of the window are
@@ -28,4 +30,23 @@ pub fn answers_are_booked()
 /// The replies are those of the instrument to what it executed.
 pub fn executions_are_recorded()
     ensures { RecordsExecutions }
+{}
+
+/// When a reply is delivered to a request that isn't settled, the requests before it are settled as lost, and it is
+/// answered with that very line if no moment at or past its deadline was told since its send, and late if one was. A
+/// further reply settles nothing.
+pub fn first_reply_is_booked()
+    ensures in_time { BooksFirstReply }
+    ensures late { FirstReplyIsLate }
+    ensures one_or_other { IsOneOrOther }
+    ensures never_both { IsNeverBoth }
+    ensures first_alone { NoSecondReply }
+{}
+
+/// With a window of eight the client that knows ids no longer does what a client would do that is told the numbers: a
+/// repeat of the first reply settles the ninth request.
+pub fn window_of_eight_differs()
+    ensures differs { EightDiffers }
+    ensures by_ids { EightSettlesNine }
+    ensures by_numbers { NumbersSettleOne }
 {}

@@ -1,8 +1,9 @@
 //! Playing a list of events on a real client and a real instrument.
 
-ghost use Rattle.std.specs.Prelude.{◌≡◌, length, IfOk};
+ghost use Rattle.std.specs.Prelude.{◌≡◌, length, IfOk, IsOk};
 ghost use Rattle.gc_world.specs.Faithful.{Faithful};
-ghost use Rattle.gc_world.specs.Simulated.{played};
+ghost use Rattle.gc_world.specs.Clients.{played};
+ghost use Rattle.gc_world.specs.Memory.{TakeNone};
 ghost use Rattle.gc_world.specs.Reports.{IsReport, IsNoLongerThan};
 
 use crate::event::Event;
@@ -17,12 +18,16 @@ use std::alloc::{AllocError, Global};
 ///
 /// The report is that of the world's run by ids, and it is faithful: the settlements stand one for one and in order for
 /// the requests sent; each answer that the client booked is a line that the instrument made on executing that very
-/// request, and reads as a value or a refusal; and requests and settlements are those of a client that is told each
-/// reply's number. The line keeps order, a line arrives whole or not at all and a repeat stands directly behind its
-/// original, and either end restarts only while no line is under way: that is what the events are. An event that isn't
-/// possible changes nothing and is counted.
+/// request, and reads as a value or a refusal; and requests, settlements and both counts are those of a client that is told
+/// which request each reply belongs to. So each request's first reply, if it comes unsettled and in time, is booked: first is the first of the
+/// request's replies that is delivered; it comes unsettled where the request's number isn't below the count of requests
+/// settled until then; and in time where no `Expire` with a moment at or past its deadline came between its send and this
+/// delivery. The line keeps order, a line arrives whole or not at all and a repeat stands directly behind its original,
+/// and either end restarts only while no line is under way: that is what the events are. An event that isn't possible
+/// changes nothing and is counted.
 ///
-/// Want of memory comes only where a growth was refused; then nothing is handed back.
+/// Want of memory comes only where a growth was refused; then nothing is handed back. A list of events that all take none
+/// never meets it.
 pub fn play<W: Window>(
     alloc: Global,
     instrument: Instrument,
@@ -32,6 +37,7 @@ pub fn play<W: Window>(
     ensures report { IfOk result (λ done. IsReport done.0 (played instrument events.now).wire) }
     ensures client { IfOk result (λ done. done.1 ≡ (played instrument events.now).client) }
     ensures faithful { IfOk result (λ done. Faithful instrument events.now done.0) }
+    ensures spare { TakeNone instrument events.now → IsOk result }
     ensures few { IfOk result (λ done. IsNoLongerThan (length events.now) done.0) }
 {
     let mut stage = Stage::new(alloc, instrument, window);

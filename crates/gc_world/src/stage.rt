@@ -1,19 +1,21 @@
 //! The stage: what the events so far leave, and what the next one does.
 
-ghost use Rattle.std.specs.Prelude.{◌≡◌, ◌↔◌, ◌+◌, ◌<◌, ◌^◌, [], OnOk, IsTrue};
-ghost use Rattle.gc_instrument.specs.State.{IsFittingState, restarted};
-ghost use Rattle.gc_world.specs.World.{Happening};
-ghost use Rattle.gc_world.specs.Simulated.{ids_begin};
-ghost use Rattle.gc_world.specs.Events.{happening};
-ghost use Rattle.gc_world.specs.Stages.{Shows, Follows};
+ghost use Rattle.std.specs.Prelude.{◌≡◌, ◌↔◌, ◌+◌, ◌<◌, ◌≤◌, ◌^◌, [], OnOk, IsOk, IsTrue, length};
+ghost use Rattle.gc_client.specs.declared.client.TheConstants.{WINDOW};
+ghost use Rattle.gc_client.specs.Rule.{ById};
+ghost use Rattle.gc_instrument.specs.State.{State, IsFittingState, restarted};
+ghost use Rattle.gc_world.specs.World.{Step, World, step_of};
+ghost use Rattle.gc_world.specs.Memory.{IsBusy, IsStray, TakesNone};
+ghost use Rattle.gc_world.specs.Stages.{begins, Shows, IsShown, Follows};
 
 use crate::entries::Entries;
 use crate::event::Event;
-use crate::queue::{Queue, copy_of};
+use crate::queue::Queue;
 use crate::report::{Made, Report, Sent};
 use gc_catalogue::Call;
 use gc_client::{Client, Heard, Window};
 use gc_instrument::Instrument;
+use gc_lines::copy_of;
 use std::alloc::{AllocError, Global};
 
 /// What the events so far leave.
@@ -28,7 +30,7 @@ pub struct Stage<W: Window> {
 impl<W: Window> Stage<W> {
     /// The stage before the first event: the instrument is restarted, and the client is new.
     pub fn new(alloc: Global, mut instrument: Instrument, window: W) -> Stage<W>
-        ensures shows { Shows result (ids_begin instrument) }
+        ensures shows { Shows result (begins instrument) }
         ensures fits { IsFittingState (restarted instrument) }
     {
         instrument.restart();
@@ -53,7 +55,10 @@ impl<W: Window> Stage<W> {
     pub fn happen(&mut self, event: &Event) -> Result<(), AllocError>
         requires refused { self.old.report.refused_sends + 1 < 2 ^ 64 }
         requires idle { self.old.report.idle_events + 1 < 2 ^ 64 }
-        ensures { OnOk result (Follows self.old (happening event.now) self.new) }
+        requires shown { IsShown self.old }
+        ensures follows { OnOk result (Follows self.old (step_of event.now) self.new) }
+        ensures spare { (w : World ById State) → Shows self.old w
+            → TakesNone w.client w.wire.up w.wire.down event.now → IsOk result }
     {
         match *event {
             Event::Send(target, call, deadline) => self.send(target, call, deadline)?,
@@ -72,42 +77,39 @@ impl<W: Window> Stage<W> {
 
     fn send(&mut self, target: u32, call: Call, deadline: u64) -> Result<(), AllocError>
         requires { self.old.report.refused_sends + 1 < 2 ^ 64 }
-        ensures { OnOk result (Follows self.old (Happening.Send target call deadline) self.new) }
+        ensures follows { OnOk result (Follows self.old (Step.Send target call deadline) self.new) }
+        ensures spare { length self.old.client.waiting ≡ WINDOW → IsOk result }
     {
         let Ok(line) = self.client.send(target, call, deadline) else {
             self.report.refused_sends += 1;
             return Ok(());
         };
-        self.up.push(Made {
-            number: self.report.sent.len(),
-            line: copy_of(&line),
-        })?;
+        self.up.push(self.report.sent.len())?;
         self.report.sent.push(Sent { target, call, line })
     }
 
     fn up_deliver(&mut self) -> Result<(), AllocError>
-        requires { self.old.report.idle_events + 1 < 2 ^ 64 }
-        ensures { OnOk result (Follows self.old Happening.Up_deliver self.new) }
+        requires idle { self.old.report.idle_events + 1 < 2 ^ 64 }
+        requires shown { IsShown self.old }
+        ensures follows { OnOk result (Follows self.old Step.Up_deliver self.new) }
+        ensures spare { self.old.up ≡ [] → IsOk result }
     {
-        let Some(front) = self.up.take_front() else {
+        let Some(number) = self.up.take_front() else {
             self.report.idle_events += 1;
             return Ok(());
         };
-        if let Some(line) = self.report.instrument.on_line(&front.line) {
-            let made = Made {
-                number: front.number,
-                line,
-            };
-            self.report.executed.push(front.number)?;
-            self.down.push(made.copy())?;
-            self.report.made.push(made)?;
+        let request = self.report.sent.at(number);
+        if let Some(line) = self.report.instrument.on_line(&request.line) {
+            self.report.executed.push(number)?;
+            self.down.push(self.report.made.len())?;
+            self.report.made.push(Made { number, line })?;
         }
         Ok(())
     }
 
     fn up_lose(&mut self, k: usize)
         requires { self.old.report.idle_events + 1 < 2 ^ 64 }
-        ensures { Follows self.old (Happening.Up_lose k) self.new }
+        ensures { Follows self.old (Step.Up_lose k) self.new }
     {
         if !self.up.lose(k) {
             self.report.idle_events += 1;
@@ -116,7 +118,8 @@ impl<W: Window> Stage<W> {
 
     fn up_repeat(&mut self, k: usize) -> Result<(), AllocError>
         requires { self.old.report.idle_events + 1 < 2 ^ 64 }
-        ensures { OnOk result (Follows self.old (Happening.Up_repeat k) self.new) }
+        ensures follows { OnOk result (Follows self.old (Step.Up_repeat k) self.new) }
+        ensures spare { length self.old.up ≤ k → IsOk result }
     {
         if !self.up.repeat(k)? {
             self.report.idle_events += 1;
@@ -125,22 +128,25 @@ impl<W: Window> Stage<W> {
     }
 
     fn down_deliver(&mut self) -> Result<(), AllocError>
-        requires { self.old.report.idle_events + 1 < 2 ^ 64 }
-        ensures { OnOk result (Follows self.old Happening.Down_deliver self.new) }
+        requires idle { self.old.report.idle_events + 1 < 2 ^ 64 }
+        requires shown { IsShown self.old }
+        ensures follows { OnOk result (Follows self.old Step.Down_deliver self.new) }
+        ensures spare { (w : World ById State) → Shows self.old w → IsStray w.client w.wire.down → IsOk result }
     {
-        let Some(front) = self.down.take_front() else {
+        let Some(place) = self.down.take_front() else {
             self.report.idle_events += 1;
             return Ok(());
         };
-        if let Heard::Settled(settled) = self.client.on_line(&front.line) {
-            self.report.settled.append(settled)?;
+        let reply = self.report.made.at(place);
+        if let Heard::Settled(mut settled) = self.client.on_line(&reply.line) {
+            self.report.settled.append_from(&mut settled)?;
         }
         Ok(())
     }
 
     fn down_lose(&mut self, k: usize)
         requires { self.old.report.idle_events + 1 < 2 ^ 64 }
-        ensures { Follows self.old (Happening.Down_lose k) self.new }
+        ensures { Follows self.old (Step.Down_lose k) self.new }
     {
         if !self.down.lose(k) {
             self.report.idle_events += 1;
@@ -149,7 +155,8 @@ impl<W: Window> Stage<W> {
 
     fn down_repeat(&mut self, k: usize) -> Result<(), AllocError>
         requires { self.old.report.idle_events + 1 < 2 ^ 64 }
-        ensures { OnOk result (Follows self.old (Happening.Down_repeat k) self.new) }
+        ensures follows { OnOk result (Follows self.old (Step.Down_repeat k) self.new) }
+        ensures spare { length self.old.down ≤ k → IsOk result }
     {
         if !self.down.repeat(k)? {
             self.report.idle_events += 1;
@@ -158,25 +165,27 @@ impl<W: Window> Stage<W> {
     }
 
     fn expire(&mut self, now: u64)
-        ensures { Follows self.old (Happening.Expire now) self.new }
+        ensures { Follows self.old (Step.Expire now) self.new }
     {
         self.client.expire(now);
     }
 
     fn restart_client(&mut self) -> Result<(), AllocError>
         requires { self.old.report.idle_events + 1 < 2 ^ 64 }
-        ensures { OnOk result (Follows self.old Happening.Restart_client self.new) }
+        ensures follows { OnOk result (Follows self.old Step.Restart_client self.new) }
+        ensures spare { IsBusy self.old.up self.old.down → IsOk result }
     {
         if !self.is_quiet() {
             self.report.idle_events += 1;
             return Ok(());
         }
-        self.report.settled.append(self.client.restart())
+        self.report.settled.append_from(&mut self.client.restart())
     }
 
     fn restart_instrument(&mut self) -> Result<(), AllocError>
         requires { self.old.report.idle_events + 1 < 2 ^ 64 }
-        ensures { OnOk result (Follows self.old Happening.Restart_instrument self.new) }
+        ensures follows { OnOk result (Follows self.old Step.Restart_instrument self.new) }
+        ensures spare { IsBusy self.old.up self.old.down → IsOk result }
     {
         if self.is_quiet() {
             self.report.starts.push(self.report.executed.len())?;

@@ -11,93 +11,9 @@ use gc_client::{Outcome, Pending, Ring, Slots, Window};
 use gc_instrument::Instrument;
 use std::alloc::{AllocError, Global};
 use std::cell::Cell;
+use std::ops::Range;
+use std::process::Abort;
 use std::test::Fail;
-
-const CHANGE_FACE: Call = Call::ChangeFace {
-    pos_mode: 0,
-    atr_mode: 0,
-    dummy: false,
-};
-
-const LATE_REPLY: [Event; 7] = [
-    Send(1, Call::InstrumentNo, 10),
-    Expire(10),
-    Send(2, Call::InstrumentNo, 20),
-    UpDeliver,
-    UpDeliver,
-    DownDeliver,
-    DownDeliver,
-];
-
-const OVERTAKEN: [Event; 8] = [
-    Send(1, Call::NullProc, 9),
-    Send(2, Call::NullProc, 9),
-    Send(3, Call::NullProc, 9),
-    UpLose(1),
-    UpDeliver,
-    UpDeliver,
-    DownDeliver,
-    DownDeliver,
-];
-
-const BOUNDARY_OF_EIGHT: [Event; 13] = [
-    Send(1, Call::NullProc, 9),
-    UpDeliver,
-    DownRepeat(0),
-    DownDeliver,
-    Send(2, Call::NullProc, 9),
-    Send(3, Call::NullProc, 9),
-    Send(4, Call::NullProc, 9),
-    Send(5, Call::NullProc, 9),
-    Send(6, Call::NullProc, 9),
-    Send(7, Call::NullProc, 9),
-    Send(8, Call::NullProc, 9),
-    Send(9, Call::NullProc, 9),
-    DownDeliver,
-];
-
-const WAY_OUT: [Event; 19] = [
-    Send(1, Call::NullProc, 9),
-    Send(2, Call::NullProc, 9),
-    Send(3, Call::NullProc, 9),
-    Send(4, Call::NullProc, 9),
-    Send(5, Call::NullProc, 9),
-    Send(6, Call::NullProc, 9),
-    Send(7, Call::NullProc, 9),
-    UpLose(0),
-    UpLose(0),
-    UpLose(0),
-    UpLose(0),
-    UpLose(0),
-    UpLose(0),
-    UpLose(0),
-    Send(8, Call::NullProc, 9),
-    RestartClient,
-    Send(8, Call::NullProc, 9),
-    UpDeliver,
-    DownDeliver,
-];
-
-const IDLE_EVENTS: [Event; 6] = [
-    Send(1, Call::NullProc, 9),
-    UpDeliver,
-    RestartClient,
-    UpDeliver,
-    DownLose(5),
-    DownDeliver,
-];
-
-const REPEAT_THAT_ACTS: [Event; 9] = [
-    Send(1, CHANGE_FACE, 9),
-    Send(2, Call::GetFace, 9),
-    UpRepeat(0),
-    UpDeliver,
-    UpDeliver,
-    UpDeliver,
-    DownDeliver,
-    DownDeliver,
-    DownDeliver,
-];
 
 // The settlements, each with its number, and then the counts.
 fn tell(alloc: Global, report: &Report) -> Result<String, AllocError> {
@@ -129,7 +45,7 @@ fn tell(alloc: Global, report: &Report) -> Result<String, AllocError> {
     Ok(text)
 }
 
-// What the events lead to, and then how many wait and the next id.
+// What the events lead to on the simulator, and then how many wait and the next id.
 fn told<W: Window>(alloc: Global, window: W, events: &[Event]) -> Result<String, AllocError> {
     let (report, client) = play(alloc, Instrument::simulator(), window, events)?;
     let mut text = tell(alloc, &report)?;
@@ -142,47 +58,156 @@ fn told<W: Window>(alloc: Global, window: W, events: &[Event]) -> Result<String,
     Ok(text)
 }
 
-#[test]
-fn worked_examples(rt: HostRuntime) -> Result<(), Fail> {
-    let alloc = rt.alloc();
-    let rows: [(&str, &[Event], &str); 6] = [
-        (
-            "late reply",
-            &LATE_REPLY,
-            "0 1 late / 1 2 answered %R1P,0,1:0,123456 / sent 2 executed 2 made 2 settled 2 refused 0 idle 0; 0 wait, next 2",
-        ),
-        (
-            "overtaken",
-            &OVERTAKEN,
-            "0 1 answered %R1P,0,0:0 / 1 2 lost / 2 3 answered %R1P,0,2:0 / sent 3 executed 2 made 2 settled 3 refused 0 idle 0; 0 wait, next 3",
-        ),
-        (
-            "boundary of eight",
-            &BOUNDARY_OF_EIGHT,
-            "0 1 answered %R1P,0,0:0 / sent 8 executed 1 made 1 settled 1 refused 1 idle 0; 7 wait, next 0",
-        ),
-        (
-            "the way out",
-            &WAY_OUT,
-            "0 1 lost / 1 2 lost / 2 3 lost / 3 4 lost / 4 5 lost / 5 6 lost / 6 7 lost / 7 8 answered %R1P,0,0:0 / sent 8 executed 1 made 1 settled 8 refused 1 idle 0; 0 wait, next 1",
-        ),
-        (
-            "idle events",
-            &IDLE_EVENTS,
-            "0 1 answered %R1P,0,0:0 / sent 1 executed 1 made 1 settled 1 refused 0 idle 3; 0 wait, next 1",
-        ),
-        (
-            "a repeat that acts",
-            &REPEAT_THAT_ACTS,
-            "0 1 answered %R1P,0,0:0 / 1 2 answered %R1P,0,1:0,0 / sent 2 executed 3 made 3 settled 2 refused 0 idle 0; 0 wait, next 2",
-        ),
-    ];
-    for (name, events, want) in rows {
-        let with_places = told(alloc, Slots::new(), events)?;
-        assert_eq!(rt; with_places.as_str(), want, "{name}");
-        let with_ring = told(alloc, Ring::new(alloc)?, events)?;
-        assert_eq!(rt; with_ring.as_str(), want, "{name}, over a ring");
+// The events lead to this, with either window.
+fn expect(rt: &impl Abort, alloc: Global, events: &[Event], want: &str) -> Result<(), AllocError> {
+    let with_places = told(alloc, Slots::new(), events)?;
+    assert_eq!(rt; with_places.as_str(), want, "{}", with_places.as_str());
+    let with_ring = told(alloc, Ring::new(alloc)?, events)?;
+    assert_eq!(rt;
+        with_ring.as_str(),
+        want,
+        "over a ring: {}",
+        with_ring.as_str()
+    );
+    Ok(())
+}
+
+// A null procedure is sent to each of these targets.
+fn send_each(events: &mut Vec<Event>, targets: Range<u32>) -> Result<(), AllocError> {
+    for target in targets {
+        events.push(Send(target, Call::NullProc, 9))?;
     }
+    Ok(())
+}
+
+// Seven requests are sent, of which none arrives, and then another before the client is restarted, and one behind that.
+fn way_out(alloc: Global) -> Result<Vec<Event>, AllocError> {
+    let mut events = Vec::new(alloc);
+    send_each(&mut events, 1..8)?;
+    for _ in 0..7 {
+        events.push(UpLose(0))?;
+    }
+    send_each(&mut events, 8..9)?;
+    events.push(RestartClient)?;
+    send_each(&mut events, 8..9)?;
+    events.push(UpDeliver)?;
+    events.push(DownDeliver)?;
+    Ok(events)
+}
+
+#[test]
+fn late_reply(rt: HostRuntime) -> Result<(), Fail> {
+    let events = [
+        Send(1, Call::InstrumentNo, 10),
+        Expire(10),
+        Send(2, Call::InstrumentNo, 20),
+        UpDeliver,
+        UpDeliver,
+        DownDeliver,
+        DownDeliver,
+    ];
+    expect(
+        &rt,
+        rt.alloc(),
+        &events,
+        "0 1 late / 1 2 answered %R1P,0,1:0,123456 / sent 2 executed 2 made 2 settled 2 refused 0 idle 0; 0 wait, next 2",
+    )?;
+    Ok(())
+}
+
+#[test]
+fn overtaken(rt: HostRuntime) -> Result<(), Fail> {
+    let events = [
+        Send(1, Call::NullProc, 9),
+        Send(2, Call::NullProc, 9),
+        Send(3, Call::NullProc, 9),
+        UpLose(1),
+        UpDeliver,
+        UpDeliver,
+        DownDeliver,
+        DownDeliver,
+    ];
+    expect(
+        &rt,
+        rt.alloc(),
+        &events,
+        "0 1 answered %R1P,0,0:0 / 1 2 lost / 2 3 answered %R1P,0,2:0 / sent 3 executed 2 made 2 settled 3 refused 0 idle 0; 0 wait, next 3",
+    )?;
+    Ok(())
+}
+
+#[test]
+fn boundary_of_eight(rt: HostRuntime) -> Result<(), Fail> {
+    let mut events = Vec::new(rt.alloc());
+    send_each(&mut events, 1..2)?;
+    events.push(UpDeliver)?;
+    events.push(DownRepeat(0))?;
+    events.push(DownDeliver)?;
+    send_each(&mut events, 2..10)?;
+    events.push(DownDeliver)?;
+    expect(
+        &rt,
+        rt.alloc(),
+        events.as_slice(),
+        "0 1 answered %R1P,0,0:0 / sent 8 executed 1 made 1 settled 1 refused 1 idle 0; 7 wait, next 0",
+    )?;
+    Ok(())
+}
+
+#[test]
+fn the_way_out(rt: HostRuntime) -> Result<(), Fail> {
+    expect(
+        &rt,
+        rt.alloc(),
+        way_out(rt.alloc())?.as_slice(),
+        "0 1 lost / 1 2 lost / 2 3 lost / 3 4 lost / 4 5 lost / 5 6 lost / 6 7 lost / 7 8 answered %R1P,0,0:0 / sent 8 executed 1 made 1 settled 8 refused 1 idle 0; 0 wait, next 1",
+    )?;
+    Ok(())
+}
+
+#[test]
+fn idle_events(rt: HostRuntime) -> Result<(), Fail> {
+    let events = [
+        Send(1, Call::NullProc, 9),
+        UpDeliver,
+        RestartClient,
+        UpDeliver,
+        DownLose(5),
+        DownDeliver,
+    ];
+    expect(
+        &rt,
+        rt.alloc(),
+        &events,
+        "0 1 answered %R1P,0,0:0 / sent 1 executed 1 made 1 settled 1 refused 0 idle 3; 0 wait, next 1",
+    )?;
+    Ok(())
+}
+
+#[test]
+fn repeat_that_acts(rt: HostRuntime) -> Result<(), Fail> {
+    let change_face = Call::ChangeFace {
+        pos_mode: 0,
+        atr_mode: 0,
+        dummy: false,
+    };
+    let events = [
+        Send(1, change_face, 9),
+        Send(2, Call::GetFace, 9),
+        UpRepeat(0),
+        UpDeliver,
+        UpDeliver,
+        UpDeliver,
+        DownDeliver,
+        DownDeliver,
+        DownDeliver,
+    ];
+    expect(
+        &rt,
+        rt.alloc(),
+        &events,
+        "0 1 answered %R1P,0,0:0 / 1 2 answered %R1P,0,1:0,0 / sent 2 executed 3 made 3 settled 2 refused 0 idle 0; 0 wait, next 2",
+    )?;
     Ok(())
 }
 
@@ -223,14 +248,15 @@ impl Window for Counting<'_> {
 }
 
 #[test]
-fn the_way_out_fills_the_window_send_by_send(rt: HostRuntime) -> Result<(), Fail> {
+fn the_window_fills_send_by_send(rt: HostRuntime) -> Result<(), Fail> {
     let pushes = Cell::new(0);
     let window = Counting {
         window: Slots::new(),
         pushes: &pushes,
     };
-    let text = told(rt.alloc(), window, &WAY_OUT)?;
-    assert!(rt; text.as_str().ends_with("next 1"));
+    let events = way_out(rt.alloc())?;
+    let text = told(rt.alloc(), window, events.as_slice())?;
+    assert!(rt; text.as_str().ends_with("next 1"), "{}", text.as_str());
     assert_eq!(rt; pushes.get(), 8);
     Ok(())
 }

@@ -76,6 +76,7 @@ impl Instrument {
 
     // Sets the date and time.
     #[tactic(auto, unfolding(crate::specs::Execution::exec))]
+    #[inline(never)]
     fn set_date(&mut self, date: DateTime) -> (u16, Answer)
         ensures { Executes self.old (SetDate date) self.new result.0 result.1 }
     {
@@ -89,6 +90,7 @@ impl Instrument {
 
     // Sets the station.
     #[tactic(auto, unfolding(crate::specs::Execution::exec))]
+    #[inline(never)]
     fn set_station(&mut self, station: Station) -> (u16, Answer)
         ensures { Executes self.old (SetStation station) self.new result.0 result.1 }
     {
@@ -106,6 +108,7 @@ impl Instrument {
     }
 
     // Measures, or clears the distance, as commanded.
+    #[inline(never)]
     fn measure_as(&mut self, command: i32) -> (u16, Answer)
         ensures { Gives (commanded self.old command) self.new result.0 result.1 }
     {
@@ -132,6 +135,7 @@ impl Instrument {
     }
 
     // The angles.
+    #[inline(never)]
     fn angles(&self) -> (u16, Answer)
         ensures { Gives (done self.now (Angles self.now.pointing.hz self.now.pointing.v))
             self.now result.0 result.1 }
@@ -141,6 +145,7 @@ impl Instrument {
     }
 
     // The angles and the distance, where there is one.
+    #[inline(never)]
     fn simple_measurement(&self) -> (u16, Answer)
         ensures { Gives (told self.now (λ d. Measured self.now.pointing.hz self.now.pointing.v d)
             self.now.distance) self.now result.0 result.1 }
@@ -154,6 +159,7 @@ impl Instrument {
 
     // Measures, and gives the angles and the distance, where there is one.
     #[tactic(auto, unfolding(crate::specs::Execution::exec))]
+    #[inline(never)]
     fn measured_distance(&mut self, mode: i32) -> (u16, Answer)
         ensures { Executes self.old (MeasDistance mode) self.new result.0 result.1 }
     {
@@ -174,6 +180,7 @@ impl Instrument {
     }
 
     // Turns the telescope, which clears the distance.
+    #[inline(never)]
     fn position(&mut self, hz: Decimal, v: Decimal) -> (u16, Answer)
         ensures { Gives (done (pointed self.old hz v) Nothing) self.new result.0 result.1 }
     {
@@ -183,6 +190,7 @@ impl Instrument {
     }
 
     // Turns the telescope over, which clears the distance. The angles stay.
+    #[inline(never)]
     fn change_face(&mut self) -> (u16, Answer)
         ensures { Gives (done (turned_over self.old) Nothing) self.new result.0 result.1 }
     {
@@ -192,6 +200,7 @@ impl Instrument {
     }
 
     // Turns the telescope to the first target within the areas, if there is one.
+    #[inline(never)]
     fn fine_adjust(&mut self, area_hz: &Decimal, area_v: &Decimal) -> (u16, Answer)
         ensures { Gives (searched self.old area_hz.now area_v.now) self.new result.0 result.1 }
     {

@@ -1,16 +1,19 @@
 //! What the instrument replies to a line: nothing where it is no request, 3081 or 3080 where it names
 //! no call, and else what carrying out the call gave.
 
-ghost use Rattle.std.specs.Prelude.{◌≡◌, ◌<◌, ℕ, Some};
+ghost use Rattle.std.specs.Prelude.{◌≡◌, ◌<◌, ◌≤◌, ◌+◌, ℕ, Some, length};
 ghost use Rattle.std.specs.Option.{option_map, ForSome};
+ghost use Rattle.arrayvec.specs.ArrayVec.{array_vec_len};
+ghost use Rattle.gc_lines.specs.Answering.{AppendsAnswer};
 ghost use Rattle.gc_lines.specs.Requests.{request_seen};
 ghost use Rattle.gc_catalogue.specs.Calls.{IsCall, IsFitting};
 ghost use Rattle.gc_catalogue.specs.Texts.{request_line};
 ghost use Rattle.gc_instrument.specs.Replying.{IsReplied, IsAnswered, IsExchanged, AnswersRequest, com_code, refusal_line, reply_id};
 
 use super::Instrument;
+use arrayvec::ArrayVec;
 use gc_catalogue::{CallFault, decode_call, encode_answer};
-use gc_lines::{Line, Request, begin_reply, read_request};
+use gc_lines::{Line, Request, append, begin_reply, read_request};
 
 /// The communication code for a procedure that isn't in the catalogue.
 const UNKNOWN_PROCEDURE: u16 = 3081;
@@ -27,15 +30,38 @@ impl Instrument {
     /// precision that stands after the call. A procedure that isn't in the catalogue is answered
     /// with the communication code 3081, and parameters that don't read with 3080; then nothing
     /// changes, as with a line that is no request. A request that is repeated is carried out again.
+    #[tactic(auto, using(crate::proofs::Answering::replied_alone, crate::proofs::Answering::exchanged_alone))]
     pub fn on_line(&mut self, line: &Line) -> Option<Line>
         ensures replied { IsReplied self.old line.now.items self.new (option_map (λ r. r.items) result) }
         ensures exchanged { (id : ℕ) (call : Call) → id < 8 → IsFitting call
             → line.now.items ≡ request_line (Some id) call
             → IsExchanged self.old id call self.new (option_map (λ r. r.items) result) }
     {
-        match read_request(line.as_slice()) {
-            Ok(request) => Some(self.reply_to(&request)),
-            Err(_) => None,
+        let mut reply = Line::new();
+        if self.reply_onto(line.as_slice(), &mut reply) {
+            Some(reply)
+        } else {
+            None
+        }
+    }
+
+    /// Appends the reply to a line, if it is a request, to what is handed in, and says whether it is
+    /// one. Else what was handed in stays as it is. It is [`Instrument::on_line`] in place.
+    pub fn reply_onto<const N: usize>(&mut self, line: &[u8], out: &mut ArrayVec<u8, N>) -> bool
+        requires { array_vec_len out.old + 512 ≤ N }
+        ensures replied { AppendsAnswer (IsReplied self.old line.now self.new) out.old.items out.new.items result }
+        ensures bound { length out.new.items ≤ length out.old.items + 512 }
+        ensures exchanged { (id : ℕ) (call : Call) → id < 8 → IsFitting call
+            → line.now ≡ request_line (Some id) call
+            → AppendsAnswer (IsExchanged self.old id call self.new) out.old.items out.new.items result }
+    {
+        match read_request(line) {
+            Ok(request) => {
+                let reply = self.reply_to(&request);
+                append(out, reply.as_slice());
+                true
+            }
+            Err(_) => false,
         }
     }
 

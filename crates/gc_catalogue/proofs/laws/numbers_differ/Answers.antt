@@ -1,4 +1,4 @@
-use Rattle.gc_catalogue.proofs.CallLaws.{alike, same_call}
+use Rattle.gc_catalogue.proofs.Table.{alike, same_call}
 use Rattle.gc_catalogue.proofs.laws.numbers_differ.Goals as goal
 
 pub returns : goal.returns

@@ -1,6 +1,6 @@
 use Rattle.std.proofs.Common.{rules, ◌≡◌, ◌≤◌, ◌++◌, ◌∷◌, [], ap, arith}
 use Rattle.std.specs.Option.{option_copied}
-use Rattle.gc_console.proofs.TextLines.{reads_few, turn_skips, turn_reads, turn_fails}
+use Rattle.gc_console.proofs.TextLines.{reads_few, turn_skips, turn_reads, turn_fails, turn_wants}
 use Rattle.gc_console.proofs.schedule.read_lines.Goals as goal
 
 pub overflow_add-number : goal.overflow_add-number
@@ -26,4 +26,12 @@ returns-in-None-clause-fault c = (
   turn_fails c.args.text.now (option_copied c.loop-left.left) c.in-Some.text.now c.cut_at.result.0.now c.without_cr-line.result.now (option_copied c.cut_at.result.1) c.loop-left.number
       c.loop-left.events.items c.is_skipped.result c.loop-left.invariant (ap option_copied c.in-Some.is) c.cut_at.ensures c.without_cr-line.ensures c.is_skipped.ensures
       c.if-is_skipped.false c.in-None.ensures,
+)
+
+pub returns-then-is_err-clause-fault : goal.returns-then-is_err-clause-fault
+returns-then-is_err-clause-fault c = (
+  c.requires,
+  turn_wants c.args.text.now (option_copied c.loop-left.left) c.in-Some.text.now c.cut_at.result.0.now c.without_cr-line.result.now (option_copied c.cut_at.result.1) c.loop-left.number
+      c.loop-left.events.items c.is_skipped.result c.loop-left.invariant (ap option_copied c.in-Some.is) c.cut_at.ensures c.without_cr-line.ensures c.is_skipped.ensures
+      c.in-Some-read_event.event c.if-is_skipped.false c.in-Some-read_event.ensures,
 )

@@ -1,4 +1,4 @@
-use Rattle.gc_instrument.proofs.Runs.{hears_then}
+use Rattle.gc_instrument.proofs.Hearing.{hears_then}
 use Rattle.gc_instrument.proofs.Turns.{one_hearing, output_then}
 use Rattle.gc_instrument.proofs.laws.answers_in_turn.Goals as goal
 

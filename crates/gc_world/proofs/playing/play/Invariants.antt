@@ -1,5 +1,5 @@
 use Rattle.std.proofs.Common.{◌≤◌, take}
-use Rattle.gc_world.specs.Simulated.{played}
+use Rattle.gc_world.specs.Clients.{played}
 use Rattle.gc_world.specs.Stages.{Shows}
 use Rattle.gc_world.proofs.playing.play.Given as goal
 

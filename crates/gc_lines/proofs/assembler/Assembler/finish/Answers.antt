@@ -12,5 +12,5 @@ returns-clause-frame c rest s =
     let short : length rest ≤ 513 = ltb-false 513 (length rest) (sym t.long ∙ c.if-self.false) in
     let front : c.self-2.inside.front.items ≡ rest = t.front ∙ take_all 513 rest short in
     let some : 0 < length c.self-2.inside.front.items = search rules in
-    let items : c.append.new.to.items ≡ take (length rest - 1) rest = c.append.ensures ∙ rw (c.new-line.ensures, c.len-len.ensures.value, c.deref.ensures.0, front) refl in
-    line_frame rest c.append.new.to (omega (arith, ap length front)) (sym t.last ∙ search rules) short items
+    let items : c.append.new.to.items ≡ take (length rest - 1) rest = c.append.ensures ∙ rw (c.clear-2.ensures, c.len-len.ensures.value, c.deref.ensures.0, front) refl in
+    line_frame rest (record { items = c.deref-2.result.now }) (omega (arith, ap length front)) (sym t.last ∙ search rules) short (c.deref-2.ensures.0 ∙ items)

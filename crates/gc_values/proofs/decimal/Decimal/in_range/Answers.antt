@@ -1,9 +1,6 @@
-use Rattle.std.proofs.Common.{arith}
-use Rattle.gc_values.proofs.Powers.{ten_pow_fits, bound_fits}
+use Rattle.std.proofs.Common.{◌*◌, ◌^◌, arith, ap}
+use Rattle.gc_values.proofs.Powers.{bound_fits}
 use Rattle.gc_values.proofs.decimal.Decimal.in_range.Goals as goal
 
-pub pow-requires : goal.pow-requires
-pow-requires c = omega (arith, ten_pow_fits c.from.result (omega arith))
-
-pub overflow_mul-pow : goal.overflow_mul-pow
-overflow_mul-pow c = omega (arith, bound_fits c.from.result (omega arith))
+pub overflow_mul-power_of_ten : goal.overflow_mul-power_of_ten
+overflow_mul-power_of_ten c = omega (arith, bound_fits c.args.scale c.requires, ap (λ p. 10 ^ 13 * p) c.power_of_ten.ensures)

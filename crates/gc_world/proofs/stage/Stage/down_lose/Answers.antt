@@ -1,5 +1,5 @@
-use Rattle.std.proofs.Common.{false, sym, ◌∙◌, subst}
-use Rattle.gc_world.specs.Simulated.{does}
+use Rattle.std.proofs.Common.{true, false, sym, ◌∙◌, subst}
+use Rattle.gc_world.specs.Stages.{does}
 use Rattle.gc_world.specs.Stages.{AreOf}
 use Rattle.gc_world.specs.World
 use Rattle.gc_world.proofs.Showing.{counted, shows_down_lose}
@@ -10,3 +10,9 @@ returns-then-not-lose g c =
     let s = c.args.self.now in
     λ w h. subst (λ q. AreOf (counted false s.report) s.up q s.client (does w (World.Down_lose c.args.k))) (sym c.lose.ensures.left)
     (shows_down_lose s.report s.up s.down s.client w h c.args.k false (sym c.if-not-lose.true ∙ c.lose.ensures.found))
+
+pub returns-else-not-lose : goal.returns-else-not-lose
+returns-else-not-lose g c =
+    let s = c.args.self.now in
+    λ w h. subst (λ q. AreOf (counted true s.report) s.up q s.client (does w (World.Down_lose c.args.k))) (sym c.lose.ensures.left)
+    (shows_down_lose s.report s.up s.down s.client w h c.args.k true (sym c.if-not-lose.false ∙ c.lose.ensures.found))

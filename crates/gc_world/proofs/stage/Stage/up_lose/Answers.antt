@@ -1,5 +1,5 @@
 use Rattle.std.proofs.Common.{true, false, sym, ◌∙◌, subst}
-use Rattle.gc_world.specs.Simulated.{does}
+use Rattle.gc_world.specs.Stages.{does}
 use Rattle.gc_world.specs.Stages.{AreOf}
 use Rattle.gc_world.specs.World
 use Rattle.gc_world.proofs.Showing.{counted, shows_up_lose}

@@ -1,18 +1,18 @@
 use Rattle.std.proofs.Common.{true, false, sym, ◌∙◌, subst}
-use Rattle.gc_world.specs.Simulated.{does}
+use Rattle.gc_world.specs.Stages.{does}
 use Rattle.gc_world.specs.Stages.{AreOf}
 use Rattle.gc_world.specs.World
 use Rattle.gc_world.proofs.Showing.{counted, shows_up_repeat}
 use Rattle.gc_world.proofs.stage.Stage.up_repeat.Goals as goal
 
-pub returns-then-not-branch : goal.returns-then-not-branch
-returns-then-not-branch g c =
+pub returns-then-not-branch-clause-follows : goal.returns-then-not-branch-clause-follows
+returns-then-not-branch-clause-follows g c =
     let s = c.args.self.now in
     λ w h. subst (λ q. AreOf (counted false s.report) q s.down s.client (does w (World.Up_repeat c.args.k))) (sym c.in_ok-repeat.ensures.left)
     (shows_up_repeat s.report s.up s.down s.client w h c.args.k false (sym c.if-not-branch.true ∙ c.in_ok-repeat.ensures.found))
 
-pub returns-else-not-branch : goal.returns-else-not-branch
-returns-else-not-branch g c =
+pub returns-else-not-branch-clause-follows : goal.returns-else-not-branch-clause-follows
+returns-else-not-branch-clause-follows g c =
     let s = c.args.self.now in
     λ w h. subst (λ q. AreOf (counted true s.report) q s.down s.client (does w (World.Up_repeat c.args.k))) (sym c.in_ok-repeat.ensures.left)
     (shows_up_repeat s.report s.up s.down s.client w h c.args.k true (sym c.if-not-branch.false ∙ c.in_ok-repeat.ensures.found))

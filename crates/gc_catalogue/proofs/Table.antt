@@ -1,0 +1,62 @@
+-- What holds of every row of the definition's tables. The prover goes through the rows itself: a new row needs no line
+-- here.
+use Rattle.std.specs.Prelude.{◌≡◌, ◌≤◌, ◌<◌, ℕ, List, Some, length}
+use Rattle.std.proofs.Common.{arith}
+use Rattle.gc_values.specs.Lists.{kinds_of}
+use Rattle.gc_values.specs.declared.value.Kind.{Kind}
+use Rattle.gc_catalogue.specs.declared.answer.Answer.{Answer}
+use Rattle.gc_catalogue.specs.declared.call.Call.{Call}
+use Rattle.gc_catalogue.specs.Answers.{answer_fields, rounded_answer}
+use Rattle.gc_catalogue.specs.Calls.{call_fields}
+use Rattle.gc_catalogue.specs.Laws.{AreAlike}
+use Rattle.gc_catalogue.specs.Lists.{shown_values}
+
+-- the kinds of a call's values
+abbrev pub call_kinds : Call → List Kind
+call_kinds call = kinds_of (call_fields call).values
+
+-- the kinds of an answer's values
+abbrev pub answer_kinds : Answer → List Kind
+answer_kinds answer = kinds_of (answer_fields answer).values
+
+-- a procedure's number has 16 bits
+pub number_fits : (call : Call) → (call_fields call).number < 65536
+number_fits call = grind arith
+
+-- no call has more than six values
+pub few_values : (call : Call) → length (call_fields call).values ≤ 6
+few_values call = grind arith
+
+same_kinds : (c d : Call) → (call_fields c).number ≡ (call_fields d).number → call_kinds c ≡ call_kinds d
+same_kinds c d e = grind arith
+
+same_answers : (c d : Call) → (call_fields c).number ≡ (call_fields d).number → (call_fields c).answer ≡ (call_fields d).answer
+same_answers c d e = grind arith
+
+-- calls of one number are alike
+pub alike : (c d : Call) → (call_fields c).number ≡ (call_fields d).number → AreAlike c d
+alike c d e = record { kinds = same_kinds c d e; answer = same_answers c d e }
+
+-- a call is determined by its number and its values
+pub same_call : (c d : Call) → (call_fields c).number ≡ (call_fields d).number → (call_fields c).values ≡ (call_fields d).values → c ≡ d
+same_call c d number values = grind arith
+
+-- no answer has more than six values
+pub few_values_out : (answer : Answer) → length (answer_fields answer).values ≤ 6
+few_values_out answer = grind arith
+
+-- answers of one shape have values of the same kinds
+pub same_answer_kinds : (a b : Answer) → (answer_fields a).shape ≡ (answer_fields b).shape → answer_kinds a ≡ answer_kinds b
+same_answer_kinds a b e = grind arith
+
+-- an answer is determined by its shape and its values
+pub same_answer : (a b : Answer) → (answer_fields a).shape ≡ (answer_fields b).shape → (answer_fields a).values ≡ (answer_fields b).values → a ≡ b
+same_answer a b shape values = grind arith
+
+-- a rounded answer's values are the answer's, each rounded
+pub values-rounded : (places : ℕ) (answer : Answer) → (answer_fields (rounded_answer places answer)).values ≡ shown_values (Some places) (answer_fields answer).values
+values-rounded places answer = grind arith
+
+-- and its shape is the answer's
+pub shape-rounded : (places : ℕ) (answer : Answer) → (answer_fields (rounded_answer places answer)).shape ≡ (answer_fields answer).shape
+shape-rounded places answer = grind arith

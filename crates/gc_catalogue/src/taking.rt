@@ -1,0 +1,148 @@
+//! What the number of a call and the values of a call or an answer are handed to, one by one: bytes that are written, or nothing.
+
+ghost use Rattle.std.specs.Prelude.{◌≡◌, ◌+◌, ◌-◌, ◌/◌, ◌<◌, ◌≤◌, ◌++◌, ◌∷◌, [], ℕ, List, Option, length, suc};
+ghost use Rattle.std.specs.Option.{ForSome};
+ghost use Rattle.arrayvec.specs.ArrayVec.{array_vec_len};
+ghost use Rattle.gc_lines.specs.Requests.{request_text};
+ghost use Rattle.gc_values.specs.Decimals.{rounded};
+ghost use Rattle.gc_values.specs.Lists.{AreValues};
+ghost use Rattle.gc_values.specs.declared.value.Value.{Value};
+ghost use Rattle.gc_catalogue.specs.Lists.{before_commas};
+
+use arrayvec::ArrayVec;
+use gc_lines::push_request;
+use gc_values::{
+    Decimal, Text, push_bool, push_byte, push_decimal, push_long, push_rounded, push_short,
+    push_text,
+};
+
+/// What takes the number of a call with an id, and values, from the left.
+pub(crate) trait Taker {
+    /// For how many values there is room.
+    ghost room: { Self → ℕ };
+
+    /// From the first state to the last, these values were taken.
+    ghost takes: { Self → List Value → Self → Type 0 };
+
+    /// From the first state to the last, this number was taken with the id, and then these values.
+    ghost begins: { Self → Option ℕ → ℕ → List Value → Self → Type 0 };
+
+    fn number(&mut self, rpc: u16, id: Option<u8>)
+        requires room { 1 ≤ room self.old }
+        requires id { ForSome id (λ i. i < 8) }
+        ensures room { room self.old ≤ suc (room self.new) }
+        ensures takes { (vs : List Value) (t : Self) → takes self.new vs t → begins self.old id rpc vs t };
+
+    fn double(&mut self, v: &Decimal)
+        requires { 1 ≤ room self.old }
+        ensures room { room self.old ≤ suc (room self.new) }
+        ensures takes { (vs : List Value) (t : Self) → takes self.new vs t → takes self.old (Value.Double v.now ∷ vs) t };
+
+    /// Takes a decimal rounded to the places.
+    fn rounded(&mut self, v: &Decimal, places: u8)
+        requires places { places ≤ 15 }
+        requires room { 1 ≤ room self.old }
+        ensures room { room self.old ≤ suc (room self.new) }
+        ensures takes { (vs : List Value) (t : Self) → takes self.new vs t → takes self.old (Value.Double (rounded v.now places) ∷ vs) t };
+
+    fn long(&mut self, v: i32)
+        requires { 1 ≤ room self.old }
+        ensures room { room self.old ≤ suc (room self.new) }
+        ensures takes { (vs : List Value) (t : Self) → takes self.new vs t → takes self.old (Value.Long v ∷ vs) t };
+
+    fn short(&mut self, v: i16)
+        requires { 1 ≤ room self.old }
+        ensures room { room self.old ≤ suc (room self.new) }
+        ensures takes { (vs : List Value) (t : Self) → takes self.new vs t → takes self.old (Value.Short v ∷ vs) t };
+
+    fn byte(&mut self, v: u8)
+        requires { 1 ≤ room self.old }
+        ensures room { room self.old ≤ suc (room self.new) }
+        ensures takes { (vs : List Value) (t : Self) → takes self.new vs t → takes self.old (Value.Byte v ∷ vs) t };
+
+    fn boolean(&mut self, v: bool)
+        requires { 1 ≤ room self.old }
+        ensures room { room self.old ≤ suc (room self.new) }
+        ensures takes { (vs : List Value) (t : Self) → takes self.new vs t → takes self.old (Value.Bool v ∷ vs) t };
+
+    fn text(&mut self, v: &Text)
+        requires { 1 ≤ room self.old }
+        ensures room { room self.old ≤ suc (room self.new) }
+        ensures takes { (vs : List Value) (t : Self) → takes self.new vs t → takes self.old (Value.Text v.now ∷ vs) t };
+}
+
+/// Takes everything and keeps nothing.
+#[derive(Drop)]
+pub(crate) struct Unwritten;
+
+impl Taker for Unwritten {
+    ghost room = { λ t. 7 };
+
+    ghost takes = { λ s vs t. Unit {0} };
+
+    ghost begins = { λ s id rpc vs t. Unit {0} };
+
+    fn number(&mut self, _rpc: u16, _id: Option<u8>) {}
+
+    fn double(&mut self, _v: &Decimal) {}
+
+    fn long(&mut self, _v: i32) {}
+
+    fn short(&mut self, _v: i16) {}
+
+    fn byte(&mut self, _v: u8) {}
+
+    fn boolean(&mut self, _v: bool) {}
+
+    fn rounded(&mut self, _v: &Decimal, _places: u8) {}
+
+    fn text(&mut self, _v: &Text) {}
+}
+
+/// The head of a request, and then each value's text before a comma.
+impl<const N: usize> Taker for ArrayVec<u8, N> {
+    ghost room = { λ s. (N - length s.items) / 67 };
+
+    ghost takes = { λ s vs t. (t.items ≡ s.items ++ before_commas vs) × AreValues vs };
+
+    ghost begins = { λ s id rpc vs t. (t.items ≡ s.items ++ (request_text (record { rpc = rpc; id = id; params = [] }) ++ before_commas vs)) × AreValues vs };
+
+    fn number(&mut self, rpc: u16, id: Option<u8>) {
+        push_request(self, rpc, id);
+    }
+
+    fn double(&mut self, v: &Decimal) {
+        push_decimal(self, v);
+        self.push(b',');
+    }
+
+    fn long(&mut self, v: i32) {
+        push_long(self, v);
+        self.push(b',');
+    }
+
+    fn short(&mut self, v: i16) {
+        push_short(self, v);
+        self.push(b',');
+    }
+
+    fn byte(&mut self, v: u8) {
+        push_byte(self, v);
+        self.push(b',');
+    }
+
+    fn boolean(&mut self, v: bool) {
+        push_bool(self, v);
+        self.push(b',');
+    }
+
+    fn rounded(&mut self, v: &Decimal, places: u8) {
+        push_rounded(self, v, places);
+        self.push(b',');
+    }
+
+    fn text(&mut self, v: &Text) {
+        push_text(self, v);
+        self.push(b',');
+    }
+}

@@ -1,0 +1,29 @@
+-- The earliest deadline, one request further.
+use Rattle.std.proofs.Common.{◌≡◌, ℕ, suc, ◌+◌, true, false, not, List, [], ◌∷◌, ◌++◌, map, filter, take, Some, refl, ap, ◌∙◌, arith}
+use Rattle.std.specs.Prelude.{slice_get}
+use Rattle.std.proofs.lemmas.List.{map-append, append-nil}
+use Rattle.std.proofs.lemmas.List.Elements.{filter-append}
+use Rattle.gc_client.specs.declared.pending.Pending.{Pending}
+use Rattle.gc_client.specs.Rule.{deadlines}
+use Rattle.gc_client.proofs.Lists.{take_turn}
+
+-- A turn of the loop: the one at place k is looked at.
+module _ (k : ℕ) (ws : List Pending) (p : Pending) (here : slice_get ws k ≡ Some p) where
+  next_deadlines : deadlines (take (k + 1) ws) ≡ deadlines (take k ws) ++ deadlines (p ∷ [])
+  next_deadlines =
+      let n : k + 1 ≡ suc k = omega arith in
+      ap (λ m. deadlines (take m ws)) n ∙ ap deadlines (take_turn ws k p here)
+      ∙ ap (map (λ p. p.deadline)) (filter-append (λ p. not p.given_up) (take k ws) (p ∷ []))
+      ∙ map-append (λ p. p.deadline) (filter (λ p. not p.given_up) (take k ws)) (filter (λ p. not p.given_up) (p ∷ []))
+
+  -- it waits and isn't given up
+  pub one_more_deadline : not p.given_up ≡ true → deadlines (take (k + 1) ws) ≡ deadlines (take k ws) ++ p.deadline ∷ []
+  one_more_deadline b = next_deadlines ∙ ap (λ ds. deadlines (take k ws) ++ ds) (one b) where
+    one : not p.given_up ≡ true → deadlines (p ∷ []) ≡ p.deadline ∷ []
+    one b = rw b refl
+
+  -- it was given up
+  pub same_deadlines : not p.given_up ≡ false → deadlines (take (k + 1) ws) ≡ deadlines (take k ws)
+  same_deadlines b = next_deadlines ∙ ap (λ ds. deadlines (take k ws) ++ ds) (none b) ∙ append-nil _ where
+    none : not p.given_up ≡ false → deadlines (p ∷ []) ≡ []
+    none b = rw b refl

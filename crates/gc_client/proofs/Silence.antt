@@ -1,0 +1,25 @@
+-- Foreign lines change nothing.
+use Rattle.std.proofs.Common.{◌≡◌, ℕ, ◌↔◌, true, List, [], ◌∷◌, filter, Option, Some, None, refl, ap, ◌∙◌, if◌then◌else◌}
+use Rattle.std.specs.Option.{is_some}
+use Rattle.gc_client.specs.Rule.{ById, heard, hears}
+use Rattle.gc_client.specs.Silence.{IsReplyWithId, is_ours, first, hears_all, IsSilent}
+use Rattle.gc_client.proofs.Digits.{heard_by_grammar}
+
+-- a line is the client's exactly where it is a reply with an id
+pub ours_by_grammar : (line : List ℕ) → (is_ours line ≡ true) ↔ IsReplyWithId line
+ours_by_grammar line = (λ b. there (heard line) refl b, λ is. ap is_some ((heard_by_grammar line).its is.reply is.is_reply ∙ is.has_id)) where
+  there : (h : Option ℕ) → heard line ≡ h → is_some h ≡ true → IsReplyWithId line
+  there None e b = cc
+  there (Some id) e b =
+      let found = (heard_by_grammar line).only id e in
+      record { reply = found.0; id = id; is_reply = found.1; has_id = found.2 }
+
+-- one line more in front
+one_more_line : (c : ById) (line : List ℕ) (lines kept : List (List ℕ)) (h : Option ℕ) → heard line ≡ h → ((d : ById) → hears_all d lines ≡ hears_all d kept) → hears_all c (line ∷ lines) ≡ hears_all c (if is_some h then line ∷ kept else kept)
+one_more_line c line lines kept None e rest = ap (λ o. first (hears c line o).settlements (hears_all (hears c line o).client lines)) e ∙ rest c
+one_more_line c line lines kept (Some id) e rest = ap (first (hears c line (heard line)).settlements) (rest (hears c line (heard line)).client)
+
+-- without the lines that aren't the client's it is the same
+pub silent : (c : ById) (lines : List (List ℕ)) → IsSilent c lines
+silent c [] = refl
+silent c (line ∷ lines) = one_more_line c line lines (filter is_ours lines) (heard line) refl (λ d. silent d lines)

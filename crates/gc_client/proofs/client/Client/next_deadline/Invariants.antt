@@ -1,0 +1,7 @@
+use Rattle.std.proofs.Common.{take}
+use Rattle.gc_client.specs.Rule.{deadlines, IsEarliest}
+use Rattle.gc_client.proofs.client.Client.next_deadline.Given as goal
+
+-- the earliest of the first k
+abbrev pub invariant-loop-k : goal.invariant-loop-k
+invariant-loop-k g l = IsEarliest (deadlines (take l.k l.self.waiting)) l.earliest

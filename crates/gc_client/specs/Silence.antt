@@ -1,0 +1,29 @@
+-- Foreign lines, this project's own: a line that is no reply, or a reply without an id, is none of the client's.
+use Rattle.std.specs.Prelude.{◌≡◌, ℕ, Bool, List, [], ◌∷◌, ◌++◌, filter, Some}
+use Rattle.std.specs.Option.{is_some}
+use Rattle.gc_lines.specs.Replies.{ReplyFields, IsReply}
+use Rattle.gc_client.specs.Rule.{Settlement, Settled, ById, heard, hears}
+
+-- a line is a reply with an id, by the grammar
+pub record IsReplyWithId (line : List ℕ) : Type 0 where
+  pub reply : ReplyFields
+  pub id : ℕ
+  pub is_reply : IsReply line reply
+  pub has_id : reply.id ≡ Some id
+
+-- whether a line is a reply with an id
+abbrev pub is_ours : List ℕ → Bool
+is_ours line = is_some (heard line)
+
+-- these settlements first, and then those of a client that went on
+abbrev pub first : List Settlement → Settled ById → Settled ById
+first settlements x = record { settlements = settlements ++ x.settlements; client = x.client }
+
+-- the client's rule over a list of lines, in order
+abbrev pub hears_all : ById → List (List ℕ) → Settled ById
+hears_all c [] = record { settlements = []; client = c }
+hears_all c (line ∷ lines) = first (hears c line (heard line)).settlements (hears_all (hears c line (heard line)).client lines)
+
+-- without the foreign lines of a list, the settlements and the client are the same
+abbrev pub IsSilent : ById → List (List ℕ) → Type 0
+IsSilent c lines = hears_all c lines ≡ hears_all c (filter is_ours lines)

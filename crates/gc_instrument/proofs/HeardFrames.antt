@@ -1,0 +1,145 @@
+-- Frames that an instrument answered are lines that it was handed.
+use Rattle.std.proofs.Common.{◌≡◌, ℕ, ◌+◌, ◌<◌, List, [], ◌∷◌, ◌++◌, length, map, take, suc, Option, Some, None, Result, Ok, Err, refl, sym, ap, ◌∙◌, subst, true, false, append_assoc}
+use Rattle.std.specs.List.{filter_map}
+use Rattle.std.specs.Option.{option_map, option_to_list}
+use Rattle.std.proofs.lemmas.List.Elements.{filter_map-append}
+use Rattle.gc_lines.specs.Answering.{AnswersInOrder, AnswersAll, AnswersPart, AnswersFrames, AppendsAnswer, all_of}
+use Rattle.gc_lines.specs.Frames.{frames, line_in, lines, rest_of, rest_behind}
+use Rattle.gc_lines.specs.Lines.{with_end}
+use Rattle.gc_lines.specs.Passing.{frames_behind}
+use Rattle.gc_lines.specs.declared.frame.Frame.{Frame}
+use Rattle.gc_lines.specs.declared.frame.Frame.TheVariants.{Line, Cleared, Overlong, More}
+use Rattle.gc_lines.specs.declared.served.Served.{Served}
+use Rattle.gc_lines.specs.declared.served.ServeFault.{ServeFault}
+use Rattle.gc_lines.specs.declared.served.ServeFault.TheVariants.{Read, Write, TooManyReads}
+use Rattle.gc_lines.proofs.Known.{Appends-is}
+use Rattle.gc_lines.proofs.Passing.{frames-append}
+use Rattle.gc_instrument.specs.State.{State}
+use Rattle.gc_instrument.specs.Replying.{IsReplied}
+use Rattle.gc_instrument.specs.Hearing.{Hears, replies_text}
+use Rattle.gc_instrument.specs.Serving.{AnswersFrame, ServesAll, ServesPart, Serves}
+
+-- a line's reply was appended, and its CR LF behind it
+pub answered_line : (before after : State) (line old between new : List ℕ) → AppendsAnswer (IsReplied before line after) old between true → new ≡ between ++ 13 ∷ 10 ∷ []
+    → AppendsAnswer (AnswersFrame before (Line (record { items = line })) after) old new true
+answered_line before after line old between new h e = (with_end h.0, (Some h.0, h.1, refl), e ∙ ap (λ (xs : List ℕ). xs ++ 13 ∷ 10 ∷ []) h.2 ∙ append_assoc old h.0 (13 ∷ 10 ∷ []))
+
+-- a line without a reply
+pub unanswered_line : (before after : State) (line old new : List ℕ) → AppendsAnswer (IsReplied before line after) old new false
+    → AppendsAnswer (AnswersFrame before (Line (record { items = line })) after) old new false
+unanswered_line before after line old new h = ((None, h.0, refl), h.1)
+
+-- the lines of frames
+abbrev pub lines_of : List Frame → List (List ℕ)
+lines_of seen = filter_map line_in seen
+
+mapped : {X Y : Type 0} (f : X → Y) (o : Option X) (xs : List X) → option_to_list (option_map f o) ++ map f xs ≡ map f (option_to_list o ++ xs)
+mapped f None xs = refl
+mapped f (Some x) xs = refl
+
+-- what frames were heard as, and what was written for them
+record Heard (s t : State) (seen : List Frame) (texts : List (List ℕ)) : Type 0 where
+  replies : List (List ℕ)
+  hears : Hears s (lines_of seen) t replies
+  texts_are : texts ≡ map with_end replies
+
+heard_line : (s u t : State) (line : List ℕ) (reply text : Option (List ℕ)) (later : List Frame) (rest texts : List (List ℕ)) → IsReplied s line u reply → text ≡ option_map with_end reply
+    → Heard u t later rest → texts ≡ option_to_list text ++ rest → Heard s t (Line (record { items = line }) ∷ later) texts
+heard_line s u t line reply text later rest texts replied text_is h are = record {
+  replies = option_to_list reply ++ h.replies;
+  hears = (u, reply, h.replies, replied, h.hears, refl);
+  texts_are = are ∙ ap (λ (o : Option (List ℕ)). option_to_list o ++ rest) text_is ∙ ap (λ (ts : List (List ℕ)). option_to_list (option_map with_end reply) ++ ts) h.texts_are ∙ mapped with_end reply h.replies;
+}
+
+-- a frame that is no line
+heard_silence : (s u t : State) (text : Option (List ℕ)) (seen : List Frame) (rest texts : List (List ℕ)) → u ≡ s → text ≡ None → Heard u t seen rest → texts ≡ option_to_list text ++ rest → Heard s t seen texts
+heard_silence s u t text seen rest texts same none h are = record {
+  replies = h.replies;
+  hears = subst (λ (v : State). Hears v (lines_of seen) t h.replies) same h.hears;
+  texts_are = are ∙ ap (λ (o : Option (List ℕ)). option_to_list o ++ rest) none ∙ h.texts_are;
+}
+
+silent_frame : (s u t : State) (seen more : List Frame) (texts : List (List ℕ)) → lines_of more ≡ lines_of seen → Heard s t seen texts → Heard s t more texts
+silent_frame s u t seen more texts same h = record {
+  replies = h.replies;
+  hears = subst (λ (heard : List (List ℕ)). Hears s heard t h.replies) (sym same) h.hears;
+  texts_are = h.texts_are;
+}
+
+heard : (s t : State) (seen : List Frame) (texts : List (List ℕ)) → AnswersInOrder State AnswersFrame s seen t texts → Heard s t seen texts
+heard s t [] texts h = record { replies = []; hears = (h.0, refl); texts_are = h.1 }
+heard s t (Line line ∷ later) texts h = heard_line s h.0 t line.items h.3.0 h.1 later h.2 texts h.3.1 h.3.2 (heard h.0 t later h.2 h.4) h.5
+heard s t (Cleared ∷ later) texts h = silent_frame s t t later (Cleared ∷ later) texts refl (heard_silence s h.0 t h.1 later h.2 texts h.3.0 h.3.1 (heard h.0 t later h.2 h.4) h.5)
+heard s t (Overlong ∷ later) texts h = silent_frame s t t later (Overlong ∷ later) texts refl (heard_silence s h.0 t h.1 later h.2 texts h.3.0 h.3.1 (heard h.0 t later h.2 h.4) h.5)
+heard s t (More ∷ later) texts h = silent_frame s t t later (More ∷ later) texts refl (heard_silence s h.0 t h.1 later h.2 texts h.3.0 h.3.1 (heard h.0 t later h.2 h.4) h.5)
+
+written_as : (replies : List (List ℕ)) → all_of (map with_end replies) ≡ replies_text replies
+written_as [] = refl
+written_as (reply ∷ later) = ap (λ (bytes : List ℕ). with_end reply ++ bytes) (written_as later)
+
+length-mapped : {X Y : Type 0} (f : X → Y) (xs : List X) → length (map f xs) ≡ length xs
+length-mapped f [] = refl
+length-mapped f (x ∷ xs) = ap suc (length-mapped f xs)
+
+all_serves : (s t : State) (seen : List Frame) (a b : Option (List ℕ)) (i j : ℕ) → AnswersAll AnswersFrame s t seen a b i j → ServesAll s t (lines_of seen) a b i j
+all_serves s t seen a b i j all =
+    let h = heard s t seen all.texts all.answers in
+    record {
+      replies = h.replies;
+      hears = h.hears;
+      counts = all.counts ∙ ap (λ (texts : List (List ℕ)). i + length texts) h.texts_are ∙ ap (λ n. i + n) (length-mapped with_end h.replies);
+      took = Appends-is a b _ _ (ap all_of h.texts_are ∙ written_as h.replies) all.took;
+    }
+
+-- the frame whose text went out in part is a line with a reply
+record Drawn (s t : State) (frame : Frame) (text : List ℕ) : Type 0 where
+  line : List ℕ
+  reply : List ℕ
+  is_line : (later : List Frame) → lines_of (frame ∷ later) ≡ line ∷ lines_of later
+  replied : IsReplied s line t (Some reply)
+  text_is : text ≡ with_end reply
+
+drawn_line : (s t : State) (line : List ℕ) (reply : Option (List ℕ)) (text : List ℕ) → IsReplied s line t reply → ◌≡◌ {A = Option (List ℕ)} (Some text) (option_map with_end reply) → Drawn s t (Line (record { items = line })) text
+drawn_line s t line None text replied is = let wrong : ⊥ = cc in absurd wrong
+drawn_line s t line (Some reply) text replied is = record { line = line; reply = reply; is_line = λ later. refl; replied = replied; text_is = cc }
+
+never : (text : List ℕ) → ◌≡◌ {A = Option (List ℕ)} (Some text) None → ⊥
+never text is = cc
+
+drawn : (s t : State) (frame : Frame) (text : List ℕ) → AnswersFrame s frame t (Some text) → Drawn s t frame text
+drawn s t (Line line) text h = drawn_line s t line.items h.0 text h.1 h.2
+drawn s t Cleared text h = absurd (never text h.1)
+drawn s t Overlong text h = absurd (never text h.1)
+drawn s t More text h = absurd (never text h.1)
+
+part_serves : (s t : State) (seen : List Frame) (a b : Option (List ℕ)) (i j bytes : ℕ) → AnswersPart AnswersFrame s t seen a b i j bytes → ServesPart s t (lines_of seen) a b i j bytes
+part_serves s t seen a b i j bytes part =
+    let h = heard s part.state part.earlier part.texts part.answers in
+    let d = drawn part.state t part.frame part.text part.draws in
+    record {
+      earlier = lines_of part.earlier;
+      line = d.line;
+      later = lines_of part.later;
+      order = ap lines_of part.order ∙ filter_map-append line_in part.earlier (part.frame ∷ part.later) ∙ ap (λ (xs : List (List ℕ)). lines_of part.earlier ++ xs) (d.is_line part.later);
+      state = part.state;
+      replies = h.replies;
+      hears = h.hears;
+      reply = d.reply;
+      draws = d.replied;
+      counts = part.counts ∙ ap (λ (texts : List (List ℕ)). i + length texts) h.texts_are ∙ ap (λ n. i + n) (length-mapped with_end h.replies);
+      not_all = subst (λ (text : List ℕ). bytes < length text) d.text_is part.not_all;
+      took = Appends-is a b _ _ (ap (λ (xs : List ℕ). xs ++ take bytes part.text) (ap all_of h.texts_are ∙ written_as h.replies) ∙ ap (λ (xs : List ℕ). replies_text h.replies ++ take bytes xs) d.text_is) part.took;
+    }
+
+-- the whole result
+pub serves_frames : (s t : State) (seen : List Frame) (a b : Option (List ℕ)) (r : Result Served ServeFault) → AnswersFrames AnswersFrame s t seen a b r → Serves s t (lines_of seen) a b r
+serves_frames s t seen a b (Ok served) h = all_serves s t seen a b 0 served.replies h
+serves_frames s t seen a b (Err (Read n)) h = all_serves s t seen a b 0 n h
+serves_frames s t seen a b (Err (Write n bytes)) h = part_serves s t seen a b 0 n bytes h
+serves_frames s t seen a b (Err (TooManyReads n)) h = all_serves s t seen a b 0 n h
+
+-- a stream behind a line feed
+pub lines-next : (first next : List ℕ) → rest_of first ≡ [] → lines (first ++ next) ≡ lines first ++ lines next
+lines-next first next none =
+    ap lines_of (frames-append first next) ∙ filter_map-append line_in (frames first) (frames_behind (rest_behind [] first) next)
+    ∙ ap (λ (rest : List ℕ). lines first ++ lines_of (frames_behind rest next)) none

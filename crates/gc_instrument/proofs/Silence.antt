@@ -1,0 +1,57 @@
+-- Lines that are no requests change nothing.
+use Rattle.std.proofs.Common.{◌≡◌, inl, inr, ℕ, List, [], ◌∷◌, ◌++◌, Option, None, refl, sym, ap, ◌∙◌, subst}
+use Rattle.std.specs.List.{AllByRecursion}
+use Rattle.std.specs.Option.{option_to_list}
+use Rattle.gc_lines.specs.Frames.{lines, rest_of}
+use Rattle.gc_lines.specs.Requests.{RequestFields, IsRequest}
+use Rattle.gc_lines.proofs.Cutting.{rest-append}
+use Rattle.gc_instrument.specs.State.{State}
+use Rattle.gc_instrument.specs.Replying.{IsReplied, silent, answers}
+use Rattle.gc_instrument.specs.Hearing.{Hears, IsOutput}
+use Rattle.gc_instrument.specs.Laws.{IsWhole, ForeignLinesAreSilent}
+use Rattle.gc_instrument.proofs.HeardFrames.{lines-next}
+
+-- none of these lines reads as a request
+abbrev AreForeign : List (List ℕ) → Type 0
+AreForeign heard = AllByRecursion (λ line. (q : RequestFields) → ¬ IsRequest line q) heard
+
+put_in : (s t : State) (foreign later ps : List (List ℕ)) → AreForeign foreign → Hears s later t ps → Hears s (foreign ++ later) t ps
+put_in s t [] later ps none h = h
+put_in s t (line ∷ foreign) later ps none h = (s, None, ps, silent none.0 refl refl, put_in s t foreign later ps none.1 h, refl)
+
+stays : (s u : State) (line : List ℕ) (reply : Option (List ℕ)) → ((q : RequestFields) → ¬ IsRequest line q) → IsReplied s line u reply → (u ≡ s) × (reply ≡ None)
+stays s u line reply none (silent never same quiet) = (same, quiet)
+stays s u line reply none (answers q is text does told) = absurd (none q is)
+
+take_out : (s t : State) (foreign later ps : List (List ℕ)) → AreForeign foreign → Hears s (foreign ++ later) t ps → Hears s later t ps
+take_out s t [] later ps none h = h
+take_out s t (line ∷ foreign) later ps none h =
+    let same = stays s h.0 line h.1 none.0 h.3 in
+    let rest : Hears h.0 later t h.2 = take_out h.0 t foreign later h.2 none.1 h.4 in
+    let all : ps ≡ h.2 = h.5 ∙ ap (λ (reply : Option (List ℕ)). option_to_list reply ++ h.2) same.1 in
+    subst (λ (qs : List (List ℕ)). Hears s later t qs) (sym all) (subst (λ (u : State). Hears u later t h.2) same.0 rest)
+
+-- behind the same lines
+behind : (s t : State) (first xs ys ps : List (List ℕ)) → ((u : State) (qs : List (List ℕ)) → Hears u xs t qs → Hears u ys t qs) → Hears s (first ++ xs) t ps → Hears s (first ++ ys) t ps
+behind s t [] xs ys ps change h = change s ps h
+behind s t (line ∷ first) xs ys ps change h = (h.0, h.1, h.2, h.3, behind h.0 t first xs ys h.2 change h.4, h.5)
+
+whole_rest : (stream : List ℕ) → IsWhole stream → rest_of stream ≡ []
+whole_rest stream (inl e) = ap rest_of e
+whole_rest stream (inr ends) = ap rest_of ends.1 ∙ rest-append [] ends.0 (10 ∷ [])
+
+same_output : (s t : State) (x y bytes : List ℕ) → ((ps : List (List ℕ)) → Hears s (lines x) t ps → Hears s (lines y) t ps) → IsOutput s x t bytes → IsOutput s y t bytes
+same_output s t x y bytes change h = record { replies = h.replies; hears = change h.replies h.hears; bytes_are = h.bytes_are }
+
+pub foreign_lines_are_silent : ForeignLinesAreSilent
+foreign_lines_are_silent s t front foreign back bytes front_whole foreign_whole none =
+    let longer : lines (front ++ (foreign ++ back)) ≡ lines front ++ (lines foreign ++ lines back) =
+    lines-next front (foreign ++ back) (whole_rest front front_whole) ∙ ap (λ (xs : List (List ℕ)). lines front ++ xs) (lines-next foreign back (whole_rest foreign foreign_whole)) in
+    let shorter : lines (front ++ back) ≡ lines front ++ lines back = lines-next front back (whole_rest front front_whole) in (
+      same_output s t (front ++ (foreign ++ back)) (front ++ back) bytes (λ ps h.
+          subst (λ (xs : List (List ℕ)). Hears s xs t ps) (sym shorter)
+          (behind s t (lines front) (lines foreign ++ lines back) (lines back) ps (λ u qs k. take_out u t (lines foreign) (lines back) qs none k) (subst (λ (xs : List (List ℕ)). Hears s xs t ps) longer h))),
+      same_output s t (front ++ back) (front ++ (foreign ++ back)) bytes (λ ps h.
+          subst (λ (xs : List (List ℕ)). Hears s xs t ps) (sym longer)
+          (behind s t (lines front) (lines back) (lines foreign ++ lines back) ps (λ u qs k. put_in u t (lines foreign) (lines back) qs none k) (subst (λ (xs : List (List ℕ)). Hears s xs t ps) shorter h))),
+    )

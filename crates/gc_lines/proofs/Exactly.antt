@@ -1,0 +1,26 @@
+-- What the end of answering says of the ports, and what the ports say of it.
+use Rattle.std.proofs.Common.{ℕ, Result, Err, OnOk, rules}
+use Rattle.std.specs.Io.KnownBytes.{IsAtEnd}
+use Rattle.gc_lines.specs.Answering.{Ports, EndsBecause, HasEnded}
+use Rattle.gc_lines.specs.declared.served.Served.{Served}
+use Rattle.gc_lines.specs.declared.served.ServeFault.{ServeFault}
+use Rattle.gc_lines.specs.declared.served.ServeFault.TheVariants.{Read}
+
+-- why it ended says exactly which end it was
+pub ended_exactly : (old new : Ports) (most : ℕ) (r : Result Served ServeFault) → OnOk r (IsAtEnd new.remaining) → EndsBecause old new most r → HasEnded old new most r
+ended_exactly old new most (Err (Read n)) whole ends = record {
+  whole = whole;
+  ends = ends;
+  served = search rules;
+  read = search rules;
+  write = search rules;
+  too_many = search rules;
+}
+ended_exactly old new most r whole ends = record {
+  whole = whole;
+  ends = ends;
+  served = search rules;
+  read = search rules;
+  write = search rules;
+  too_many = search rules;
+}

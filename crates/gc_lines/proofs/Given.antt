@@ -1,0 +1,58 @@
+-- What was read so far, and what was done with its frames.
+use Rattle.std.proofs.Common.{ℕ, ◌+◌, ◌*◌, ◌≤◌, List, [], ◌++◌, length, Option, sym, subst, arith, length-append}
+use Rattle.std.specs.Io.KnownBytes.{Consumes}
+use Rattle.std.proofs.lemmas.List.{append-nil}
+use Rattle.gc_lines.specs.Answering.{AnswerRule, AnswersAll, AnswersPart}
+use Rattle.gc_lines.specs.Assembler.{Kept, StandsFor}
+use Rattle.gc_lines.specs.Frames.{frames, rest_behind}
+use Rattle.gc_lines.specs.Passing.{frames_behind}
+use Rattle.gc_lines.specs.declared.frame.Frame.{Frame}
+use Rattle.gc_lines.proofs.Known.{Consumes-append, Consumes-nil}
+use Rattle.gc_lines.proofs.InOrder.{all_none, all_then, part_then}
+use Rattle.gc_lines.proofs.Passing.{frames-append, rest_behind-append}
+
+pub record Given {State : Type 0} (rule : AnswerRule State) (source_old source_new sink_old sink_new : Option (List ℕ)) (kept : Kept) (from to : State) (reads count : ℕ) : Type 0 where
+  pub given : List ℕ
+  pub gave : Consumes source_old source_new given
+  pub few : length given ≤ 256 * reads
+  pub stands : StandsFor kept (rest_behind [] given)
+  pub all : AnswersAll rule from to (frames given) sink_old sink_new 0 count
+
+pub given_start : {State : Type 0} (rule : AnswerRule State) (a b : Option (List ℕ)) (kept : Kept) (state : State) → StandsFor kept [] → Given rule a a b b kept state state 0 0
+given_start rule a b kept state s = record { given = []; gave = Consumes-nil a; few = omega arith; stands = s; all = all_none rule state b 0 }
+
+-- one more piece, whose frames were all answered
+pub given_more : {State : Type 0} (rule : AnswerRule State) (a a' a'' b b' b'' : Option (List ℕ)) (kept kept' : Kept) (s t u : State) (reads n n' : ℕ) (piece : List ℕ) → Given rule a a' b b' kept s t reads n → Consumes a' a'' piece → length piece ≤ 256
+    → ((rest : List ℕ) → StandsFor kept rest → StandsFor kept' (rest_behind rest piece) × AnswersAll rule t u (frames_behind rest piece) b' b'' n n') → Given rule a a'' b b'' kept' s u (reads + 1) n'
+given_more rule a a' a'' b b' b'' kept kept' s t u reads n n' piece so gave short answered =
+    let it = answered (rest_behind [] so.given) so.stands in
+    record {
+      given = so.given ++ piece;
+      gave = Consumes-append a a' a'' so.given piece so.gave gave;
+      few = omega (arith, so.few, length-append so.given piece);
+      stands = subst (λ (rest : List ℕ). StandsFor kept' rest) (sym (rest_behind-append so.given piece)) it.0;
+      all = subst (λ (seen : List Frame). AnswersAll rule s u seen b b'' 0 n') (sym (frames-append so.given piece))
+          (all_then rule s t u (frames so.given) (frames_behind (rest_behind [] so.given) piece) b b' b'' 0 n n' so.all it.1);
+    }
+
+-- nothing more was given
+pub given_end : {State : Type 0} (rule : AnswerRule State) (a a' a'' b b' : Option (List ℕ)) (kept : Kept) (s t : State) (reads n : ℕ) → Given rule a a' b b' kept s t reads n → Consumes a' a'' []
+    → (given : List ℕ) × Consumes a a'' given × (length given ≤ 256 * reads) × AnswersAll rule s t (frames given) b b' 0 n
+given_end rule a a' a'' b b' kept s t reads n so gave = (
+  so.given,
+  subst (λ (xs : List ℕ). Consumes a a'' xs) (append-nil so.given) (Consumes-append a a' a'' so.given [] so.gave gave),
+  so.few,
+  so.all,
+)
+
+-- one more piece, of which a text went out in part
+pub given_part : {State : Type 0} (rule : AnswerRule State) (a a' a'' b b' b'' : Option (List ℕ)) (kept : Kept) (s t u : State) (reads n n' bytes : ℕ) (piece : List ℕ) → Given rule a a' b b' kept s t reads n → Consumes a' a'' piece → length piece ≤ 256
+    → ((rest : List ℕ) → StandsFor kept rest → AnswersPart rule t u (frames_behind rest piece) b' b'' n n' bytes)
+    → (given : List ℕ) × Consumes a a'' given × (length given ≤ 256 * (reads + 1)) × AnswersPart rule s u (frames given) b b'' 0 n' bytes
+given_part rule a a' a'' b b' b'' kept s t u reads n n' bytes piece so gave short answered = (
+  so.given ++ piece,
+  Consumes-append a a' a'' so.given piece so.gave gave,
+  omega (arith, so.few, length-append so.given piece),
+  subst (λ (seen : List Frame). AnswersPart rule s u seen b b'' 0 n' bytes) (sym (frames-append so.given piece))
+      (part_then rule s t u (frames so.given) (frames_behind (rest_behind [] so.given) piece) b b' b'' 0 n n' bytes so.all (answered (rest_behind [] so.given) so.stands)),
+)

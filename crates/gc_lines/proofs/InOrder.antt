@@ -1,0 +1,110 @@
+-- Frames that are answered one list after another: what stands after them, and what is written.
+use Rattle.std.proofs.Common.{◌≡◌, ℕ, ◌+◌, List, [], ◌∷◌, ◌++◌, take, Option, Some, None, refl, sym, ap, ◌∙◌, subst, arith, append_assoc, length-append}
+use Rattle.std.specs.Option.{option_to_list}
+use Rattle.std.specs.Io.KnownBytes.{Appends}
+use Rattle.std.proofs.lemmas.List.{append-nil}
+use Rattle.std.proofs.lemmas.Grind.{flat_map-append}
+use Rattle.gc_lines.specs.Answering.{AnswerRule, AnswersInOrder, AnswersAll, AnswersPart, all_of}
+use Rattle.gc_lines.specs.Ports.{TakesFront}
+use Rattle.gc_lines.specs.declared.frame.Frame.{Frame}
+use Rattle.gc_lines.proofs.Known.{Appends-append, Appends-nil, Appends-is}
+
+-- frames after frames
+pub in_order_then : {State : Type 0} (rule : AnswerRule State) (s t u : State) (xs ys : List Frame) (ps qs : List (List ℕ)) → AnswersInOrder State rule s xs t ps → AnswersInOrder State rule t ys u qs → AnswersInOrder State rule s (xs ++ ys) u (ps ++ qs)
+in_order_then {State} rule s t u [] ys ps qs first next =
+    rw first.1 (subst (λ (v : State). AnswersInOrder State rule v ys u qs) first.0 next)
+in_order_then {State} rule s t u (x ∷ xs) ys ps qs first next = (
+  first.0,
+  first.1,
+  first.2 ++ qs,
+  first.3,
+  in_order_then rule first.0 t u xs ys first.2 qs first.4 next,
+  ap (λ (zs : List (List ℕ)). zs ++ qs) first.5 ∙ append_assoc (option_to_list first.1) first.2 qs,
+)
+
+-- one frame
+pub in_order_one : {State : Type 0} (rule : AnswerRule State) (s t : State) (frame : Frame) (text : Option (List ℕ)) → rule s frame t text → AnswersInOrder State rule s (frame ∷ []) t (option_to_list text)
+in_order_one rule s t frame text h = (t, text, [], h, (refl, refl), sym (append-nil (option_to_list text)))
+
+pub all_of-append : (xs ys : List (List ℕ)) → all_of (xs ++ ys) ≡ all_of xs ++ all_of ys
+all_of-append xs ys = flat_map-append (λ text. text) xs ys
+
+-- nothing was answered
+pub all_none : {State : Type 0} (rule : AnswerRule State) (state : State) (known : Option (List ℕ)) (count : ℕ) → AnswersAll rule state state [] known known count count
+all_none rule state known count = record { texts = []; answers = (refl, refl); counts = omega arith; took = Appends-nil known }
+
+-- more was answered
+pub all_then : {State : Type 0} (rule : AnswerRule State) (s t u : State) (xs ys : List Frame) (a b c : Option (List ℕ)) (i j k : ℕ) → AnswersAll rule s t xs a b i j → AnswersAll rule t u ys b c j k → AnswersAll rule s u (xs ++ ys) a c i k
+all_then rule s t u xs ys a b c i j k first next = record {
+  texts = first.texts ++ next.texts;
+  answers = in_order_then rule s t u xs ys first.texts next.texts first.answers next.answers;
+  counts = omega (arith, first.counts, next.counts, length-append first.texts next.texts);
+  took = Appends-is a c _ _ (sym (all_of-append first.texts next.texts)) (Appends-append a b c _ _ first.took next.took);
+}
+
+-- more was answered, and the last text went out in part
+pub part_then : {State : Type 0} (rule : AnswerRule State) (s t u : State) (xs ys : List Frame) (a b c : Option (List ℕ)) (i j k bytes : ℕ) → AnswersAll rule s t xs a b i j → AnswersPart rule t u ys b c j k bytes → AnswersPart rule s u (xs ++ ys) a c i k bytes
+part_then rule s t u xs ys a b c i j k bytes first part =
+    let end = take bytes part.text in
+    record {
+      earlier = xs ++ part.earlier;
+      frame = part.frame;
+      later = part.later;
+      order = ap (λ zs. xs ++ zs) part.order ∙ sym (append_assoc xs part.earlier (part.frame ∷ part.later));
+      state = part.state;
+      texts = first.texts ++ part.texts;
+      answers = in_order_then rule s t part.state xs part.earlier first.texts part.texts first.answers part.answers;
+      text = part.text;
+      draws = part.draws;
+      counts = omega (arith, first.counts, part.counts, length-append first.texts part.texts);
+      not_all = part.not_all;
+      took = Appends-is a c _ _ (sym (ap (λ zs. zs ++ end) (all_of-append first.texts part.texts) ∙ append_assoc (all_of first.texts) (all_of part.texts) end))
+          (Appends-append a b c _ _ first.took part.took);
+    }
+
+-- frames that come after the last one that was answered
+pub part_before : {State : Type 0} (rule : AnswerRule State) (s u : State) (xs ys : List Frame) (a c : Option (List ℕ)) (i k bytes : ℕ) → AnswersPart rule s u xs a c i k bytes → AnswersPart rule s u (xs ++ ys) a c i k bytes
+part_before rule s u xs ys a c i k bytes part = record {
+  earlier = part.earlier;
+  frame = part.frame;
+  later = part.later ++ ys;
+  order = ap (λ zs. zs ++ ys) part.order ∙ append_assoc part.earlier (part.frame ∷ part.later) ys;
+  state = part.state;
+  texts = part.texts;
+  answers = part.answers;
+  text = part.text;
+  draws = part.draws;
+  counts = part.counts;
+  not_all = part.not_all;
+  took = part.took;
+}
+
+-- one frame that is answered by nothing
+pub one_silent : {State : Type 0} (rule : AnswerRule State) (s t : State) (frame : Frame) (a : Option (List ℕ)) (count : ℕ) → rule s frame t None → AnswersAll rule s t (frame ∷ []) a a count count
+one_silent rule s t frame a count h = record { texts = []; answers = in_order_one rule s t frame None h; counts = omega arith; took = Appends-nil a }
+
+-- one frame, whose text went out whole
+pub one_whole : {State : Type 0} (rule : AnswerRule State) (s t : State) (frame : Frame) (text : List ℕ) (a b : Option (List ℕ)) (count : ℕ) → rule s frame t (Some text) → Appends a b text → AnswersAll rule s t (frame ∷ []) a b count (count + 1)
+one_whole rule s t frame text a b count draws took = record {
+  texts = text ∷ [];
+  answers = in_order_one rule s t frame (Some text) draws;
+  counts = omega arith;
+  took = Appends-is a b _ _ (sym (append-nil text)) took;
+}
+
+-- one frame, whose text went out in part
+pub one_part : {State : Type 0} (rule : AnswerRule State) (s t : State) (frame : Frame) (text : List ℕ) (a b : Option (List ℕ)) (count bytes : ℕ) → rule s frame t (Some text) → TakesFront a b bytes text → AnswersPart rule s t (frame ∷ []) a b count count bytes
+one_part rule s t frame text a b count bytes draws took = record {
+  earlier = [];
+  frame = frame;
+  later = [];
+  order = refl;
+  state = s;
+  texts = [];
+  answers = (refl, refl);
+  text = text;
+  draws = draws;
+  counts = omega arith;
+  not_all = took.0;
+  took = took.1;
+}

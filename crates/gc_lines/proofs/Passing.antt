@@ -1,0 +1,121 @@
+-- A piece on the way: which of its frames were answered, and what is left of it.
+use Rattle.std.proofs.Common.{◌≡◌, ℕ, ◌+◌, ◌<◌, Bool, true, false, eqb, cond, ◌-◌, List, [], ◌∷◌, ◌++◌, length, take, drop, map, Option, Some, None, refl, sym, ap, ◌∙◌, subst, arith, append_assoc}
+use Rattle.std.specs.List.{position}
+use Rattle.std.proofs.lemmas.Bool.Decides.{nat_tests}
+use Rattle.std.proofs.lemmas.List.{append-nil, drop_all, map-append}
+use Rattle.gc_lines.specs.Answering.{AnswerRule, AnswersAll, AnswersPart}
+use Rattle.gc_lines.specs.Assembler.{Kept, StandsFor}
+use Rattle.gc_lines.specs.Frames.{is_line_feed, ends_in_return, frame_of, frames, pieces_behind, rest_behind}
+use Rattle.gc_lines.specs.Passing.{completed, frames_behind}
+use Rattle.gc_lines.specs.declared.frame.Frame.{Frame}
+use Rattle.gc_lines.specs.declared.frame.Frame.TheVariants.{Line, Cleared, Overlong, More}
+use Rattle.gc_lines.proofs.Cutting.{cut_none, cut_some, pieces-append, rest-append}
+use Rattle.gc_lines.proofs.InOrder.{all_none, all_then, part_then, part_before}
+
+-- one piece after another
+pub frames-append : (given piece : List ℕ) → frames (given ++ piece) ≡ frames given ++ frames_behind (rest_behind [] given) piece
+frames-append given piece = ap (λ ps. map frame_of ps) (pieces-append [] given piece) ∙ map-append frame_of (pieces_behind [] given) (pieces_behind (rest_behind [] given) piece)
+
+pub rest_behind-append : (given piece : List ℕ) → rest_behind [] (given ++ piece) ≡ rest_behind (rest_behind [] given) piece
+rest_behind-append given piece = rest-append [] given piece
+
+-- a line feed makes a frame
+made : (bytes : List ℕ) → completed (frame_of bytes) ≡ frame_of bytes ∷ []
+made bytes = by_tests (ends_in_return bytes) _ where
+  by_tests : (a b : Bool) → completed (cond a (cond b Overlong (Line (record { items = take (length bytes - 1) bytes }))) Cleared) ≡ cond a (cond b Overlong (Line (record { items = take (length bytes - 1) bytes }))) Cleared ∷ []
+  by_tests true true = refl
+  by_tests true false = refl
+  by_tests false b = refl
+
+-- the assembler took used bytes of left behind rest, and this frame
+pub record Takes (rest left : List ℕ) (used : ℕ) (frame : Frame) (kept : Kept) : Type 0 where
+  pub now : List ℕ
+  pub stands : StandsFor kept now
+  pub seen : frames_behind rest left ≡ completed frame ++ frames_behind now (drop used left)
+  pub rests : rest_behind rest left ≡ rest_behind now (drop used left)
+
+takes_none : (rest left : List ℕ) (used : ℕ) (frame : Frame) (kept : Kept) → position is_line_feed left ≡ None → used ≡ length left → frame ≡ More → StandsFor kept (rest ++ left) → Takes rest left used frame kept
+takes_none rest left used frame kept none all more s =
+    let cut = cut_none rest left none in
+    let nothing : drop used left ≡ [] = drop_all used left (omega arith) in
+    record {
+      now = rest ++ left;
+      stands = s;
+      seen = rw (more, nothing) (ap (λ ps. map frame_of ps) cut.0);
+      rests = rw nothing cut.1;
+    }
+
+takes_some : (rest left : List ℕ) (at used : ℕ) (frame : Frame) (kept : Kept) → position is_line_feed left ≡ Some at → used ≡ at + 1 → frame ≡ frame_of (rest ++ take at left) → StandsFor kept [] → Takes rest left used frame kept
+takes_some rest left at used frame kept some next is s =
+    let cut = cut_some rest left at some in
+    record {
+      now = [];
+      stands = s;
+      seen = rw (next, is, made (rest ++ take at left)) (ap (λ ps. map frame_of ps) cut.0);
+      rests = rw next cut.1;
+    }
+
+-- what `take` ensures, for each rest that the assembler stood for
+pub takes : (rest left : List ℕ) (used : ℕ) (frame : Frame) (kept : Kept)
+    → (position is_line_feed left ≡ None → (used ≡ length left) × (frame ≡ More) × StandsFor kept (rest ++ left))
+    → ((at : ℕ) → position is_line_feed left ≡ Some at → (used ≡ at + 1) × (frame ≡ frame_of (rest ++ take at left)) × StandsFor kept [])
+    → Takes rest left used frame kept
+takes rest left used frame kept more whole = elim (position is_line_feed left) as (λ v. position is_line_feed left ≡ v → Takes rest left used frame kept) [
+  | None ↦ λ e. let m = more e in takes_none rest left used frame kept e m.0 m.1 m.2
+  | Some at ↦ λ e. let m = whole at e in takes_some rest left at used frame kept e m.0 m.1 m.2
+] refl
+
+-- of the frames of a piece behind rest some were answered; left is what is left of the piece
+pub record Going {State : Type 0} (rule : AnswerRule State) (rest piece left : List ℕ) (kept : Kept) (from to : State) (old new : Option (List ℕ)) (before count : ℕ) : Type 0 where
+  pub now : List ℕ
+  pub answered : List Frame
+  pub stands : StandsFor kept now
+  pub seen : frames_behind rest piece ≡ answered ++ frames_behind now left
+  pub rests : rest_behind rest piece ≡ rest_behind now left
+  pub all : AnswersAll rule from to answered old new before count
+
+pub going_start : {State : Type 0} (rule : AnswerRule State) (rest piece : List ℕ) (kept : Kept) (state : State) (known : Option (List ℕ)) (count : ℕ) → StandsFor kept rest → Going rule rest piece piece kept state state known known count count
+going_start rule rest piece kept state known count s = record {
+  now = rest;
+  answered = [];
+  stands = s;
+  seen = refl;
+  rests = refl;
+  all = all_none rule state known count;
+}
+
+seen_more : (answered frame later all left : List Frame) → all ≡ answered ++ left → left ≡ frame ++ later → all ≡ (answered ++ frame) ++ later
+seen_more answered frame later all left e f = e ∙ ap (λ zs. answered ++ zs) f ∙ sym (append_assoc answered frame later)
+
+-- one more frame
+pub going_on : {State : Type 0} (rule : AnswerRule State) (rest piece left : List ℕ) (used : ℕ) (frame : Frame) (kept kept' : Kept) (s t u : State) (a b c : Option (List ℕ)) (i j k : ℕ)
+    → (g : Going rule rest piece left kept s t a b i j) → Takes g.now left used frame kept' → AnswersAll rule t u (completed frame) b c j k → Going rule rest piece (drop used left) kept' s u a c i k
+going_on rule rest piece left used frame kept kept' s t u a b c i j k g taken more = record {
+  now = taken.now;
+  answered = g.answered ++ completed frame;
+  stands = taken.stands;
+  seen = seen_more g.answered (completed frame) (frames_behind taken.now (drop used left)) (frames_behind rest piece) (frames_behind g.now left) g.seen taken.seen;
+  rests = g.rests ∙ taken.rests;
+  all = all_then rule s t u g.answered (completed frame) a b c i j k g.all more;
+}
+
+-- one more frame, whose text went out in part
+pub going_part : {State : Type 0} (rule : AnswerRule State) (rest piece left : List ℕ) (used : ℕ) (frame : Frame) (kept kept' : Kept) (s t u : State) (a b c : Option (List ℕ)) (i j k bytes : ℕ)
+    → (g : Going rule rest piece left kept s t a b i j) → Takes g.now left used frame kept' → AnswersPart rule t u (completed frame) b c j k bytes → AnswersPart rule s u (frames_behind rest piece) a c i k bytes
+going_part {State} rule rest piece left used frame kept kept' s t u a b c i j k bytes g taken part =
+    let later = frames_behind taken.now (drop used left) in
+    let all = seen_more g.answered (completed frame) later (frames_behind rest piece) (frames_behind g.now left) g.seen taken.seen in
+    subst (λ (seen : List Frame). AnswersPart rule s u seen a c i k bytes) (sym all)
+    (part_before rule s u (g.answered ++ completed frame) later a c i k bytes (part_then rule s t u g.answered (completed frame) a b c i j k bytes g.all part))
+
+-- nothing is left
+pub going_end : {State : Type 0} (rule : AnswerRule State) (rest piece : List ℕ) (kept : Kept) (s t : State) (a b : Option (List ℕ)) (i j : ℕ) → Going rule rest piece [] kept s t a b i j
+    → StandsFor kept (rest_behind rest piece) × AnswersAll rule s t (frames_behind rest piece) a b i j
+going_end rule rest piece kept s t a b i j g = (
+  subst (λ (xs : List ℕ). StandsFor kept xs) (sym g.rests) g.stands,
+  subst (λ (xs : List Frame). AnswersAll rule s t xs a b i j) (sym (g.seen ∙ append-nil g.answered)) g.all,
+)
+
+-- a length whose test for 0 fails
+pub not_empty : (n : ℕ) (b : Bool) → b ≡ eqb n 0 → b ≡ false → 0 < n
+not_empty n b is e = grind (arith, nat_tests)

@@ -1,0 +1,45 @@
+use Rattle.std.proofs.Common.{◌≡◌, ℕ, ◌≤◌, length, take, arith, sym, ◌∙◌, eqb, false, rules}
+use Rattle.std.proofs.lemmas.Bool.Decides.{nat_tests}
+use Rattle.std.proofs.lemmas.List.{length-take}
+use Rattle.gc_lines.proofs.Exactly.{ended_exactly}
+use Rattle.gc_lines.proofs.Given.{given_more, given_part, given_end}
+use Rattle.gc_lines.proofs.answering.answer_frames.Goals as goal
+
+not_zero : (n : ℕ) → (n ≡ 0 → ⊥) → eqb n 0 ≡ false
+not_zero n h = grind (arith, nat_tests)
+
+pub loop-preserved : goal.loop-preserved
+loop-preserved g c =
+    let short : length (take c.in-Ok.n c.read.new.buf) ≤ 256 = omega (arith, c.loop.invariant.room, c.read.auto.buf, length-take c.in-Ok.n c.read.new.buf) in
+    record {
+      so = given_more _ _ (g.S.Source.remaining c.loop.source) _ _ _ _ c.loop.session.assembler _ _ _ _ c.loop.counter c.loop.session.replies _ _ c.loop.invariant.so c.in-Ok.ensures.bytes.1 short c.in_default.ensures.ok;
+      reads = omega (arith, c.loop.invariant.reads, c.in-Ok.ensures.counts.0);
+      going = λ _. c.in-Ok.ensures.counts.1 ∙ not_zero c.in-Ok.n c.in-Ok.n-test.1;
+      source = c.in-Ok.ensures.fails.1 ∙ sym c.in-Ok.ensures.fails.0 ∙ c.loop.invariant.source;
+      sink = c.in_default.ensures.failed ∙ c.loop.invariant.sink;
+      few = omega (arith, c.loop.invariant.few, short, c.in_default.ensures.bound);
+      room = c.read.auto.buf ∙ c.loop.invariant.room;
+    }
+
+pub returns-in-Err-answer_piece-clause-answers : goal.returns-in-Err-answer_piece-clause-answers
+returns-in-Err-answer_piece-clause-answers g c =
+    let short : length (take c.in-Ok.n c.read.new.buf) ≤ 256 = omega (arith, c.loop.invariant.room, c.read.auto.buf, length-take c.in-Ok.n c.read.new.buf) in
+    let it = given_part _ _ (g.S.Source.remaining c.loop.source) _ _ _ _ c.loop.session.assembler _ _ _ c.loop.counter c.loop.session.replies _ _ _ c.loop.invariant.so c.in-Ok.ensures.bytes.1 short c.in-Err-answer_piece.ensures.err in
+    (it.0, it.1, omega (arith, it.2, c.loop.invariant.reads, c.in-Ok.ensures.counts.0), it.3)
+
+pub returns-in-Err-answer_piece-clause-ended : goal.returns-in-Err-answer_piece-clause-ended
+returns-in-Err-answer_piece-clause-ended g c =
+    ended_exactly _ _ _ _ tt
+    (omega (arith, c.loop.invariant.reads, c.in-Ok.ensures.counts.0), omega (arith, c.loop.invariant.reads, c.in-Ok.ensures.counts.0), search rules, search rules, search rules)
+
+pub returns-in-Err-clause-ended : goal.returns-in-Err-clause-ended
+returns-in-Err-clause-ended g c = ended_exactly _ _ _ _ tt (search rules)
+
+pub returns-in-Ok-eq0-clause-ended : goal.returns-in-Ok-eq0-clause-ended
+returns-in-Ok-eq0-clause-ended g c = ended_exactly _ _ _ _ (search rules) (search rules)
+
+pub returns-in-Ok-eq0-clause-answers : goal.returns-in-Ok-eq0-clause-answers
+returns-in-Ok-eq0-clause-answers g c = search (given_end, rules)
+
+pub returns-clause-ended : goal.returns-clause-ended
+returns-clause-ended g c = ended_exactly _ _ _ _ tt (search rules)

@@ -1,0 +1,14 @@
+use Rattle.std.proofs.Common.{◌++◌, arith, ap, ◌∙◌}
+use Rattle.gc_lines.proofs.Digits.{digit_written, last_digit_written}
+use Rattle.gc_lines.proofs.number.push_digits.Goals as goal
+
+pub loop-left-preserved : goal.loop-left-preserved
+loop-left-preserved g c =
+    let i = c.loop-left.invariant in
+    let next = digit_written c.loop-left.digits c.loop-left.at c.loop-left.left c.args.n i.room i.size i.below (omega arith) c.loop-left-test.true i.text in
+    record { room = omega (arith, i.room); size = next.1; below = next.2; text = next.3 }
+
+pub returns-clause-items : goal.returns-clause-items
+returns-clause-items g c =
+    let i = c.loop-left.invariant in
+    c.append.ensures ∙ ap (λ ds. c.args.to.now.items ++ ds) (last_digit_written c.loop-left.digits c.loop-left.at c.loop-left.left c.args.n i.room i.size c.loop-left-test.false i.text)

@@ -1,0 +1,110 @@
+-- Frames that are answered, one after the other, each with a text or with nothing, from a source to a sink: this project's own.
+use Rattle.std.specs.Prelude.{◌≡◌, ◌↔◌, ℕ, ◌+◌, ◌-◌, ◌*◌, ◌<◌, ◌≤◌, Bool, true, false, List, [], ◌∷◌, ◌++◌, length, take, Option, Some, None, Result, Ok, Err, IsOk, IsErrAnd, OnOk, codes}
+use Rattle.std.specs.Fmt.{decimal}
+use Rattle.std.specs.Io.KnownBytes.{Appends, Consumes, IsAtEnd}
+use Rattle.std.specs.List.{flat_map}
+use Rattle.std.specs.Option.{option_to_list}
+use Rattle.gc_lines.specs.Frames.{frames}
+use Rattle.gc_lines.specs.declared.frame.Frame.{Frame}
+use Rattle.gc_lines.specs.declared.served.Served.{Served}
+use Rattle.gc_lines.specs.declared.served.ServeFault.{ServeFault}
+use Rattle.gc_lines.specs.declared.served.ServeFault.TheVariants.{Read, Write, TooManyReads}
+
+-- the number of a fault
+abbrev pub fault_number : ServeFault → ℕ
+fault_number (Read _) = 42
+fault_number (Write _ _) = 43
+fault_number (TooManyReads _) = 44
+
+-- a fault as it is printed
+abbrev pub fault_text : ServeFault → List ℕ
+fault_text (Read _) = codes "fault 42"
+fault_text (Write count bytes) = codes "fault 43 reply " ++ decimal count ++ codes " byte " ++ decimal bytes
+fault_text (TooManyReads _) = codes "fault 44"
+
+-- what answering may do: the state before a frame, the frame, the state after it, and the text that is written for it, if there is one
+abbrev pub AnswerRule : Type 0 → Type 1
+AnswerRule State = State → Frame → State → Option (List ℕ) → Type 0
+
+-- the frames, one after the other, take the state from the one to the other, with these texts in order
+abbrev pub AnswersInOrder : (State : Type 0) → AnswerRule State → State → List Frame → State → List (List ℕ) → Type 0
+AnswersInOrder State rule before [] after texts = (after ≡ before) × (texts ≡ [])
+AnswersInOrder State rule before (frame ∷ later) after texts =
+    (state : State) × (text : Option (List ℕ)) × (rest : List (List ℕ))
+    × rule before frame state text × AnswersInOrder State rule state later after rest × (texts ≡ option_to_list text ++ rest)
+
+-- texts as they are written
+abbrev pub all_of : List (List ℕ) → List ℕ
+all_of texts = flat_map (λ text. text) texts
+
+-- all of these frames were answered, and the texts went out whole, which makes count of before
+pub record AnswersAll {State : Type 0} (rule : AnswerRule State) (from to : State) (seen : List Frame) (old new : Option (List ℕ)) (before count : ℕ) : Type 0 where
+  pub texts : List (List ℕ)
+  pub answers : AnswersInOrder State rule from seen to texts
+  pub counts : count ≡ before + length texts
+  pub took : Appends old new (all_of texts)
+
+-- frames were answered up to one whose text went out in part; those after it weren't
+pub record AnswersPart {State : Type 0} (rule : AnswerRule State) (from to : State) (seen : List Frame) (old new : Option (List ℕ)) (before count bytes : ℕ) : Type 0 where
+  pub earlier : List Frame
+  pub frame : Frame
+  pub later : List Frame
+  pub order : seen ≡ earlier ++ frame ∷ later
+  pub state : State
+  pub texts : List (List ℕ)
+  pub answers : AnswersInOrder State rule from earlier state texts
+  pub text : List ℕ
+  pub draws : rule state frame to (Some text)
+  pub counts : count ≡ before + length texts
+  pub not_all : bytes < length text
+  pub took : Appends old new (all_of texts ++ take bytes text)
+
+-- what was done with the frames of what was read
+abbrev pub AnswersFrames : {State : Type 0} → AnswerRule State → State → State → List Frame → Option (List ℕ) → Option (List ℕ) → Result Served ServeFault → Type 0
+AnswersFrames rule from to seen old new (Ok served) = AnswersAll rule from to seen old new 0 served.replies
+AnswersFrames rule from to seen old new (Err (Read count)) = AnswersAll rule from to seen old new 0 count
+AnswersFrames rule from to seen old new (Err (Write count bytes)) = AnswersPart rule from to seen old new 0 count bytes
+AnswersFrames rule from to seen old new (Err (TooManyReads count)) = AnswersAll rule from to seen old new 0 count
+
+-- what is seen of a source and a sink: the bytes that are still to come and those that were taken, where they are known, how many
+-- reads were answered and whether the last was the end, and which port has failed
+pub record Ports : Type 0 where
+  pub remaining : Option (List ℕ)
+  pub reads : ℕ
+  pub ended : Bool
+  pub source_failed : Bool
+  pub taken : Option (List ℕ)
+  pub sink_failed : Bool
+
+-- why it ended, in at most most reads, and what the ports then are
+abbrev pub EndsBecause : Ports → Ports → ℕ → Result Served ServeFault → Type 0
+EndsBecause old new most (Ok _) = (old.reads < new.reads) × (new.reads ≤ old.reads + most) × (new.ended ≡ true) × (new.source_failed ≡ false) × (new.sink_failed ≡ old.sink_failed)
+EndsBecause old new most (Err (Read _)) = (new.reads < old.reads + most) × (old.reads < new.reads → new.ended ≡ false) × (new.source_failed ≡ true) × (new.sink_failed ≡ old.sink_failed)
+EndsBecause old new most (Err (Write _ _)) = (old.reads < new.reads) × (new.reads ≤ old.reads + most) × (new.ended ≡ false) × (new.source_failed ≡ false) × (new.sink_failed ≡ true)
+EndsBecause old new most (Err (TooManyReads _)) = (new.reads ≡ old.reads + most) × (old.reads < new.reads → new.ended ≡ false) × (new.source_failed ≡ old.source_failed) × (new.sink_failed ≡ old.sink_failed)
+
+-- answering in at most most reads took the ports from old to new, and gave this result
+pub record HasEnded (old new : Ports) (most : ℕ) (result : Result Served ServeFault) : Type 0 where
+  -- where it is served, the source has no byte left
+  pub whole : OnOk result (IsAtEnd new.remaining)
+  -- why it ended
+  pub ends : EndsBecause old new most result
+  -- it is served exactly where the last read was the end
+  pub served : IsOk result ↔ ((old.reads < new.reads) × (new.ended ≡ true))
+  -- 42 exactly where the source failed, 43 exactly where the sink did
+  pub read : old.source_failed ≡ false → IsErrAnd result (λ fault. fault_number fault ≡ 42) ↔ (new.source_failed ≡ true)
+  pub write : old.sink_failed ≡ false → IsErrAnd result (λ fault. fault_number fault ≡ 43) ↔ (new.sink_failed ≡ true)
+  -- 44 exactly where all reads were answered, none was the end, and no port failed
+  pub too_many : old.source_failed ≡ false → old.sink_failed ≡ false → IsErrAnd result (λ fault. fault_number fault ≡ 44)
+      ↔ ((new.reads ≡ old.reads + most) × (old.reads < new.reads → new.ended ≡ false) × (new.source_failed ≡ false) × (new.sink_failed ≡ false))
+
+-- of the bytes that the source gave, the frames were answered, and the sink took the texts, or the part that the fault says
+abbrev pub AnswersGiven : {State : Type 0} → AnswerRule State → State → State → Ports → Ports → Result Served ServeFault → Type 0
+AnswersGiven rule from to old new result =
+    (given : List ℕ) × Consumes old.remaining new.remaining given
+    × (length given ≤ 256 * (new.reads - old.reads)) × AnswersFrames rule from to (frames given) old.taken new.taken result
+
+-- what an answerer did with the text that it was handed: it appended what it answers to a frame, or left the text as it is
+abbrev pub AppendsAnswer : (Option (List ℕ) → Type 0) → List ℕ → List ℕ → Bool → Type 0
+AppendsAnswer answered old new true = (text : List ℕ) × answered (Some text) × (new ≡ old ++ text)
+AppendsAnswer answered old new false = answered None × (new ≡ old)

@@ -1,0 +1,55 @@
+//! How answering a source's frames ends: served to the end, or a fault that says what was written.
+
+ghost use Rattle.std.specs.Prelude.{◌≡◌, Some};
+ghost use Rattle.gc_lines.specs.Answering.{fault_number, fault_text};
+
+use std::error::Error;
+use std::fmt;
+
+/// The input was answered to its end.
+#[derive(Clone, Copy, Debug, PartialEq, Eq)]
+pub struct Served {
+    /// How many replies were written.
+    pub replies: u64,
+}
+
+/// Why answering stopped before the input ended. `replies` is how many replies were written whole.
+#[derive(Clone, Copy, Debug, PartialEq, Eq)]
+pub enum ServeFault {
+    /// The source failed. The replies to all that was read are written.
+    Read { replies: u64 },
+    /// The sink failed. It took the first `bytes` bytes of the next reply, its line end counted.
+    Write { replies: u64, bytes: usize },
+    /// All reads that were allowed were answered, and none was the end. The replies to all that was read are written.
+    TooManyReads { replies: u64 },
+}
+
+impl ServeFault {
+    /// The number of the fault: 42, 43 or 44, in the order above. This project's own.
+    pub fn number(self) -> u8
+        ensures { result ≡ fault_number self }
+    {
+        match self {
+            ServeFault::Read { .. } => 42,
+            ServeFault::Write { .. } => 43,
+            ServeFault::TooManyReads { .. } => 44,
+        }
+    }
+}
+
+impl fmt::Display for ServeFault {
+    ghost output = { λ fault. Some (fault_text fault) };
+
+    fn fmt<W: fmt::Write>(&self, f: &mut fmt::Formatter<W>) -> fmt::Result {
+        match self {
+            ServeFault::Write { replies, bytes } => write!(
+                f,
+                "fault 43 reply {replies} byte {bytes}"
+            ),
+            ServeFault::Read { .. } => f.write_str("fault 42"),
+            ServeFault::TooManyReads { .. } => f.write_str("fault 44"),
+        }
+    }
+}
+
+impl Error for ServeFault {}

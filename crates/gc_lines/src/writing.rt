@@ -1,0 +1,39 @@
+//! The writing of bytes, whole, into a sink: as many writes as the sink needs, until it has all of them or has failed.
+
+ghost use Rattle.std.specs.Prelude.{◌≡◌, ◌++◌, ◌<◌, length, OnOk, IfErr};
+ghost use Rattle.std.specs.Io.KnownBytes.{Appends};
+ghost use Rattle.gc_lines.specs.Lines.{with_end};
+ghost use Rattle.gc_lines.specs.Ports.{FailsWith, TakesFront};
+
+use crate::line::{Line, append};
+use crate::ports::Sink;
+use arrayvec::ArrayVec;
+
+/// Writes all of the bytes. `Err(n)`: the sink took the first n of them, which aren't all, and failed.
+pub fn write_whole<K: Sink>(sink: &mut K, bytes: &[u8]) -> Result<(), usize>
+    ensures failed { FailsWith result (K.failed sink.old) (K.failed sink.new) }
+    ensures ok { OnOk result (Appends (K.taken sink.old) (K.taken sink.new) bytes.now) }
+    ensures err { IfErr result (λ n. TakesFront (K.taken sink.old) (K.taken sink.new) n bytes.now) }
+{
+    let mut at = 0;
+    while at < bytes.len() {
+        match sink.write(&bytes[at..]) {
+            Ok(n) => at += n,
+            Err(_) => return Err(at),
+        }
+    }
+    Ok(())
+}
+
+/// Writes a line with its CR LF, in one write where the sink takes all of it. `Err(n)`: the sink took the first n bytes of
+/// that, which aren't all, and failed.
+pub fn write_line<K: Sink>(sink: &mut K, line: &Line) -> Result<(), usize>
+    ensures failed { FailsWith result (K.failed sink.old) (K.failed sink.new) }
+    ensures ok { OnOk result (Appends (K.taken sink.old) (K.taken sink.new) (with_end line.now.items)) }
+    ensures err { IfErr result (λ n. TakesFront (K.taken sink.old) (K.taken sink.new) n (with_end line.now.items)) }
+{
+    let mut text = ArrayVec::<u8, 514>::new();
+    append(&mut text, line);
+    append(&mut text, b"\r\n");
+    write_whole(sink, text.as_slice())
+}

@@ -1,0 +1,297 @@
+-- one text has the form of a written number and names it
+use Rattle.std.proofs.Common.{◌≡◌, ◌≢◌, ◌↔◌, ℕ, zero, suc, ◌+◌, ◌-◌, ◌*◌, ◌/◌, ◌%◌, ◌^◌, ◌<◌, ◌≤◌, Bool, true, false, cond, get_or, ℤ, pos, negsuc, List, [], ◌∷◌, ◌++◌, length, map, refl, sym, ap, ◌∙◌, subst, inl, inr, arith, lit<, lit≤, length-append}
+use Rattle.std.proofs.Math.Nat.{pow-suc, pos_of_ne-zero, div-one, div-add-mod', mul-pos}
+use Rattle.std.proofs.lemmas.Bool.{cases_order}
+use Rattle.std.proofs.lemmas.Bool.Decides.{eqb_tells}
+use Rattle.std.proofs.lemmas.Nat.{div-mul-add}
+use Rattle.std.specs.Int.Digits.{digits_of}
+use Rattle.std.proofs.lemmas.Int.Digits.{first_digits_of}
+use Rattle.gc_values.specs.Digits.{IsDigit, AreDigits, number}
+use Rattle.gc_values.specs.Fraction.{signed, IsCanonical}
+use Rattle.gc_values.specs.Spelling.{Spells}
+use Rattle.gc_values.specs.Whole.{NamesWhole, signed_text}
+use Rattle.gc_values.specs.Written.{digits_text, whole_text, last_digits, behind_text, written}
+use Rattle.gc_values.specs.WrittenForm.{IsWholePart, IsFractionPart, HasWholeForm, HasDecimalForm, minus_where}
+use Rattle.gc_values.specs.declared.decimal.Decimal.{Decimal}
+use Rattle.gc_values.proofs.Kept.{number-append, number-lt}
+use Rattle.gc_values.proofs.Powers.{ten_pow_pos, ten_pow_le}
+use Rattle.gc_values.proofs.ReadLemmas.{spells_once}
+use Rattle.gc_values.proofs.Signs.{unsigned_abs-signed}
+use Rattle.gc_values.proofs.Trimming.{last_of}
+use Rattle.gc_values.proofs.WholeLemmas.{one_whole}
+use Rattle.gc_values.proofs.WholeText.{signed_reads}
+use Rattle.gc_values.proofs.WrittenLemmas.{length-last_digits, last_over}
+use Rattle.gc_values.proofs.WrittenSpells.{writes_whole, AreDigits-last_digits, number-last_digits, behind, written_spells}
+
+-- the first digit and the others are found in the number
+heads : (a b p m n : ℕ) → m < p → n < p → a * p + m ≡ b * p + n → (a ≡ b) × (m ≡ n)
+heads a b p m n few less e =
+    let same : a ≡ b = sym (div-mul-add a p m few) ∙ ap (λ x. x / p) e ∙ div-mul-add b p n less in
+    (same, omega (arith, e, ap (λ x. x * p) same))
+
+-- as many digits, of one number, are the same ones
+pub digits_once : (xs ys : List ℕ) → AreDigits xs → AreDigits ys → length xs ≡ length ys → number xs ≡ number ys → xs ≡ ys
+digits_once [] [] dx dy long e = refl
+digits_once [] (y ∷ ys) dx dy long e = absurd (omega (arith, long))
+digits_once (x ∷ xs) [] dx dy long e = absurd (omega (arith, long))
+digits_once (x ∷ xs) (y ∷ ys) dx dy long e =
+    let few : length xs ≡ length ys = omega (arith, long) in
+    let power : 10 ^ length xs ≡ 10 ^ length ys = ap (λ k. 10 ^ k) few in
+    let both = heads (x - 48) (y - 48) (10 ^ length ys) (number xs) (number ys) (subst (λ p. number xs < p) power (number-lt xs dx.1)) (number-lt ys dy.1)
+    (ap (λ p. (x - 48) * p + number xs) (sym power) ∙ e) in
+    let first : x ≡ y = let h = both.0 in let a = dx.0 in let b = dy.0 in omega (arith, h, a, b) in
+    ap (λ d. d ∷ xs) first ∙ ap (λ ds. y ∷ ds) (digits_once xs ys dx.1 dy.1 few both.1)
+
+-- digits behind a first one that is no 0
+large : (b k n r : ℕ) → 48 < b → r ≡ (b - 48) * 10 ^ k + n → 10 ^ k ≤ r
+large b k n r above e =
+    let back : b - 48 ≡ (b - 49) + 1 = omega arith in
+    omega (arith, e ∙ ap (λ x. x * 10 ^ k + n) back)
+
+-- a whole part has one digit, or a number that is at least the power of the digits behind the first
+record Sized (ds : List ℕ) : Type 0 where
+  pub some : 0 < length ds
+  pub small : number ds < 10 ^ length ds
+  pub least : 1 < length ds → 10 ^ (length ds - 1) ≤ number ds
+
+sized : (ds : List ℕ) → IsWholePart ds → Sized ds
+sized [] w = let s = w.some in absurd (omega (arith, s))
+sized (b ∷ bs) w = record {
+  some = w.some;
+  small = number-lt (b ∷ bs) w.are_digits;
+  least = λ more. elim (cases_order b 48) [
+    | inl zero_first ↦
+        let none : bs ≡ [] = w.no_zero_in_front bs (ap (λ d. d ∷ bs) zero_first) in
+        let l = ap length none in absurd (omega (arith, more, l))
+    | inr other ↦ elim other [
+      | inl below ↦ let d = w.are_digits.0 in absurd (omega (arith, d, below))
+      | inr above ↦ subst (λ k. 10 ^ k ≤ number (b ∷ bs)) (let e : length bs ≡ length (b ∷ bs) - 1 = omega arith in e) (large b (length bs) (number bs) (number (b ∷ bs)) above refl)
+    ]
+  ];
+}
+
+shorter : (xs ys : List ℕ) → Sized xs → Sized ys → number xs ≡ number ys → length xs < length ys → ⊥
+shorter xs ys x y e less =
+    let s = x.some in
+    let power = ten_pow_le (length xs) (length ys - 1) (omega arith) in
+    let l = y.least (omega (arith, s, less)) in
+    let h = x.small in
+    omega (arith, power, l, h, e)
+
+-- whole parts of one number are the same
+pub whole_once : (xs ys : List ℕ) → IsWholePart xs → IsWholePart ys → number xs ≡ number ys → xs ≡ ys
+whole_once xs ys x y e = elim (cases_order (length xs) (length ys)) [
+  | inl same ↦ digits_once xs ys x.are_digits y.are_digits same e
+  | inr other ↦ elim other [
+    | inl less ↦ absurd (shorter xs ys (sized xs x) (sized ys y) e less)
+    | inr more ↦ absurd (shorter ys xs (sized ys y) (sized xs x) (sym e) more)
+  ]
+]
+
+-- what is written in front of the point is a whole part
+no_zero_first : (ds rest : List ℕ) → 0 < get_or ds 0 0 → map (λ d. 48 + d) ds ≡ 48 ∷ rest → ⊥
+no_zero_first [] rest some e = omega (arith, some)
+no_zero_first (d ∷ ds) rest some e = let h : 48 + d ≡ 48 = cc in omega (arith, some, h)
+
+zero_alone : (rest : List ℕ) → 48 ∷ [] ≡ 48 ∷ rest → rest ≡ []
+zero_alone [] e = refl
+zero_alone (r ∷ rest) e = absurd (let l = ap length e in omega (arith, l))
+
+pub whole_part : (n : ℕ) → IsWholePart (whole_text n)
+whole_part n =
+    let w = writes_whole n in
+    record {
+      are_digits = w.digits;
+      some = w.some;
+      no_zero_in_front = λ rest. elim (eqb_tells n 0) [
+        | inl none ↦ λ e. zero_alone rest (sym (ap (λ b. cond b (48 ∷ []) (digits_text n)) none.0) ∙ e)
+        | inr some ↦ λ e. absurd (no_zero_first (digits_of 10 n) rest (first_digits_of 10 n (lit≤ tt) (pos_of_ne-zero some.1)) (sym (ap (λ b. cond b (48 ∷ []) (digits_text n)) some.0) ∙ e))
+      ];
+    }
+
+-- and a whole part is the text of its number
+pub whole_text-number : (ds : List ℕ) → IsWholePart ds → whole_text (number ds) ≡ ds
+whole_text-number ds w = whole_once (whole_text (number ds)) ds (whole_part (number ds)) w (writes_whole (number ds)).number_is
+
+-- the minus
+pub signed_text-signed : (negative : Bool) (n : ℕ) → (negative ≡ true → 0 < n) → signed_text (signed negative n) ≡ minus_where negative ++ whole_text n
+signed_text-signed false n some = refl
+signed_text-signed true zero some = let h = some refl in absurd (omega (arith, h))
+signed_text-signed true (suc n) some = refl
+
+pub written-signed : (negative : Bool) (a s : ℕ) → (negative ≡ true → 0 < a) → written (signed negative a) s ≡ minus_where negative ++ (whole_text (a / 10 ^ s) ++ (46 ∷ behind_text s (a % 10 ^ s)))
+written-signed false a s some = refl
+written-signed true zero s some = let h = some refl in absurd (omega (arith, h))
+written-signed true (suc a) s some = refl
+
+-- whole numbers
+whole_form : (z : ℤ) → HasWholeForm (signed_text z)
+whole_form (pos n) = record { negative = false; digits = whole_text n; text_is = refl; digits_are = whole_part n; no_minus_on_zero = λ e. absurd (cc) }
+whole_form (negsuc n) = record {
+  negative = true;
+  digits = whole_text (suc n);
+  text_is = refl;
+  digits_are = whole_part (suc n);
+  no_minus_on_zero = λ _. let e = (writes_whole (suc n)).number_is in omega (arith, e);
+}
+
+pub whole_text_once : (z : ℤ) (text : List ℕ) → (text ≡ signed_text z) ↔ (HasWholeForm text × NamesWhole text z)
+whole_text_once z text = (
+  λ e. (subst HasWholeForm (sym e) (whole_form z), subst (λ t. NamesWhole t z) (sym e) (signed_reads z)),
+  λ h.
+      let f = h.0 in
+      let n : ℕ = number f.digits in
+      let is : text ≡ signed_text (signed f.negative n) =
+      f.text_is ∙ ap (λ ds. minus_where f.negative ++ ds) (sym (whole_text-number f.digits f.digits_are)) ∙ sym (signed_text-signed f.negative n f.no_minus_on_zero) in
+      let same : signed f.negative n ≡ z = one_whole text (signed f.negative n) z (subst (λ t. NamesWhole t (signed f.negative n)) (sym is) (signed_reads (signed f.negative n))) h.1 in
+      is ∙ ap signed_text same,
+)
+
+-- the last digit, and those in front of it
+record Ends (ds : List ℕ) : Type 0 where
+  pub front : List ℕ
+  pub last : ℕ
+  pub ds_are : ds ≡ front ++ last ∷ []
+
+ends : (ds : List ℕ) → 0 < length ds → Ends ds
+ends [] some = absurd (omega (arith, some))
+ends (d ∷ []) some = record { front = []; last = d; ds_are = refl }
+ends (d ∷ e ∷ ds) some = let r = ends (e ∷ ds) (omega arith) in record { front = d ∷ r.front; last = r.last; ds_are = ap (λ xs. d ∷ xs) r.ds_are }
+
+last_digit : (front : List ℕ) (d : ℕ) → IsDigit d → number (front ++ d ∷ []) % 10 ≡ d - 48
+last_digit front d h = omega (arith, number-append front (d ∷ []), h)
+
+AreDigits-back : (xs ys : List ℕ) → AreDigits (xs ++ ys) → AreDigits ys
+AreDigits-back [] ys h = h
+AreDigits-back (x ∷ xs) ys h = AreDigits-back xs ys h.1
+
+-- the digits and the places of a text of the form
+record Holds (text : List ℕ) : Type 0 where
+  pub m : ℤ
+  pub s : ℕ
+  pub canonical : IsCanonical m s
+  pub places : s ≤ 24
+  pub text_is : text ≡ written m s
+
+holds : (text : List ℕ) (f : HasDecimalForm text) (a s : ℕ) → (f.negative ≡ true → 0 < a) → (0 < s → a % 10 ≢ 0) → s ≤ 24 →
+    a / 10 ^ s ≡ number f.whole → behind_text s (a % 10 ^ s) ≡ f.fraction → Holds text
+holds text f a s some canonical places front back = record {
+  m = signed f.negative a;
+  s = s;
+  canonical = λ more divides. canonical more (ap (λ n. n % 10) (sym (unsigned_abs-signed f.negative a)) ∙ divides);
+  places = places;
+  text_is = f.text_is
+      ∙ ap (λ xs. minus_where f.negative ++ (xs ++ (46 ∷ f.fraction))) (sym (ap whole_text front ∙ whole_text-number f.whole f.whole_is))
+      ∙ ap (λ xs. minus_where f.negative ++ (whole_text (a / 10 ^ s) ++ (46 ∷ xs))) (sym back)
+      ∙ sym (written-signed f.negative a s some);
+}
+
+-- without places
+holds_none : (text : List ℕ) (f : HasDecimalForm text) → f.fraction ≡ 48 ∷ [] → Holds text
+holds_none text f none =
+    let all : number (f.whole ++ f.fraction) ≡ number f.whole * 10 = ap (λ ds. number (f.whole ++ ds)) none ∙ omega (arith, number-append f.whole (48 ∷ [])) in
+    holds text f (number f.whole) 0 (λ e. let h = f.no_minus_on_zero e in omega (arith, h, all)) (λ h. absurd (omega (arith, h))) (lit≤ tt) (div-one (number f.whole)) (sym none)
+
+-- with the places of the digits behind the point
+behind_again : (s n : ℕ) (ds : List ℕ) → AreDigits ds → length ds ≡ s → number ds ≡ n → 0 < s → behind_text s n ≡ ds
+behind_again s n ds digits long is some = elim (eqb_tells s 0) [
+  | inl none ↦ let e = none.1 in absurd (omega (arith, e, some))
+  | inr more ↦
+      ap (λ b. cond b (48 ∷ []) (last_digits s n)) more.0
+      ∙ digits_once (last_digits s n) ds (AreDigits-last_digits s n) digits (length-last_digits s n ∙ sym long)
+      (number-last_digits s n (subst (λ x. x < 10 ^ s) is (subst (λ k. number ds < 10 ^ k) long (number-lt ds digits))) ∙ sym is)
+]
+
+mod_is : (a w p f : ℕ) → f < p → a ≡ w * p + f → a % p ≡ f
+mod_is a w p f few e = let d : a / p ≡ w = ap (λ x. x / p) e ∙ div-mul-add w p f few in omega (arith, e, div-add-mod' a p, ap (λ x. x * p) d)
+
+holds_some : (text : List ℕ) (f : HasDecimalForm text) → number f.fraction % 10 ≢ 0 → Holds text
+holds_some text f other =
+    let p : ℕ = 10 ^ length f.fraction in
+    let all : number (f.whole ++ f.fraction) ≡ number f.whole * p + number f.fraction = number-append f.whole f.fraction in
+    let few : number f.fraction < p = number-lt f.fraction f.fraction_is.are_digits in
+    let tens : number (f.whole ++ f.fraction) % 10 ≡ number f.fraction % 10 = last_of_all f.whole f.fraction f.fraction_is.some in
+    holds text f (number (f.whole ++ f.fraction)) (length f.fraction) f.no_minus_on_zero (λ _ divides. other (sym tens ∙ divides)) f.fraction_is.few
+    (ap (λ x. x / p) all ∙ div-mul-add (number f.whole) p (number f.fraction) few)
+    (behind_again (length f.fraction) (number (f.whole ++ f.fraction) % p) f.fraction f.fraction_is.are_digits refl (sym (mod_is (number (f.whole ++ f.fraction)) (number f.whole) p (number f.fraction) few all)) f.fraction_is.some) where
+      last_of_all : (ws fs : List ℕ) → 0 < length fs → number (ws ++ fs) % 10 ≡ number fs % 10
+      last_of_all ws [] some = absurd (omega (arith, some))
+      last_of_all ws (d ∷ ds) some = omega (arith, number-append ws (d ∷ ds), pow-suc 10 (length ds), ap (λ x. number ws * x) (pow-suc 10 (length ds)))
+
+every_form : (text : List ℕ) → HasDecimalForm text → Holds text
+every_form text f = elim (eqb_tells (number f.fraction % 10) 0) [
+  | inl divides ↦
+      let r = ends f.fraction f.fraction_is.some in
+      let digit : IsDigit r.last = (AreDigits-back r.front (r.last ∷ []) (subst AreDigits r.ds_are f.fraction_is.are_digits)).0 in
+      let zero : r.last ≡ 48 = omega (arith, ap (λ ds. number ds % 10) r.ds_are, divides.1, last_digit r.front r.last digit, digit) in
+      let ends_so : f.fraction ≡ r.front ++ 48 ∷ [] = r.ds_are ∙ ap (λ d. r.front ++ d ∷ []) zero in
+      holds_none text f (ends_so ∙ ap (λ xs. xs ++ 48 ∷ []) (f.fraction_is.no_zero_at_the_end r.front ends_so))
+  | inr other ↦ holds_some text f other.1
+]
+
+-- a written decimal has the form
+alone : (front : List ℕ) → 48 ∷ [] ≡ front ++ 48 ∷ [] → front ≡ []
+alone [] e = refl
+alone (x ∷ front) e = absurd (let l = ap length e in omega (arith, l, length-append front (48 ∷ [])))
+
+zero_behind : IsFractionPart (48 ∷ [])
+zero_behind = record { are_digits = ((lit≤ tt, lit≤ tt), tt); some = lit< tt; few = lit≤ tt; no_zero_at_the_end = alone }
+
+last_part : (a s : ℕ) → s ≤ 24 → 0 < s → a % 10 ≢ 0 → IsFractionPart (last_digits s (a % 10 ^ s))
+last_part a zero few some other = absurd (omega (arith, some))
+last_part a (suc s) few some other = record {
+  are_digits = AreDigits-last_digits (suc s) (a % 10 ^ suc s);
+  some = omega (arith, length-last_digits (suc s) (a % 10 ^ suc s));
+  few = omega (arith, length-last_digits (suc s) (a % 10 ^ suc s));
+  no_zero_at_the_end = λ front e.
+      let last = last_of (last_digits s (a % 10 ^ suc s / 10)) front (48 + a % 10 ^ suc s % 10) 48 e in
+      absurd (other (let o = last_over a s in omega (arith, last, o)));
+}
+
+fraction_part : (a s : ℕ) → s ≤ 24 → (0 < s → a % 10 ≢ 0) → IsFractionPart (behind_text s (a % 10 ^ s))
+fraction_part a s few canonical = elim (eqb_tells s 0) [
+  | inl none ↦ subst IsFractionPart (ap (λ b. cond b (48 ∷ []) (last_digits s (a % 10 ^ s))) (sym none.0)) zero_behind
+  | inr more ↦
+      let some : 0 < s = pos_of_ne-zero more.1 in
+      subst IsFractionPart (ap (λ b. cond b (48 ∷ []) (last_digits s (a % 10 ^ s))) (sym more.0)) (last_part a s few some (canonical some))
+]
+
+positive : (a p x b : ℕ) → 0 < a → 0 < p → a * p ≡ x * b → 0 < x
+positive a p zero b h k e = let both : 0 < a * p = mul-pos h k in absurd (omega (arith, e, both))
+positive a p (suc x) b h k e = omega arith
+
+decimal_form_of : (negative : Bool) (a s : ℕ) → s ≤ 24 → (0 < s → a % 10 ≢ 0) → (negative ≡ true → 0 < a) →
+    HasDecimalForm (minus_where negative ++ (whole_text (a / 10 ^ s) ++ (46 ∷ behind_text s (a % 10 ^ s))))
+decimal_form_of negative a s few canonical some = record {
+  negative = negative;
+  whole = whole_text (a / 10 ^ s);
+  fraction = behind_text s (a % 10 ^ s);
+  text_is = refl;
+  whole_is = whole_part (a / 10 ^ s);
+  fraction_is = fraction_part a s few canonical;
+  no_minus_on_zero = λ e. above_zero (some e);
+} where
+  above_zero : 0 < a → 0 < number (whole_text (a / 10 ^ s) ++ behind_text s (a % 10 ^ s))
+  above_zero h =
+      let b = behind a s in
+      let ds : List ℕ = behind_text s (a % 10 ^ s) in
+      let all : number (whole_text (a / 10 ^ s) ++ ds) ≡ a / 10 ^ s * 10 ^ length ds + number ds =
+      number-append (whole_text (a / 10 ^ s)) ds ∙ ap (λ n. n * 10 ^ length ds + number ds) (writes_whole (a / 10 ^ s)).number_is in
+      subst (λ x. 0 < x) (sym all) (positive a (10 ^ length ds) (a / 10 ^ s * 10 ^ length ds + number ds) (10 ^ s) h (ten_pow_pos (length ds)) b.same)
+
+decimal_form : (m : ℤ) (s : ℕ) → IsCanonical m s → s ≤ 24 → HasDecimalForm (written m s)
+decimal_form (pos n) s canonical few = decimal_form_of false n s few canonical (λ e. absurd (cc))
+decimal_form (negsuc n) s canonical few = decimal_form_of true (suc n) s few canonical (λ _. omega arith)
+
+-- of the texts that spell a decimal one has the form
+pub decimal_text_once : (d : Decimal) (text : List ℕ) → (text ≡ written d.digits d.scale) ↔ (HasDecimalForm text × Spells text d.digits d.scale)
+decimal_text_once d text = (
+  λ e. (
+    subst HasDecimalForm (sym e) (decimal_form d.digits d.scale d.is_canonical d.has_few_places),
+    subst (λ t. Spells t d.digits d.scale) (sym e) (written_spells d.digits d.scale d.is_canonical d.has_few_places),
+  ),
+  λ h.
+      let r = every_form text h.0 in
+      let same = spells_once text r.m r.s d.digits d.scale (subst (λ t. Spells t r.m r.s) (sym r.text_is) (written_spells r.m r.s r.canonical r.places)) h.1 in
+      r.text_is ∙ ap (λ z. written z r.s) same.0 ∙ ap (written d.digits) same.1,
+)

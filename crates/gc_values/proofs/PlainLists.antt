@@ -1,0 +1,77 @@
+-- Parameters in the common spelling.
+use Rattle.std.specs.Prelude.{◌≡◌, ◌+◌, ◌<◌, ◌≤◌, ℕ, List, [], ◌∷◌, ◌++◌, length, take, drop, Option, Some, None, refl}
+use Rattle.std.proofs.Common.{arith, sym, ap, ◌∙◌, subst, get_or, append-nil}
+use Rattle.std.proofs.lemmas.List.{take_more, take_all, take-append-drop, drop_more, length-take-le}
+use Rattle.gc_values.specs.Item.{IsItem}
+use Rattle.gc_values.specs.Lists.{AreParams}
+use Rattle.gc_values.specs.Plainly.{ArePlain, CutsPlain, LeftPlain}
+use Rattle.gc_values.specs.declared.value.Value.{Value}
+use Rattle.gc_values.proofs.ParamLists.{joined_params}
+use Rattle.gc_values.proofs.TextShape.{AreBare, IsBare, bare_param}
+
+pub bare_byte_at : (b : ℕ) → (b ≡ 44 → ⊥) → ((b < 45) → b ≡ 39) → IsBare b
+bare_byte_at b comma low = record {
+  space = λ e. let f : b ≡ 39 = low (omega arith) in omega (arith, e, f);
+  quote = λ e. let f : b ≡ 39 = low (omega arith) in omega (arith, e, f);
+  comma = comma;
+  cr = λ e. let f : b ≡ 39 = low (omega arith) in omega (arith, e, f);
+  lf = λ e. let f : b ≡ 39 = low (omega arith) in omega (arith, e, f);
+}
+
+all_snoc : (xs : List ℕ) (b : ℕ) → AreBare xs → IsBare b → AreBare (xs ++ b ∷ [])
+all_snoc [] b h k = (k, tt)
+all_snoc (x ∷ xs) b h k = (h.0, all_snoc xs b h.1 k)
+
+pub bare_more : (text : List ℕ) (i : ℕ) → AreBare (take i text) → i < length text → IsBare (get_or text i 0) → AreBare (take (i + 1) text)
+bare_more text i h within k = subst AreBare (sym (take_more text i 0 within)) (all_snoc (take i text) (get_or text i 0) h k)
+
+pub plain_cut : (text : List ℕ) (i : ℕ) → AreBare (take i text) → 0 < i → i < length text → get_or text i 0 ≡ 44 → CutsPlain text (take i text) (Some (drop (i + 1) text))
+plain_cut text i h some within comma = record {
+  text_is = sym (take-append-drop i text) ∙ ap (λ xs. take i text ++ xs) (drop_more text i 0 within ∙ ap (λ b. b ∷ drop (i + 1) text) comma);
+  param = bare_param (take i text) h;
+  some = omega (arith, length-take-le i text (omega arith));
+}
+
+pub plain_all : (text : List ℕ) (i : ℕ) → AreBare (take i text) → length text ≤ i → 0 < length text → CutsPlain text text None
+plain_all text i h all some = record {
+  text_is = refl;
+  param = bare_param text (subst AreBare (take_all i text all) h);
+  some = some;
+}
+
+one_plain : (text item : List ℕ) (v : Value) → CutsPlain text item None → IsItem item v → ArePlain text (v ∷ [])
+one_plain text item v cut x = record {
+  first = item;
+  more = [];
+  text_is = cut.text_is ∙ sym (append-nil item);
+  params = (cut.param, tt);
+  some = (cut.some, tt);
+  read = (x, tt);
+}
+
+next_plain : (text item rest : List ℕ) (v : Value) (vs : List Value) → CutsPlain text item (Some rest) → IsItem item v → ArePlain rest vs → ArePlain text (v ∷ vs)
+next_plain text item rest v vs cut x left = record {
+  first = item;
+  more = left.first ∷ left.more;
+  text_is = cut.text_is ∙ ap (λ bytes. item ++ 44 ∷ bytes) left.text_is;
+  params = (cut.param, left.params);
+  some = (cut.some, left.some);
+  read = (x, left.read);
+}
+
+-- an item that was cut off, and what is left behind it
+pub plain_next : (text item : List ℕ) (rest : Option (List ℕ)) (v : Value) (vs : List Value) → CutsPlain text item rest → IsItem item v → LeftPlain rest vs → ArePlain text (v ∷ vs)
+plain_next text item None v vs cut x left = subst (λ ws. ArePlain text (v ∷ ws)) (sym left) (one_plain text item v cut x)
+plain_next text item (Some rest) v vs cut x left = next_plain text item rest v vs cut x left
+
+-- a list in the common spelling is a list
+pub plain_params : (text : List ℕ) (vs : List Value) → ArePlain text vs → AreParams text vs
+plain_params text vs x = record {
+  items = x.first ∷ x.more;
+  split = rw x.text_is (joined_params (x.first ∷ x.more) x.params x.some);
+  read = x.read;
+}
+
+pub no_params : (text : List ℕ) (vs : List Value) → length text ≡ 0 → vs ≡ [] → AreParams text vs
+no_params [] vs none e = rw e (record { items = []; split = (0, refl); read = tt })
+no_params (b ∷ bs) vs none e = absurd (omega (arith, none))

@@ -1,0 +1,6 @@
+use Rattle.std.proofs.Common.{◌≡◌, ◌+◌, ◌*◌, ◌^◌, take}
+use Rattle.gc_values.specs.Digits.{number}
+use Rattle.gc_values.proofs.units.followed_by.Given as goal
+
+abbrev pub invariant-loop-digit : goal.invariant-loop-digit
+invariant-loop-digit l = l.value ≡ l.front * 10 ^ l.digit-index + number (take l.digit-index l.digits)

@@ -1,0 +1,19 @@
+-- No part of a promise: the digits that reading keeps, and how the one behind them is rounded in.
+use Rattle.std.specs.Prelude.{ℕ, ◌+◌, ◌-◌, ◌*◌, ◌^◌, List, length, take, nat_le, slice_index_or, if◌then◌else◌}
+use Rattle.gc_values.specs.Digits.{number}
+
+-- the digit at place i, and 0 behind the last one
+abbrev pub digit_or_zero : List ℕ → ℕ → ℕ
+digit_or_zero ds i = slice_index_or ds i 48 - 48
+
+-- the number that the first i digits write, with zeros behind the last one
+unfoldable pub kept : List ℕ → ℕ → ℕ
+kept ds i = number (take i ds) * 10 ^ (i - length ds)
+
+-- what the digit behind the place adds
+abbrev pub carry : ℕ → ℕ
+carry d = if nat_le 5 d then 1 else 0
+
+-- the first i digits, with the one behind them rounded in
+abbrev pub kept_and_rounded : List ℕ → ℕ → ℕ
+kept_and_rounded ds i = kept ds i + carry (digit_or_zero ds i)

@@ -1,0 +1,195 @@
+//! Parameters that are asked for one after the other, from the left: whoever knows a procedure asks for what it takes,
+//! and learns at the end whether the list was of just these kinds.
+//! That a list is refused for its quotes, its length, its count and its first faulty item, in this order, is this
+//! project's own.
+
+ghost use Rattle.std.specs.Prelude.{◌≡◌, ◌∷◌, [], ℕ, List, Some, IfErr, OnOk, MatchOption};
+ghost use Rattle.gc_values.specs.Asked.{FailsFrom, ReadsFrom};
+ghost use Rattle.gc_values.specs.declared.decimal.Decimal.{Decimal};
+ghost use Rattle.gc_values.specs.Item.{kind_of};
+ghost use Rattle.gc_values.specs.Lists.{AreParams, IsListFault};
+ghost use Rattle.gc_values.specs.declared.fault.ValueFault.{ValueFault};
+ghost use Rattle.gc_values.specs.declared.value.Kind.{Kind};
+ghost use Rattle.gc_values.specs.declared.value.Value.{Value};
+
+use crate::decimal::Decimal;
+use crate::fault::ValueFault;
+use crate::items::{Items, split};
+use crate::text::Text;
+use crate::value::{Kind, Value};
+
+/// Parameters that are asked for one after the other, from the left. One that is missing or doesn't read is a zero of
+/// its kind, and what is asked for behind it is answered all the same.
+pub trait Parameters {
+    /// The parameters that are left are read as these values, and all went well so far.
+    ghost reads: { Self → List Value → Type 0 };
+
+    /// Where parameters of these kinds are asked for next, and then none, this is the fault of the whole list.
+    ghost fails: { Self → List Kind → ValueFault → Type 0 };
+
+    /// The next parameter, as a decimal.
+    fn double(&mut self) -> Decimal
+        ensures reads { (vs : List Value) → reads self.new vs → reads self.old (Value.Double result ∷ vs) }
+        ensures fails { (ks : List Kind) (e : ValueFault) → fails self.new ks e → fails self.old (Kind.Double ∷ ks) e };
+
+    /// The next parameter, as a whole number of 32 bits.
+    fn long(&mut self) -> i32
+        ensures reads { (vs : List Value) → reads self.new vs → reads self.old (Value.Long result ∷ vs) }
+        ensures fails { (ks : List Kind) (e : ValueFault) → fails self.new ks e → fails self.old (Kind.Long ∷ ks) e };
+
+    /// The next parameter, as a whole number of 16 bits.
+    fn short(&mut self) -> i16
+        ensures reads { (vs : List Value) → reads self.new vs → reads self.old (Value.Short result ∷ vs) }
+        ensures fails { (ks : List Kind) (e : ValueFault) → fails self.new ks e → fails self.old (Kind.Short ∷ ks) e };
+
+    /// The next parameter, as a byte.
+    fn byte(&mut self) -> u8
+        ensures reads { (vs : List Value) → reads self.new vs → reads self.old (Value.Byte result ∷ vs) }
+        ensures fails { (ks : List Kind) (e : ValueFault) → fails self.new ks e → fails self.old (Kind.Byte ∷ ks) e };
+
+    /// The next parameter, as a Boolean.
+    fn boolean(&mut self) -> bool
+        ensures reads { (vs : List Value) → reads self.new vs → reads self.old (Value.Bool result ∷ vs) }
+        ensures fails { (ks : List Kind) (e : ValueFault) → fails self.new ks e → fails self.old (Kind.Bool ∷ ks) e };
+
+    /// The next parameter, as a string.
+    fn text(&mut self) -> Text
+        ensures reads { (vs : List Value) → reads self.new vs → reads self.old (Value.Text result ∷ vs) }
+        ensures fails { (ks : List Kind) (e : ValueFault) → fails self.new ks e → fails self.old (Kind.Text ∷ ks) e };
+}
+
+/// The parameters of any list, and where they aren't what is asked for, the fault of the list.
+#[derive(Drop)]
+pub struct Listed<'a> {
+    // The items, or why there are none.
+    items: Result<Items<'a>, ValueFault>,
+    // How many items were asked for, and no more than one past the last.
+    place: usize,
+    // The fault of the first item that didn't read.
+    fault: Option<ValueFault>,
+}
+
+impl<'a> Listed<'a> {
+    /// The parameters of a list, none of them asked for.
+    pub fn new(params: &'a [u8]) -> Listed<'a>
+        ensures reads { (vs : List Value) → ⟦<Listed<'a> as Parameters>⟧.reads result vs → AreParams params.now vs }
+        ensures fails { (ks : List Kind) (e : ValueFault) → ⟦<Listed<'a> as Parameters>⟧.fails result ks e → IsListFault ks params.now e }
+    {
+        Listed {
+            items: split(params),
+            place: 0,
+            fault: None,
+        }
+    }
+
+    /// Whether just the parameters that were asked for are there, and each was read.
+    ///
+    /// The faults come in this order: an odd number of double quotes, more than 16 items, another number of items
+    /// than were asked for, and the fault of the first item from the left that isn't a value of its kind.
+    pub fn finish(&self) -> Result<(), ValueFault>
+        ensures reads { OnOk result (⟦<Listed<'a> as Parameters>⟧.reads self.now []) }
+        ensures fails { IfErr result (λ e. ⟦<Listed<'a> as Parameters>⟧.fails self.now [] e) }
+    {
+        match &self.items {
+            Err(fault) => Err(*fault),
+            Ok(items) => {
+                if items.len() != self.place {
+                    return Err(ValueFault::Count);
+                }
+                match self.fault {
+                    Some(fault) => Err(fault),
+                    None => Ok(()),
+                }
+            }
+        }
+    }
+
+    /// The next item as a value of the kind, if there is one and it reads.
+    fn take(&mut self, kind: Kind) -> Option<Value>
+        ensures reads { (vs : List Value) → ReadsFrom self.new.items self.new.place self.new.fault vs
+            → MatchOption result ⊥ (λ v. (kind_of v ≡ kind) × ReadsFrom self.old.items self.old.place self.old.fault (v ∷ vs)) }
+        ensures fails { (ks : List Kind) (e : ValueFault) → FailsFrom self.new.items self.new.place self.new.fault ks e
+            → FailsFrom self.old.items self.old.place self.old.fault (kind ∷ ks) e }
+    {
+        let Ok(items) = &self.items else {
+            return None;
+        };
+        if self.place >= items.len() {
+            self.place = items.len() + 1;
+            return None;
+        }
+        let read = Value::read(kind, items.get(self.place));
+        self.place += 1;
+        match read {
+            Ok(value) => Some(value),
+            Err(fault) => {
+                if self.fault.is_none() {
+                    self.fault = Some(fault);
+                }
+                None
+            }
+        }
+    }
+}
+
+impl<'a> Parameters for Listed<'a> {
+    ghost reads = { λ c vs. ReadsFrom c.items c.place c.fault vs };
+
+    ghost fails = { λ c ks e. FailsFrom c.items c.place c.fault ks e };
+
+    fn double(&mut self) -> Decimal {
+        decimal_of(&self.take(Kind::Double))
+    }
+
+    fn long(&mut self) -> i32 {
+        match self.take(Kind::Long) {
+            Some(Value::Long(n)) => n,
+            _ => 0,
+        }
+    }
+
+    fn short(&mut self) -> i16 {
+        match self.take(Kind::Short) {
+            Some(Value::Short(n)) => n,
+            _ => 0,
+        }
+    }
+
+    fn byte(&mut self) -> u8 {
+        match self.take(Kind::Byte) {
+            Some(Value::Byte(n)) => n,
+            _ => 0,
+        }
+    }
+
+    fn boolean(&mut self) -> bool {
+        match self.take(Kind::Bool) {
+            Some(Value::Bool(b)) => b,
+            _ => false,
+        }
+    }
+
+    fn text(&mut self) -> Text {
+        text_of(&self.take(Kind::Text))
+    }
+}
+
+// The decimal that a value is, or zero.
+fn decimal_of(value: &Option<Value>) -> Decimal
+    ensures { (d : Decimal) → value.now ≡ Some (Value.Double d) → result ≡ d }
+{
+    match value {
+        Some(Value::Double(d)) => *d,
+        _ => Decimal::zero(),
+    }
+}
+
+// The text that a value is, or the empty one.
+fn text_of(value: &Option<Value>) -> Text
+    ensures { (t : List ℕ) → value.now ≡ Some (Value.Text t) → result ≡ t }
+{
+    match value {
+        Some(Value::Text(t)) => *t,
+        _ => Text::empty(),
+    }
+}

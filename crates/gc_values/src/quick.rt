@@ -1,0 +1,158 @@
+//! Parameters in the common spelling, read in one pass and without a list of items: no spaces, no strings, no plus.
+//! Whatever else stands there isn't done, and is for `Listed` to read.
+
+ghost use Rattle.std.specs.Prelude.{◌≡◌, ◌∷◌, [], List, IfSome, IsTrue, true};
+ghost use Rattle.std.specs.Option.{option_copied};
+ghost use Rattle.gc_values.specs.Item.{IsItem};
+ghost use Rattle.gc_values.specs.Lists.{AreParams};
+ghost use Rattle.gc_values.specs.Plainly.{CutsPlain, ReadsPlainly};
+ghost use Rattle.gc_values.specs.declared.value.Value.{Value};
+
+use crate::byte::read_byte;
+use crate::decimal::Decimal;
+use crate::parameters::Parameters;
+use crate::text::Text;
+use crate::whole::{read_bool, read_long, read_short};
+
+/// The parameters of a list in the common spelling. Where they aren't just what was asked for, or anything else is
+/// odd, nothing is known at the end.
+#[derive(Drop)]
+pub struct Quick<'a> {
+    // What is left behind a comma, or nothing behind the end.
+    rest: Option<&'a [u8]>,
+    good: bool,
+}
+
+impl<'a> Quick<'a> {
+    /// The parameters of a list, none of them asked for.
+    #[inline]
+    pub fn new(params: &'a [u8]) -> Quick<'a>
+        ensures { (vs : List Value) → ⟦<Quick<'a> as Parameters>⟧.reads result vs → AreParams params.now vs }
+    {
+        if params.is_empty() {
+            return Quick {
+                rest: None,
+                good: true,
+            };
+        }
+        Quick {
+            rest: Some(params),
+            good: true,
+        }
+    }
+
+    /// Whether just the parameters that were asked for are there, and each was read.
+    #[inline]
+    pub fn is_done(&self) -> bool
+        ensures { IsTrue result → ⟦<Quick<'a> as Parameters>⟧.reads self.now [] }
+    {
+        self.good && self.rest.is_none()
+    }
+
+    // The next item; where there is none in the common spelling, any bytes.
+    #[inline]
+    fn item(&mut self) -> &'a [u8]
+        ensures { (v : Value) (vs : List Value) → ReadsPlainly self.new.good (option_copied self.new.rest) vs → IsItem result.now v
+            → ReadsPlainly self.old.good (option_copied self.old.rest) (v ∷ vs) }
+    {
+        if let Some(text) = self.rest {
+            if let Some(cut) = cut_plain(text) {
+                self.rest = cut.1;
+                return cut.0;
+            }
+        }
+        self.good = false;
+        &[]
+    }
+}
+
+impl<'a> Parameters for Quick<'a> {
+    ghost reads = { λ c vs. ReadsPlainly c.good (option_copied c.rest) vs };
+
+    ghost fails = { λ c ks e. ⊥ };
+
+    #[inline]
+    fn double(&mut self) -> Decimal {
+        match Decimal::read(self.item()) {
+            Ok(d) => d,
+            Err(_) => {
+                self.good = false;
+                Decimal::zero()
+            }
+        }
+    }
+
+    #[inline]
+    fn long(&mut self) -> i32 {
+        match read_long(self.item()) {
+            Ok(n) => n,
+            Err(_) => {
+                self.good = false;
+                0
+            }
+        }
+    }
+
+    #[inline]
+    fn short(&mut self) -> i16 {
+        match read_short(self.item()) {
+            Ok(n) => n,
+            Err(_) => {
+                self.good = false;
+                0
+            }
+        }
+    }
+
+    #[inline]
+    fn byte(&mut self) -> u8 {
+        match read_byte(self.item()) {
+            Ok(n) => n,
+            Err(_) => {
+                self.good = false;
+                0
+            }
+        }
+    }
+
+    #[inline]
+    fn boolean(&mut self) -> bool {
+        match read_bool(self.item()) {
+            Ok(b) => b,
+            Err(_) => {
+                self.good = false;
+                false
+            }
+        }
+    }
+
+    // A string is never in the common spelling.
+    #[inline]
+    fn text(&mut self) -> Text {
+        self.good = false;
+        Text::empty()
+    }
+}
+
+// Cuts off an item in the common spelling, and what follows its comma, if there is one.
+#[inline]
+fn cut_plain(text: &[u8]) -> Option<(&[u8], Option<&[u8]>)>
+    ensures { IfSome result (λ cut. CutsPlain text.now cut.0.now (option_copied cut.1)) }
+{
+    for (i, byte) in text.iter().enumerate() {
+        if *byte == b',' {
+            if i == 0 {
+                return None;
+            }
+            let (item, rest) = text.split_at(i);
+            return Some((item, Some(&rest[1..])));
+        }
+        if *byte < b'-' && *byte != b'\'' {
+            return None;
+        }
+    }
+    if text.is_empty() {
+        return None;
+    }
+    Some((text, None))
+}

@@ -1,0 +1,124 @@
+//! The digits of a number's text as a whole number of units of the last place: rounded there, and capped where
+//! no decimal is as large.
+
+ghost use Rattle.std.specs.Prelude.{◌≡◌, ℕ, ◌+◌, ◌*◌, ◌^◌, ◌<◌, ◌≤◌, ◌++◌, length, min};
+ghost use Rattle.gc_values.specs.Digits.{AreDigits, number};
+ghost use Rattle.gc_values.specs.KeptDigits.{digit_or_zero, kept, kept_and_rounded};
+ghost use Rattle.gc_values.specs.Nearest.{IsCapped};
+
+use crate::limits::PLACES;
+
+/// One more than a decimal's greatest number of units of the last place: where a number stops to grow.
+const CAP: u128 = 10_000_000_000_000_000_000_000_000_000_000_000_001;
+
+/// So many digits fit in 64 bits, whichever they are.
+const SHORT: usize = 18;
+
+/// The digit at a place of both runs in a row, and 0 behind the last one.
+#[tactic(auto, using(crate::proofs::Kept::at_first, crate::proofs::Kept::at_second, crate::proofs::Kept::at_neither, crate::proofs::Kept::is_digit))]
+fn digit_at(whole: &[u8], fraction: &[u8], place: usize) -> u8
+    requires whole { AreDigits whole.now }
+    requires fraction { AreDigits fraction.now }
+    ensures { result ≡ digit_or_zero (whole.now ++ fraction.now) place }
+{
+    let length = whole.len();
+    if place < length {
+        whole[place] - b'0'
+    } else if place - length < fraction.len() {
+        fraction[place - length] - b'0'
+    } else {
+        0
+    }
+}
+
+/// The number that the first `count` digits write.
+fn kept_digits(whole: &[u8], fraction: &[u8], count: usize) -> u128
+    requires whole { AreDigits whole.now }
+    requires fraction { AreDigits fraction.now }
+    ensures { result ≡ min CAP (kept (whole.now ++ fraction.now) count) }
+{
+    let mut kept = 0;
+    for place in 0..count {
+        let digit = digit_at(whole, fraction, place);
+        kept = (kept * 10 + u128::from(digit)).min(CAP);
+    }
+    kept
+}
+
+/// The number that the first `count` digits write, with the next digit rounded in.
+fn rounded(whole: &[u8], fraction: &[u8], count: usize) -> u128
+    requires whole { AreDigits whole.now }
+    requires fraction { AreDigits fraction.now }
+    ensures { result ≡ min CAP (kept_and_rounded (whole.now ++ fraction.now) count) }
+{
+    let kept = kept_digits(whole, fraction, count);
+    if digit_at(whole, fraction, count) >= 5 {
+        (kept + 1).min(CAP)
+    } else {
+        kept
+    }
+}
+
+/// A number with zeros behind it; more of them than lead past the cap make no difference.
+fn with_zeros(kept: u128, zeros: usize) -> u128
+    ensures { result ≡ min CAP (kept * 10 ^ zeros) }
+{
+    let power = 10u128.pow(zeros.min(38) as u32);
+    kept.saturating_mul(power).min(CAP)
+}
+
+/// The number that digits write behind a number that stands in front of them, in 64 bits.
+fn followed_by(front: u64, digits: &[u8]) -> u64
+    requires digits { AreDigits digits.now }
+    requires small { (front + 1) * 10 ^ length digits.now ≤ 10 ^ 18 }
+    ensures { result ≡ front * 10 ^ length digits.now + number digits.now }
+{
+    let mut value = front;
+    for digit in digits {
+        value = value * 10 + u64::from(*digit - b'0');
+    }
+    value
+}
+
+/// The number that few digits write.
+fn short_number(whole: &[u8], fraction: &[u8]) -> u64
+    requires whole { AreDigits whole.now }
+    requires fraction { AreDigits fraction.now }
+    requires few { length whole.now + length fraction.now ≤ 18 }
+    ensures { result ≡ number (whole.now ++ fraction.now) }
+{
+    followed_by(followed_by(0, whole), fraction)
+}
+
+/// The number's value as a whole number over a power of ten: the digits in front of the point, and as many
+/// behind it as the last place and the exponent leave. No zero is appended that the value doesn't need, so
+/// this takes as many steps as there are digits, whatever the exponent is. At most 18 digits without an exponent are
+/// read in 64 bits.
+pub fn units(whole: &[u8], fraction: &[u8], up: u16, down: u16) -> (u128, u8)
+    requires whole { AreDigits whole.now }
+    requires fraction { AreDigits fraction.now }
+    ensures { IsCapped (number (whole.now ++ fraction.now) * 10 ^ up)
+        (length fraction.now + down) CAP result.0 result.1 }
+{
+    let length = whole.len() + fraction.len();
+    if up == 0 && down == 0 && length <= SHORT {
+        return (
+            u128::from(short_number(whole, fraction)),
+            fraction.len() as u8,
+        );
+    }
+    let last = whole.len() + usize::from(up) + usize::from(PLACES);
+    let Some(count) = last.checked_sub(usize::from(down)) else {
+        return (0, PLACES);
+    };
+    if count < length {
+        return (rounded(whole, fraction, count), PLACES);
+    }
+    let kept = kept_digits(whole, fraction, length);
+    let zeros = count - length;
+    if zeros <= usize::from(PLACES) {
+        (kept, PLACES - zeros as u8)
+    } else {
+        (with_zeros(kept, zeros - usize::from(PLACES)), 0)
+    }
+}

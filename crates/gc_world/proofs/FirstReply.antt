@@ -1,0 +1,199 @@
+-- The first reply to a request, where it comes unsettled, settles it: as answered, or as late where it was given up.
+use Rattle.std.proofs.Common.{◌≡◌, ℕ, zero, suc, ◌+◌, ◌-◌, ◌<◌, ◌≤◌, Bool, true, false, cond, List, [], ◌∷◌, ◌++◌, length, map, take, drop, Some, refl, sym, ◌∙◌, ap, subst, arith, append_assoc, eqb}
+use mathlib.Core.Path.{ap₂}
+use Rattle.std.specs.Prelude.{slice_get}
+use Rattle.std.proofs.lemmas.Bool.{le-ltb, lt-ltb}
+use Rattle.std.proofs.lemmas.List.{append-nil, length-map, map-append, take-map, drop-map}
+use Rattle.std.proofs.Math.Seq.{drop-append_seam}
+use Rattle.gc_catalogue.specs.declared.call.Call.{Call}
+use Rattle.gc_client.specs.declared.pending.Pending.{Pending}
+use Rattle.gc_client.specs.declared.client.TheConstants.{WINDOW}
+use Rattle.gc_client.specs.Rule.{Settlement, Outcome, Answered, Late, Lost, pending_of, lost, met, settle}
+use Rattle.gc_instrument.specs.State.{State, restarted}
+use Rattle.gc_world.specs.declared.event.Event.{Event}
+use Rattle.gc_world.specs.declared.event.Event.TheVariants.{Send, DownDeliver}
+use Rattle.gc_world.specs.Clients.{ByNumber, number_send, number_reply, by_numbers, numbers_open, run_by_ids, run_by_numbers}
+use Rattle.gc_world.specs.World.{step_of, steps_of}
+use Rattle.gc_world.specs.FirstReply.{IsSentBefore, IsInTime, IsTooLate, IsSettledAs, ended, between, DeliverySettles}
+use Rattle.gc_world.specs.Laws.{left_by_ids}
+use Rattle.gc_world.specs.Clients.{ends}
+use Rattle.gc_world.specs.World.{Sent, Numbered, Wire, World, requested, down_delivered, happens, run}
+use Rattle.gc_world.proofs.Agree.{agree_at, sound_at, same_wire}
+use Rattle.gc_world.proofs.Counts.{run_push}
+use Rattle.gc_world.proofs.Handing.{reads}
+use Rattle.gc_world.proofs.Marks.{touched_all, entry_all}
+use Rattle.gc_world.proofs.Moments.{in_time, too_late}
+use Rattle.gc_world.proofs.Options.{some_is, none_is_not}
+use Rattle.gc_world.proofs.Places.{get_map, get_push, get_seen}
+use Rattle.gc_world.proofs.Settled.{Asked, of_sent, of_settled, of_pending, whole_at}
+use Rattle.gc_world.proofs.Sound.{Sound, sound_step}
+
+-- Lists.
+
+slice_drop : {A : Type 0} (k : ℕ) (xs : List A) (n : ℕ) → k ≤ n → slice_get (drop k xs) (n - k) ≡ slice_get xs n
+slice_drop zero xs n le = let e : n - 0 ≡ n = omega arith in ap (slice_get xs) e
+slice_drop (suc k) [] n le = refl
+slice_drop (suc k) (x ∷ xs) zero le = absurd (omega (arith, le))
+slice_drop (suc k) (x ∷ xs) (suc n) le = let e : suc n - suc k ≡ n - k = omega arith in ap (slice_get (drop k xs)) e ∙ slice_drop k xs n (omega (arith, le))
+
+-- one of the one list at a place, where the two lists are seen alike
+matched : {A B C : Type 0} (f : A → C) (g : B → C) (xs : List A) (ys : List B) (n : ℕ) (x : A) → map f xs ≡ map g ys → slice_get xs n ≡ Some x → (y : B) × (slice_get ys n ≡ Some y) × (g y ≡ f x)
+matched f g xs ys n x e h = get_seen g ys n (f x) (ap (λ l. slice_get l n) (sym e) ∙ get_map f xs n x h)
+
+settle_at : (k : ℕ) (line : List ℕ) (ps : List Pending) (p : Pending) → slice_get ps k ≡ Some p → settle k line ps ≡ map lost (take k ps) ++ met p line ∷ []
+settle_at k line [] p h = absurd (none_is_not p h)
+settle_at zero line (q ∷ ps) p h = ap (λ r. met r line ∷ []) (some_is q p h)
+settle_at (suc k) line (q ∷ ps) p h = ap (λ l. lost q ∷ l) (settle_at k line ps p h)
+
+-- requests that wait and requests that were sent, seen alike
+abbrev ended_as : Outcome → Asked → Settlement
+ended_as outcome a = record { target = a.target; call = a.call; outcome = outcome }
+
+lost_alike : (ps : List Pending) (rs : List Sent) → map of_pending ps ≡ map of_sent rs → map lost ps ≡ map (ended Lost) rs
+lost_alike [] [] e = refl
+lost_alike [] (r ∷ rs) e = cc
+lost_alike (p ∷ ps) [] e = cc
+lost_alike (p ∷ ps) (r ∷ rs) e =
+    let front : of_pending p ≡ of_sent r = cc in
+    let tail : map of_pending ps ≡ map of_sent rs = cc in
+    ap₂ (λ (a : Asked) (l : List Settlement). ended_as Lost a ∷ l) front (lost_alike ps rs tail)
+
+-- what wait are the requests behind those that are settled
+waiting_alike : (settled : List Settlement) (waiting : List Pending) (sent : List Sent) → map of_settled settled ++ map of_pending waiting ≡ map of_sent sent → map of_pending waiting ≡ map of_sent (drop (length settled) sent)
+waiting_alike settled waiting sent e =
+    sym (drop-append_seam (map of_settled settled) (map of_pending waiting)) ∙ ap (drop (length (map of_settled settled))) e ∙ ap (λ k. drop k (map of_sent sent)) (length-map settled of_settled)
+    ∙ drop-map of_sent (length settled) sent
+
+-- the end of the request that the reply belongs to
+abbrev outcome_of : Pending → List ℕ → Outcome
+outcome_of p line = cond p.given_up Late (Answered line)
+
+pub record IsGained (settled : List Settlement) (waiting : List Pending) (sent : List Sent) (n : ℕ) (line : List ℕ) (p : Pending) : Type 0 where
+  pub request : Sent
+  pub found : slice_get sent n ≡ Some request
+  pub gained : settle (n - length settled) line waiting ≡ map (ended Lost) (between (length settled) n sent) ++ ended (outcome_of p line) request ∷ []
+
+gained : (settled : List Settlement) (waiting : List Pending) (sent : List Sent) (n : ℕ) (line : List ℕ) (p : Pending) → map of_settled settled ++ map of_pending waiting ≡ map of_sent sent → length settled ≤ n → slice_get waiting (n - length settled) ≡ Some p → IsGained settled waiting sent n line p
+gained settled waiting sent n line p whole le h =
+    let m = length settled in
+    let k = n - m in
+    let alike = waiting_alike settled waiting sent whole in
+    let some = matched of_pending of_sent waiting (drop m sent) k p alike h in
+    let first : map of_pending (take k waiting) ≡ map of_sent (take k (drop m sent)) = sym (take-map of_pending k waiting) ∙ ap (take k) alike ∙ take-map of_sent k (drop m sent) in
+    record {
+      request = some.0;
+      found = sym (slice_drop m sent n le) ∙ some.1;
+      gained =
+          settle_at k line waiting p h
+          ∙ ap₂ (λ (l : List Settlement) (a : Asked). l ++ ended_as (outcome_of p line) a ∷ []) (lost_alike (take k waiting) (take k (drop m sent)) first) (sym some.2);
+    }
+
+-- The run by numbers.
+
+module _ (width : ℕ) where
+  delivered : (w : World ByNumber State) (x : Numbered (List ℕ)) (rest : List (Numbered (List ℕ))) → w.wire.down ≡ x ∷ rest → w.client.count ≤ x.number → (happens ends (by_numbers width) w (step_of DownDeliver)).wire.settled ≡ w.wire.settled ++ settle (x.number - w.client.count) x.line (drop w.client.count w.client.requests)
+  delivered w x rest e le =
+      ap (λ q. (down_delivered (by_numbers width) w q).wire.settled) e
+      ∙ ap (λ old. w.wire.settled ++ (number_reply w.client x old).settlements) (le-ltb x.number w.client.count le)
+
+  delivered_again : (w : World ByNumber State) (x : Numbered (List ℕ)) (rest : List (Numbered (List ℕ))) → w.wire.down ≡ x ∷ rest → x.number < w.client.count → (happens ends (by_numbers width) w (step_of DownDeliver)).wire.settled ≡ w.wire.settled
+  delivered_again w x rest e lt =
+      ap (λ q. (down_delivered (by_numbers width) w q).wire.settled) e
+      ∙ ap (λ old. w.wire.settled ++ (number_reply w.client x old).settlements) (lt-ltb x.number w.client.count lt) ∙ append-nil w.wire.settled
+
+  sent_entry : (w : World ByNumber State) (target : ℕ) (call : Call) (deadline : ℕ) (full : Bool) → length w.client.requests ≡ length w.wire.sent → length (requested w target call (number_send w.client target call deadline full)).wire.sent ≡ length w.wire.sent + 1 → slice_get (requested w target call (number_send w.client target call deadline full)).client.requests (length w.wire.sent) ≡ Some (pending_of target call deadline)
+  sent_entry w target call deadline true counted more = absurd (omega (arith, more))
+  sent_entry w target call deadline false counted more =
+      ap (λ k. slice_get (w.client.requests ++ pending_of target call deadline ∷ []) k) (sym counted) ∙ get_push w.client.requests (pending_of target call deadline)
+
+  run_append : (xs ys : List _) (w : World ByNumber State) → run ends (by_numbers width) (xs ++ ys) w ≡ run ends (by_numbers width) ys (run ends (by_numbers width) xs w)
+  run_append [] ys w = refl
+  run_append (x ∷ xs) ys w = run_append xs ys (happens ends (by_numbers width) w x)
+
+module _ (width : ℕ) (narrow : width ≤ WINDOW) (opening : State) where
+  abbrev counted_by : List Event → World ByNumber State
+  counted_by events = run_by_numbers width ends (steps_of events) (restarted opening)
+
+  sound_in : (events : List Event) → Sound width ends (λ s. Unit {0}) (counted_by events)
+  sound_in events = sound_at width narrow ends (λ s. Unit {0}) reads (steps_of events) (restarted opening) tt
+
+  wire_in : (events : List Event) → left_by_ids width opening events ≡ (counted_by events).wire
+  wire_in events = same_wire width narrow ends (λ s. Unit {0}) reads (steps_of events) (restarted opening) tt
+
+  counted_more : (events : List Event) (e : Event) → counted_by (events ++ e ∷ []) ≡ happens ends (by_numbers width) (counted_by events) (step_of e)
+  counted_more events e =
+      ap (λ es. run ends (by_numbers width) es (numbers_open (restarted opening))) (map-append step_of events (e ∷ []))
+      ∙ run_push ends (by_numbers width) (steps_of events) (step_of e) (numbers_open (restarted opening))
+
+  -- what the client that is told the numbers has of request n, while it isn't settled
+  entry : (events : List Event) (n deadline : ℕ) (later : List Event) (s : IsSentBefore width opening events n deadline later) → length (left_by_ids width opening events).settled ≤ n → slice_get (counted_by events).client.requests n ≡ Some (touched_all (steps_of later) (pending_of s.target s.call deadline))
+  entry events n deadline later s le =
+      let e : Event = Send s.target s.call deadline in
+      let v = counted_by s.earlier in
+      let w = happens ends (by_numbers width) v (step_of e) in
+      let here : length v.wire.sent ≡ n = ap (λ (u : Wire State). length u.sent) (sym (wire_in s.earlier)) ∙ s.number in
+      let more : length w.wire.sent ≡ length v.wire.sent + 1 =
+      ap (λ (u : World ByNumber State). length u.wire.sent) (sym (counted_more s.earlier e)) ∙ ap (λ (u : Wire State). length u.sent) (sym (wire_in (s.earlier ++ e ∷ [])))
+      ∙ s.taken ∙ ap (λ m. m + 1) (sym here) in
+      let full = eqb (length v.client.requests - v.client.count) width in
+      let at : slice_get w.client.requests n ≡ Some (pending_of s.target s.call deadline) =
+      ap (slice_get w.client.requests) (sym here) ∙ sent_entry width v s.target s.call deadline full (sound_in s.earlier).counted more in
+      let whole : counted_by events ≡ run ends (by_numbers width) (steps_of later) w =
+      ap (λ es. run ends (by_numbers width) (steps_of es) (numbers_open (restarted opening))) s.order
+      ∙ ap (λ es. run ends (by_numbers width) es (numbers_open (restarted opening))) (map-append step_of s.earlier (e ∷ later))
+      ∙ run_append width (steps_of s.earlier) (step_of e ∷ steps_of later) (numbers_open (restarted opening)) in
+      let unsettled : (counted_by events).client.count ≤ n = omega (arith, (sound_in events).booked, ap (λ (u : Wire State). length u.settled) (wire_in events), le) in
+      subst (λ (u : World ByNumber State). slice_get u.client.requests n ≡ Some (touched_all (steps_of later) (pending_of s.target s.call deadline))) (sym whole)
+      (entry_all width ends (λ s. Unit {0}) reads (steps_of later) w n (pending_of s.target s.call deadline)
+      (sound_step width ends (λ s. Unit {0}) reads v (step_of e) (sound_in s.earlier)) at (subst (λ (u : World ByNumber State). u.client.count ≤ n) whole unsettled))
+
+  -- the delivery settles the request as its mark says
+  settled_at : (events : List Event) (n : ℕ) (line : List ℕ) (p : Pending) → slice_get (counted_by events).client.requests n ≡ Some p → DeliverySettles width opening events n line (outcome_of p line)
+  settled_at events n line p h next =
+      let a = run_by_ids width ends (steps_of events) (restarted opening) in
+      let b = counted_by events in
+      let agree = agree_at width narrow ends (λ s. Unit {0}) reads (steps_of events) (restarted opening) tt in
+      let count : b.client.count ≡ length a.wire.settled = sym (sound_in events).booked ∙ ap (λ (u : Wire State). length u.settled) (sym agree.wire) in
+      let window = agree.client.window in
+      let place : slice_get a.client.waiting (n - length a.wire.settled) ≡ Some p =
+      ap (λ m. slice_get a.client.waiting (n - m)) (sym count) ∙ ap (λ ps. slice_get ps (n - b.client.count)) window
+      ∙ slice_drop b.client.count b.client.requests n (omega (arith, count, next.unsettled)) ∙ h in
+      let gain = gained a.wire.settled a.client.waiting a.wire.sent n line p (whole_at width ends (steps_of events) (restarted opening)) next.unsettled place in
+      let x : Numbered (List ℕ) = record { number = n; line = line } in
+      let down : b.wire.down ≡ x ∷ next.behind = ap (λ (u : Wire State). u.down) (sym agree.wire) ∙ next.front in
+      let after : (left_by_ids width opening (events ++ DownDeliver ∷ [])).settled ≡ b.wire.settled ++ settle (n - b.client.count) line (drop b.client.count b.client.requests) =
+      ap (λ (u : Wire State). u.settled) (wire_in (events ++ DownDeliver ∷ [])) ∙ ap (λ (u : World ByNumber State). u.wire.settled) (counted_more events DownDeliver)
+      ∙ delivered width b x next.behind down (omega (arith, count, next.unsettled)) in
+      record {
+        request = gain.request;
+        found = gain.found;
+        settled =
+            after ∙ ap₂ (λ (u : Wire State) (ps : List Pending). u.settled ++ settle (n - b.client.count) line ps) (sym agree.wire) (sym window)
+            ∙ ap (λ m. a.wire.settled ++ settle (n - m) line a.client.waiting) count ∙ ap (λ l. a.wire.settled ++ l) gain.gained
+            ∙ sym (append_assoc a.wire.settled (map (ended Lost) (between (length a.wire.settled) n a.wire.sent)) (ended (outcome_of p line) gain.request ∷ []));
+      }
+
+  pub books : (events : List Event) (n : ℕ) (line : List ℕ) → IsInTime width opening events n → DeliverySettles width opening events n line (Answered line)
+  books events n line t next =
+      let s = t.sent in
+      let p = touched_all (steps_of t.later) (pending_of s.target s.call t.deadline) in
+      subst (λ b. IsSettledAs (left_by_ids width opening events) (left_by_ids width opening (events ++ DownDeliver ∷ [])) n (cond b Late (Answered line)))
+      (in_time t.later (pending_of s.target s.call t.deadline) refl t.early)
+      (settled_at events n line p (entry events n t.deadline t.later s next.unsettled) next)
+
+  pub is_late : (events : List Event) (n : ℕ) (line : List ℕ) → IsTooLate width opening events n → DeliverySettles width opening events n line Late
+  is_late events n line t next =
+      let s = t.sent in
+      let p = touched_all (steps_of t.later) (pending_of s.target s.call t.deadline) in
+      subst (λ b. IsSettledAs (left_by_ids width opening events) (left_by_ids width opening (events ++ DownDeliver ∷ [])) n (cond b Late (Answered line)))
+      (too_late t.later (pending_of s.target s.call t.deadline) t.now t.told t.reached)
+      (settled_at events n line p (entry events n t.deadline t.later s next.unsettled) next)
+
+  pub no_second : (events : List Event) (n : ℕ) (line : List ℕ) (behind : List (Numbered (List ℕ))) → (left_by_ids width opening events).down ≡ record { number = n; line = line } ∷ behind → n < length (left_by_ids width opening events).settled → (left_by_ids width opening (events ++ DownDeliver ∷ [])).settled ≡ (left_by_ids width opening events).settled
+  no_second events n line behind front lt =
+      let b = counted_by events in
+      let same = sym (wire_in events) in
+      let x : Numbered (List ℕ) = record { number = n; line = line } in
+      let old : n < b.client.count = omega (arith, (sound_in events).booked, ap (λ (u : Wire State). length u.settled) same, lt) in
+      ap (λ (u : Wire State). u.settled) (wire_in (events ++ DownDeliver ∷ [])) ∙ ap (λ (u : World ByNumber State). u.wire.settled) (counted_more events DownDeliver)
+      ∙ delivered_again width b x behind (ap (λ (u : Wire State). u.down) same ∙ front) old ∙ ap (λ (u : Wire State). u.settled) same

@@ -1,0 +1,84 @@
+-- What the client that is told the numbers remembers of one request, until it is settled: whether it was given up.
+use Rattle.std.proofs.Common.{◌≡◌, ℕ, ◌-◌, ◌≤◌, Bool, true, false, List, [], ◌∷◌, ◌++◌, length, map, take, drop, zero, suc, Some, refl, sym, ◌∙◌, ap, arith, ltb, eqb}
+use Rattle.std.specs.Prelude.{slice_get}
+use Rattle.std.proofs.lemmas.Bool.{ltb-false}
+use Rattle.std.proofs.lemmas.Option.{slice_get_within}
+use Rattle.gc_catalogue.specs.declared.call.Call.{Call}
+use Rattle.gc_client.specs.declared.pending.Pending.{Pending}
+use Rattle.gc_client.specs.Rule.{pending_of, expired}
+use Rattle.gc_world.specs.World.{Request, Numbered, Ends, Step, Send, Up_deliver, Up_lose, Up_repeat, Down_deliver, Down_lose, Down_repeat, Expire, Restart_client, Restart_instrument, Nothing, World, requested, down_delivered, client_restarted, happens, run}
+use Rattle.gc_world.specs.Clients.{ByNumber, number_send, number_reply, by_numbers}
+use Rattle.gc_world.specs.Exchange.{IsExchange}
+use Rattle.gc_world.proofs.Options.{none_is_not}
+use Rattle.gc_world.proofs.Places.{get_map, get_more}
+use Rattle.gc_world.proofs.Sound.{Sound, sound_step}
+
+-- what a step does to a request that waits
+abbrev pub touched : Step → Pending → Pending
+touched (Expire now) p = expired now p
+touched e p = p
+
+abbrev pub touched_all : List Step → Pending → Pending
+touched_all [] p = p
+touched_all (e ∷ es) p = touched_all es (touched e p)
+
+-- a step settles no fewer, and each request that isn't settled behind it was only touched
+pub record IsOnward (e : Step) (c d : ByNumber) : Type 0 where
+  pub count : c.count ≤ d.count
+  pub entries : (n : ℕ) (p : Pending) → slice_get c.requests n ≡ Some p → d.count ≤ n → slice_get d.requests n ≡ Some (touched e p)
+
+stays : (e : Step) (c : ByNumber) → ((p : Pending) → touched e p ≡ p) → IsOnward e c c
+stays e c t = record { count = omega arith; entries = λ n p h le. h ∙ ap Some (sym (t p)) }
+
+expired_at : (now k : ℕ) (ps : List Pending) (n : ℕ) (p : Pending) → k ≤ n → slice_get ps n ≡ Some p → slice_get (take k ps ++ map (expired now) (drop k ps)) n ≡ Some (expired now p)
+expired_at now zero ps n p le h = get_map (expired now) ps n p h
+expired_at now (suc k) [] n p le h = absurd (none_is_not p h)
+expired_at now (suc k) (q ∷ ps) zero p le h = absurd (omega (arith, le))
+expired_at now (suc k) (q ∷ ps) (suc n) p le h = expired_at now k ps n p (omega (arith, le)) h
+
+onward_reply : (c : ByNumber) (x : Numbered (List ℕ)) (old : Bool) → ltb x.number c.count ≡ old → IsOnward Down_deliver c (number_reply c x old).client
+onward_reply c x true t = stays Down_deliver c (λ p. refl)
+onward_reply c x false t = record { count = omega (arith, ltb-false _ _ t); entries = λ n p h le. h }
+
+module _ {State : Type 0} (width : ℕ) (ends : Ends State) where
+  onward_send : (w : World ByNumber State) (target : ℕ) (call : Call) (deadline : ℕ) (full : Bool) → IsOnward (Send target call deadline) w.client (requested w target call (number_send w.client target call deadline full)).client
+  onward_send w target call deadline true = stays (Send target call deadline) w.client (λ p. refl)
+  onward_send w target call deadline false =
+      record { count = omega arith; entries = λ n p h le. get_more w.client.requests (pending_of target call deadline ∷ []) n p h }
+
+  onward_down : (w : World ByNumber State) (q : List (Numbered (List ℕ))) → IsOnward Down_deliver w.client (down_delivered (by_numbers width) w q).client
+  onward_down w [] = stays Down_deliver w.client (λ p. refl)
+  onward_down w (x ∷ rest) = onward_reply w.client x (ltb x.number w.client.count) refl
+
+  onward_restart : (w : World ByNumber State) (up : List (Numbered Request)) (down : List (Numbered (List ℕ))) → w.client.count ≤ length w.client.requests → IsOnward Restart_client w.client (client_restarted ends (by_numbers width) w up down).client
+  onward_restart w [] [] within =
+      record { count = within; entries = λ n p h le. absurd (omega (arith, slice_get_within w.client.requests n p h, le)) }
+  onward_restart w [] (y ∷ down) within = stays Restart_client w.client (λ p. refl)
+  onward_restart w (x ∷ up) down within = stays Restart_client w.client (λ p. refl)
+
+  onward : (w : World ByNumber State) (e : Step) → w.client.count ≤ length w.client.requests → IsOnward e w.client (happens ends (by_numbers width) w e).client
+  onward w (Send target call deadline) within = onward_send w target call deadline (eqb (length w.client.requests - w.client.count) width)
+  onward w Up_deliver within = stays Up_deliver w.client (λ p. refl)
+  onward w (Up_lose k) within = stays (Up_lose k) w.client (λ p. refl)
+  onward w (Up_repeat k) within = stays (Up_repeat k) w.client (λ p. refl)
+  onward w Down_deliver within = onward_down w w.wire.down
+  onward w (Down_lose k) within = stays (Down_lose k) w.client (λ p. refl)
+  onward w (Down_repeat k) within = stays (Down_repeat k) w.client (λ p. refl)
+  onward w (Expire now) within = record { count = omega arith; entries = λ n p h le. expired_at now w.client.count w.client.requests n p le h }
+  onward w Restart_client within = onward_restart w w.wire.up w.wire.down within
+  onward w Restart_instrument within = stays Restart_instrument w.client (λ p. refl)
+  onward w Nothing within = stays Nothing w.client (λ p. refl)
+
+  module _ (Good : State → Type 0) (ex : IsExchange ends Good) where
+    count_grows : (es : List Step) (w : World ByNumber State) → Sound width ends Good w → w.client.count ≤ (run ends (by_numbers width) es w).client.count
+    count_grows [] w s = omega arith
+    count_grows (e ∷ es) w s =
+        omega (arith, (onward w e s.within).count, count_grows es (happens ends (by_numbers width) w e) (sound_step width ends Good ex w e s))
+
+    -- where request n isn't settled at the end, it was only touched by each step
+    pub entry_all : (es : List Step) (w : World ByNumber State) (n : ℕ) (p : Pending) → Sound width ends Good w → slice_get w.client.requests n ≡ Some p → (run ends (by_numbers width) es w).client.count ≤ n → slice_get (run ends (by_numbers width) es w).client.requests n ≡ Some (touched_all es p)
+    entry_all [] w n p s h le = h
+    entry_all (e ∷ es) w n p s h le =
+        let v = happens ends (by_numbers width) w e in
+        let s1 = sound_step width ends Good ex w e s in
+        entry_all es v n (touched e p) s1 ((onward w e s.within).entries n p h (omega (arith, count_grows es v s1, le))) le

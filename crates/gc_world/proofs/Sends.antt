@@ -1,0 +1,185 @@
+-- Each request that was sent has its send in the list of events.
+use Rattle.std.proofs.Common.{◌≡◌, ℕ, ◌+◌, ◌<◌, ◌≤◌, Bool, true, false, List, [], ◌∷◌, ◌++◌, length, Option, Some, None, ◌⊎◌, inl, inr, Contains, refl, sym, ◌∙◌, ap, subst, arith, append_assoc, ltb, eqb}
+use Rattle.std.proofs.lemmas.Bool.{eqb-true, eqb-false}
+use Rattle.std.proofs.lemmas.List.{append-nil, length_push, map-append}
+use Rattle.gc_catalogue.specs.declared.call.Call.{Call}
+use Rattle.gc_catalogue.specs.Texts.{request_line}
+use Rattle.gc_client.specs.Rule.{ById, Sending}
+use Rattle.gc_instrument.specs.State.{State, restarted}
+use Rattle.gc_world.specs.declared.event.Event.{Event}
+use Rattle.gc_world.specs.declared.event.Event.TheVariants.{Send, UpDeliver, UpLose, UpRepeat, DownDeliver, DownLose, DownRepeat, Expire, RestartClient, RestartInstrument}
+use Rattle.gc_world.specs.Clients.{by_ids, ids_open, run_by_ids}
+use Rattle.gc_world.specs.World.{step_of, steps_of}
+use Rattle.gc_world.specs.FirstReply.{IsSentBefore, IsInTime, IsTooLate}
+use Rattle.gc_world.specs.Laws.{left_by_ids}
+use Rattle.gc_world.specs.Clients.{ends}
+use Rattle.gc_world.specs.World.{Request, Numbered, Ends, Rule, Wire, World, up_delivered, with_up, with_down, started, instrument_restarted, requested, down_delivered, client_restarted, happens, run}
+use Rattle.gc_world.proofs.Counts.{run_push}
+use Rattle.gc_world.proofs.Moments.{AllEarly, OneReaches, tells}
+
+-- the event is a send
+abbrev IsSend : Event → Type 0
+IsSend e = (target : ℕ) × (call : Call) × (deadline : ℕ) × (e ≡ Send target call deadline)
+
+module _ {Client S : Type 0} (ends : Ends S) (rule : Rule Client) where
+  -- no event sends more than one request, and none but a send does
+  abbrev SendsOne : World Client S → Event → Type 0
+  SendsOne w e =
+      (length (happens ends rule w (step_of e)).wire.sent ≡ length w.wire.sent)
+      ⊎ (IsSend e × (length (happens ends rule w (step_of e)).wire.sent ≡ length w.wire.sent + 1))
+
+  at_send : (w : World Client S) (target : ℕ) (call : Call) (deadline : ℕ) (o : Option (Sending Client)) → (length (requested w target call o).wire.sent ≡ length w.wire.sent) ⊎ (IsSend (Send target call deadline) × (length (requested w target call o).wire.sent ≡ length w.wire.sent + 1))
+  at_send w target call deadline None = inl refl
+  at_send w target call deadline (Some x) = inr ((target, call, deadline, refl), length_push w.wire.sent (record { target = target; call = call; line = request_line (Some x.id) call }))
+
+  at_up : (w : Wire S) (q : List (Numbered Request)) → (up_delivered ends w q).sent ≡ w.sent
+  at_up w [] = refl
+  at_up w (x ∷ rest) = refl
+
+  at_with_up : (w : Wire S) (up : List (Numbered Request)) (b : Bool) → (with_up w up b).sent ≡ w.sent
+  at_with_up w up true = refl
+  at_with_up w up false = refl
+
+  at_with_down : (w : Wire S) (down : List (Numbered (List ℕ))) (b : Bool) → (with_down w down b).sent ≡ w.sent
+  at_with_down w down true = refl
+  at_with_down w down false = refl
+
+  at_down : (w : World Client S) (q : List (Numbered (List ℕ))) → (down_delivered rule w q).wire.sent ≡ w.wire.sent
+  at_down w [] = refl
+  at_down w (x ∷ rest) = refl
+
+  at_start : (w : Wire S) (b : Bool) → (started ends w b).sent ≡ w.sent
+  at_start w true = refl
+  at_start w false = refl
+
+  at_restart : (w : World Client S) (up : List (Numbered Request)) (down : List (Numbered (List ℕ))) → (client_restarted ends rule w up down).wire.sent ≡ w.wire.sent
+  at_restart w [] [] = at_start w.wire ends.joint
+  at_restart w [] (y ∷ down) = refl
+  at_restart w (x ∷ up) down = refl
+
+  at_instrument : (w : Wire S) (up : List (Numbered Request)) (down : List (Numbered (List ℕ))) → (instrument_restarted ends w up down).sent ≡ w.sent
+  at_instrument w [] [] = refl
+  at_instrument w [] (y ∷ down) = refl
+  at_instrument w (x ∷ up) down = refl
+
+  sends_one : (w : World Client S) (e : Event) → SendsOne w e
+  sends_one w (Send target call deadline) = at_send w target call deadline (rule.send w.client target call deadline)
+  sends_one w UpDeliver = inl (ap length (at_up w.wire w.wire.up))
+  sends_one w (UpLose k) = inl (ap length (at_with_up w.wire _ (ltb k (length w.wire.up))))
+  sends_one w (UpRepeat k) = inl (ap length (at_with_up w.wire _ (ltb k (length w.wire.up))))
+  sends_one w DownDeliver = inl (ap length (at_down w w.wire.down))
+  sends_one w (DownLose k) = inl (ap length (at_with_down w.wire _ (ltb k (length w.wire.down))))
+  sends_one w (DownRepeat k) = inl (ap length (at_with_down w.wire _ (ltb k (length w.wire.down))))
+  sends_one w (Expire now) = inl refl
+  sends_one w RestartClient = inl (ap length (at_restart w w.wire.up w.wire.down))
+  sends_one w RestartInstrument = inl (ap length (at_instrument w.wire w.wire.up w.wire.down))
+
+module _ (width : ℕ) (opening : State) (n : ℕ) where
+  -- how many were sent
+  abbrev sent_in : List Event → ℕ
+  sent_in events = length (left_by_ids width opening events).sent
+
+  -- the run by ids of one event more
+  pub left_more : (events : List Event) (e : Event) → left_by_ids width opening (events ++ e ∷ []) ≡ (happens ends (by_ids width ends) (run_by_ids width ends (steps_of events) (restarted opening)) (step_of e)).wire
+  left_more events e =
+      ap (λ es. (run ends (by_ids width ends) es (ids_open (restarted opening))).wire) (map-append step_of events (e ∷ []))
+      ∙ ap (λ (w : World _ State). w.wire) (run_push ends (by_ids width ends) (steps_of events) (step_of e) (ids_open (restarted opening)))
+
+  -- its send, and what came later
+  abbrev pub IsSentIn : List Event → Type 0
+  IsSentIn events = (deadline : ℕ) × (later : List Event) × IsSentBefore width opening events n deadline later
+
+  found_at : (earlier : List Event) (e : Event) (rest : List Event) (b : Bool) → eqb (sent_in earlier) n ≡ b → sent_in earlier ≤ n → IsSend e → sent_in (earlier ++ e ∷ []) ≡ sent_in earlier + 1 → (sent_in (earlier ++ e ∷ []) ≤ n → IsSentIn (earlier ++ e ∷ rest)) → IsSentIn (earlier ++ e ∷ rest)
+  found_at earlier e rest true t le (target, call, deadline, is) more again =
+      let here : sent_in earlier ≡ n = eqb-true _ _ t in (
+        deadline,
+        rest,
+        record {
+          earlier = earlier;
+          target = target;
+          call = call;
+          order = ap (λ x. earlier ++ x ∷ rest) is;
+          number = here;
+          taken = ap (λ x. sent_in (earlier ++ x ∷ [])) (sym is) ∙ more ∙ ap (λ m. m + 1) here;
+        },
+      )
+  found_at earlier e rest false t le send more again = again (omega (arith, eqb-false _ _ t, le, more))
+
+  found_by : (earlier : List Event) (e : Event) (rest : List Event) → sent_in earlier ≤ n → (sent_in (earlier ++ e ∷ []) ≡ sent_in earlier) ⊎ (IsSend e × (sent_in (earlier ++ e ∷ []) ≡ sent_in earlier + 1)) → (sent_in (earlier ++ e ∷ []) ≤ n → IsSentIn (earlier ++ e ∷ rest)) → IsSentIn (earlier ++ e ∷ rest)
+  found_by earlier e rest le (inl same) again = again (omega (arith, same, le))
+  found_by earlier e rest le (inr (send, more)) again = found_at earlier e rest (eqb (sent_in earlier) n) refl le send more again
+
+  sends_one_in : (earlier : List Event) (e : Event) → (sent_in (earlier ++ e ∷ []) ≡ sent_in earlier) ⊎ (IsSend e × (sent_in (earlier ++ e ∷ []) ≡ sent_in earlier + 1))
+  sends_one_in earlier e =
+      subst (λ (w : Wire State). (length w.sent ≡ sent_in earlier) ⊎ (IsSend e × (length w.sent ≡ sent_in earlier + 1))) (sym (left_more earlier e))
+      (sends_one ends (by_ids width ends) (run_by_ids width ends (steps_of earlier) (restarted opening)) e)
+
+  found : (earlier later : List Event) → sent_in earlier ≤ n → n < sent_in (earlier ++ later) → IsSentIn (earlier ++ later)
+  found earlier [] le lt = absurd (omega (arith, le, lt, ap sent_in (append-nil earlier)))
+  found earlier (e ∷ rest) le lt =
+      let same : (earlier ++ e ∷ []) ++ rest ≡ earlier ++ e ∷ rest = append_assoc earlier (e ∷ []) rest in
+      found_by earlier e rest le (sends_one_in earlier e)
+      (λ le1. subst IsSentIn same (found (earlier ++ e ∷ []) rest le1 (subst (λ es. n < sent_in es) (sym same) lt)))
+
+  pub is_sent : (events : List Event) → n < sent_in events → IsSentIn events
+  is_sent events lt = found [] events (omega arith) lt
+
+-- it is in time or too late
+told : (width : ℕ) (opening : State) (events : List Event) (n deadline : ℕ) (later : List Event) → IsSentBefore width opening events n deadline later → AllEarly deadline later ⊎ OneReaches deadline later → IsInTime width opening events n ⊎ IsTooLate width opening events n
+told width opening events n deadline later s (inl early) = inl (record { deadline = deadline; later = later; sent = s; early = early })
+told width opening events n deadline later s (inr (now, has, reached)) = inr (record { deadline = deadline; later = later; sent = s; now = now; told = has; reached = reached })
+
+pub one_or_other : (width : ℕ) (opening : State) (events : List Event) (n : ℕ) → n < length (left_by_ids width opening events).sent → IsInTime width opening events n ⊎ IsTooLate width opening events n
+one_or_other width opening events n lt =
+    let s = is_sent width opening n events lt in
+    told width opening events n s.0 s.1 s.2 (tells s.0 s.1)
+
+-- The send of a request stands once in the list.
+
+module _ (rule : Rule ById) (n : ℕ) where
+  abbrev runs : List Event → World ById State → World ById State
+  runs es w = run ends rule (steps_of es) w
+
+  no_fewer : (w : World ById State) (e : Event) → SendsOne ends rule w e → length w.wire.sent ≤ length (happens ends rule w (step_of e)).wire.sent
+  no_fewer w e (inl same) = omega (arith, same)
+  no_fewer w e (inr (send, more)) = omega (arith, more)
+
+  sent_grows : (es : List Event) (w : World ById State) → length w.wire.sent ≤ length (runs es w).wire.sent
+  sent_grows [] w = omega arith
+  sent_grows (e ∷ es) w = omega (arith, no_fewer w e (sends_one ends rule w e), sent_grows es (happens ends rule w (step_of e)))
+
+  one_split : (xs ys : List Event) (a b : Event) (later rest : List Event) (w : World ById State) → xs ++ a ∷ later ≡ ys ++ b ∷ rest → length (runs xs w).wire.sent ≡ n → length (runs ys w).wire.sent ≡ n → length (runs (xs ++ a ∷ []) w).wire.sent ≡ n + 1 → length (runs (ys ++ b ∷ []) w).wire.sent ≡ n + 1 → a ∷ later ≡ b ∷ rest
+  one_split [] [] a b later rest w e hx hy tx ty = e
+  one_split [] (y ∷ ys) a b later rest w e hx hy tx ty =
+      let same : a ≡ y = cc in
+      let v = happens ends rule w (step_of y) in
+      let more : length v.wire.sent ≡ n + 1 = ap (λ z. length (happens ends rule w (step_of z)).wire.sent) (sym same) ∙ tx in
+      absurd (omega (arith, more, sent_grows ys v, hy))
+  one_split (x ∷ xs) [] a b later rest w e hx hy tx ty =
+      let same : b ≡ x = cc in
+      let v = happens ends rule w (step_of x) in
+      let more : length v.wire.sent ≡ n + 1 = ap (λ z. length (happens ends rule w (step_of z)).wire.sent) (sym same) ∙ ty in
+      absurd (omega (arith, more, sent_grows xs v, hx))
+  one_split (x ∷ xs) (y ∷ ys) a b later rest w e hx hy tx ty =
+      let same : y ≡ x = cc in
+      let tail : xs ++ a ∷ later ≡ ys ++ b ∷ rest = cc in
+      let v = happens ends rule w (step_of x) in
+      one_split xs ys a b later rest v tail hx
+      (subst (λ z. length (runs ys (happens ends rule w (step_of z))).wire.sent ≡ n) same hy) tx
+      (subst (λ z. length (runs (ys ++ b ∷ []) (happens ends rule w (step_of z))).wire.sent ≡ n + 1) same ty)
+
+same_deadline : (t u : ℕ) (c d : Call) (k m : ℕ) (later rest : List Event) → Send t c k ∷ later ≡ Send u d m ∷ rest → k ≡ m
+same_deadline t u c d k m later rest e = cc
+
+same_later : (a b : Event) (later rest : List Event) → a ∷ later ≡ b ∷ rest → later ≡ rest
+same_later a b later rest e = cc
+
+pub never_both : (width : ℕ) (opening : State) (events : List Event) (n : ℕ) → IsInTime width opening events n → IsTooLate width opening events n → ⊥
+never_both width opening events n a b =
+    let s = a.sent in
+    let t = b.sent in
+    let x : Event = Send s.target s.call a.deadline in
+    let y : Event = Send t.target t.call b.deadline in
+    let one = one_split (by_ids width ends) n s.earlier t.earlier x y a.later b.later (ids_open (restarted opening)) (sym s.order ∙ t.order) s.number t.number s.taken t.taken in
+    let lt : b.now < a.deadline = a.early b.now (subst (λ es. Contains es (Expire b.now)) (sym (same_later x y a.later b.later one)) b.told) in
+    absurd (omega (arith, lt, b.reached, same_deadline s.target t.target s.call t.call a.deadline b.deadline a.later b.later one))

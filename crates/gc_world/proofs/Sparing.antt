@@ -1,0 +1,39 @@
+-- Events that take no memory: what a world says of them, its stage says.
+use Rattle.std.proofs.Common.{◌≡◌, ℕ, ◌≤◌, true, false, List, [], ◌∷◌, length, Some, ◌∙◌, ap, subst, arith}
+use mathlib.Core.Path.{ap₂}
+use Rattle.std.specs.Prelude.{slice_get}
+use Rattle.gc_client.specs.declared.client.TheConstants.{WINDOW}
+use Rattle.gc_client.specs.Rule.{ById, fits, heard}
+use Rattle.gc_instrument.specs.State.{State}
+use Rattle.gc_world.specs.declared.report.Made.{Made}
+use Rattle.gc_world.specs.declared.report.Report.{Report}
+use Rattle.gc_world.specs.Memory.{IsBusy, IsStray}
+use Rattle.gc_world.specs.Order.{numbers}
+use Rattle.gc_world.specs.Stages.{AreOf}
+use Rattle.gc_world.specs.World.{Numbered, World}
+use Rattle.gc_world.proofs.Showing.{same_up, same_down, no_up, no_down, down_front, down_line}
+
+pub not_both : false ≡ true → ⊥
+not_both e = cc
+
+module _ (r : Report) (up down : List ℕ) (c : ById) (w : World ById State) (h : AreOf r up down c w) where
+  pub full : length w.client.waiting ≡ WINDOW → length c.waiting ≡ WINDOW
+  full t = ap (λ (x : ById). length x.waiting) h.client_is ∙ t
+
+  pub none_up : w.wire.up ≡ [] → up ≡ []
+  none_up t = h.up_is ∙ ap numbers t
+
+  pub past_up : (k : ℕ) → length w.wire.up ≤ k → length up ≤ k
+  past_up k t = omega (arith, same_up r up down c w h, t)
+
+  pub past_down : (k : ℕ) → length w.wire.down ≤ k → length down ≤ k
+  past_down k t = omega (arith, same_down r up down c w h, t)
+
+  pub busy : IsBusy w.wire.up w.wire.down → IsBusy up down
+  busy b = λ quiet. b (no_up r up down c w h quiet.0, no_down r up down c w h quiet.1)
+
+  -- a reply in front for which no request waits
+  pub stray : (p : ℕ) (rest : List ℕ) (m : Made) → down ≡ p ∷ rest → slice_get r.made p ≡ Some m → IsStray w.client w.wire.down → fits c (heard m.line.items) ≡ false
+  stray p rest m e found t =
+      let f = down_front r up down c w h p rest e in
+      ap₂ (λ (k : ById) (x : Numbered (List ℕ)). fits k (heard x.line)) h.client_is (down_line r up down c w h p rest m e found) ∙ subst (λ q. IsStray w.client q) f.2 t

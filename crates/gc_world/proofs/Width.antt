@@ -1,0 +1,63 @@
+-- With a width of eight, the repeat of the first reply has the id of the ninth request.
+use Rattle.std.proofs.Common.{◌≡◌, ◌≢◌, ℕ, List, [], ◌∷◌, ◌++◌, length, Option, Some, refl, sym, ◌∙◌, ap, lit<, arith}
+use Rattle.gc_catalogue.specs.declared.call.Call.TheVariants.{NullProc}
+use Rattle.gc_client.specs.Rule.{ById, hears}
+use Rattle.gc_instrument.specs.State.{State, restarted}
+use Rattle.gc_world.specs.Clients.{by_ids, ids_open, by_numbers, numbers_open}
+use Rattle.gc_world.specs.Exchange.{IsExchange}
+use Rattle.gc_world.specs.Laws.{left_by_ids, left_by_numbers}
+use Rattle.gc_world.specs.Clients.{ends}
+use Rattle.gc_world.specs.Width.{boundary_of_eight}
+use Rattle.gc_world.specs.World.{Ends, Step, Send, Up_deliver, Down_deliver, Down_repeat, World, Wire, with_settled, run}
+use Rattle.gc_world.proofs.Handing.{reads}
+
+abbrev pub opening_steps : List Step
+opening_steps = Send 1 NullProc 9 ∷ Up_deliver ∷ Down_repeat 0 ∷ []
+
+abbrev pub sends : List Step
+sends =
+    Send 2 NullProc 9 ∷ Send 3 NullProc 9 ∷ Send 4 NullProc 9 ∷ Send 5 NullProc 9 ∷ Send 6 NullProc 9 ∷ Send 7 NullProc 9 ∷ Send 8 NullProc 9 ∷ Send 9 NullProc 9 ∷ []
+
+abbrev pub schedule : List Step
+schedule = opening_steps ++ Down_deliver ∷ sends ++ Down_deliver ∷ []
+
+module _ {State : Type 0} (ends : Ends State) (Good : State → Type 0) (ex : IsExchange ends Good) (s : State) (good : Good s) where
+  -- the first reply, which is never looked into
+  abbrev line : List ℕ
+  line = (ends.handed s 0 NullProc).reply
+
+  zero_heard : ends.heard line ≡ Some 0
+  zero_heard = ex.reads s 0 NullProc good (lit< tt)
+
+  -- it stands twice in front
+  abbrev twice : World ById State
+  twice = run ends (by_ids 8 ends) opening_steps (ids_open s)
+
+  -- it was heard once, with this id
+  abbrev once_heard : Option ℕ → World ById State
+  once_heard o = with_settled (record twice.wire { down = record { number = 0; line = line } ∷ [] }) (hears twice.client line o)
+
+  -- eight others were sent
+  abbrev full : World ById State
+  full = run ends (by_ids 8 ends) sends (once_heard (Some 0))
+
+  -- it was heard again, with this id
+  abbrev heard_again : Option ℕ → World ById State
+  heard_again o = with_settled (record full.wire { down = [] }) (hears full.client line o)
+
+  pub settles_nine : length (run ends (by_ids 8 ends) schedule (ids_open s)).wire.settled ≡ 9
+  settles_nine =
+      ap (λ o. length (run ends (by_ids 8 ends) (sends ++ Down_deliver ∷ []) (once_heard o)).wire.settled) zero_heard
+      ∙ ap (λ o. length (heard_again o).wire.settled) zero_heard
+
+  pub settles_one : length (run ends (by_numbers 8) schedule (numbers_open s)).wire.settled ≡ 1
+  settles_one = refl
+
+pub nine : (opening : State) → length (left_by_ids 8 opening boundary_of_eight).settled ≡ 9
+nine opening = settles_nine ends (λ s. Unit {0}) reads (restarted opening) tt
+
+pub one : (opening : State) → length (left_by_numbers 8 opening boundary_of_eight).settled ≡ 1
+one opening = settles_one ends (λ s. Unit {0}) reads (restarted opening) tt
+
+pub differs : (opening : State) → left_by_ids 8 opening boundary_of_eight ≢ left_by_numbers 8 opening boundary_of_eight
+differs opening e = let h : 9 ≡ 1 = sym (nine opening) ∙ ap (λ (w : Wire State). length w.settled) e ∙ one opening in absurd (omega (arith, h))

@@ -1,0 +1,100 @@
+-- The first reply to a request, where it comes unsettled and in time, is booked. It is said of the run by ids, in the
+-- words of who made the list of events. This project's own.
+-- "First": the first of the replies to a request that is delivered. A reply that finds its request unsettled is the first,
+-- since it settles it; a further one settles nothing. "Unsettled": the request's number isn't below the count of the
+-- settlements so far. "In time": since the request was sent the client wasn't told a moment at or past its deadline.
+-- The width is that of the window; `play` has the width `WINDOW`.
+use Rattle.std.specs.Prelude.{◌≡◌, ◌⊎◌, ℕ, ◌+◌, ◌-◌, ◌<◌, ◌≤◌, List, [], ◌∷◌, ◌++◌, length, map, take, drop, Some, slice_get, Contains}
+use Rattle.gc_catalogue.specs.declared.call.Call.{Call}
+use Rattle.gc_client.specs.declared.client.TheConstants.{WINDOW}
+use Rattle.gc_client.specs.Rule.{Outcome, Answered, Late, Lost, Settlement}
+use Rattle.gc_instrument.specs.State.{State}
+use Rattle.gc_world.specs.declared.event.Event.{Event}
+use Rattle.gc_world.specs.declared.event.Event.TheVariants.{Send, DownDeliver, Expire}
+use Rattle.gc_world.specs.Laws.{left_by_ids}
+use Rattle.gc_world.specs.World.{Sent, Numbered, Wire}
+
+-- the list of events has the send of request n, with this deadline, and then these later ones
+pub record IsSentBefore (width : ℕ) (opening : State) (events : List Event) (n deadline : ℕ) (later : List Event) : Type 0 where
+  pub earlier : List Event
+  pub target : ℕ
+  pub call : Call
+  pub order : events ≡ earlier ++ Send target call deadline ∷ later
+  -- n had been sent before it
+  pub number : length (left_by_ids width opening earlier).sent ≡ n
+  -- and it was not refused
+  pub taken : length (left_by_ids width opening (earlier ++ Send target call deadline ∷ [])).sent ≡ n + 1
+
+-- in time: each moment that the client was told since request n was sent lay before its deadline
+pub record IsInTime (width : ℕ) (opening : State) (events : List Event) (n : ℕ) : Type 0 where
+  pub deadline : ℕ
+  pub later : List Event
+  pub sent : IsSentBefore width opening events n deadline later
+  pub early : (now : ℕ) → Contains later (Expire now) → now < deadline
+
+-- too late: since request n was sent the client was told a moment at or past its deadline
+pub record IsTooLate (width : ℕ) (opening : State) (events : List Event) (n : ℕ) : Type 0 where
+  pub deadline : ℕ
+  pub later : List Event
+  pub sent : IsSentBefore width opening events n deadline later
+  pub now : ℕ
+  pub told : Contains later (Expire now)
+  pub reached : deadline ≤ now
+
+-- the reply in front of the downward queue is this line, it belongs to request n, and request n isn't settled
+pub record IsNextFor (w : Wire State) (n : ℕ) (line : List ℕ) : Type 0 where
+  pub behind : List (Numbered (List ℕ))
+  pub front : w.down ≡ record { number = n; line = line } ∷ behind
+  pub unsettled : length w.settled ≤ n
+
+-- the end of a request that was sent
+abbrev pub ended : Outcome → Sent → Settlement
+ended outcome r = record { target = r.target; call = r.call; outcome = outcome }
+
+-- the requests from number m on that stand before number n
+abbrev pub between : ℕ → ℕ → List Sent → List Sent
+between m n sent = take (n - m) (drop m sent)
+
+-- from the one wire to the other all requests from the count settled to n - 1, given up or not, were settled as lost, in
+-- order, and then request n with this outcome, and nothing else
+pub record IsSettledAs (before after : Wire State) (n : ℕ) (outcome : Outcome) : Type 0 where
+  pub request : Sent
+  pub found : slice_get before.sent n ≡ Some request
+  pub settled : after.settled ≡ before.settled ++ map (ended Lost) (between (length before.settled) n before.sent) ++ ended outcome request ∷ []
+
+-- the delivery of the reply in front settles its request, which wasn't settled, with this outcome
+abbrev pub DeliverySettles : ℕ → State → List Event → ℕ → List ℕ → Outcome → Type 0
+DeliverySettles width opening events n line outcome =
+    IsNextFor (left_by_ids width opening events) n line →
+    IsSettledAs (left_by_ids width opening events) (left_by_ids width opening (events ++ DownDeliver ∷ [])) n outcome
+
+-- in time it is answered, with that very line. What the report then has as its reading is what the line says of the call:
+-- that is proved of each settlement of the report, in `AreSettlements`
+abbrev pub BooksFirstReply : Type 0
+BooksFirstReply =
+    (width : ℕ) → width ≤ WINDOW → (opening : State) (events : List Event) (n : ℕ) (line : List ℕ) →
+    IsInTime width opening events n → DeliverySettles width opening events n line (Answered line)
+
+-- too late it is settled as late
+abbrev pub FirstReplyIsLate : Type 0
+FirstReplyIsLate =
+    (width : ℕ) → width ≤ WINDOW → (opening : State) (events : List Event) (n : ℕ) (line : List ℕ) →
+    IsTooLate width opening events n → DeliverySettles width opening events n line Late
+
+-- and there is no third: each request that was sent is in time or too late,
+abbrev pub IsOneOrOther : Type 0
+IsOneOrOther =
+    (width : ℕ) (opening : State) (events : List Event) (n : ℕ) → n < length (left_by_ids width opening events).sent →
+    IsInTime width opening events n ⊎ IsTooLate width opening events n
+
+-- and never both
+abbrev pub IsNeverBoth : Type 0
+IsNeverBoth =
+    (width : ℕ) (opening : State) (events : List Event) (n : ℕ) → IsInTime width opening events n → IsTooLate width opening events n → ⊥
+
+-- a further reply, to a request that is settled, settles nothing
+abbrev pub NoSecondReply : Type 0
+NoSecondReply =
+    (width : ℕ) → width ≤ WINDOW → (opening : State) (events : List Event) (n : ℕ) (line : List ℕ) (behind : List (Numbered (List ℕ))) →
+    (left_by_ids width opening events).down ≡ record { number = n; line = line } ∷ behind → n < length (left_by_ids width opening events).settled →
+    (left_by_ids width opening (events ++ DownDeliver ∷ [])).settled ≡ (left_by_ids width opening events).settled
