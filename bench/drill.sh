@@ -3,12 +3,13 @@
 # divided by the events between them; and the time of the longer one. It wants rt, python3 and valgrind.
 set -eu
 cd "$(dirname "$0")"
+. ./built.sh
 . ./instructions.sh
-program=${PROGRAM:-../crates/geocom/out/geocom}
+program=../crates/geocom/out/geocom
 folder=$(mktemp -d)
 trap 'rm -rf "$folder"' EXIT
 
-[ -x "$program" ] || (cd ../crates/geocom && rt run -- drill </dev/null >/dev/null)
+built geocom drill
 
 for bytes in 30000 60000; do
     python3 schedule.py "$bytes" >"$folder/$bytes"

@@ -3,12 +3,13 @@
 # instructions that a request of each kind takes. It wants rt, python3, cc, and for the instructions valgrind.
 set -eu
 cd "$(dirname "$0")"
+. ./built.sh
 . ./instructions.sh
 geocom=../crates/geocom/out/geocom
 work=$(mktemp -d)
 trap 'rm -rf "$work"' EXIT
 
-[ -x "$geocom" ] || (cd ../crates/geocom && rt run -- exec </dev/null >/dev/null)
+built geocom exec
 cc -O2 -o "$work/loop" loop.c
 python3 requests.py mixed 16777216 >"$work/large"
 echo "$(wc -l <"$work/large") requests, the best of five runs"

@@ -3,11 +3,12 @@
 # window. It wants rt and valgrind.
 set -eu
 cd "$(dirname "$0")"
+. ./built.sh
 . ./instructions.sh
 parts=../crates/gc_bench/out/gc_bench
 count=1000
 
-[ -x "$parts" ] || (cd ../crates/gc_bench && rt run -- read 1 >/dev/null)
+built gc_bench read 1
 
 # Prints a row of the table: what a part takes once. What stands before `--` goes to callgrind.
 row() {
