@@ -6,7 +6,7 @@ use Rattle.gc_lines.specs.declared.fault.LineFault.{LineFault}
 use Rattle.gc_lines.specs.Replies.{ReplyFields}
 use Rattle.gc_lines.specs.Readers.{reply_at}
 use Rattle.gc_catalogue.specs.declared.call.Call.{Call}
-use Rattle.gc_client.specs.declared.client.TheConstants.{IDS}
+use Rattle.gc_client.specs.declared.window.TheConstants.{IDS}
 use Rattle.gc_client.specs.declared.pending.Pending.{Pending}
 
 -- how a request ended: a reply line met it, which is its bytes; one met it after it was given up; or none will

@@ -18,19 +18,13 @@ ghost use Rattle.gc_lines.specs.declared.fault.LineFault.TheVariants.{TooLong};
 use crate::heard::{Heard, Hearing};
 use crate::pending::Pending;
 use crate::settlement::{Outcome, Settlement};
-use crate::window::Window;
+use crate::window::{IDS, WINDOW, Window};
 use arrayvec::ArrayVec;
 use gc_catalogue::{Call, decode_answer, encode_call};
 use gc_lines::{Line, LineFault, Reply, append, read_reply};
 use std::error::Error;
 use std::fmt;
 use std::marker::Model;
-
-/// How many requests can wait: the width of the window.
-pub const WINDOW: usize = 7;
-
-/// How many ids there are: one digit from 0 on, one more than can wait.
-pub const IDS: u8 = 8;
 
 /// Seven requests wait, so no further one was sent.
 #[derive(Clone, Copy, Debug, PartialEq, Eq)]
@@ -81,7 +75,7 @@ pub struct Client<W: Window> {
 
 impl<W: Window> Model for Client<W> {
     ghost use Rattle.std.specs.Prelude.{◌<◌, ◌≤◌, length};
-    ghost use Rattle.gc_client.specs.declared.client.TheConstants.{WINDOW, IDS};
+    ghost use Rattle.gc_client.specs.declared.window.TheConstants.{WINDOW, IDS};
     ghost use Rattle.gc_client.specs.Rule.{ById};
 
     ghost Value = { ById };

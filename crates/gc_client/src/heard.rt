@@ -1,7 +1,7 @@
 //! What a client makes of a line.
 
-use crate::client::WINDOW;
 use crate::settlement::Settlement;
+use crate::window::WINDOW;
 use arrayvec::ArrayVec;
 use gc_lines::LineFault;
 

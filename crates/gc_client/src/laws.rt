@@ -2,7 +2,7 @@
 //! Each function is its contract, and does nothing.
 
 ghost use Rattle.std.specs.Prelude.{◌≡◌, ℕ, ◌<◌, ◌≤◌, ◌↔◌, true, List, length, Some};
-ghost use Rattle.gc_client.specs.declared.client.TheConstants.{WINDOW, IDS};
+ghost use Rattle.gc_client.specs.declared.window.TheConstants.{WINDOW, IDS};
 ghost use Rattle.gc_client.specs.Rule.{ById, place_in, fits};
 ghost use Rattle.gc_client.specs.Ids.{id_of, IsWindow, Waits, SendKeepsIds, SettlingKeepsIds, HearsByGrammar};
 ghost use Rattle.gc_client.specs.Silence.{IsReplyWithId, is_ours, IsSilent};

@@ -12,10 +12,10 @@ mod slots;
 mod tests;
 mod window;
 
-pub use client::{Client, IDS, WINDOW, WindowFull};
+pub use client::{Client, WindowFull};
 pub use heard::{Heard, Hearing};
 pub use pending::Pending;
 pub use ring::Ring;
 pub use settlement::{Outcome, Settlement};
 pub use slots::Slots;
-pub use window::Window;
+pub use window::{IDS, WINDOW, Window};

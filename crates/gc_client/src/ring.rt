@@ -2,9 +2,8 @@
 
 ghost use Rattle.std.specs.Prelude.{◌≡◌, [], IfOk};
 
-use crate::client::WINDOW;
 use crate::pending::Pending;
-use crate::window::Window;
+use crate::window::{WINDOW, Window};
 use circular_buffer::HeapCircularBuffer;
 use std::alloc::{AllocError, Global};
 use std::marker::Model;
@@ -18,7 +17,7 @@ pub struct Ring {
 
 impl Model for Ring {
     ghost use Rattle.std.specs.Prelude.{◌≡◌, List};
-    ghost use Rattle.gc_client.specs.declared.client.TheConstants.{WINDOW};
+    ghost use Rattle.gc_client.specs.declared.window.TheConstants.{WINDOW};
     ghost use Rattle.gc_client.specs.declared.pending.Pending.{Pending};
 
     ghost Value = { List Pending };

@@ -2,9 +2,8 @@
 
 ghost use Rattle.std.specs.Prelude.{◌≡◌, []};
 
-use crate::client::IDS;
 use crate::pending::Pending;
-use crate::window::Window;
+use crate::window::{IDS, Window};
 use gc_catalogue::Call;
 use std::marker::Model;
 
@@ -22,7 +21,7 @@ pub struct Slots {
 
 impl Model for Slots {
     ghost use Rattle.std.specs.Prelude.{◌≡◌, ◌<◌, ◌≤◌, List, length};
-    ghost use Rattle.gc_client.specs.declared.client.TheConstants.{WINDOW};
+    ghost use Rattle.gc_client.specs.declared.window.TheConstants.{WINDOW};
     ghost use Rattle.gc_client.specs.declared.pending.Pending.{Pending};
     ghost use Rattle.gc_client.specs.declared.slots.TheConstants.{PLACES};
     ghost use Rattle.gc_client.specs.Places.{waiting_in};

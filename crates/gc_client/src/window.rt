@@ -3,8 +3,13 @@
 ghost use Rattle.std.specs.Prelude.{◌≡◌, ◌<◌, ◌≤◌, [], ◌∷◌, ◌++◌, length, slice_get};
 ghost use Rattle.gc_client.specs.Rule.{given_up_at};
 
-use crate::client::WINDOW;
 use crate::pending::Pending;
+
+/// How many requests can wait: the width of the window.
+pub const WINDOW: usize = 7;
+
+/// How many ids there are: one digit from 0 on, one more than can wait.
+pub const IDS: u8 = 8;
 
 /// The requests that wait, oldest first: at most seven.
 /// What stands above sees this list and nothing else of a window.

@@ -8,7 +8,7 @@ use Rattle.std.proofs.lemmas.Bool.{ltb-false}
 use Rattle.gc_catalogue.specs.declared.call.Call.{Call}
 use Rattle.gc_catalogue.specs.Calls.{IsFitting}
 use Rattle.gc_catalogue.specs.Texts.{request_line}
-use Rattle.gc_client.specs.declared.client.TheConstants.{WINDOW, IDS}
+use Rattle.gc_client.specs.declared.window.TheConstants.{WINDOW, IDS}
 use Rattle.gc_client.specs.declared.heard.Heard.{Heard}
 use Rattle.gc_client.specs.declared.heard.Heard.TheVariants.{Settled, Stray, Unread}
 use Rattle.gc_client.specs.declared.settlement.Settlement.{Settlement}

@@ -2,7 +2,7 @@
 use Rattle.std.proofs.Common.{◌≡◌, ℕ, ◌≤◌, true, false, List, [], ◌∷◌, length, Some, ◌∙◌, ap, subst, arith}
 use mathlib.Core.Path.{ap₂}
 use Rattle.std.specs.Prelude.{slice_get}
-use Rattle.gc_client.specs.declared.client.TheConstants.{WINDOW}
+use Rattle.gc_client.specs.declared.window.TheConstants.{WINDOW}
 use Rattle.gc_client.specs.Rule.{ById, fits, heard}
 use Rattle.gc_instrument.specs.State.{State}
 use Rattle.gc_world.specs.declared.report.Made.{Made}

@@ -2,7 +2,7 @@
 -- numbers; and the runs of a list of events with each, on the simulated instrument.
 use Rattle.std.specs.Prelude.{ℕ, ◌+◌, ◌-◌, ◌%◌, Bool, true, false, List, [], ◌∷◌, ◌++◌, length, map, take, drop, Option, Some, None, nat_lt, nat_eq}
 use Rattle.gc_catalogue.specs.declared.call.Call.{Call}
-use Rattle.gc_client.specs.declared.client.TheConstants.{WINDOW, IDS}
+use Rattle.gc_client.specs.declared.window.TheConstants.{WINDOW, IDS}
 use Rattle.gc_client.specs.declared.pending.Pending.{Pending}
 use Rattle.gc_client.specs.Rule.{Settled, Sending, ById, fresh, pending_of, expired, lost, settle, sends, heard, hears, expires, restarts}
 use Rattle.gc_instrument.specs.Replying.{handed}

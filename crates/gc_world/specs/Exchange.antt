@@ -1,7 +1,7 @@
 -- No part of a promise: what the proofs ask of the two ends.
 use Rattle.std.specs.Prelude.{◌≡◌, ℕ, ◌<◌, true, Some}
 use Rattle.gc_catalogue.specs.declared.call.Call.{Call}
-use Rattle.gc_client.specs.declared.client.TheConstants.{IDS}
+use Rattle.gc_client.specs.declared.window.TheConstants.{IDS}
 use Rattle.gc_world.specs.World.{Ends}
 
 -- in a good state the reply to a request reads as one with its id, and leaves a good state

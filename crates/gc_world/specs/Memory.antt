@@ -1,6 +1,6 @@
 -- Which events take no memory, this project's own: those at which none of the report's lists and no queue grows.
 use Rattle.std.specs.Prelude.{◌≡◌, ℕ, ◌≤◌, false, List, [], ◌∷◌, length, take, Some, slice_get, ⊤}
-use Rattle.gc_client.specs.declared.client.TheConstants.{WINDOW}
+use Rattle.gc_client.specs.declared.window.TheConstants.{WINDOW}
 use Rattle.gc_client.specs.Rule.{ById, fits, heard}
 use Rattle.gc_instrument.specs.State.{State}
 use Rattle.gc_world.specs.declared.event.Event.{Event}

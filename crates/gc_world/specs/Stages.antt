@@ -2,7 +2,7 @@
 use Rattle.std.specs.Prelude.{◌≡◌, ℕ, ◌<◌, List, Option, Some, map, slice_get}
 use Rattle.gc_catalogue.specs.Calls.{IsFitting}
 use Rattle.gc_catalogue.specs.Texts.{request_line}
-use Rattle.gc_client.specs.declared.client.TheConstants.{WINDOW, IDS}
+use Rattle.gc_client.specs.declared.window.TheConstants.{WINDOW, IDS}
 use Rattle.gc_client.specs.Rule.{ById}
 use Rattle.gc_instrument.specs.State.{State, restarted}
 use Rattle.gc_world.specs.declared.report.Made.{Made}

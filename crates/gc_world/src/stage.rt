@@ -1,7 +1,7 @@
 //! The stage: what the events so far leave, and what the next one does.
 
 ghost use Rattle.std.specs.Prelude.{◌≡◌, ◌↔◌, ◌+◌, ◌<◌, ◌≤◌, ◌^◌, [], OnOk, IsOk, IsTrue, length};
-ghost use Rattle.gc_client.specs.declared.client.TheConstants.{WINDOW};
+ghost use Rattle.gc_client.specs.declared.window.TheConstants.{WINDOW};
 ghost use Rattle.gc_client.specs.Rule.{ById};
 ghost use Rattle.gc_instrument.specs.State.{State, IsFittingState, restarted};
 ghost use Rattle.gc_world.specs.World.{Step, World, step_of};
