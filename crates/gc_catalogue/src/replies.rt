@@ -18,7 +18,8 @@ use arrayvec::ArrayVec;
 use gc_lines::{Line, Reply, push_reply};
 use gc_values::{Listed, Quick, ValueFault};
 
-/// Appends the reply line of an answer, with each double rounded to the places. It fits in a line, whatever the answer is.
+/// Appends the reply line of an answer, with each double rounded to the places. It fits in a line, whatever the answer
+/// is, and reads back. Beside a return code other than 0 stands no answer.
 pub fn encode_answer_onto<const N: usize>(
     out: &mut ArrayVec<u8, N>,
     id: u8,
@@ -31,6 +32,10 @@ pub fn encode_answer_onto<const N: usize>(
     requires refused { rc ≢ 0 → answer.now ≡ Answer.Nothing }
     requires room { array_vec_len out.old + 512 ≤ N }
     ensures line { out.new.items ≡ out.old.items ++ reply_line id rc answer.now places }
+    ensures plain { IsPlain (reply_line id rc answer.now places) }
+    ensures reads_back { (call : Call) → rc ≡ 0 → IsAnswerOf call answer.now
+        → ReadsBackAnswer call id rc answer.now places (Reading.Value (rounded_answer places answer.now)) }
+    ensures refused { (call : Call) → rc ≢ 0 → ReadsBackAnswer call id rc answer.now places (Reading.Refused rc) }
     ensures fitting { IsFittingAnswer (rounded_answer places answer.now) }
 {
     push_reply(out, 0, id, rc);

@@ -17,11 +17,13 @@ use arrayvec::ArrayVec;
 use gc_lines::{Line, Request};
 use gc_values::{Listed, Quick};
 
-/// Appends the request line of a call, with the id or without one. It fits in a line, whatever the call is.
+/// Appends the request line of a call, with the id or without one. It fits in a line and reads back, whatever the call is.
 pub fn encode_call_onto<const N: usize>(out: &mut ArrayVec<u8, N>, id: Option<u8>, call: &Call)
     requires id { ForSome id (λ i. i < 8) }
     requires room { array_vec_len out.old + 512 ≤ N }
     ensures line { out.new.items ≡ out.old.items ++ request_line id call.now }
+    ensures plain { IsPlain (request_line id call.now) }
+    ensures reads_back { ReadsBackCall id call.now }
     ensures fitting { IsFitting call.now }
 {
     call.write_row(id, out);

@@ -1,9 +1,11 @@
-use Rattle.std.proofs.Common.{◌≡◌, ◌++◌, ℕ, List, [], append-nil, append_assoc, ap, sym, ◌∙◌, Some}
+use Rattle.std.proofs.Common.{◌≡◌, ◌++◌, ℕ, List, [], append-nil, append_assoc, ap, sym, ◌∙◌, Some, arith, lit<}
 use Rattle.gc_lines.specs.Replies.{params_text, reply_text}
 use Rattle.gc_values.specs.Lists.{AreValues}
 use Rattle.gc_catalogue.specs.Answers.{answer_fields, rounded_answer}
 use Rattle.gc_catalogue.specs.Lists.{before_commas, behind_commas, params_of, shown_values}
 use Rattle.gc_catalogue.proofs.Joining.{comma_list, params_text-params_of, reply_text-params}
+use Rattle.gc_catalogue.proofs.LineLaws.{answer_again, refusal_again}
+use Rattle.gc_catalogue.proofs.Plain.{plain_reply}
 use Rattle.gc_catalogue.proofs.Table.{values-rounded}
 use Rattle.gc_catalogue.proofs.replies.encode_answer_onto.Goals as goal
 
@@ -21,3 +23,15 @@ returns-clause-line g c =
 
 pub returns-clause-fitting : goal.returns-clause-fitting
 returns-clause-fitting g c = rw (values-rounded c.args.places c.args.answer.now) (handed g c).1
+
+pub returns-clause-plain : goal.returns-clause-plain
+returns-clause-plain g c =
+    plain_reply 0 (Some c.args.id) c.args.rc (answer_fields (rounded_answer c.args.places c.args.answer.now)).values (lit< tt) c.ranges.rc.fits (returns-clause-fitting g c)
+
+pub returns-clause-reads_back : goal.returns-clause-reads_back
+returns-clause-reads_back g c = λ call success of_call.
+    rw success (answer_again call c.args.id c.args.answer.now c.args.places c.requires.id of_call (returns-clause-fitting g c))
+
+pub returns-clause-refused : goal.returns-clause-refused
+returns-clause-refused g c = λ call refused.
+    rw (c.requires.refused refused) (refusal_again call c.args.id c.args.rc c.args.places c.requires.id (omega arith) c.ranges.rc.fits)

@@ -4,6 +4,9 @@ use Rattle.gc_values.specs.Lists.{AreValues}
 use Rattle.gc_catalogue.specs.Calls.{call_fields}
 use Rattle.gc_catalogue.specs.Lists.{before_commas}
 use Rattle.gc_catalogue.proofs.Joining.{request_ends}
+use Rattle.gc_catalogue.proofs.LineLaws.{call_again, some_id}
+use Rattle.gc_catalogue.proofs.Plain.{plain_request}
+use Rattle.gc_catalogue.proofs.Table.{number_fits}
 use Rattle.gc_catalogue.proofs.requests.encode_call_onto.Goals as goal
 
 -- the head and the values before commas, and that the values lie in their ranges
@@ -16,3 +19,9 @@ returns-clause-line g c =
 
 pub returns-clause-fitting : goal.returns-clause-fitting
 returns-clause-fitting g c = (begun g c).1
+
+pub returns-clause-plain : goal.returns-clause-plain
+returns-clause-plain g c = plain_request _ c.args.id _ (number_fits c.args.call.now) (begun g c).1
+
+pub returns-clause-reads_back : goal.returns-clause-reads_back
+returns-clause-reads_back g c = call_again c.args.id c.args.call.now (some_id c.args.id c.requires.id) (begun g c).1
