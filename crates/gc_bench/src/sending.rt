@@ -1,7 +1,8 @@
 //! A client's round: a request is sent, and its reply comes.
 
+use arrayvec::ArrayVec;
 use gc_catalogue::{Answer, Call, Reading};
-use gc_client::{Client, Heard, Outcome, Window};
+use gc_client::{Client, Hearing, Outcome, Settlement, WINDOW, Window};
 use gc_lines::Line;
 
 // Replies to a simple measurement, with the request's id, 0 to 7.
@@ -17,39 +18,42 @@ const REPLIES: [&[u8]; 8] = [
 ];
 
 /// Sends so many requests, each of which is answered before the next; the sum is of the lengths of the request lines and
-/// of the scales of the distances.
+/// of the scales of the distances. One line serves for all sends, and one list for all settlements.
 pub fn send<W: Window>(window: W, count: u32) -> u64 {
     let mut client = Client::new(window);
-    let mut reply = Line::new();
+    let mut line = Line::new();
+    let mut settled = ArrayVec::new();
     let mut sum = 0u64;
     for n in 0..count {
-        reply.clear();
-        let _ = reply.try_extend_from_slice(REPLIES[n as usize % 8]);
-        sum = sum.wrapping_add(sent(&mut client, n));
-        sum = sum.wrapping_add(answered(&mut client, &reply));
+        sum = sum.wrapping_add(sent(&mut client, n, &mut line));
+        sum = sum.wrapping_add(answered(&mut client, REPLIES[n as usize % 8], &mut settled));
     }
     sum
 }
 
 // Sends a request. It stays a function of its own, so that its instructions can be told apart.
 #[inline(never)]
-fn sent<W: Window>(client: &mut Client<W>, target: u32) -> u64 {
+fn sent<W: Window>(client: &mut Client<W>, target: u32, line: &mut Line) -> u64 {
     let call = Call::SimpleMea {
         wait: 5000,
         mode: 1,
     };
-    match client.send(target, call, 1000) {
-        Ok(line) => line.len() as u64,
+    match client.send_into(target, &call, 1000, line) {
+        Ok(()) => line.len() as u64,
         Err(_) => 0,
     }
 }
 
 // Hears the reply. It stays a function of its own, so that its instructions can be told apart.
 #[inline(never)]
-fn answered<W: Window>(client: &mut Client<W>, reply: &Line) -> u64 {
-    let Heard::Settled(settled) = client.on_line(reply) else {
+fn answered<W: Window>(
+    client: &mut Client<W>,
+    reply: &[u8],
+    settled: &mut ArrayVec<Settlement, WINDOW>,
+) -> u64 {
+    if client.hear(reply, settled) != Hearing::Settled {
         return 0;
-    };
+    }
     let mut sum = 0u64;
     for settlement in settled.as_slice() {
         if let Outcome::Answered(

@@ -1,43 +1,32 @@
 -- What a reply settles.
-use Rattle.std.proofs.Common.{◌≡◌, ℕ, zero, suc, ◌+◌, ◌≤◌, Bool, true, false, List, [], ◌∷◌, ◌++◌, length, map, take, drop, Option, Some, None, Ok, refl, sym, subst, ap, ap₂, ◌∙◌, arith, length-drop, if◌then◌else◌}
-use Rattle.arrayvec.specs.ArrayVec.{ArrayVec}
+use Rattle.std.proofs.Common.{◌≡◌, ℕ, zero, suc, ◌≤◌, Bool, true, false, List, [], ◌∷◌, ◌++◌, length, map, take, drop, Option, Some, None, Ok, refl, sym, ap, ap₂, ◌∙◌, arith, length-drop, if◌then◌else◌}
 use Rattle.gc_lines.specs.Replies.{ReplyFields}
 use Rattle.gc_lines.specs.Readers.{reply_at}
 use Rattle.gc_lines.proofs.Replies.{reply_found}
-use Rattle.gc_catalogue.specs.declared.answer.Reading.{Reading}
-use Rattle.gc_catalogue.specs.Readings.{IsReading}
 use Rattle.gc_client.specs.declared.pending.Pending.{Pending}
 use Rattle.gc_client.specs.declared.settlement.Outcome.{Outcome}
-use Rattle.gc_client.specs.declared.settlement.Outcome.TheVariants.{Answered, Late}
+use Rattle.gc_client.specs.declared.settlement.Outcome.TheVariants.{Answered, Late, Lost}
 use Rattle.gc_client.specs.Rule.{ById, lost, met, settle, id_in, heard, id_settled, hears}
 use Rattle.gc_client.specs.Places.{place_heard}
 use Rattle.gc_client.specs.Rule
-use Rattle.gc_client.specs.declared.settlement.Settlement.{Settlement}
-use Rattle.gc_client.specs.Settlements.{IsSettlement, AreSettlements}
-use Rattle.gc_client.proofs.Lists.{left_turn}
+use Rattle.gc_client.specs.Settlements.{IsAnsweredBy, IsSettlement}
 
 -- the rule's settlement for a reply line, where it was given up or was not
 abbrev met_when : Pending → List ℕ → Bool → Rule.Settlement
 met_when p line given_up = record { target = p.target; call = p.call; outcome = if given_up then Rule.Late else Rule.Answered line }
 
--- late, where it was given up
-pub late_is : (p : Pending) (line : List ℕ) (o : Outcome) → o ≡ Late → p.given_up ≡ true → IsSettlement (record { target = p.target; call = p.call; outcome = o }) (met p line)
-late_is p line o is given_up =
-    subst (λ o. IsSettlement (record { target = p.target; call = p.call; outcome = o }) (met p line)) (sym is) (record {
-      seen = ap (met_when p line) (sym given_up);
-      read = tt;
-    })
-
 -- answered, where it was not
-pub answered_is : (p : Pending) (line : List ℕ) (fields : ReplyFields) (reading : Reading) (copy : ArrayVec ℕ) (o : Outcome) → o ≡ Answered reading copy → p.given_up ≡ false → copy.items ≡ line → reply_at line ≡ Ok fields → IsReading p.call fields reading → IsSettlement (record { target = p.target; call = p.call; outcome = o }) (met p line)
-answered_is p line fields reading copy o is given_up same reads says =
-    subst (λ o. IsSettlement (record { target = p.target; call = p.call; outcome = o }) (met p line)) (sym is) (record {
+pub answered_is : (p : Pending) (line : List ℕ) (fields : ReplyFields) (o : Outcome) → p.given_up ≡ false → reply_at line ≡ Ok fields → IsAnsweredBy p.call fields line o → IsSettlement (record { target = p.target; call = p.call; outcome = o }) (met p line)
+answered_is p line fields (Answered reading copy) given_up reads (same, says) =
+    record {
       seen = ap₂ (met_when p) same (sym given_up);
       read = record { reply = fields; is_reply = reply_found copy.items fields (ap reply_at same ∙ reads); is_reading = says };
-    })
+    }
+answered_is p line fields Late given_up reads is = absurd is
+answered_is p line fields Lost given_up reads is = absurd is
 
 -- the first k are lost, and the one at place k is met
-settle_is : (k : ℕ) (line : List ℕ) (ws : List Pending) (p : Pending) (left : List Pending) → drop k ws ≡ p ∷ left → settle k line ws ≡ map lost (take k ws) ++ met p line ∷ []
+pub settle_is : (k : ℕ) (line : List ℕ) (ws : List Pending) (p : Pending) (left : List Pending) → drop k ws ≡ p ∷ left → settle k line ws ≡ map lost (take k ws) ++ met p line ∷ []
 settle_is zero line [] p left e = cc
 settle_is (suc k) line [] p left e = cc
 settle_is zero line (w ∷ ws) p left e = let same : w ≡ p = cc in ap (λ x. met x line ∷ []) same
@@ -57,21 +46,9 @@ hears_at c line None k e = absurd (none_is_not_some e) where
   none_is_not_some e = cc
 hears_at c line (Some id) k e = let at = chosen _ _ k e in ap₂ (λ q b. id_settled c line q b) at.1 at.0
 
--- A reply with these fields, to the request at place k.
-module _ (c : ById) (line : List ℕ) (fields : ReplyFields) (k : ℕ) (p : Pending) (left : List Pending) (reads : reply_at line ≡ Ok fields) (fit : place_heard c.next (length c.waiting) fields.id ≡ Some k) (next : drop k c.waiting ≡ p ∷ left) where
-  -- the rule settles through place k
-  settles : hears c line (heard line) ≡ id_settled c line k true
-  settles = ap (λ r. hears c line (id_in r)) reads ∙ hears_at c line fields.id k fit
-
-  -- what is settled is the rule's
-  pub settled_by : (ss : List Settlement) → AreSettlements ss (map lost (take k c.waiting) ++ met p line ∷ []) → AreSettlements ss (hears c line (heard line)).settlements
-  settled_by ss are = subst (λ rs. AreSettlements ss rs) (sym (ap (λ x. x.settlements) settles ∙ settle_is k line c.waiting p left next)) are
-
-  -- what is left is the rule's
-  pub left_by : record { next = c.next; waiting = left } ≡ (hears c line (heard line)).client
-  left_by =
-      let rest : left ≡ drop (k + 1) c.waiting = left_turn c.waiting k p (drop k c.waiting) left refl next in
-      ap (λ ps. let d : ById = record { next = c.next; waiting = ps } in d) rest ∙ sym (ap (λ x. x.client) settles)
+-- a reply with these fields, to the request at place k, settles through place k
+pub settles : (c : ById) (line : List ℕ) (fields : ReplyFields) (k : ℕ) → reply_at line ≡ Ok fields → place_heard c.next (length c.waiting) fields.id ≡ Some k → hears c line (heard line) ≡ id_settled c line k true
+settles c line fields k reads fit = ap (λ r. hears c line (id_in r)) reads ∙ hears_at c line fields.id k fit
 
 -- those that are left are no more than there were
 pub fewer : {A : Type 0} (k : ℕ) (ws : List A) (p : A) (left : List A) → drop k ws ≡ p ∷ left → length ws ≤ 7 → length left ≤ 7

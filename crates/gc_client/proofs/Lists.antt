@@ -1,6 +1,6 @@
 -- Lists, one element further.
-use Rattle.std.proofs.Common.{◌≡◌, ℕ, zero, suc, ◌+◌, List, [], ◌∷◌, ◌++◌, take, drop, Some, sym, ◌∙◌, ap, arith}
-use Rattle.std.specs.Prelude.{slice_get}
+use Rattle.std.proofs.Common.{◌≡◌, ℕ, zero, suc, ◌+◌, List, [], ◌∷◌, ◌++◌, take, drop, Option, Some, None, sym, ◌∙◌, ap, arith}
+use Rattle.std.specs.Prelude.{slice_get, IsSome}
 
 -- the first k + 1 are the first k, and the one at place k
 pub take_turn : {A : Type 0} (xs : List A) (k : ℕ) (x : A) → slice_get xs k ≡ Some x → take (suc k) xs ≡ take k xs ++ x ∷ []
@@ -29,3 +29,8 @@ left_turn ws k p qs qs' rest first =
     let both : p ∷ qs' ≡ p ∷ drop (suc k) ws = sym first ∙ rest ∙ drop_turn ws k p here in
     let tails : qs' ≡ drop (suc k) ws = cc in
     tails ∙ ap (λ m. drop m ws) n
+
+-- what is none isn't there
+pub none_there : {A : Type 0} (o : Option A) → o ≡ None → IsSome o → ⊥
+none_there None e is = cc
+none_there (Some x) e is = cc

@@ -1,5 +1,5 @@
 -- One more settlement.
-use Rattle.std.proofs.Common.{◌≡◌, ℕ, zero, suc, ◌+◌, List, [], ◌∷◌, ◌++◌, map, take, drop, All, Some, sym, ◌∙◌, ap, ap₂, arith}
+use Rattle.std.proofs.Common.{◌≡◌, ℕ, zero, suc, ◌+◌, ◌<◌, List, [], ◌∷◌, ◌++◌, length, map, take, drop, set, All, Some, refl, sym, subst, ◌∙◌, ap, ap₂, arith}
 use Rattle.std.specs.Prelude.{slice_get}
 use Rattle.std.proofs.lemmas.List.{map-append}
 use Rattle.std.proofs.lemmas.List.Elements.{All-append}
@@ -16,12 +16,24 @@ well_read_one s read zero d lt = read
 well_read_one s read (suc k) d lt = absurd (omega arith)
 
 -- settlements that are the rule's, and one more that is
-pub one_more : (ss : List Settlement) (rs : List Rule.Settlement) (s : Settlement) (r : Rule.Settlement) → AreSettlements ss rs → IsSettlement s r → AreSettlements (ss ++ s ∷ []) (rs ++ r ∷ [])
+one_more : (ss : List Settlement) (rs : List Rule.Settlement) (s : Settlement) (r : Rule.Settlement) → AreSettlements ss rs → IsSettlement s r → AreSettlements (ss ++ s ∷ []) (rs ++ r ∷ [])
 one_more ss rs s r are is =
     record {
       seen = map-append settlement_seen ss (s ∷ []) ∙ ap₂ (λ xs x. xs ++ x ∷ []) are.seen is.seen;
       read = All-append (λ s. IsWellRead s.call s.outcome) ss (s ∷ []) are.read (well_read_one s is.read);
     }
+
+-- the first k + 1, once the one at place k is written
+take_set : {A : Type 0} (xs : List A) (k : ℕ) (x : A) → k < length xs → take (suc k) (set xs k x) ≡ take k xs ++ x ∷ []
+take_set [] k x lt = absurd (omega arith)
+take_set (y ∷ xs) zero x lt = refl
+take_set (y ∷ xs) (suc k) x lt = ap (λ zs. y ∷ zs) (take_set xs k x (omega arith))
+
+-- settlements whose first k are the rule's, and the one at place k is written
+pub one_written : (ss : List Settlement) (k : ℕ) (rs : List Rule.Settlement) (s : Settlement) (r : Rule.Settlement) → k < length ss → AreSettlements (take k ss) rs → IsSettlement s r → AreSettlements (take (k + 1) (set ss k s)) (rs ++ r ∷ [])
+one_written ss k rs s r lt are is =
+    let n : suc k ≡ k + 1 = omega arith in
+    subst (λ xs. AreSettlements xs (rs ++ r ∷ [])) (sym (take_set ss k s lt) ∙ ap (λ m. take m (set ss k s)) n) (one_more (take k ss) rs s r are is)
 
 -- one more of those that wait is lost
 pub next_lost : (ws : List Pending) (k : ℕ) (p : Pending) (qs qs' : List Pending) → qs ≡ drop k ws → qs ≡ p ∷ qs' → map lost (take (k + 1) ws) ≡ map lost (take k ws) ++ lost p ∷ []

@@ -41,3 +41,9 @@ pub record IsSettlement (s : Settlement) (ruled : Rule.Settlement) : Type 0 wher
 pub record AreSettlements (settlements : List Settlement) (ruled : List Rule.Settlement) : Type 0 where
   pub seen : map settlement_seen settlements ≡ ruled
   pub read : All (λ s. IsWellRead s.call s.outcome) settlements
+
+-- the outcome is an answer with these bytes, whose reading is what this reply says of the call
+abbrev pub IsAnsweredBy : Call → ReplyFields → List ℕ → Outcome → Type 0
+IsAnsweredBy call reply bytes (Answered reading line) = (line.items ≡ bytes) × IsReading call reply reading
+IsAnsweredBy call reply bytes Late = ⊥
+IsAnsweredBy call reply bytes Lost = ⊥

@@ -1,18 +1,18 @@
 //! The client: all that happens to the next id and to the requests that wait is the client's rule, this project's own.
 
-ghost use Rattle.std.specs.Prelude.{◌≡◌, ℕ, ◌+◌, ◌<◌, ◌≤◌, ◌↔◌, List, [], ◌∷◌, ◌++◌, length, map, take, drop, Option, Some, None, IfSome, IfOk, OnOk, IsErr, MatchResult};
+ghost use Rattle.std.specs.Prelude.{◌≡◌, ℕ, ◌+◌, ◌<◌, ◌≤◌, ◌↔◌, true, List, [], ◌∷◌, ◌++◌, length, map, take, drop, Option, Some, None, Ok, Err, IfSome, IfOk, IfErr, OnOk, IsErr, MatchResult};
 ghost use Rattle.arrayvec.specs.ArrayVec.{array_vec_len};
 ghost use Rattle.gc_lines.specs.Lines.{IsPlain};
 ghost use Rattle.gc_lines.specs.Replies.{reply_seen};
 ghost use Rattle.gc_lines.specs.Readers.{reply_at};
 ghost use Rattle.gc_catalogue.specs.Calls.{IsFitting};
 ghost use Rattle.gc_catalogue.specs.Texts.{request_line};
-ghost use Rattle.gc_client.specs.Rule.{fresh, sends, heard, hears, deadlines, IsEarliest, expires, expiring, restarts, lost, met};
+ghost use Rattle.gc_client.specs.Rule.{fresh, sends, heard, hears, id_settled, deadlines, IsEarliest, expires, expiring, restarts, lost, met};
 ghost use Rattle.gc_client.specs.Places.{place_heard};
-ghost use Rattle.gc_client.specs.Settlements.{AreSettlements};
-ghost use Rattle.gc_client.specs.Rule;
+ghost use Rattle.gc_client.specs.Settlements.{IsAnsweredBy, IsSettlement, AreSettlements};
 ghost use Rattle.gc_client.specs.Hearing.{HearsAs, HearsInto, settlements_in};
 ghost use Rattle.gc_client.specs.declared.heard.Hearing.TheVariants.{Unread};
+ghost use Rattle.gc_client.specs.declared.settlement.Outcome.TheVariants.{Late};
 ghost use Rattle.gc_lines.specs.declared.fault.LineFault.TheVariants.{TooLong};
 
 use crate::heard::{Heard, Hearing};
@@ -20,7 +20,7 @@ use crate::pending::Pending;
 use crate::settlement::{Outcome, Settlement};
 use crate::window::{IDS, WINDOW, Window};
 use arrayvec::ArrayVec;
-use gc_catalogue::{Call, decode_answer, encode_call};
+use gc_catalogue::{Call, decode_answer, encode_call_onto};
 use gc_lines::{Line, LineFault, Reply, append, read_reply};
 use std::error::Error;
 use std::fmt;
@@ -159,20 +159,16 @@ impl<W: Window> Client<W> {
         ensures overlong { 512 < length line.now
             → (result ≡ Unread TooLong) × (settled.new.items ≡ []) × (self.new ≡ self.old) }
     {
-        settled.clear();
-        if line.len() > 512 {
-            return Hearing::Unread(LineFault::TooLong);
+        match self.aim(line) {
+            Ok((k, reply)) => {
+                self.settle(k, &reply, line, settled);
+                Hearing::Settled
+            }
+            Err(hearing) => {
+                settled.clear();
+                hearing
+            }
         }
-        let reply = match read_reply(line) {
-            Ok(reply) => reply,
-            Err(fault) => return Hearing::Unread(fault),
-        };
-        let Some(k) = place_of(self.next, self.window.len(), reply.id) else {
-            return Hearing::Stray;
-        };
-        lose(&mut self.window, k, settled);
-        meet(self.window.take_first(), &reply, line, settled);
-        Hearing::Settled
     }
 
     /// Gives up each request that waits and whose deadline is at most this moment, and answers the targets of those
@@ -237,7 +233,8 @@ impl<W: Window> Client<W> {
         if self.window.len() == WINDOW {
             return Err(WindowFull);
         }
-        *line = encode_call(Some(self.next), call);
+        line.clear();
+        encode_call_onto(line, Some(self.next), call);
         self.window.push(Pending {
             target,
             call: *call,
@@ -258,8 +255,61 @@ impl<W: Window> Client<W> {
         let mut settled = ArrayVec::new();
         let count = self.window.len();
         self.next = 0;
+        make_places(&mut settled, count);
         lose(&mut self.window, count, &mut settled);
         settled
+    }
+
+    // The reply that a line is and the place of its request; or a stray, or no reply.
+    #[inline]
+    fn aim<'a>(&self, line: &'a [u8]) -> Result<(usize, Reply<'a>), Hearing>
+        ensures reads { IfOk result (λ aim. reply_at line.now ≡ Ok (reply_seen aim.1)) }
+        ensures place { IfOk result (λ aim. place_heard self.now.next (length self.now.waiting) aim.1.id ≡ Some aim.0) }
+        ensures waits { IfOk result (λ aim. aim.0 < length self.now.waiting) }
+        ensures narrow { IfOk result (λ aim. aim.0 < WINDOW) }
+        ensures short { IfOk result (λ _. length line.now ≤ 512) }
+        ensures none { IfErr result (λ hearing. length line.now ≤ 512 → HearsInto self.now line.now hearing [] self.now) }
+        ensures settled { IfErr result (λ _. length line.now ≤ 512
+            → (hears self.now line.now (heard line.now)).settlements ≡ []) }
+        ensures client { IfErr result (λ _. length line.now ≤ 512
+            → (hears self.now line.now (heard line.now)).client ≡ self.now) }
+        ensures overlong { 512 < length line.now → result ≡ Err (Unread TooLong) }
+    {
+        if line.len() > 512 {
+            return Err(Hearing::Unread(LineFault::TooLong));
+        }
+        let reply = match read_reply(line) {
+            Ok(reply) => reply,
+            Err(fault) => return Err(Hearing::Unread(fault)),
+        };
+        match place_of(self.next, self.window.len(), reply.id) {
+            Some(k) => Ok((k, reply)),
+            None => Err(Hearing::Stray),
+        }
+    }
+
+    // Settles the request at place k by its reply, and those before it as lost.
+    #[inline]
+    fn settle(
+        &mut self,
+        k: usize,
+        reply: &Reply<'_>,
+        line: &[u8],
+        settled: &mut ArrayVec<Settlement, WINDOW>,
+    )
+        requires reads { reply_at line.now ≡ Ok (reply_seen reply.now) }
+        requires short { length line.now ≤ 512 }
+        requires waits { k < length self.old.waiting }
+        requires narrow { k < WINDOW }
+        ensures settled { AreSettlements settled.new.items (id_settled self.old line.now k true).settlements }
+        ensures client { self.new ≡ (id_settled self.old line.now k true).client }
+    {
+        make_places(settled, k + 1);
+        lose(&mut self.window, k, settled);
+        let p = self.window.take_first();
+        if let Some(settlement) = settled.get_mut(k) {
+            meet(&p, reply, line, settlement);
+        }
     }
 }
 
@@ -288,55 +338,102 @@ fn earlier(earliest: Option<u64>, deadline: u64) -> u64
     }
 }
 
-// Takes the first `count` out of a window, into an empty list: they are lost.
+// Makes a list of so many settlements, whatever they say.
+#[inline]
+fn make_places(settled: &mut ArrayVec<Settlement, WINDOW>, count: usize)
+    requires { count ≤ WINDOW }
+    ensures { array_vec_len settled.new ≡ count }
+{
+    settled.truncate(count);
+    for _ in settled.len()..count {
+        push_place(settled);
+    }
+}
+
+// Appends a settlement, whatever it says. It has its own frame, since a settlement is large.
+#[inline(never)]
+fn push_place(settled: &mut ArrayVec<Settlement, WINDOW>)
+    requires { array_vec_len settled.old < WINDOW }
+    ensures { array_vec_len settled.new ≡ array_vec_len settled.old + 1 }
+{
+    settled.push(Settlement::default());
+}
+
+// Takes the first `count` out of a window: the first `count` of a list say that they are lost.
 #[inline]
 fn lose<W: Window>(window: &mut W, count: usize, settled: &mut ArrayVec<Settlement, WINDOW>)
     requires count { count ≤ length (W.pendings window.old) }
     requires within { length (W.pendings window.old) ≤ WINDOW }
-    requires empty { settled.old.items ≡ [] }
-    ensures settled { AreSettlements settled.new.items (map lost (take count (W.pendings window.old))) }
-    ensures count { array_vec_len settled.new ≡ count }
+    requires places { count ≤ array_vec_len settled.old }
+    ensures settled { AreSettlements (take count settled.new.items) (map lost (take count (W.pendings window.old))) }
+    ensures places { array_vec_len settled.new ≡ array_vec_len settled.old }
     ensures left { W.pendings window.new ≡ drop count (W.pendings window.old) }
 {
-    for _ in 0..count {
-        push_lost(window.take_first(), settled);
+    for k in 0..count {
+        let p = window.take_first();
+        if let Some(settlement) = settled.get_mut(k) {
+            set_lost(&p, settlement);
+        }
     }
 }
 
-// Appends the settlement of a request that is lost. It has its own frame, since a settlement is large.
+// Writes the settlement of a request that is lost. It has its own frame, since an outcome is large.
 #[inline(never)]
-fn push_lost(p: Pending, settled: &mut ArrayVec<Settlement, WINDOW>)
-    requires { array_vec_len settled.old < WINDOW }
-    ensures settled { (ruled : List Rule.Settlement) → AreSettlements settled.old.items ruled
-        → AreSettlements settled.new.items (ruled ++ lost p ∷ []) }
-    ensures count { array_vec_len settled.new ≡ array_vec_len settled.old + 1 }
+fn set_lost(p: &Pending, settlement: &mut Settlement)
+    ensures { IsSettlement settlement.new (lost p.now) }
 {
-    settled.push(Settlement {
-        target: p.target,
-        call: p.call,
-        outcome: Outcome::Lost,
-    });
+    settlement.target = p.target;
+    settlement.call = p.call;
+    settlement.outcome = Outcome::Lost;
 }
 
-// Appends the settlement of a request whose reply came. It has its own frame, since a settlement is large.
+// Writes the settlement of a request whose reply came.
 #[inline(never)]
-fn meet(p: Pending, reply: &Reply<'_>, line: &[u8], settled: &mut ArrayVec<Settlement, WINDOW>)
+fn meet(p: &Pending, reply: &Reply<'_>, line: &[u8], settlement: &mut Settlement)
     requires reads { reply_at line.now ≡ Ok (reply_seen reply.now) }
     requires short { length line.now ≤ 512 }
-    requires room { array_vec_len settled.old < WINDOW }
-    ensures { (ruled : List Rule.Settlement) → AreSettlements settled.old.items ruled
-        → AreSettlements settled.new.items (ruled ++ met p line.now ∷ []) }
+    ensures { IsSettlement settlement.new (met p.now line.now) }
 {
-    let outcome = if p.given_up {
-        Outcome::Late
+    settlement.target = p.target;
+    settlement.call = p.call;
+    if p.given_up {
+        set_late(&mut settlement.outcome);
     } else {
-        Outcome::Answered(decode_answer(&p.call, reply), line_of(line))
-    };
-    settled.push(Settlement {
-        target: p.target,
-        call: p.call,
-        outcome,
-    });
+        answer(&p.call, reply, line, &mut settlement.outcome);
+    }
+}
+
+// Writes that a reply came late. It has its own frame, since an outcome is large.
+#[inline(never)]
+fn set_late(outcome: &mut Outcome)
+    ensures { outcome.new ≡ Late }
+{
+    *outcome = Outcome::Late;
+}
+
+// Writes what a reply in time says, where an answer stands into its places.
+#[inline]
+fn answer(call: &Call, reply: &Reply<'_>, line: &[u8], outcome: &mut Outcome)
+    requires { length line.now ≤ 512 }
+    ensures { IsAnsweredBy call.now (reply_seen reply.now) line.now outcome.new }
+{
+    match outcome {
+        Outcome::Answered(reading, copy) => {
+            *reading = decode_answer(call, reply);
+            copy.clear();
+            append(copy, line);
+        },
+        other => answer_anew(call, reply, line, other),
+    }
+}
+
+// Writes what a reply in time says, whatever stands there. It has its own frame, since an outcome is large.
+#[inline(never)]
+fn answer_anew(call: &Call, reply: &Reply<'_>, line: &[u8], outcome: &mut Outcome)
+    requires { length line.now ≤ 512 }
+    ensures { IsAnsweredBy call.now (reply_seen reply.now) line.now outcome.new }
+{
+    *outcome = Outcome::Answered(decode_answer(call, reply), line_of(line));
 }
 
 // The line with these bytes.

@@ -1,21 +1,33 @@
-use Rattle.std.proofs.Common.{List, map, take, sym, subst, arith}
+use Rattle.std.proofs.Common.{◌+◌, ◌<◌, List, length, map, take, set, sym, subst, ap, ◌∙◌, arith, length-set}
+use Rattle.arrayvec.specs.ArrayVec.{ArrayVec}
+use Rattle.gc_client.specs.declared.settlement.Settlement.{Settlement}
 use Rattle.gc_client.specs.Rule.{lost}
 use Rattle.gc_client.specs.Rule
 use Rattle.gc_client.specs.Settlements.{AreSettlements}
-use Rattle.gc_client.proofs.Lists.{left_turn}
-use Rattle.gc_client.proofs.Settling.{next_lost}
+use Rattle.gc_client.proofs.Lists.{left_turn, none_there}
+use Rattle.gc_client.proofs.Settling.{next_lost, one_written}
 use Rattle.gc_client.proofs.client.lose.Goals as goal
+use Rattle.gc_client.proofs.client.lose.Goals.{in-Some, in_default}
 
-pub loop-preserved : goal.loop-preserved
-loop-preserved g c =
+pub loop-k-preserved : goal.loop-k-preserved
+loop-k-preserved g c =
     let pendings = g.W.Window.pendings in
     let ws = pendings c.args.window.now in
-    let k = c.loop.counter in
-    let p = c.take_first.result in
-    let before = c.loop.invariant in
-    let next = next_lost ws k p (pendings c.loop.window) (pendings c.take_first.new.self) before.left c.take_first.ensures in
-    record {
-      settled = subst (λ (rs : List Rule.Settlement). AreSettlements c.push_lost.new.settled.items rs) (sym next) (c.push_lost.ensures.settled (map lost (take k ws)) before.settled);
-      left = left_turn ws k p (pendings c.loop.window) (pendings c.take_first.new.self) before.left c.take_first.ensures;
-      count = omega (arith, c.push_lost.ensures.count, before.count);
-    }
+    let k = c.loop-k.k in
+    let p = c.take_first-p.result in
+    let before = c.loop-k.invariant in
+    let next = next_lost ws k p (pendings c.loop-k.window) (pendings c.take_first-p.new.self) before.left c.take_first-p.ensures in
+    let left = left_turn ws k p (pendings c.loop-k.window) (pendings c.take_first-p.new.self) before.left c.take_first-p.ensures in
+    let old = c.loop-k.settled.items in
+    let lt : k < length old = omega (arith, c.requires.places, c.loop-k-test.true, before.places) in
+    elim c.match-get_mut.branch [
+      | in-Some w ↦
+          let s = w.set_lost.new.settlement in
+          let written = one_written old k (map lost (take k ws)) s (lost p) lt before.settled w.set_lost.ensures in
+          record {
+            settled = subst (λ (x : ArrayVec Settlement). AreSettlements (take (k + 1) x.items) (map lost (take (k + 1) ws))) (sym w.settled-is) (subst (λ (rs : List Rule.Settlement). AreSettlements (take (k + 1) (set old k s)) rs) (sym next) written);
+            left = left;
+            places = ap (λ (x : ArrayVec Settlement). length x.items) w.settled-is ∙ length-set old k s ∙ before.places;
+          }
+      | in_default w ↦ absurd (none_there c.get_mut.result w.in_default.is (c.get_mut.ensures.variant.1 lt))
+    ]

@@ -1,0 +1,6 @@
+use Rattle.std.proofs.Common.{◌≡◌, ◌≤◌, length}
+use Rattle.gc_client.proofs.client.make_places.Given as goal
+
+-- so many are there
+abbrev pub invariant-loop : goal.invariant-loop
+invariant-loop l = (length l.settled.items ≡ l.counter) × (l.counter ≤ l.count)
