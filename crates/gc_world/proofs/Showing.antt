@@ -1,18 +1,19 @@
 -- What each step of a stage has to show, over plain variables.
-use Rattle.std.proofs.Common.{◌≡◌, ℕ, ◌+◌, ◌<◌, ◌≤◌, Bool, true, false, List, [], ◌∷◌, ◌++◌, length, map, Option, Some, None, refl, sym, ◌∙◌, ap, subst, ltb, eqb, arith}
+use Rattle.std.proofs.Common.{◌≡◌, ℕ, ◌+◌, ◌<◌, ◌≤◌, Bool, true, false, cond, List, [], ◌∷◌, ◌++◌, length, map, Option, Some, None, refl, sym, ◌∙◌, ap, subst, ltb, eqb, arith}
 use mathlib.Core.Path.{ap₂}
 use Rattle.std.specs.Prelude.{slice_get}
 use Rattle.std.proofs.lemmas.List.{map-append, length-map, append-nil}
 use Rattle.std.proofs.lemmas.List.Elements.{All-append}
 use Rattle.std.proofs.lemmas.Bool.{ltb-false}
+use Rattle.gc_lines.specs.Answering.{AppendsAnswer}
 use Rattle.gc_catalogue.specs.declared.call.Call.{Call}
 use Rattle.gc_catalogue.specs.Calls.{IsFitting}
 use Rattle.gc_catalogue.specs.Texts.{request_line}
 use Rattle.gc_client.specs.declared.window.TheConstants.{WINDOW, IDS}
-use Rattle.gc_client.specs.declared.heard.Heard.{Heard}
-use Rattle.gc_client.specs.declared.heard.Heard.TheVariants.{Settled, Stray, Unread}
+use Rattle.gc_client.specs.declared.heard.Hearing.{Hearing}
+use Rattle.gc_client.specs.declared.heard.Hearing.TheVariants.{Settled, Stray, Unread}
 use Rattle.gc_client.specs.declared.settlement.Settlement.{Settlement}
-use Rattle.gc_client.specs.Hearing.{settlements_in}
+use Rattle.gc_client.specs.Hearing.{HearsInto}
 use Rattle.gc_client.specs.Rule.{ById, Sending, heard, hears, place_in, id_settled, id_send, sends, restarts}
 use Rattle.gc_client.specs.Rule
 use Rattle.gc_client.specs.Settlements.{AreSettlements, settlement_seen, IsWellRead}
@@ -38,6 +39,13 @@ use Rattle.gc_world.proofs.Places.{get_map, get_more, get_push, below}
 -- what the instrument does with a line that a client wrote
 abbrev pub ExchangesAny : State → List ℕ → State → Option (List ℕ) → Type 0
 ExchangesAny before line after reply = (id : ℕ) (call : Call) → id < 8 → IsFitting call → line ≡ request_line (Some id) call → IsExchanged before id call after reply
+
+-- the same, of a reply that was appended to an empty line
+pub exchanges_any : (before : State) (bytes line : List ℕ) (after : State) (old new : List ℕ) (b : Bool) → bytes ≡ line → old ≡ [] → ((id : ℕ) (call : Call) → id < 8 → IsFitting call → bytes ≡ request_line (Some id) call → AppendsAnswer (IsExchanged before id call after) old new b) → ExchangesAny before line after (cond b (Some new) None)
+exchanges_any before bytes line after old new true is none h id call digit fits e =
+    let a = h id call digit fits (is ∙ e) in
+    subst (λ (t : List ℕ). IsExchanged before id call after (Some t)) (sym (a.2 ∙ ap (λ l. l ++ a.0) none)) a.1
+exchanges_any before bytes line after old new false is none h id call digit fits e = (h id call digit fits (is ∙ e)).0
 
 -- the report counts one event more that was not possible, or is as before
 abbrev pub counted : Bool → Report → Report
@@ -103,10 +111,10 @@ named_push made entry places xs h =
     ∙ sym (map-append Some xs (made_seen entry ∷ []))
 
 -- a line that settles nothing
-pub none_settled : (o : Heard) (settled : List Settlement) → ((x : _) → o ≡ Settled x → ⊥) → settled ≡ settled ++ settlements_in o
-none_settled (Settled x) settled not = absurd (not x refl)
-none_settled Stray settled not = sym (append-nil settled)
-none_settled (Unread fault) settled not = sym (append-nil settled)
+pub none_settled : (old new : ById) (line : List ℕ) (o : Hearing) (more settled : List Settlement) → HearsInto old line o more new → (o ≡ Settled → ⊥) → settled ≡ settled ++ more
+none_settled old new line Settled more settled h not = absurd (not refl)
+none_settled old new line Stray more settled h not = sym (ap (λ l. settled ++ l) h.2 ∙ append-nil settled)
+none_settled old new line (Unread fault) more settled h not = sym (ap (λ l. settled ++ l) h.1 ∙ append-nil settled)
 
 pub map_none : {A B : Type 0} (f : A → B) (xs : List A) → map f xs ≡ [] → xs ≡ []
 map_none f [] e = refl
@@ -280,12 +288,12 @@ module _ (r : Report) (up down : List ℕ) (c : ById) (w : World ById State) (h 
       none_is_not _ (sym told ∙ did.line)
 
   -- the line in front of the downward queue was handed to the client
-  pub shows_down_deliver : (p : ℕ) (rest : List ℕ) (m : Made) (more settled : List Settlement) (client : ById) → down ≡ p ∷ rest → slice_get r.made p ≡ Some m → AreSettlements more (hears c m.line.items (heard m.line.items)).settlements → client ≡ (hears c m.line.items (heard m.line.items)).client → settled ≡ r.settled ++ more → AreOf (record r { settled = settled }) up rest client (does w Down_deliver)
-  shows_down_deliver p rest m more settled client e found more_are client_is settled_is =
+  pub shows_down_deliver : (p : ℕ) (rest : List ℕ) (m : Made) (bytes : List ℕ) (more settled : List Settlement) (client : ById) → down ≡ p ∷ rest → slice_get r.made p ≡ Some m → bytes ≡ m.line.items → AreSettlements more (hears c bytes (heard bytes)).settlements → client ≡ (hears c bytes (heard bytes)).client → settled ≡ r.settled ++ more → AreOf (record r { settled = settled }) up rest client (does w Down_deliver)
+  shows_down_deliver p rest m bytes more settled client e found same_bytes more_are client_is settled_is =
       let f = down_front p rest e in
       let x = f.0 in
-      let line : m.line.items ≡ x.line = ap (λ (y : Numbered (List ℕ)). y.line) (down_line p rest m e found) in
-      let same : hears c m.line.items (heard m.line.items) ≡ hears w.client x.line (heard x.line) = ap₂ (λ k l. hears k l (heard l)) h.client_is line in
+      let line : bytes ≡ x.line = same_bytes ∙ ap (λ (y : Numbered (List ℕ)). y.line) (down_line p rest m e found) in
+      let same : hears c bytes (heard bytes) ≡ hears w.client x.line (heard x.line) = ap₂ (λ k l. hears k l (heard l)) h.client_is line in
       let are : AreSettlements more (hears w.client x.line (heard x.line)).settlements = subst (λ (s : Rule.Settled ById). AreSettlements more s.settlements) same more_are in
       subst (λ q. AreOf (record r { settled = settled }) up rest client (down_delivered (by_ids WINDOW ends) w q)) (sym f.2) (record {
         reports = record {

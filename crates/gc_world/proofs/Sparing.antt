@@ -33,7 +33,7 @@ module _ (r : Report) (up down : List ℕ) (c : ById) (w : World ById State) (h 
   busy b = λ quiet. b (no_up r up down c w h quiet.0, no_down r up down c w h quiet.1)
 
   -- a reply in front for which no request waits
-  pub stray : (p : ℕ) (rest : List ℕ) (m : Made) → down ≡ p ∷ rest → slice_get r.made p ≡ Some m → IsStray w.client w.wire.down → fits c (heard m.line.items) ≡ false
-  stray p rest m e found t =
+  pub stray : (p : ℕ) (rest : List ℕ) (m : Made) (bytes : List ℕ) → down ≡ p ∷ rest → slice_get r.made p ≡ Some m → bytes ≡ m.line.items → IsStray w.client w.wire.down → fits c (heard bytes) ≡ false
+  stray p rest m bytes e found same t =
       let f = down_front r up down c w h p rest e in
-      ap₂ (λ (k : ById) (x : Numbered (List ℕ)). fits k (heard x.line)) h.client_is (down_line r up down c w h p rest m e found) ∙ subst (λ q. IsStray w.client q) f.2 t
+      ap₂ (λ (k : ById) (l : List ℕ). fits k (heard l)) h.client_is (same ∙ ap (λ (x : Numbered (List ℕ)). x.line) (down_line r up down c w h p rest m e found)) ∙ subst (λ q. IsStray w.client q) f.2 t

@@ -1,7 +1,6 @@
 //! The stage: what the events so far leave, and what the next one does.
 
 ghost use Rattle.std.specs.Prelude.{◌≡◌, ◌↔◌, ◌+◌, ◌<◌, ◌≤◌, ◌^◌, [], OnOk, IsOk, IsTrue, length};
-ghost use Rattle.gc_client.specs.declared.window.TheConstants.{WINDOW};
 ghost use Rattle.gc_client.specs.Rule.{ById};
 ghost use Rattle.gc_instrument.specs.State.{State, IsFittingState, restarted};
 ghost use Rattle.gc_world.specs.World.{Step, World, step_of};
@@ -12,10 +11,11 @@ use crate::entries::Entries;
 use crate::event::Event;
 use crate::queue::Queue;
 use crate::report::{Made, Report, Sent};
+use arrayvec::ArrayVec;
 use gc_catalogue::Call;
-use gc_client::{Client, Heard, Window};
+use gc_client::{Client, Hearing, Settlement, WINDOW, Window};
 use gc_instrument::Instrument;
-use gc_lines::copy_of;
+use gc_lines::Line;
 use std::alloc::{AllocError, Global};
 
 /// What the events so far leave.
@@ -25,6 +25,9 @@ pub struct Stage<W: Window> {
     pub up: Queue,
     pub down: Queue,
     pub client: Client<W>,
+
+    /// What the last reply settled: one list, large as it is, serves for all replies.
+    pub settled: ArrayVec<Settlement, WINDOW>,
 }
 
 impl<W: Window> Stage<W> {
@@ -48,6 +51,7 @@ impl<W: Window> Stage<W> {
             up: Queue::new(alloc),
             down: Queue::new(alloc),
             client: Client::new(window),
+            settled: ArrayVec::new(),
         }
     }
 
@@ -80,12 +84,20 @@ impl<W: Window> Stage<W> {
         ensures follows { OnOk result (Follows self.old (Step.Send target call deadline) self.new) }
         ensures spare { length self.old.client.waiting ≡ WINDOW → IsOk result }
     {
-        let Ok(line) = self.client.send(target, call, deadline) else {
+        let mut sent = Sent {
+            target,
+            call,
+            line: Line::new(),
+        };
+        let Ok(()) = self
+            .client
+            .send_into(target, &call, deadline, &mut sent.line)
+        else {
             self.report.refused_sends += 1;
             return Ok(());
         };
         self.up.push(self.report.sent.len())?;
-        self.report.sent.push(Sent { target, call, line })
+        self.report.sent.push(sent)
     }
 
     fn up_deliver(&mut self) -> Result<(), AllocError>
@@ -98,11 +110,15 @@ impl<W: Window> Stage<W> {
             self.report.idle_events += 1;
             return Ok(());
         };
-        let request = self.report.sent.at(number);
-        if let Some(line) = self.report.instrument.on_line(&request.line) {
+        let mut made = Made {
+            number,
+            line: Line::new(),
+        };
+        let request = self.report.sent.at(number).line.as_slice();
+        if self.report.instrument.reply_onto(request, &mut made.line) {
             self.report.executed.push(number)?;
             self.down.push(self.report.made.len())?;
-            self.report.made.push(Made { number, line })?;
+            self.report.made.push(made)?;
         }
         Ok(())
     }
@@ -137,9 +153,9 @@ impl<W: Window> Stage<W> {
             self.report.idle_events += 1;
             return Ok(());
         };
-        let reply = self.report.made.at(place);
-        if let Heard::Settled(mut settled) = self.client.on_line(&reply.line) {
-            self.report.settled.append_from(&mut settled)?;
+        let reply = self.report.made.at(place).line.as_slice();
+        if let Hearing::Settled = self.client.hear(reply, &mut self.settled) {
+            self.report.settled.append_from(&mut self.settled)?;
         }
         Ok(())
     }
