@@ -19,7 +19,7 @@ use crate::exec::run_exec;
 use crate::fault::RunFault;
 use clap::error::ErrorKind;
 use clap::{Arg, ArgAction, Command, Error};
-use gc_lines::{FromReader, Sink, Source, ToWriter};
+use gc_lines::{FromReader, ReadAhead, Sink, Source, ToWriter};
 use std::alloc::Global;
 use std::env::Args;
 use std::io::{self, Read, Write};
@@ -91,7 +91,7 @@ pub fn run_program<I: Read + Drop, O: Write + Drop, E: Write + Drop>(
     };
     match subcommand_of(alloc, words.as_slice()) {
         Ok(Subcommand::Exec) => exec(
-            &mut FromReader::new(input),
+            &mut FromReader::new(ReadAhead::new(input)),
             &mut ToWriter::new(output),
             &mut messages,
         ),

@@ -3,9 +3,9 @@
 ghost use Rattle.std.specs.Prelude.{None};
 
 use crate::{
-    Assembler, FromReader, Lent, Line, PortFailed, Sink, Source, ToWriter, begin_request,
-    push_reply, push_request, read_reply, read_request, write_line, write_reply, write_request,
-    write_whole,
+    Assembler, FromReader, Lent, Line, PortFailed, ReadAhead, Sink, Source, ToWriter,
+    begin_request, push_reply, push_request, read_reply, read_request, write_line, write_reply,
+    write_request, write_whole,
 };
 use arrayvec::ArrayVec;
 use std::io::{self, ErrorKind, Read};
@@ -120,6 +120,56 @@ fn a_reader_that_fails(rt: HostRuntime) {
     assert_eq!(rt; read_some(&mut source), (Ok(2), false));
     assert_eq!(rt; read_some(&mut source), (Err(PortFailed), true));
     assert_eq!(rt; read_some(&mut source), (Err(PortFailed), true));
+}
+
+// A reader that gives three bytes for each read, and fails at one of them.
+#[derive(Drop)]
+struct Slow<'a> {
+    left: &'a [u8],
+    calls: u8,
+    fails_at: u8,
+}
+
+impl Read for Slow<'_> {
+    ghost remaining = { λ _. None };
+
+    fn read(&mut self, buf: &mut [u8]) -> io::Result<usize> {
+        let is_failing = self.calls == self.fails_at;
+        self.calls = self.calls.saturating_add(1);
+        if is_failing {
+            return Err(ErrorKind::Other.into());
+        }
+        let left = self.left;
+        let count = left.len().min(buf.len()).min(3);
+        buf[..count].copy_from_slice(&left[..count]);
+        self.left = &left[count..];
+        Ok(count)
+    }
+}
+
+// Reads two bytes at most, by the trait's bound alone: what was read, or that it failed.
+fn read_two<R: Read>(reader: &mut R, buf: &mut [u8; 2]) -> Option<usize> {
+    reader.read(buf).ok()
+}
+
+#[test]
+fn a_reader_read_ahead_through_short_reads(rt: HostRuntime) {
+    let slow = Slow {
+        left: b"%R1Q,0:",
+        calls: 0,
+        fails_at: 2,
+    };
+    let mut reader = ReadAhead::new(slow);
+    let mut buf = [0u8; 2];
+    for (want, count) in [("%R", 2), ("1R", 1), ("Q,", 2), ("0,", 1)] {
+        assert_eq!(rt; read_two(&mut reader, &mut buf), Some(count), "{want}");
+        assert_eq!(rt; buf.as_slice(), want.as_bytes());
+    }
+    assert_eq!(rt; read_two(&mut reader, &mut buf), None);
+    assert_eq!(rt; read_two(&mut reader, &mut buf), Some(1));
+    assert_eq!(rt; buf[0], b':');
+    assert_eq!(rt; read_two(&mut reader, &mut buf), Some(0));
+    assert_eq!(rt; read_two(&mut reader, &mut buf), Some(0));
 }
 
 #[test]

@@ -1,0 +1,117 @@
+//! A reader that reads ahead into a fixed array, so that many small reads ask the reader under it but once.
+
+ghost use Rattle.std.specs.Prelude.{◌≡◌, ◌-◌, ◌<◌, ◌≤◌, ◌++◌, [], Ok, IfOk, OnOk, OnErr, IsTrue, ◌↔◌, length, min, take};
+ghost use Rattle.std.specs.Io.{ReadsAtMost};
+ghost use Rattle.std.specs.Io.KnownBytes.{ReadConsumes, Consumes, IsAtEnd, Keeps, prepend_known};
+
+use std::io::{self, Read};
+use std::marker::Model;
+
+/// How many bytes are read ahead at most.
+const AHEAD: usize = 8192;
+
+/// A reader that reads ahead from another one, up to 8192 bytes at a time. Takes no memory.
+///
+/// What it has still to give is what it holds, and then what the other has still to give. It reads the other once for each
+/// call at most, and only while it holds nothing: so no call waits for more than the other has, and the end or an error of
+/// the other is told only after all that came before it was given. It then does as the other does.
+#[derive(Drop)]
+pub struct ReadAhead<R> {
+    held: Held,
+    reader: R,
+}
+
+// The bytes that were read and not yet given.
+#[derive(Drop)]
+struct Held {
+    bytes: [u8; AHEAD],
+    start: usize,
+    end: usize,
+}
+
+impl Model for Held {
+    ghost use Rattle.std.specs.Prelude.{ℕ, ◌≤◌, List, slice_range};
+    ghost use Rattle.gc_lines.specs.declared.read_ahead.TheConstants.{AHEAD};
+
+    ghost Value = { List ℕ };
+
+    ghost view = { λ h. slice_range h.bytes h.start h.end };
+
+    ghost invariant = { λ h. (h.start ≤ h.end) × (h.end ≤ AHEAD) };
+}
+
+impl Held {
+    fn new() -> Held
+        ensures { result ≡ [] }
+    {
+        Held {
+            bytes: [0; AHEAD],
+            start: 0,
+            end: 0,
+        }
+    }
+
+    fn is_empty(&self) -> bool
+        ensures { IsTrue result ↔ (self.now ≡ []) }
+    {
+        self.start == self.end
+    }
+
+    // Holds what one read gives, in place of what was held.
+    fn refill<R: Read>(&mut self, reader: &mut R) -> io::Result<()>
+        requires { self.old ≡ [] }
+        ensures ok { OnOk result (Consumes (R.remaining reader.old) (R.remaining reader.new) self.new × (self.new ≡ [] → IsAtEnd (R.remaining reader.new))) }
+        ensures err { OnErr result (Keeps (R.remaining reader.old) (R.remaining reader.new) × (self.new ≡ [])) }
+    {
+        self.start = 0;
+        self.end = 0;
+        self.end = reader.read(&mut self.bytes)?;
+        Ok(())
+    }
+
+    // Moves bytes from the front into `buf`, as many as there are and have room, and says how many.
+    fn give(&mut self, buf: &mut [u8]) -> usize
+        ensures count { result ≡ min (length self.old) (length buf.old) }
+        ensures bytes { self.old ≡ take result buf.new ++ self.new }
+    {
+        let count = (self.end - self.start).min(buf.len());
+        buf[..count].copy_from_slice(&self.bytes[self.start..self.start + count]);
+        self.start += count;
+        count
+    }
+}
+
+impl<R: Read> ReadAhead<R> {
+    /// A reader that holds nothing yet: its bytes are the other's.
+    pub fn new(reader: R) -> ReadAhead<R>
+        ensures bytes { ⟦<ReadAhead<R> as Read>⟧.remaining result ≡ R.remaining reader }
+        ensures nothing { result.held ≡ [] }
+    {
+        ReadAhead {
+            held: Held::new(),
+            reader,
+        }
+    }
+}
+
+impl<R: Read> Read for ReadAhead<R> {
+    ghost remaining = { λ ahead. prepend_known ahead.held (R.remaining ahead.reader) };
+
+    fn read(&mut self, buf: &mut [u8]) -> io::Result<usize>
+        ensures bound { ReadsAtMost result buf.new }
+        ensures bytes { ReadConsumes (⟦<ReadAhead<R> as Read>⟧.remaining self.old)
+            (⟦<ReadAhead<R> as Read>⟧.remaining self.new) result buf.new }
+
+        // While it holds bytes it gives of them, and the other isn't asked.
+        ensures held { 0 < length self.old.held
+            → (result ≡ Ok (min (length self.old.held) (length buf.old))) × (self.new.reader ≡ self.old.reader) }
+
+        // Where the other failed, nothing is held: all that came before was given.
+        ensures failed { OnErr result ((self.old.held ≡ []) × (self.new.held ≡ [])) }
+    {
+        if self.held.is_empty() {
+            self.held.refill(&mut self.reader)?;
+        }
+        Ok(self.held.give(buf))
+    }
+}
