@@ -20,7 +20,7 @@ use crate::pending::Pending;
 use crate::settlement::{Outcome, Settlement};
 use crate::window::Window;
 use arrayvec::ArrayVec;
-use gc_catalogue::{Call, decode_answer, encode_call_onto};
+use gc_catalogue::{Call, decode_answer, decode_answer_into, encode_call_onto};
 use gc_lines::{Line, LineFault, Reply, append, read_reply};
 use std::error::Error;
 use std::fmt;
@@ -425,7 +425,7 @@ fn answer(call: &Call, reply: &Reply<'_>, line: &[u8], outcome: &mut Outcome)
 {
     match outcome {
         Outcome::Answered(reading, copy) => {
-            *reading = decode_answer(call, reply);
+            decode_answer_into(call, reply, reading);
             copy.clear();
             append(copy, line);
         },
