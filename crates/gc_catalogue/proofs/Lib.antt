@@ -1,6 +1,7 @@
 pub mod AnswerLaws
 pub mod CallLaws
 pub mod Joining
+pub mod Lengths
 pub mod LineLaws
 pub mod Plain
 pub mod Table

@@ -18,4 +18,4 @@ pub use answer::{Answer, Reading};
 pub use call::{Call, DateTime, Station};
 pub use fault::CallFault;
 pub use replies::{decode_answer, decode_answer_into, encode_answer, encode_answer_onto};
-pub use requests::{decode_call, encode_call, encode_call_onto};
+pub use requests::{decode_call, decode_call_into, encode_call, encode_call_onto};

@@ -1,7 +1,7 @@
 //! The rows for reading: what each procedure asks its parameters for, and what each shape of answer asks for. The kinds
 //! of a procedure's parameters are what its row asks for.
 
-ghost use Rattle.std.specs.Prelude.{◌≡◌, ◌≢◌, ◌++◌, [], List, IfSome, IfNone};
+ghost use Rattle.std.specs.Prelude.{◌≡◌, ◌≢◌, ◌++◌, [], List, IsTrue, IsFalse};
 ghost use Rattle.gc_values.specs.Lists.{kinds_of};
 ghost use Rattle.gc_values.specs.declared.fault.ValueFault.{ValueFault};
 ghost use Rattle.gc_values.specs.declared.value.Kind.{Kind};
@@ -15,64 +15,122 @@ use crate::answer::{Answer, Shape};
 use crate::call::{Call, DateTime, Station};
 use gc_values::Parameters;
 
-/// Asks for the parameters of the procedure with this number, and makes the call of them. There is none where no
+/// Asks for the parameters of the procedure with this number, makes the call of them in `call`, and says whether any
 /// procedure has the number.
-pub(crate) fn read_row<P: Parameters>(rpc: u16, params: &mut P) -> Option<Call>
-    ensures found { IfSome result (λ call. (call_fields call).number ≡ rpc) }
-    ensures reads { IfSome result (λ call. P.reads params.new [] → P.reads params.old (call_fields call).values) }
-    ensures fails { IfSome result (λ call. (e : ValueFault) → P.fails params.new [] e
-        → P.fails params.old (kinds_of (call_fields call).values) e) }
-    ensures none { IfNone result ((call : Call) → (call_fields call).number ≢ rpc) }
+pub(crate) fn read_row<P: Parameters>(rpc: u16, params: &mut P, call: &mut Call) -> bool
+    ensures found { IsTrue result → (call_fields call.new).number ≡ rpc }
+    ensures reads { IsTrue result → P.reads params.new [] → P.reads params.old (call_fields call.new).values }
+    ensures fails { IsTrue result → (e : ValueFault) → P.fails params.new [] e
+        → P.fails params.old (kinds_of (call_fields call.new).values) e }
+    ensures none { IsFalse result → (other : Call) → (call_fields other).number ≢ rpc }
 {
     match rpc {
-        0 => Some(Call::NullProc),
-        107 => Some(Call::SetPrecision(params.short())),
-        108 => Some(Call::GetPrecision),
-        110 => Some(Call::ComVersion),
-        5003 => Some(Call::InstrumentNo),
-        5004 => Some(Call::InstrumentName),
-        5007 => Some(Call::SetDate(read_date(params))),
-        5008 => Some(Call::GetDate),
-        5011 => Some(Call::IntTemp),
-        5034 => Some(Call::CsvVersion),
-        2008 => Some(Call::DoMeasure {
-            command: params.long(),
-            mode: params.long(),
-        }),
-        2009 => Some(Call::GetStation),
-        2010 => Some(Call::SetStation(read_station(params))),
-        2011 => Some(Call::GetHeight),
-        2012 => Some(Call::SetHeight(params.double())),
-        2026 => Some(Call::GetFace),
-        2107 => Some(Call::GetAngle {
-            mode: params.long(),
-        }),
-        2108 => Some(Call::SimpleMea {
-            wait: params.long(),
-            mode: params.long(),
-        }),
-        17017 => Some(Call::MeasDistance {
-            mode: params.long(),
-        }),
-        9027 => Some(Call::Position {
-            hz: params.double(),
-            v: params.double(),
-            pos_mode: params.long(),
-            atr_mode: params.long(),
-            dummy: params.boolean(),
-        }),
-        9028 => Some(Call::ChangeFace {
-            pos_mode: params.long(),
-            atr_mode: params.long(),
-            dummy: params.boolean(),
-        }),
-        9037 => Some(Call::FineAdjust {
-            area_hz: params.double(),
-            area_v: params.double(),
-            dummy: params.boolean(),
-        }),
-        _ => None,
+        0 => *call = Call::NullProc,
+        107 => *call = Call::SetPrecision(params.short()),
+        108 => *call = Call::GetPrecision,
+        110 => *call = Call::ComVersion,
+        5003 => *call = Call::InstrumentNo,
+        5004 => *call = Call::InstrumentName,
+        5007 => read_set_date(params, call),
+        5008 => *call = Call::GetDate,
+        5011 => *call = Call::IntTemp,
+        5034 => *call = Call::CsvVersion,
+        2008 => {
+            *call = Call::DoMeasure {
+                command: params.long(),
+                mode: params.long(),
+            }
+        }
+        2009 => *call = Call::GetStation,
+        2010 => read_set_station(params, call),
+        2011 => *call = Call::GetHeight,
+        2012 => read_set_height(params, call),
+        2026 => *call = Call::GetFace,
+        2107 => {
+            *call = Call::GetAngle {
+                mode: params.long(),
+            }
+        }
+        2108 => {
+            *call = Call::SimpleMea {
+                wait: params.long(),
+                mode: params.long(),
+            }
+        }
+        17017 => {
+            *call = Call::MeasDistance {
+                mode: params.long(),
+            }
+        }
+        9027 => read_position(params, call),
+        9028 => {
+            *call = Call::ChangeFace {
+                pos_mode: params.long(),
+                atr_mode: params.long(),
+                dummy: params.boolean(),
+            }
+        }
+        9037 => read_fine_adjust(params, call),
+        _ => return false,
     }
+    true
+}
+
+// The rows whose parameters are large stand in functions of their own, so that the others don't make room for them.
+
+#[inline(never)]
+fn read_set_date<P: Parameters>(params: &mut P, call: &mut Call)
+    ensures number { (call_fields call.new).number ≡ 5007 }
+    ensures reads { P.reads params.new [] → P.reads params.old (call_fields call.new).values }
+    ensures fails { (e : ValueFault) → P.fails params.new [] e → P.fails params.old (kinds_of (call_fields call.new).values) e }
+{
+    *call = Call::SetDate(read_date(params));
+}
+
+#[inline(never)]
+fn read_set_station<P: Parameters>(params: &mut P, call: &mut Call)
+    ensures number { (call_fields call.new).number ≡ 2010 }
+    ensures reads { P.reads params.new [] → P.reads params.old (call_fields call.new).values }
+    ensures fails { (e : ValueFault) → P.fails params.new [] e → P.fails params.old (kinds_of (call_fields call.new).values) e }
+{
+    *call = Call::SetStation(read_station(params));
+}
+
+#[inline(never)]
+fn read_set_height<P: Parameters>(params: &mut P, call: &mut Call)
+    ensures number { (call_fields call.new).number ≡ 2012 }
+    ensures reads { P.reads params.new [] → P.reads params.old (call_fields call.new).values }
+    ensures fails { (e : ValueFault) → P.fails params.new [] e → P.fails params.old (kinds_of (call_fields call.new).values) e }
+{
+    *call = Call::SetHeight(params.double());
+}
+
+#[inline(never)]
+fn read_position<P: Parameters>(params: &mut P, call: &mut Call)
+    ensures number { (call_fields call.new).number ≡ 9027 }
+    ensures reads { P.reads params.new [] → P.reads params.old (call_fields call.new).values }
+    ensures fails { (e : ValueFault) → P.fails params.new [] e → P.fails params.old (kinds_of (call_fields call.new).values) e }
+{
+    *call = Call::Position {
+        hz: params.double(),
+        v: params.double(),
+        pos_mode: params.long(),
+        atr_mode: params.long(),
+        dummy: params.boolean(),
+    };
+}
+
+#[inline(never)]
+fn read_fine_adjust<P: Parameters>(params: &mut P, call: &mut Call)
+    ensures number { (call_fields call.new).number ≡ 9037 }
+    ensures reads { P.reads params.new [] → P.reads params.old (call_fields call.new).values }
+    ensures fails { (e : ValueFault) → P.fails params.new [] e → P.fails params.old (kinds_of (call_fields call.new).values) e }
+{
+    *call = Call::FineAdjust {
+        area_hz: params.double(),
+        area_v: params.double(),
+        dummy: params.boolean(),
+    };
 }
 
 /// Asks for the values of an answer of this shape, and makes the answer of them.

@@ -37,6 +37,7 @@ pub fn encode_answer_onto<const N: usize>(
         → ReadsBackAnswer call id rc answer.now places (Reading.Value (rounded_answer places answer.now)) }
     ensures refused { (call : Call) → rc ≢ 0 → ReadsBackAnswer call id rc answer.now places (Reading.Refused rc) }
     ensures fitting { IsFittingAnswer (rounded_answer places answer.now) }
+    ensures bound { array_vec_len out.new ≤ array_vec_len out.old + 512 }
 {
     push_reply(out, 0, id, rc);
     out.push(b',');

@@ -1,5 +1,5 @@
 -- The reply to a line: what the instrument does with each line that it is handed. The communication codes are the manual's, the rest is this project's own.
-use Rattle.std.specs.Prelude.{◌≡◌, ℕ, List, [], Bool, true, Option, Some, None, Ok, if◌then◌else◌, ◌==◌, unwrap_or}
+use Rattle.std.specs.Prelude.{◌≡◌, ℕ, List, [], ◌++◌, Bool, true, Option, Some, None, Ok, if◌then◌else◌, ◌==◌, unwrap_or}
 use Rattle.gc_lines.specs.Replies.{ReplyFields, reply_text}
 use Rattle.gc_lines.specs.Readers.{reply_at}
 use Rattle.gc_lines.specs.Requests.{RequestFields, IsRequest}
@@ -73,3 +73,10 @@ pub record IsExchanged (before : State) (number : ℕ) (call : Call) (after : St
   pub state : after ≡ (handed before number call).state
   pub line : reply ≡ Some (handed before number call).reply
   pub answered : IsAnswered before number call (handed before number call).reply
+
+-- the reply to a request was appended, and says of its call what carrying it out gave
+pub record AppendsReply (before : State) (q : RequestFields) (after : State) (old new : List ℕ) : Type 0 where
+  pub text : List ℕ
+  pub appended : new ≡ old ++ text
+  pub answers : AnswersRequest before q after text
+  pub says : (call : Call) → IsCall q.rpc q.params call → IsAnswered before (reply_id q) call text

@@ -6,14 +6,14 @@ ghost use Rattle.std.specs.Option.{option_map, ForSome};
 ghost use Rattle.arrayvec.specs.ArrayVec.{array_vec_len};
 ghost use Rattle.gc_lines.specs.Answering.{AppendsAnswer};
 ghost use Rattle.gc_lines.specs.Requests.{request_seen};
-ghost use Rattle.gc_catalogue.specs.Calls.{IsCall, IsFitting};
+ghost use Rattle.gc_catalogue.specs.Calls.{IsFitting};
 ghost use Rattle.gc_catalogue.specs.Texts.{request_line};
-ghost use Rattle.gc_instrument.specs.Replying.{IsReplied, IsAnswered, IsExchanged, AnswersRequest, com_code, refusal_line, reply_id};
+ghost use Rattle.gc_instrument.specs.Replying.{IsReplied, IsExchanged, AppendsReply, com_code};
 
 use super::Instrument;
 use arrayvec::ArrayVec;
-use gc_catalogue::{CallFault, decode_call, encode_answer};
-use gc_lines::{Line, Request, append, begin_reply, read_request};
+use gc_catalogue::{Answer, Call, CallFault, decode_call_into, encode_answer_onto};
+use gc_lines::{Line, Request, push_reply, read_request};
 
 /// The communication code for a procedure that isn't in the catalogue.
 const UNKNOWN_PROCEDURE: u16 = 3081;
@@ -57,29 +57,30 @@ impl Instrument {
     {
         match read_request(line) {
             Ok(request) => {
-                let reply = self.reply_to(&request);
-                append(out, reply.as_slice());
+                self.reply_to(&request, out);
                 true
             }
             Err(_) => false,
         }
     }
 
-    // The reply to a request.
+    // Appends the reply to a request.
     #[inline]
-    fn reply_to(&mut self, request: &Request<'_>) -> Line
-        requires { ForSome request.now.id (λ id. id < 8) }
-        ensures answers { AnswersRequest self.old (request_seen request.now) self.new result.items }
-        ensures reads { (call : Call) → IsCall request.now.rpc request.now.params.now call
-            → IsAnswered self.old (reply_id (request_seen request.now)) call result.items }
+    fn reply_to<const N: usize>(&mut self, request: &Request<'_>, out: &mut ArrayVec<u8, N>)
+        requires id { ForSome request.now.id (λ id. id < 8) }
+        requires room { array_vec_len out.old + 512 ≤ N }
+        ensures replies { AppendsReply self.old (request_seen request.now) self.new out.old.items out.new.items }
+        ensures bound { length out.new.items ≤ length out.old.items + 512 }
     {
         let id = request.id.unwrap_or(0);
-        match decode_call(request) {
-            Ok(call) => {
-                let (rc, answer) = self.execute(&call);
-                encode_answer(id, rc, &answer, self.settings.precision)
+        let mut call = Call::NullProc;
+        match decode_call_into(request, &mut call) {
+            Ok(()) => {
+                let mut answer = Answer::Nothing;
+                let rc = self.carry_out(&call, &mut answer);
+                encode_answer_onto(out, id, rc, &answer, self.settings.precision);
             }
-            Err(fault) => refusal(id, fault),
+            Err(fault) => push_reply(out, com_code(fault), id, 0),
         }
     }
 }
@@ -92,13 +93,4 @@ fn com_code(fault: CallFault) -> u16
         CallFault::Unknown => UNKNOWN_PROCEDURE,
         CallFault::Parameters(_) => WRONG_PARAMETERS,
     }
-}
-
-// The reply to a request that names no call.
-#[inline]
-fn refusal(id: u8, fault: CallFault) -> Line
-    requires { id < 8 }
-    ensures { result.items ≡ refusal_line id fault }
-{
-    begin_reply(com_code(fault), Some(id), 0)
 }
