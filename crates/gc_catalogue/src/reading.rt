@@ -9,6 +9,7 @@ ghost use Rattle.gc_values.specs.declared.value.Value.{Value};
 ghost use Rattle.gc_catalogue.specs.Answers.{answer_fields};
 ghost use Rattle.gc_catalogue.specs.Calls.{call_fields};
 ghost use Rattle.gc_catalogue.specs.Structs.{date_values, station_values};
+ghost use Rattle.gc_catalogue.specs.declared.answer.Shape.TheVariants as shape;
 ghost use Rattle.gc_catalogue.specs.declared.call.Call.{Call};
 
 use crate::answer::{Answer, Shape};
@@ -133,38 +134,112 @@ fn read_fine_adjust<P: Parameters>(params: &mut P, call: &mut Call)
     };
 }
 
-/// Asks for the values of an answer of this shape, and makes the answer of them.
-pub(crate) fn read_answer_row<P: Parameters>(shape: Shape, params: &mut P) -> Answer
-    ensures found { (answer_fields result).shape ≡ shape }
-    ensures reads { P.reads params.new [] → P.reads params.old (answer_fields result).values }
-    ensures fails { (e : ValueFault) → P.fails params.new [] e → P.fails params.old (kinds_of (answer_fields result).values) e }
+/// Asks for the values of an answer of this shape, and makes the answer of them in `answer`.
+pub(crate) fn read_answer_row<P: Parameters>(shape: Shape, params: &mut P, answer: &mut Answer)
+    ensures found { (answer_fields answer.new).shape ≡ shape }
+    ensures reads { P.reads params.new [] → P.reads params.old (answer_fields answer.new).values }
+    ensures fails { (e : ValueFault) → P.fails params.new [] e → P.fails params.old (kinds_of (answer_fields answer.new).values) e }
 {
     match shape {
-        Shape::Nothing => Answer::Nothing,
-        Shape::Short => Answer::Short(params.short()),
-        Shape::Version => Answer::Version(params.short(), params.short(), params.short()),
-        Shape::Long => Answer::Long(params.long()),
-        Shape::Name => Answer::Name(params.text()),
-        Shape::Date => Answer::Date(read_date(params)),
-        Shape::Temperature => Answer::Temperature(params.double()),
-        Shape::Place => Answer::Place(read_station(params)),
-        Shape::Height => Answer::Height(params.double()),
-        Shape::Angles => Answer::Angles {
-            hz: params.double(),
-            v: params.double(),
-        },
-        Shape::Measured => Answer::Measured {
-            hz: params.double(),
-            v: params.double(),
-            distance: params.double(),
-        },
-        Shape::MeasuredMode => Answer::MeasuredMode {
-            hz: params.double(),
-            v: params.double(),
-            distance: params.double(),
-            mode: params.long(),
-        },
+        Shape::Nothing => *answer = Answer::Nothing,
+        Shape::Short => *answer = Answer::Short(params.short()),
+        Shape::Version => {
+            *answer = Answer::Version(params.short(), params.short(), params.short());
+        }
+        Shape::Long => *answer = Answer::Long(params.long()),
+        Shape::Name => read_name(params, answer),
+        Shape::Date => read_clock(params, answer),
+        Shape::Temperature => read_temperature(params, answer),
+        Shape::Place => read_place(params, answer),
+        Shape::Height => read_height(params, answer),
+        Shape::Angles => read_angles(params, answer),
+        Shape::Measured => read_measured(params, answer),
+        Shape::MeasuredMode => read_measured_mode(params, answer),
     }
+}
+
+#[inline(never)]
+fn read_name<P: Parameters>(params: &mut P, answer: &mut Answer)
+    ensures shape { (answer_fields answer.new).shape ≡ shape.Name }
+    ensures reads { P.reads params.new [] → P.reads params.old (answer_fields answer.new).values }
+    ensures fails { (e : ValueFault) → P.fails params.new [] e → P.fails params.old (kinds_of (answer_fields answer.new).values) e }
+{
+    *answer = Answer::Name(params.text());
+}
+
+#[inline(never)]
+fn read_clock<P: Parameters>(params: &mut P, answer: &mut Answer)
+    ensures shape { (answer_fields answer.new).shape ≡ shape.Date }
+    ensures reads { P.reads params.new [] → P.reads params.old (answer_fields answer.new).values }
+    ensures fails { (e : ValueFault) → P.fails params.new [] e → P.fails params.old (kinds_of (answer_fields answer.new).values) e }
+{
+    *answer = Answer::Date(read_date(params));
+}
+
+#[inline(never)]
+fn read_temperature<P: Parameters>(params: &mut P, answer: &mut Answer)
+    ensures shape { (answer_fields answer.new).shape ≡ shape.Temperature }
+    ensures reads { P.reads params.new [] → P.reads params.old (answer_fields answer.new).values }
+    ensures fails { (e : ValueFault) → P.fails params.new [] e → P.fails params.old (kinds_of (answer_fields answer.new).values) e }
+{
+    *answer = Answer::Temperature(params.double());
+}
+
+#[inline(never)]
+fn read_place<P: Parameters>(params: &mut P, answer: &mut Answer)
+    ensures shape { (answer_fields answer.new).shape ≡ shape.Place }
+    ensures reads { P.reads params.new [] → P.reads params.old (answer_fields answer.new).values }
+    ensures fails { (e : ValueFault) → P.fails params.new [] e → P.fails params.old (kinds_of (answer_fields answer.new).values) e }
+{
+    *answer = Answer::Place(read_station(params));
+}
+
+#[inline(never)]
+fn read_height<P: Parameters>(params: &mut P, answer: &mut Answer)
+    ensures shape { (answer_fields answer.new).shape ≡ shape.Height }
+    ensures reads { P.reads params.new [] → P.reads params.old (answer_fields answer.new).values }
+    ensures fails { (e : ValueFault) → P.fails params.new [] e → P.fails params.old (kinds_of (answer_fields answer.new).values) e }
+{
+    *answer = Answer::Height(params.double());
+}
+
+#[inline(never)]
+fn read_angles<P: Parameters>(params: &mut P, answer: &mut Answer)
+    ensures shape { (answer_fields answer.new).shape ≡ shape.Angles }
+    ensures reads { P.reads params.new [] → P.reads params.old (answer_fields answer.new).values }
+    ensures fails { (e : ValueFault) → P.fails params.new [] e → P.fails params.old (kinds_of (answer_fields answer.new).values) e }
+{
+    *answer = Answer::Angles {
+        hz: params.double(),
+        v: params.double(),
+    };
+}
+
+#[inline(never)]
+fn read_measured<P: Parameters>(params: &mut P, answer: &mut Answer)
+    ensures shape { (answer_fields answer.new).shape ≡ shape.Measured }
+    ensures reads { P.reads params.new [] → P.reads params.old (answer_fields answer.new).values }
+    ensures fails { (e : ValueFault) → P.fails params.new [] e → P.fails params.old (kinds_of (answer_fields answer.new).values) e }
+{
+    *answer = Answer::Measured {
+        hz: params.double(),
+        v: params.double(),
+        distance: params.double(),
+    };
+}
+
+#[inline(never)]
+fn read_measured_mode<P: Parameters>(params: &mut P, answer: &mut Answer)
+    ensures shape { (answer_fields answer.new).shape ≡ shape.MeasuredMode }
+    ensures reads { P.reads params.new [] → P.reads params.old (answer_fields answer.new).values }
+    ensures fails { (e : ValueFault) → P.fails params.new [] e → P.fails params.old (kinds_of (answer_fields answer.new).values) e }
+{
+    *answer = Answer::MeasuredMode {
+        hz: params.double(),
+        v: params.double(),
+        distance: params.double(),
+        mode: params.long(),
+    };
 }
 
 // A date's six parameters.

@@ -68,7 +68,12 @@ fn read_quickly(call: &Call, params: &[u8], reading: &mut Reading) -> bool
     ensures { IsTrue result → IsReading call.now (beside_zeros params.now) reading.new }
 {
     let mut quick = Quick::new(params);
-    *reading = Reading::Value(read_answer_row(call.shape(), &mut quick));
+    *reading = Reading::Value(Answer::Nothing);
+    // It was just made a value, so this only names the place in it.
+    let Reading::Value(answer) = reading else {
+        return false;
+    };
+    read_answer_row(call.shape(), &mut quick, answer);
     quick.is_done()
 }
 
@@ -78,7 +83,8 @@ fn read_by_the_book(call: &Call, params: &[u8], reading: &mut Reading)
     ensures { IsReading call.now (beside_zeros params.now) reading.new }
 {
     let mut listed = Listed::new(params);
-    let answer = read_answer_row(call.shape(), &mut listed);
+    let mut answer = Answer::Nothing;
+    read_answer_row(call.shape(), &mut listed, &mut answer);
     *reading = match listed.finish() {
         Ok(()) => Reading::Value(answer),
         Err(fault) => Reading::Unreadable(fault),
