@@ -1,5 +1,5 @@
 -- One call for a number and parameters, or one refusal, and never both.
-use Rattle.std.specs.Prelude.{◌≡◌, ℕ, List, Result, Ok, Err, IfOk, IfErr, refl}
+use Rattle.std.specs.Prelude.{◌≡◌, ℕ, List, Result, Ok, Err, IsOk, OnOk, IfErr, ⊤, refl}
 use Rattle.std.proofs.Common.{sym, ◌∙◌, ap}
 use Rattle.gc_catalogue.specs.declared.fault.CallFault.{CallFault}
 use Rattle.gc_catalogue.specs.declared.fault.CallFault.TheVariants.{Unknown, Parameters}
@@ -27,18 +27,19 @@ one_refusal n params (Parameters e) Unknown x y = absurd (y x.0 x.1)
 one_refusal n params (Parameters e) (Parameters f) x y =
     ap (λ z. Parameters z) (one_list_fault (call_kinds x.0) params e f x.2 (rw (alike x.0 y.0 (x.1 ∙ sym y.1)).kinds y.2))
 
-pub only_call : (n : ℕ) (params : List ℕ) (r : Result Call CallFault) → IfOk r (λ c. IsCall n params c) → IfErr r (λ e. IsRefusal n params e) → (c : Call) → IsCall n params c → r ≡ Ok c
-only_call n params (Ok d) x f c y = ap (λ z. Ok z) (one_call n params d c x y)
-only_call n params (Err e) x f c y = absurd (no_refusal n params c e y f)
+-- the call that was made where nothing was refused is the only one, and a refusal too
+pub only_call : (n : ℕ) (params : List ℕ) (r : Result ⊤ CallFault) (d : Call) → OnOk r (IsCall n params d) → IfErr r (λ e. IsRefusal n params e) → (c : Call) → IsCall n params c → IsOk r × (d ≡ c)
+only_call n params (Ok u) d x f c y = (refl, one_call n params d c x y)
+only_call n params (Err e) d x f c y = absurd (no_refusal n params c e y f)
 
-pub only_refusal : (n : ℕ) (params : List ℕ) (r : Result Call CallFault) → IfOk r (λ c. IsCall n params c) → IfErr r (λ e. IsRefusal n params e) → (e : CallFault) → IsRefusal n params e → r ≡ Err e
-only_refusal n params (Ok c) x f e y = absurd (no_refusal n params c e x y)
-only_refusal n params (Err d) x f e y = ap (λ z. Err z) (one_refusal n params d e f y)
+pub only_refusal : (n : ℕ) (params : List ℕ) (r : Result ⊤ CallFault) (d : Call) → OnOk r (IsCall n params d) → IfErr r (λ e. IsRefusal n params e) → (e : CallFault) → IsRefusal n params e → r ≡ Err e
+only_refusal n params (Ok u) d x f e y = absurd (no_refusal n params d e x y)
+only_refusal n params (Err g) d x f e y = ap (λ z. Err z) (one_refusal n params g e f y)
 
 -- a call's own texts are parameters of it
 pub written_is_call : (c : Call) → IsFitting c → IsCall (call_fields c).number (params_of (call_fields c).values) c
 written_is_call c h = record { number = refl; values = written_reads (call_fields c).values h }
 
-pub fits_where_found : (n : ℕ) (params : List ℕ) (r : Result Call CallFault) → IfOk r (λ c. IsCall n params c) → IfOk r (λ c. IsFitting c)
-fits_where_found n params (Ok c) x = params_fit (call_fields c).values params x.values
-fits_where_found n params (Err e) x = tt
+pub fits_where_found : (n : ℕ) (params : List ℕ) (r : Result ⊤ CallFault) (d : Call) → OnOk r (IsCall n params d) → OnOk r (IsFitting d)
+fits_where_found n params (Ok u) d x = params_fit (call_fields d).values params x.values
+fits_where_found n params (Err e) d x = tt

@@ -1,5 +1,5 @@
 -- What a reply says of its call: that parameters are read only where both codes are 0 is this project's own.
-use Rattle.std.specs.Prelude.{◌≡◌, ◌≢◌}
+use Rattle.std.specs.Prelude.{◌≡◌, ◌≢◌, ℕ, List, None}
 use Rattle.gc_lines.specs.Replies.{ReplyFields}
 use Rattle.gc_catalogue.specs.declared.answer.Reading.{Reading}
 use Rattle.gc_catalogue.specs.declared.answer.Reading.TheVariants.{Value, Refused, ComFault, Unreadable}
@@ -12,3 +12,7 @@ IsReading call r (ComFault code) = (r.rc_com ≢ 0) × (code ≡ r.rc_com)
 IsReading call r (Refused code) = (r.rc_com ≡ 0) × (r.rc ≢ 0) × (code ≡ r.rc)
 IsReading call r (Value answer) = (r.rc_com ≡ 0) × (r.rc ≡ 0) × IsAnswer call r.params answer
 IsReading call r (Unreadable e) = (r.rc_com ≡ 0) × (r.rc ≡ 0) × IsUnreadable call r.params e
+
+-- parameters beside two codes of 0
+abbrev pub beside_zeros : List ℕ → ReplyFields
+beside_zeros params = record { rc_com = 0; id = None; rc = 0; params = params }

@@ -17,5 +17,5 @@ mod writing;
 pub use answer::{Answer, Reading};
 pub use call::{Call, DateTime, Station};
 pub use fault::CallFault;
-pub use replies::{decode_answer, encode_answer, encode_answer_onto};
-pub use requests::{decode_call, encode_call, encode_call_onto};
+pub use replies::{decode_answer, decode_answer_into, encode_answer, encode_answer_onto};
+pub use requests::{decode_call, decode_call_into, encode_call, encode_call_onto};

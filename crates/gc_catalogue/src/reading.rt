@@ -1,7 +1,7 @@
 //! The rows for reading: what each procedure asks its parameters for, and what each shape of answer asks for. The kinds
 //! of a procedure's parameters are what its row asks for.
 
-ghost use Rattle.std.specs.Prelude.{◌≡◌, ◌≢◌, ◌++◌, [], List, IfSome, IfNone};
+ghost use Rattle.std.specs.Prelude.{◌≡◌, ◌≢◌, ◌++◌, [], List, IsTrue, IsFalse};
 ghost use Rattle.gc_values.specs.Lists.{kinds_of};
 ghost use Rattle.gc_values.specs.declared.fault.ValueFault.{ValueFault};
 ghost use Rattle.gc_values.specs.declared.value.Kind.{Kind};
@@ -9,104 +9,237 @@ ghost use Rattle.gc_values.specs.declared.value.Value.{Value};
 ghost use Rattle.gc_catalogue.specs.Answers.{answer_fields};
 ghost use Rattle.gc_catalogue.specs.Calls.{call_fields};
 ghost use Rattle.gc_catalogue.specs.Structs.{date_values, station_values};
+ghost use Rattle.gc_catalogue.specs.declared.answer.Shape.TheVariants as shape;
 ghost use Rattle.gc_catalogue.specs.declared.call.Call.{Call};
 
 use crate::answer::{Answer, Shape};
 use crate::call::{Call, DateTime, Station};
 use gc_values::Parameters;
 
-/// Asks for the parameters of the procedure with this number, and makes the call of them. There is none where no
+/// Asks for the parameters of the procedure with this number, makes the call of them in `call`, and says whether any
 /// procedure has the number.
-pub(crate) fn read_row<P: Parameters>(rpc: u16, params: &mut P) -> Option<Call>
-    ensures found { IfSome result (λ call. (call_fields call).number ≡ rpc) }
-    ensures reads { IfSome result (λ call. P.reads params.new [] → P.reads params.old (call_fields call).values) }
-    ensures fails { IfSome result (λ call. (e : ValueFault) → P.fails params.new [] e
-        → P.fails params.old (kinds_of (call_fields call).values) e) }
-    ensures none { IfNone result ((call : Call) → (call_fields call).number ≢ rpc) }
+pub(crate) fn read_row<P: Parameters>(rpc: u16, params: &mut P, call: &mut Call) -> bool
+    ensures found { IsTrue result → (call_fields call.new).number ≡ rpc }
+    ensures reads { IsTrue result → P.reads params.new [] → P.reads params.old (call_fields call.new).values }
+    ensures fails { IsTrue result → (e : ValueFault) → P.fails params.new [] e
+        → P.fails params.old (kinds_of (call_fields call.new).values) e }
+    ensures none { IsFalse result → (other : Call) → (call_fields other).number ≢ rpc }
 {
     match rpc {
-        0 => Some(Call::NullProc),
-        107 => Some(Call::SetPrecision(params.short())),
-        108 => Some(Call::GetPrecision),
-        110 => Some(Call::ComVersion),
-        5003 => Some(Call::InstrumentNo),
-        5004 => Some(Call::InstrumentName),
-        5007 => Some(Call::SetDate(read_date(params))),
-        5008 => Some(Call::GetDate),
-        5011 => Some(Call::IntTemp),
-        5034 => Some(Call::CsvVersion),
-        2008 => Some(Call::DoMeasure {
-            command: params.long(),
-            mode: params.long(),
-        }),
-        2009 => Some(Call::GetStation),
-        2010 => Some(Call::SetStation(read_station(params))),
-        2011 => Some(Call::GetHeight),
-        2012 => Some(Call::SetHeight(params.double())),
-        2026 => Some(Call::GetFace),
-        2107 => Some(Call::GetAngle {
-            mode: params.long(),
-        }),
-        2108 => Some(Call::SimpleMea {
-            wait: params.long(),
-            mode: params.long(),
-        }),
-        17017 => Some(Call::MeasDistance {
-            mode: params.long(),
-        }),
-        9027 => Some(Call::Position {
-            hz: params.double(),
-            v: params.double(),
-            pos_mode: params.long(),
-            atr_mode: params.long(),
-            dummy: params.boolean(),
-        }),
-        9028 => Some(Call::ChangeFace {
-            pos_mode: params.long(),
-            atr_mode: params.long(),
-            dummy: params.boolean(),
-        }),
-        9037 => Some(Call::FineAdjust {
-            area_hz: params.double(),
-            area_v: params.double(),
-            dummy: params.boolean(),
-        }),
-        _ => None,
+        0 => *call = Call::NullProc,
+        107 => *call = Call::SetPrecision(params.short()),
+        108 => *call = Call::GetPrecision,
+        110 => *call = Call::ComVersion,
+        5003 => *call = Call::InstrumentNo,
+        5004 => *call = Call::InstrumentName,
+        5007 => read_set_date(params, call),
+        5008 => *call = Call::GetDate,
+        5011 => *call = Call::IntTemp,
+        5034 => *call = Call::CsvVersion,
+        2008 => {
+            *call = Call::DoMeasure {
+                command: params.long(),
+                mode: params.long(),
+            }
+        }
+        2009 => *call = Call::GetStation,
+        2010 => read_set_station(params, call),
+        2011 => *call = Call::GetHeight,
+        2012 => read_set_height(params, call),
+        2026 => *call = Call::GetFace,
+        2107 => {
+            *call = Call::GetAngle {
+                mode: params.long(),
+            }
+        }
+        2108 => {
+            *call = Call::SimpleMea {
+                wait: params.long(),
+                mode: params.long(),
+            }
+        }
+        17017 => {
+            *call = Call::MeasDistance {
+                mode: params.long(),
+            }
+        }
+        9027 => read_position(params, call),
+        9028 => {
+            *call = Call::ChangeFace {
+                pos_mode: params.long(),
+                atr_mode: params.long(),
+                dummy: params.boolean(),
+            }
+        }
+        9037 => read_fine_adjust(params, call),
+        _ => return false,
+    }
+    true
+}
+
+// The rows whose parameters are large stand in functions of their own, so that the others don't make room for them.
+
+#[inline(never)]
+fn read_set_date<P: Parameters>(params: &mut P, call: &mut Call)
+    ensures number { (call_fields call.new).number ≡ 5007 }
+    ensures reads { P.reads params.new [] → P.reads params.old (call_fields call.new).values }
+    ensures fails { (e : ValueFault) → P.fails params.new [] e → P.fails params.old (kinds_of (call_fields call.new).values) e }
+{
+    *call = Call::SetDate(read_date(params));
+}
+
+#[inline(never)]
+fn read_set_station<P: Parameters>(params: &mut P, call: &mut Call)
+    ensures number { (call_fields call.new).number ≡ 2010 }
+    ensures reads { P.reads params.new [] → P.reads params.old (call_fields call.new).values }
+    ensures fails { (e : ValueFault) → P.fails params.new [] e → P.fails params.old (kinds_of (call_fields call.new).values) e }
+{
+    *call = Call::SetStation(read_station(params));
+}
+
+#[inline(never)]
+fn read_set_height<P: Parameters>(params: &mut P, call: &mut Call)
+    ensures number { (call_fields call.new).number ≡ 2012 }
+    ensures reads { P.reads params.new [] → P.reads params.old (call_fields call.new).values }
+    ensures fails { (e : ValueFault) → P.fails params.new [] e → P.fails params.old (kinds_of (call_fields call.new).values) e }
+{
+    *call = Call::SetHeight(params.double());
+}
+
+#[inline(never)]
+fn read_position<P: Parameters>(params: &mut P, call: &mut Call)
+    ensures number { (call_fields call.new).number ≡ 9027 }
+    ensures reads { P.reads params.new [] → P.reads params.old (call_fields call.new).values }
+    ensures fails { (e : ValueFault) → P.fails params.new [] e → P.fails params.old (kinds_of (call_fields call.new).values) e }
+{
+    *call = Call::Position {
+        hz: params.double(),
+        v: params.double(),
+        pos_mode: params.long(),
+        atr_mode: params.long(),
+        dummy: params.boolean(),
+    };
+}
+
+#[inline(never)]
+fn read_fine_adjust<P: Parameters>(params: &mut P, call: &mut Call)
+    ensures number { (call_fields call.new).number ≡ 9037 }
+    ensures reads { P.reads params.new [] → P.reads params.old (call_fields call.new).values }
+    ensures fails { (e : ValueFault) → P.fails params.new [] e → P.fails params.old (kinds_of (call_fields call.new).values) e }
+{
+    *call = Call::FineAdjust {
+        area_hz: params.double(),
+        area_v: params.double(),
+        dummy: params.boolean(),
+    };
+}
+
+/// Asks for the values of an answer of this shape, and makes the answer of them in `answer`.
+pub(crate) fn read_answer_row<P: Parameters>(shape: Shape, params: &mut P, answer: &mut Answer)
+    ensures found { (answer_fields answer.new).shape ≡ shape }
+    ensures reads { P.reads params.new [] → P.reads params.old (answer_fields answer.new).values }
+    ensures fails { (e : ValueFault) → P.fails params.new [] e → P.fails params.old (kinds_of (answer_fields answer.new).values) e }
+{
+    match shape {
+        Shape::Nothing => *answer = Answer::Nothing,
+        Shape::Short => *answer = Answer::Short(params.short()),
+        Shape::Version => {
+            *answer = Answer::Version(params.short(), params.short(), params.short());
+        }
+        Shape::Long => *answer = Answer::Long(params.long()),
+        Shape::Name => read_name(params, answer),
+        Shape::Date => read_clock(params, answer),
+        Shape::Temperature => read_temperature(params, answer),
+        Shape::Place => read_place(params, answer),
+        Shape::Height => read_height(params, answer),
+        Shape::Angles => read_angles(params, answer),
+        Shape::Measured => read_measured(params, answer),
+        Shape::MeasuredMode => read_measured_mode(params, answer),
     }
 }
 
-/// Asks for the values of an answer of this shape, and makes the answer of them.
-pub(crate) fn read_answer_row<P: Parameters>(shape: Shape, params: &mut P) -> Answer
-    ensures found { (answer_fields result).shape ≡ shape }
-    ensures reads { P.reads params.new [] → P.reads params.old (answer_fields result).values }
-    ensures fails { (e : ValueFault) → P.fails params.new [] e → P.fails params.old (kinds_of (answer_fields result).values) e }
+#[inline(never)]
+fn read_name<P: Parameters>(params: &mut P, answer: &mut Answer)
+    ensures shape { (answer_fields answer.new).shape ≡ shape.Name }
+    ensures reads { P.reads params.new [] → P.reads params.old (answer_fields answer.new).values }
+    ensures fails { (e : ValueFault) → P.fails params.new [] e → P.fails params.old (kinds_of (answer_fields answer.new).values) e }
 {
-    match shape {
-        Shape::Nothing => Answer::Nothing,
-        Shape::Short => Answer::Short(params.short()),
-        Shape::Version => Answer::Version(params.short(), params.short(), params.short()),
-        Shape::Long => Answer::Long(params.long()),
-        Shape::Name => Answer::Name(params.text()),
-        Shape::Date => Answer::Date(read_date(params)),
-        Shape::Temperature => Answer::Temperature(params.double()),
-        Shape::Place => Answer::Place(read_station(params)),
-        Shape::Height => Answer::Height(params.double()),
-        Shape::Angles => Answer::Angles {
-            hz: params.double(),
-            v: params.double(),
-        },
-        Shape::Measured => Answer::Measured {
-            hz: params.double(),
-            v: params.double(),
-            distance: params.double(),
-        },
-        Shape::MeasuredMode => Answer::MeasuredMode {
-            hz: params.double(),
-            v: params.double(),
-            distance: params.double(),
-            mode: params.long(),
-        },
-    }
+    *answer = Answer::Name(params.text());
+}
+
+#[inline(never)]
+fn read_clock<P: Parameters>(params: &mut P, answer: &mut Answer)
+    ensures shape { (answer_fields answer.new).shape ≡ shape.Date }
+    ensures reads { P.reads params.new [] → P.reads params.old (answer_fields answer.new).values }
+    ensures fails { (e : ValueFault) → P.fails params.new [] e → P.fails params.old (kinds_of (answer_fields answer.new).values) e }
+{
+    *answer = Answer::Date(read_date(params));
+}
+
+#[inline(never)]
+fn read_temperature<P: Parameters>(params: &mut P, answer: &mut Answer)
+    ensures shape { (answer_fields answer.new).shape ≡ shape.Temperature }
+    ensures reads { P.reads params.new [] → P.reads params.old (answer_fields answer.new).values }
+    ensures fails { (e : ValueFault) → P.fails params.new [] e → P.fails params.old (kinds_of (answer_fields answer.new).values) e }
+{
+    *answer = Answer::Temperature(params.double());
+}
+
+#[inline(never)]
+fn read_place<P: Parameters>(params: &mut P, answer: &mut Answer)
+    ensures shape { (answer_fields answer.new).shape ≡ shape.Place }
+    ensures reads { P.reads params.new [] → P.reads params.old (answer_fields answer.new).values }
+    ensures fails { (e : ValueFault) → P.fails params.new [] e → P.fails params.old (kinds_of (answer_fields answer.new).values) e }
+{
+    *answer = Answer::Place(read_station(params));
+}
+
+#[inline(never)]
+fn read_height<P: Parameters>(params: &mut P, answer: &mut Answer)
+    ensures shape { (answer_fields answer.new).shape ≡ shape.Height }
+    ensures reads { P.reads params.new [] → P.reads params.old (answer_fields answer.new).values }
+    ensures fails { (e : ValueFault) → P.fails params.new [] e → P.fails params.old (kinds_of (answer_fields answer.new).values) e }
+{
+    *answer = Answer::Height(params.double());
+}
+
+#[inline(never)]
+fn read_angles<P: Parameters>(params: &mut P, answer: &mut Answer)
+    ensures shape { (answer_fields answer.new).shape ≡ shape.Angles }
+    ensures reads { P.reads params.new [] → P.reads params.old (answer_fields answer.new).values }
+    ensures fails { (e : ValueFault) → P.fails params.new [] e → P.fails params.old (kinds_of (answer_fields answer.new).values) e }
+{
+    *answer = Answer::Angles {
+        hz: params.double(),
+        v: params.double(),
+    };
+}
+
+#[inline(never)]
+fn read_measured<P: Parameters>(params: &mut P, answer: &mut Answer)
+    ensures shape { (answer_fields answer.new).shape ≡ shape.Measured }
+    ensures reads { P.reads params.new [] → P.reads params.old (answer_fields answer.new).values }
+    ensures fails { (e : ValueFault) → P.fails params.new [] e → P.fails params.old (kinds_of (answer_fields answer.new).values) e }
+{
+    *answer = Answer::Measured {
+        hz: params.double(),
+        v: params.double(),
+        distance: params.double(),
+    };
+}
+
+#[inline(never)]
+fn read_measured_mode<P: Parameters>(params: &mut P, answer: &mut Answer)
+    ensures shape { (answer_fields answer.new).shape ≡ shape.MeasuredMode }
+    ensures reads { P.reads params.new [] → P.reads params.old (answer_fields answer.new).values }
+    ensures fails { (e : ValueFault) → P.fails params.new [] e → P.fails params.old (kinds_of (answer_fields answer.new).values) e }
+{
+    *answer = Answer::MeasuredMode {
+        hz: params.double(),
+        v: params.double(),
+        distance: params.double(),
+        mode: params.long(),
+    };
 }
 
 // A date's six parameters.

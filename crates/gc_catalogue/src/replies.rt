@@ -1,12 +1,12 @@
 //! Answers and their reply lines.
 
-ghost use Rattle.std.specs.Prelude.{◌≡◌, ◌≢◌, ◌+◌, ◌<◌, ◌≤◌, ◌++◌, IfOk, IfErr, IfSome};
+ghost use Rattle.std.specs.Prelude.{◌≡◌, ◌≢◌, ◌+◌, ◌<◌, ◌≤◌, ◌++◌, IsTrue};
 ghost use Rattle.arrayvec.specs.ArrayVec.{array_vec_len};
 ghost use Rattle.gc_lines.specs.Lines.{IsPlain};
 ghost use Rattle.gc_lines.specs.Replies.{reply_seen};
-ghost use Rattle.gc_catalogue.specs.Answers.{IsAnswer, IsAnswerOf, IsUnreadable, IsFittingAnswer, rounded_answer};
+ghost use Rattle.gc_catalogue.specs.Answers.{IsAnswerOf, IsFittingAnswer, rounded_answer};
 ghost use Rattle.gc_catalogue.specs.Laws.{ReadsBackAnswer};
-ghost use Rattle.gc_catalogue.specs.Readings.{IsReading};
+ghost use Rattle.gc_catalogue.specs.Readings.{beside_zeros, IsReading};
 ghost use Rattle.gc_catalogue.specs.Texts.{reply_line};
 ghost use Rattle.gc_catalogue.specs.declared.answer.Reading.{Reading};
 ghost use Rattle.gc_catalogue.specs.declared.call.Call.{Call};
@@ -16,7 +16,7 @@ use crate::call::Call;
 use crate::reading::read_answer_row;
 use arrayvec::ArrayVec;
 use gc_lines::{Line, Reply, push_reply};
-use gc_values::{Listed, Quick, ValueFault};
+use gc_values::{Listed, Quick};
 
 /// Appends the reply line of an answer, with each double rounded to the places. It fits in a line, whatever the answer
 /// is, and reads back. Beside a return code other than 0 stands no answer.
@@ -63,52 +63,45 @@ pub fn encode_answer(id: u8, rc: u16, answer: &Answer, places: u8) -> Line
     line
 }
 
-// The call's answer that parameters in the common spelling are.
-fn read_quickly(call: &Call, params: &[u8]) -> Option<Answer>
-    ensures { IfSome result (λ a. IsAnswer call.now params.now a) }
+// Reads the call's answer that parameters in the common spelling are, and says whether it is there.
+fn read_quickly(call: &Call, params: &[u8], reading: &mut Reading) -> bool
+    ensures { IsTrue result → IsReading call.now (beside_zeros params.now) reading.new }
 {
     let mut quick = Quick::new(params);
-    let answer = read_answer_row(call.shape(), &mut quick);
-    if quick.is_done() { Some(answer) } else { None }
+    *reading = Reading::Value(Answer::Nothing);
+    // It was just made a value, so this only names the place in it.
+    let Reading::Value(answer) = reading else {
+        return false;
+    };
+    read_answer_row(call.shape(), &mut quick, answer);
+    quick.is_done()
 }
 
-// The call's answer that any parameters are, or the first fault.
+// Reads the call's answer that any parameters are, or why there is none.
 #[inline(never)]
-fn read_by_the_book(call: &Call, params: &[u8]) -> Result<Answer, ValueFault>
-    ensures found { IfOk result (λ a. IsAnswer call.now params.now a) }
-    ensures fault { IfErr result (λ e. IsUnreadable call.now params.now e) }
+fn read_by_the_book(call: &Call, params: &[u8], reading: &mut Reading)
+    ensures { IsReading call.now (beside_zeros params.now) reading.new }
 {
     let mut listed = Listed::new(params);
-    let answer = read_answer_row(call.shape(), &mut listed);
-    listed.finish()?;
-    Ok(answer)
+    let mut answer = Answer::Nothing;
+    read_answer_row(call.shape(), &mut listed, &mut answer);
+    *reading = match listed.finish() {
+        Ok(()) => Reading::Value(answer),
+        Err(fault) => Reading::Unreadable(fault),
+    };
 }
 
-// The call's answer that the parameters are, or the first fault.
-fn read_answer(call: &Call, params: &[u8]) -> Result<Answer, ValueFault>
-    ensures found { IfOk result (λ a. IsAnswer call.now params.now a) }
-    ensures fitting { IfOk result (λ a. IsFittingAnswer a) }
-    ensures fault { IfErr result (λ e. IsUnreadable call.now params.now e) }
-{
-    match read_quickly(call, params) {
-        Some(answer) => Ok(answer),
-        None => read_by_the_book(call, params),
-    }
-}
-
-// What the reply says of the call.
-fn read_reply_to(call: &Call, reply: &Reply<'_>) -> Reading
-    ensures { IsReading call.now (reply_seen reply.now) result }
+/// Reads what a reply says of its call, into `reading`. It is [`decode_answer`] in place.
+pub fn decode_answer_into(call: &Call, reply: &Reply<'_>, reading: &mut Reading)
+    ensures found { IsReading call.now (reply_seen reply.now) reading.new }
+    ensures only { (other : Reading) → IsReading call.now (reply_seen reply.now) other → reading.new ≡ other }
 {
     if reply.rc_com != 0 {
-        return Reading::ComFault(reply.rc_com);
-    }
-    if reply.rc != 0 {
-        return Reading::Refused(reply.rc);
-    }
-    match read_answer(call, reply.params) {
-        Ok(answer) => Reading::Value(answer),
-        Err(fault) => Reading::Unreadable(fault),
+        *reading = Reading::ComFault(reply.rc_com);
+    } else if reply.rc != 0 {
+        *reading = Reading::Refused(reply.rc);
+    } else if !read_quickly(call, reply.params, reading) {
+        read_by_the_book(call, reply.params, reading);
     }
 }
 
@@ -118,5 +111,7 @@ pub fn decode_answer(call: &Call, reply: &Reply<'_>) -> Reading
     ensures found { IsReading call.now (reply_seen reply.now) result }
     ensures only { (reading : Reading) → IsReading call.now (reply_seen reply.now) reading → result ≡ reading }
 {
-    read_reply_to(call, reply)
+    let mut reading = Reading::Refused(0);
+    decode_answer_into(call, reply, &mut reading);
+    reading
 }

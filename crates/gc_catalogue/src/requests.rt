@@ -1,6 +1,6 @@
 //! Calls and their request lines.
 
-ghost use Rattle.std.specs.Prelude.{◌≡◌, ◌≢◌, ◌+◌, ◌<◌, ◌≤◌, ◌++◌, ◌∷◌, [], ℕ, List, IfOk, IfErr, IfSome, Ok, Err};
+ghost use Rattle.std.specs.Prelude.{◌≡◌, ◌≢◌, ◌+◌, ◌<◌, ◌≤◌, ◌++◌, ◌∷◌, [], ℕ, List, IsTrue, IsOk, IfOk, IfErr, OnOk, Ok, Err};
 ghost use Rattle.std.specs.Option.{ForSome};
 ghost use Rattle.arrayvec.specs.ArrayVec.{array_vec_len};
 ghost use Rattle.gc_lines.specs.Lines.{IsPlain};
@@ -53,41 +53,52 @@ fn end_list<const N: usize>(out: &mut ArrayVec<u8, N>)
     }
 }
 
-// The call of a number and parameters in the common spelling.
-fn read_quickly(rpc: u16, params: &[u8]) -> Option<Call>
-    ensures { IfSome result (λ call. IsCall rpc params.now call) }
+// Reads the call of a number and parameters in the common spelling, and says whether it is there.
+fn read_quickly(rpc: u16, params: &[u8], call: &mut Call) -> bool
+    ensures { IsTrue result → IsCall rpc params.now call.new }
 {
     let mut quick = Quick::new(params);
-    let call = read_row(rpc, &mut quick)?;
-    if quick.is_done() { Some(call) } else { None }
+    read_row(rpc, &mut quick, call) && quick.is_done()
 }
 
-// The call of a number and any parameters, or the first fault.
+// Reads the call of a number and any parameters, or names the first fault.
 #[inline(never)]
-fn read_by_the_book(rpc: u16, params: &[u8]) -> Result<Call, CallFault>
-    ensures found { IfOk result (λ call. IsCall rpc params.now call) }
+fn read_by_the_book(rpc: u16, params: &[u8], call: &mut Call) -> Result<(), CallFault>
+    ensures found { OnOk result (IsCall rpc params.now call.new) }
     ensures fault { IfErr result (λ e. IsRefusal rpc params.now e) }
 {
     let mut listed = Listed::new(params);
-    let Some(call) = read_row(rpc, &mut listed) else {
+    if !read_row(rpc, &mut listed, call) {
         return Err(CallFault::Unknown);
-    };
+    }
     match listed.finish() {
-        Ok(()) => Ok(call),
+        Ok(()) => Ok(()),
         Err(fault) => Err(CallFault::Parameters(fault)),
     }
 }
 
-// The call of a number and parameters, or the first fault.
-fn read_call(rpc: u16, params: &[u8]) -> Result<Call, CallFault>
-    ensures found { IfOk result (λ call. IsCall rpc params.now call) }
-    ensures fitting { IfOk result (λ call. IsFitting call) }
+// Reads the call of a number and parameters, or names the first fault.
+#[inline]
+fn read_call(rpc: u16, params: &[u8], call: &mut Call) -> Result<(), CallFault>
+    ensures found { OnOk result (IsCall rpc params.now call.new) }
     ensures fault { IfErr result (λ e. IsRefusal rpc params.now e) }
 {
-    match read_quickly(rpc, params) {
-        Some(call) => Ok(call),
-        None => read_by_the_book(rpc, params),
+    if read_quickly(rpc, params, call) {
+        return Ok(());
     }
+    read_by_the_book(rpc, params, call)
+}
+
+/// Reads the call that a request names, into `call`. It is [`decode_call`] in place; after a fault any call stands there.
+#[inline]
+pub fn decode_call_into(request: &Request<'_>, call: &mut Call) -> Result<(), CallFault>
+    ensures found { OnOk result (IsCall request.now.rpc request.now.params.now call.new) }
+    ensures fitting { OnOk result (IsFitting call.new) }
+    ensures only { (c : Call) → IsCall request.now.rpc request.now.params.now c → IsOk result × (call.new ≡ c) }
+    ensures fault { IfErr result (λ e. IsRefusal request.now.rpc request.now.params.now e) }
+    ensures exactly { (e : CallFault) → IsRefusal request.now.rpc request.now.params.now e → result ≡ Err e }
+{
+    read_call(request.rpc, request.params, call)
 }
 
 /// Reads the call that a request names.
@@ -101,5 +112,9 @@ pub fn decode_call(request: &Request<'_>) -> Result<Call, CallFault>
     ensures fault { IfErr result (λ e. IsRefusal request.now.rpc request.now.params.now e) }
     ensures exactly { (e : CallFault) → IsRefusal request.now.rpc request.now.params.now e → result ≡ Err e }
 {
-    read_call(request.rpc, request.params)
+    let mut call = Call::NullProc;
+    match decode_call_into(request, &mut call) {
+        Ok(()) => Ok(call),
+        Err(fault) => Err(fault),
+    }
 }

@@ -2,6 +2,7 @@
 #![tactic(auto)]
 
 mod client;
+mod ending;
 mod heard;
 pub mod laws;
 mod pending;

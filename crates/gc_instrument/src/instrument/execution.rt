@@ -27,102 +27,142 @@ impl Instrument {
     /// Carries out a call, and gives the return code and the answer, which is `Answer::Nothing`
     /// where the code isn't 0: 2 for a value that isn't allowed, 1285 where no distance is known,
     /// 8710 where no target is met. The stored values keep all their places, whatever the precision.
-    #[tactic(auto, unfolding(crate::specs::Execution::exec))]
     pub fn execute(&mut self, call: &Call) -> (u16, Answer)
         ensures { Executes self.old call.now self.new result.0 result.1 }
     {
-        match *call {
-            Call::NullProc => (0, Answer::Nothing),
-            Call::SetPrecision(places) => self.set_precision(places),
-            Call::GetPrecision => (0, Answer::Short(i16::from(self.settings.precision))),
-            Call::ComVersion => (0, Answer::Version(1, 0, 0)),
-            Call::InstrumentNo => (0, Answer::Long(self.serial)),
-            Call::InstrumentName => (0, Answer::Name(self.name)),
-            Call::SetDate(date) => self.set_date(date),
-            Call::GetDate => (0, Answer::Date(self.settings.date)),
-            Call::IntTemp => (0, Answer::Temperature(temperature())),
-            Call::CsvVersion => (0, Answer::Version(1, 2, 0)),
-            Call::DoMeasure { command, .. } => self.measure_as(command),
-            Call::GetStation => (0, Answer::Place(self.settings.station)),
+        let mut answer = Answer::Nothing;
+        let rc = self.carry_out(call, &mut answer);
+        (rc, answer)
+    }
+
+    // Carries out a call, and gives the return code. An answer other than `Answer::Nothing` is written over what stands there.
+    #[tactic(auto, unfolding(crate::specs::Execution::exec))]
+    pub(super) fn carry_out(&mut self, call: &Call, answer: &mut Answer) -> u16
+        requires { answer.old ≡ Nothing }
+        ensures { Executes self.old call.now self.new result answer.new }
+    {
+        match call {
+            Call::NullProc => 0,
+            Call::SetPrecision(places) => self.set_precision(*places),
+            Call::GetPrecision => {
+                *answer = Answer::Short(i16::from(self.settings.precision));
+                0
+            }
+            Call::ComVersion => {
+                *answer = Answer::Version(1, 0, 0);
+                0
+            }
+            Call::InstrumentNo => {
+                *answer = Answer::Long(self.serial);
+                0
+            }
+            Call::InstrumentName => {
+                *answer = Answer::Name(self.name);
+                0
+            }
+            Call::SetDate(date) => self.set_date(*date),
+            Call::GetDate => {
+                *answer = Answer::Date(self.settings.date);
+                0
+            }
+            Call::IntTemp => {
+                *answer = Answer::Temperature(temperature());
+                0
+            }
+            Call::CsvVersion => {
+                *answer = Answer::Version(1, 2, 0);
+                0
+            }
+            Call::DoMeasure { command, .. } => self.measure_as(*command),
+            Call::GetStation => {
+                *answer = Answer::Place(self.settings.station);
+                0
+            }
             Call::SetStation(station) => self.set_station(station),
-            Call::GetHeight => (0, Answer::Height(self.settings.height)),
+            Call::GetHeight => {
+                *answer = Answer::Height(self.settings.height);
+                0
+            }
             Call::SetHeight(height) => self.set_height(height),
-            Call::GetFace => (0, Answer::Long(self.settings.face.number())),
-            Call::GetAngle { .. } => self.angles(),
-            Call::SimpleMea { .. } => self.simple_measurement(),
-            Call::MeasDistance { mode } => self.measured_distance(mode),
+            Call::GetFace => {
+                *answer = Answer::Long(self.settings.face.number());
+                0
+            }
+            Call::GetAngle { .. } => self.angles(answer),
+            Call::SimpleMea { .. } => self.simple_measurement(answer),
+            Call::MeasDistance { mode } => self.measured_distance(*mode, answer),
             Call::Position { hz, v, .. } => self.position(hz, v),
             Call::ChangeFace { .. } => self.change_face(),
             Call::FineAdjust {
                 area_hz,
                 area_v,
                 ..
-            } => self.fine_adjust(&area_hz, &area_v),
+            } => self.fine_adjust(area_hz, area_v),
         }
     }
 
     // Sets the number of places, 0 to 15.
     #[tactic(auto, unfolding(crate::specs::Execution::exec))]
-    fn set_precision(&mut self, places: i16) -> (u16, Answer)
-        ensures { Executes self.old (SetPrecision places) self.new result.0 result.1 }
+    fn set_precision(&mut self, places: i16) -> u16
+        ensures { Executes self.old (SetPrecision places) self.new result Nothing }
     {
         if 0 <= places && places <= 15 {
             self.settings.precision = places as u8;
-            (0, Answer::Nothing)
+            0
         } else {
-            (INVALID_PARAMETER, Answer::Nothing)
+            INVALID_PARAMETER
         }
     }
 
     // Sets the date and time.
     #[tactic(auto, unfolding(crate::specs::Execution::exec))]
     #[inline(never)]
-    fn set_date(&mut self, date: DateTime) -> (u16, Answer)
-        ensures { Executes self.old (SetDate date) self.new result.0 result.1 }
+    fn set_date(&mut self, date: DateTime) -> u16
+        ensures { Executes self.old (SetDate date) self.new result Nothing }
     {
         if is_date(&date) {
             self.settings.date = date;
-            (0, Answer::Nothing)
+            0
         } else {
-            (INVALID_PARAMETER, Answer::Nothing)
+            INVALID_PARAMETER
         }
     }
 
     // Sets the station.
     #[tactic(auto, unfolding(crate::specs::Execution::exec))]
     #[inline(never)]
-    fn set_station(&mut self, station: Station) -> (u16, Answer)
-        ensures { Executes self.old (SetStation station) self.new result.0 result.1 }
+    fn set_station(&mut self, station: &Station) -> u16
+        ensures { Executes self.old (SetStation station.now) self.new result Nothing }
     {
-        self.settings.station = station;
-        (0, Answer::Nothing)
+        self.settings.station = *station;
+        0
     }
 
     // Sets the height of the reflector, with all its places.
     #[tactic(auto, unfolding(crate::specs::Execution::exec))]
-    fn set_height(&mut self, height: Decimal) -> (u16, Answer)
-        ensures { Executes self.old (SetHeight height) self.new result.0 result.1 }
+    fn set_height(&mut self, height: &Decimal) -> u16
+        ensures { Executes self.old (SetHeight height.now) self.new result Nothing }
     {
-        self.settings.height = height;
-        (0, Answer::Nothing)
+        self.settings.height = *height;
+        0
     }
 
     // Measures, or clears the distance, as commanded.
     #[inline(never)]
-    fn measure_as(&mut self, command: i32) -> (u16, Answer)
-        ensures { Gives (commanded self.old command) self.new result.0 result.1 }
+    fn measure_as(&mut self, command: i32) -> u16
+        ensures { Gives (commanded self.old command) self.new result Nothing }
     {
         match command {
-            0 => (0, Answer::Nothing),
+            0 => 0,
             1 => {
                 self.measure();
-                (0, Answer::Nothing)
+                0
             }
             3 => {
                 self.settings.distance = None;
-                (0, Answer::Nothing)
+                0
             }
-            _ => (INVALID_PARAMETER, Answer::Nothing),
+            _ => INVALID_PARAMETER,
         }
     }
 
@@ -136,76 +176,78 @@ impl Instrument {
 
     // The angles.
     #[inline(never)]
-    fn angles(&self) -> (u16, Answer)
+    fn angles(&self, answer: &mut Answer) -> u16
         ensures { Gives (done self.now (Angles self.now.pointing.hz self.now.pointing.v))
-            self.now result.0 result.1 }
+            self.now result answer.new }
     {
         let Pointing { hz, v } = self.settings.pointing;
-        (0, Answer::Angles { hz, v })
+        *answer = Answer::Angles { hz, v };
+        0
     }
 
     // The angles and the distance, where there is one.
     #[inline(never)]
-    fn simple_measurement(&self) -> (u16, Answer)
+    fn simple_measurement(&self, answer: &mut Answer) -> u16
+        requires { answer.old ≡ Nothing }
         ensures { Gives (told self.now (λ d. Measured self.now.pointing.hz self.now.pointing.v d)
-            self.now.distance) self.now result.0 result.1 }
+            self.now.distance) self.now result answer.new }
     {
+        let Some(distance) = self.settings.distance else {
+            return NO_DISTANCE;
+        };
         let Pointing { hz, v } = self.settings.pointing;
-        match self.settings.distance {
-            Some(distance) => (0, Answer::Measured { hz, v, distance }),
-            None => (NO_DISTANCE, Answer::Nothing),
-        }
+        *answer = Answer::Measured { hz, v, distance };
+        0
     }
 
     // Measures, and gives the angles and the distance, where there is one.
     #[tactic(auto, unfolding(crate::specs::Execution::exec))]
     #[inline(never)]
-    fn measured_distance(&mut self, mode: i32) -> (u16, Answer)
-        ensures { Executes self.old (MeasDistance mode) self.new result.0 result.1 }
+    fn measured_distance(&mut self, mode: i32, answer: &mut Answer) -> u16
+        requires { answer.old ≡ Nothing }
+        ensures { Executes self.old (MeasDistance mode) self.new result answer.new }
     {
         self.measure();
+        let Some(distance) = self.settings.distance else {
+            return NO_DISTANCE;
+        };
         let Pointing { hz, v } = self.settings.pointing;
-        match self.settings.distance {
-            Some(distance) => (
-                0,
-                Answer::MeasuredMode {
-                    hz,
-                    v,
-                    distance,
-                    mode,
-                },
-            ),
-            None => (NO_DISTANCE, Answer::Nothing),
-        }
+        *answer = Answer::MeasuredMode {
+            hz,
+            v,
+            distance,
+            mode,
+        };
+        0
     }
 
     // Turns the telescope, which clears the distance.
     #[inline(never)]
-    fn position(&mut self, hz: Decimal, v: Decimal) -> (u16, Answer)
-        ensures { Gives (done (pointed self.old hz v) Nothing) self.new result.0 result.1 }
+    fn position(&mut self, hz: &Decimal, v: &Decimal) -> u16
+        ensures { Gives (done (pointed self.old hz.now v.now) Nothing) self.new result Nothing }
     {
-        self.settings.pointing = Pointing { hz, v };
+        self.settings.pointing = Pointing { hz: *hz, v: *v };
         self.settings.distance = None;
-        (0, Answer::Nothing)
+        0
     }
 
     // Turns the telescope over, which clears the distance. The angles stay.
     #[inline(never)]
-    fn change_face(&mut self) -> (u16, Answer)
-        ensures { Gives (done (turned_over self.old) Nothing) self.new result.0 result.1 }
+    fn change_face(&mut self) -> u16
+        ensures { Gives (done (turned_over self.old) Nothing) self.new result Nothing }
     {
         self.settings.face = self.settings.face.turned();
         self.settings.distance = None;
-        (0, Answer::Nothing)
+        0
     }
 
     // Turns the telescope to the first target within the areas, if there is one.
     #[inline(never)]
-    fn fine_adjust(&mut self, area_hz: &Decimal, area_v: &Decimal) -> (u16, Answer)
-        ensures { Gives (searched self.old area_hz.now area_v.now) self.new result.0 result.1 }
+    fn fine_adjust(&mut self, area_hz: &Decimal, area_v: &Decimal) -> u16
+        ensures { Gives (searched self.old area_hz.now area_v.now) self.new result Nothing }
     {
         if area_hz.digits() < 0 || area_v.digits() < 0 {
-            return (INVALID_PARAMETER, Answer::Nothing);
+            return INVALID_PARAMETER;
         }
         match first_within(
             &self.settings.pointing,
@@ -213,8 +255,8 @@ impl Instrument {
             area_v,
             self.scene.as_slice(),
         ) {
-            Some(target) => self.position(target.hz, target.v),
-            None => (NO_TARGET, Answer::Nothing),
+            Some(target) => self.position(&target.hz, &target.v),
+            None => NO_TARGET,
         }
     }
 }

@@ -12,7 +12,7 @@ ghost use Rattle.gc_instrument.specs.Replying.{IsReplied, IsExchanged, AppendsRe
 
 use super::Instrument;
 use arrayvec::ArrayVec;
-use gc_catalogue::{CallFault, decode_call, encode_answer_onto};
+use gc_catalogue::{Answer, Call, CallFault, decode_call_into, encode_answer_onto};
 use gc_lines::{Line, Request, push_reply, read_request};
 
 /// The communication code for a procedure that isn't in the catalogue.
@@ -73,9 +73,11 @@ impl Instrument {
         ensures bound { length out.new.items ≤ length out.old.items + 512 }
     {
         let id = request.id.unwrap_or(0);
-        match decode_call(request) {
-            Ok(call) => {
-                let (rc, answer) = self.execute(&call);
+        let mut call = Call::NullProc;
+        match decode_call_into(request, &mut call) {
+            Ok(()) => {
+                let mut answer = Answer::Nothing;
+                let rc = self.carry_out(&call, &mut answer);
                 encode_answer_onto(out, id, rc, &answer, self.settings.precision);
             }
             Err(fault) => push_reply(out, com_code(fault), id, 0),

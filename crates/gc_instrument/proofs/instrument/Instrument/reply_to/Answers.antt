@@ -10,23 +10,23 @@ use Rattle.gc_instrument.proofs.instrument.Instrument.reply_to.Goals as goal
 
 pub encode_answer_onto-requires : goal.encode_answer_onto-requires
 encode_answer_onto-requires g c =
-    let e = c.execute-rc.ensures in
+    let e = c.carry_out-rc.ensures in
     let rc = ap (λ (x : Executed). x.rc) e in
     let answer = ap (λ (x : Executed). x.answer) e in
-    let refuses : c.execute-rc.result.0 ≢ 0 → c.execute-rc.result.1 ≡ Nothing = λ h. sym answer ∙ (exec_outcome c.args.self.now c.in-Ok.call).refuses (λ none. h (sym rc ∙ none)) in
+    let refuses : c.carry_out-rc.result ≢ 0 → c.carry_out-rc.new.answer ≡ Nothing = λ h. sym answer ∙ (exec_outcome c.args.self.now c.decode_call_into.new.call).refuses (λ none. h (sym rc ∙ none)) in
     (search rules, (search rules, (search rules, (refuses, search rules))))
 
 pub returns-in-Ok-clause-replies : goal.returns-in-Ok-clause-replies
 returns-in-Ok-clause-replies g c =
-    let after : State = c.execute-rc.new.self in
+    let after : State = c.carry_out-rc.new.self in
     let places : c.self.inside.settings.precision ≡ after.precision = ap (λ (s : State). s.precision) c.self.view_is in
     record {
       text = _;
       appended = c.encode_answer_onto.ensures.line;
-      answers = executed_reply c.args.self.now after _ c.in-Ok.call c.unwrap_or-id.result _ _ _ _ c.in-Ok.ensures.found c.execute-rc.ensures c.unwrap_or-id.ensures places refl;
+      answers = executed_reply c.args.self.now after _ c.decode_call_into.new.call c.unwrap_or-id.result _ _ _ _ c.in-Ok.ensures.found c.carry_out-rc.ensures c.unwrap_or-id.ensures places refl;
       says = λ call is.
-          made_answered c.args.self.now after (request_seen c.args.request.now) call c.in-Ok.call c.unwrap_or-id.result _ _ _ _ c.in-Ok.ensures.found is c.execute-rc.ensures c.unwrap_or-id.ensures places
-          refl (c.encode_answer_onto.ensures.reads_back c.in-Ok.call) (c.encode_answer_onto.ensures.refused c.in-Ok.call);
+          made_answered c.args.self.now after (request_seen c.args.request.now) call c.decode_call_into.new.call c.unwrap_or-id.result _ _ _ _ c.in-Ok.ensures.found is c.carry_out-rc.ensures c.unwrap_or-id.ensures places
+          refl (c.encode_answer_onto.ensures.reads_back c.decode_call_into.new.call) (c.encode_answer_onto.ensures.refused c.decode_call_into.new.call);
     }
 
 pub returns-in-Err-clause-replies : goal.returns-in-Err-clause-replies

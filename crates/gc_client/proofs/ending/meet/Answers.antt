@@ -1,6 +1,6 @@
 use Rattle.gc_lines.specs.Replies.{reply_seen}
 use Rattle.gc_client.proofs.Ends.{answered_is}
-use Rattle.gc_client.proofs.client.meet.Goals as goal
+use Rattle.gc_client.proofs.ending.meet.Goals as goal
 
 -- answered
 pub returns-else-p : goal.returns-else-p

@@ -1,7 +1,7 @@
 use Rattle.std.proofs.Common.{◌≡◌, length, map, take, drop}
 use Rattle.gc_client.specs.Rule.{lost}
 use Rattle.gc_client.specs.Settlements.{AreSettlements}
-use Rattle.gc_client.proofs.client.lose.Given as goal
+use Rattle.gc_client.proofs.ending.lose.Given as goal
 
 -- what is settled are the first so many, and the others wait
 abbrev pub invariant-loop-k : goal.invariant-loop-k

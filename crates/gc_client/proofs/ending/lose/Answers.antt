@@ -6,8 +6,8 @@ use Rattle.gc_client.specs.Rule
 use Rattle.gc_client.specs.Settlements.{AreSettlements}
 use Rattle.gc_client.proofs.Lists.{left_turn, none_there}
 use Rattle.gc_client.proofs.Settling.{next_lost, one_written}
-use Rattle.gc_client.proofs.client.lose.Goals as goal
-use Rattle.gc_client.proofs.client.lose.Goals.{in-Some, in_default}
+use Rattle.gc_client.proofs.ending.lose.Goals as goal
+use Rattle.gc_client.proofs.ending.lose.Goals.{in-Some, in_default}
 
 pub loop-k-preserved : goal.loop-k-preserved
 loop-k-preserved g c =

@@ -1,6 +1,6 @@
 use Rattle.std.proofs.Common.{rules, FitsSigned, w32}
 use Rattle.std.proofs.lemmas.Int.{to_z-of_z}
-use Rattle.gc_instrument.proofs.instrument.Instrument.execute.Goals as goal
+use Rattle.gc_instrument.proofs.instrument.Instrument.carry_out.Goals as goal
 
 pub returns-in-MeasDistance : goal.returns-in-MeasDistance
 returns-in-MeasDistance c =

@@ -1,5 +1,5 @@
 use Rattle.std.proofs.Common.{◌≡◌, ◌≤◌, length}
-use Rattle.gc_client.proofs.client.make_places.Given as goal
+use Rattle.gc_client.proofs.ending.make_places.Given as goal
 
 -- so many are there
 abbrev pub invariant-loop : goal.invariant-loop

@@ -1,0 +1,130 @@
+//! How requests end: settlements are written into the places of a list that is handed in, and no line is copied twice.
+//! An aggregate is zeroed at the entry of the function that holds it, so what is large and seldom has a function of its own.
+
+ghost use Rattle.std.specs.Prelude.{◌≡◌, ◌+◌, ◌<◌, ◌≤◌, length, map, take, drop, Ok};
+ghost use Rattle.arrayvec.specs.ArrayVec.{array_vec_len};
+ghost use Rattle.gc_lines.specs.Replies.{reply_seen};
+ghost use Rattle.gc_lines.specs.Readers.{reply_at};
+ghost use Rattle.gc_client.specs.Rule.{lost, met};
+ghost use Rattle.gc_client.specs.Settlements.{IsAnsweredBy, IsSettlement, AreSettlements};
+ghost use Rattle.gc_client.specs.declared.settlement.Outcome.TheVariants.{Late};
+
+use crate::pending::Pending;
+use crate::settlement::{Outcome, Settlement};
+use crate::window::{WINDOW, Window};
+use arrayvec::ArrayVec;
+use gc_catalogue::{Call, decode_answer, decode_answer_into};
+use gc_lines::{Line, Reply, append};
+
+/// Makes a list of so many settlements, whatever they say.
+#[inline]
+pub(crate) fn make_places(settled: &mut ArrayVec<Settlement, WINDOW>, count: usize)
+    requires { count ≤ WINDOW }
+    ensures { array_vec_len settled.new ≡ count }
+{
+    settled.truncate(count);
+    for _ in settled.len()..count {
+        push_place(settled);
+    }
+}
+
+// Appends a settlement, whatever it says. It has its own frame, since a settlement is large.
+#[inline(never)]
+fn push_place(settled: &mut ArrayVec<Settlement, WINDOW>)
+    requires { array_vec_len settled.old < WINDOW }
+    ensures { array_vec_len settled.new ≡ array_vec_len settled.old + 1 }
+{
+    settled.push(Settlement::default());
+}
+
+/// Takes the first `count` out of a window: the first `count` of a list say that they are lost.
+#[inline]
+pub(crate) fn lose<W: Window>(
+    window: &mut W,
+    count: usize,
+    settled: &mut ArrayVec<Settlement, WINDOW>,
+)
+    requires count { count ≤ length (W.pendings window.old) }
+    requires within { length (W.pendings window.old) ≤ WINDOW }
+    requires places { count ≤ array_vec_len settled.old }
+    ensures settled { AreSettlements (take count settled.new.items) (map lost (take count (W.pendings window.old))) }
+    ensures places { array_vec_len settled.new ≡ array_vec_len settled.old }
+    ensures left { W.pendings window.new ≡ drop count (W.pendings window.old) }
+{
+    for k in 0..count {
+        let p = window.take_first();
+        if let Some(settlement) = settled.get_mut(k) {
+            set_lost(&p, settlement);
+        }
+    }
+}
+
+// Writes the settlement of a request that is lost. It has its own frame, since an outcome is large.
+#[inline(never)]
+fn set_lost(p: &Pending, settlement: &mut Settlement)
+    ensures { IsSettlement settlement.new (lost p.now) }
+{
+    settlement.target = p.target;
+    settlement.call = p.call;
+    settlement.outcome = Outcome::Lost;
+}
+
+/// Writes the settlement of a request whose reply came.
+#[inline(never)]
+pub(crate) fn meet(p: &Pending, reply: &Reply<'_>, line: &[u8], settlement: &mut Settlement)
+    requires reads { reply_at line.now ≡ Ok (reply_seen reply.now) }
+    requires short { length line.now ≤ 512 }
+    ensures { IsSettlement settlement.new (met p.now line.now) }
+{
+    settlement.target = p.target;
+    settlement.call = p.call;
+    if p.given_up {
+        set_late(&mut settlement.outcome);
+    } else {
+        answer(&p.call, reply, line, &mut settlement.outcome);
+    }
+}
+
+// Writes that a reply came late. It has its own frame, since an outcome is large.
+#[inline(never)]
+fn set_late(outcome: &mut Outcome)
+    ensures { outcome.new ≡ Late }
+{
+    *outcome = Outcome::Late;
+}
+
+// Writes what a reply in time says, where an answer stands into its places.
+#[inline]
+fn answer(call: &Call, reply: &Reply<'_>, line: &[u8], outcome: &mut Outcome)
+    requires { length line.now ≤ 512 }
+    ensures { IsAnsweredBy call.now (reply_seen reply.now) line.now outcome.new }
+{
+    match outcome {
+        Outcome::Answered(reading, copy) => {
+            decode_answer_into(call, reply, reading);
+            copy.clear();
+            append(copy, line);
+        },
+        other => answer_anew(call, reply, line, other),
+    }
+}
+
+// Writes what a reply in time says, whatever stands there. It has its own frame, since an outcome is large.
+#[inline(never)]
+fn answer_anew(call: &Call, reply: &Reply<'_>, line: &[u8], outcome: &mut Outcome)
+    requires { length line.now ≤ 512 }
+    ensures { IsAnsweredBy call.now (reply_seen reply.now) line.now outcome.new }
+{
+    *outcome = Outcome::Answered(decode_answer(call, reply), line_of(line));
+}
+
+// The line with these bytes.
+#[inline]
+fn line_of(bytes: &[u8]) -> Line
+    requires { length bytes.now ≤ 512 }
+    ensures { result.items ≡ bytes.now }
+{
+    let mut line = Line::new();
+    append(&mut line, bytes);
+    line
+}
