@@ -4,6 +4,7 @@ pub mod ByteLemmas
 pub mod DecimalLaws
 pub mod DecimalLemmas
 pub mod Examples
+pub mod FrontDecimals
 pub mod HexPair
 pub mod ItemLaws
 pub mod Kept

@@ -34,17 +34,17 @@ pub record IsBare (b : ℕ) : Type 0 where
 abbrev pub AreBare : List ℕ → Type 0
 AreBare bs = AllByRecursion IsBare bs
 
-bare_above : (b : ℕ) → 44 < b → IsBare b
+pub bare_above : (b : ℕ) → 44 < b → IsBare b
 bare_above b h = record { space = λ e. omega (arith, e); quote = λ e. omega (arith, e); comma = λ e. omega (arith, e); cr = λ e. omega (arith, e); lf = λ e. omega (arith, e) }
 
 bare_quote : IsBare 39
 bare_quote = record { space = λ e. omega (arith, e); quote = λ e. omega (arith, e); comma = λ e. omega (arith, e); cr = λ e. omega (arith, e); lf = λ e. omega (arith, e) }
 
-AreBare-append : (xs ys : List ℕ) → AreBare xs → AreBare ys → AreBare (xs ++ ys)
+pub AreBare-append : (xs ys : List ℕ) → AreBare xs → AreBare ys → AreBare (xs ++ ys)
 AreBare-append [] ys h k = k
 AreBare-append (x ∷ xs) ys h k = (h.0, AreBare-append xs ys h.1 k)
 
-bare_digits : (ds : List ℕ) → AreDigits ds → AreBare ds
+pub bare_digits : (ds : List ℕ) → AreDigits ds → AreBare ds
 bare_digits [] h = tt
 bare_digits (d ∷ ds) h = (bare_above d (let low = h.0.0 in omega (arith, low)), bare_digits ds h.1)
 

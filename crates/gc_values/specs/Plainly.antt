@@ -1,8 +1,11 @@
 -- No part of a promise: parameters in the common spelling, without spaces round them, cut from the left.
-use Rattle.std.specs.Prelude.{◌≡◌, ◌<◌, ℕ, Bool, true, List, [], ◌∷◌, ◌++◌, length, Option, Some, None}
+use Rattle.std.specs.Prelude.{◌≡◌, ◌+◌, ◌*◌, ◌^◌, ◌<◌, ◌≤◌, ℕ, Bool, true, List, [], ◌∷◌, ◌++◌, length, take, Option, Some, None}
 use Rattle.std.specs.List.{AllByRecursion}
+use Rattle.gc_values.specs.Digits.{AreDigits, number}
 use Rattle.gc_values.specs.Lists.{AreItems}
 use Rattle.gc_values.specs.Params.{IsParam, joined}
+use Rattle.gc_values.specs.Spelling.{Spells}
+use Rattle.gc_values.specs.declared.decimal.Decimal.{Decimal}
 use Rattle.gc_values.specs.declared.value.Value.{Value}
 
 -- an item with nothing round it, and what follows its comma
@@ -14,6 +17,19 @@ pub record CutsPlain (text item : List ℕ) (rest : Option (List ℕ)) : Type 0 
   pub text_is : Stands text item rest
   pub param : IsParam item
   pub some : 0 < length item
+
+-- the first few bytes are digits, at most so many, and the value is the number that they write behind a number in front of them
+pub record CountsDigits (front : ℕ) (text : List ℕ) (most value count : ℕ) : Type 0 where
+  pub within : count ≤ length text
+  pub few : count ≤ most
+  pub digits : AreDigits (take count text)
+  pub value_is : value ≡ front * 10 ^ count + number (take count text)
+
+-- a decimal was cut off, and its comma
+pub record CutsDecimal (text : List ℕ) (d : Decimal) (rest : Option (List ℕ)) : Type 0 where
+  pub item : List ℕ
+  pub cut : CutsPlain text item rest
+  pub spelled : Spells item d.digits d.scale
 
 -- the text is parameters joined by commas, at least one, and they are read as the values
 pub record ArePlain (text : List ℕ) (vs : List Value) : Type 0 where

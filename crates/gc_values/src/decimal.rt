@@ -179,7 +179,7 @@ impl Decimal {
     }
 
     /// The decimal of these parts.
-    fn from_parts(negative: bool, magnitude: u128, scale: u8) -> Decimal
+    pub(crate) fn from_parts(negative: bool, magnitude: u128, scale: u8) -> Decimal
         requires places { scale ≤ 24 }
         requires range { magnitude ≤ 10 ^ 13 * 10 ^ scale }
         ensures { MadeOf negative magnitude scale result.digits result.scale }

@@ -7,6 +7,7 @@ mod cutting;
 mod decimal;
 pub mod decimal_laws;
 mod fault;
+mod front;
 mod items;
 pub mod laws;
 mod limits;

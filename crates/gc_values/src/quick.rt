@@ -10,6 +10,7 @@ ghost use Rattle.gc_values.specs.declared.value.Value.{Value};
 
 use crate::byte::read_byte;
 use crate::decimal::Decimal;
+use crate::front::front_decimal;
 use crate::parameters::Parameters;
 use crate::text::Text;
 use crate::whole::{read_bool, read_long, read_short};
@@ -64,6 +65,21 @@ impl<'a> Quick<'a> {
         self.good = false;
         &[]
     }
+
+    // The next decimal, with a sign, an exponent or many digits.
+    #[inline(never)]
+    fn longer_double(&mut self) -> Decimal
+        ensures { (vs : List Value) → ReadsPlainly self.new.good (option_copied self.new.rest) vs
+            → ReadsPlainly self.old.good (option_copied self.old.rest) (Value.Double result ∷ vs) }
+    {
+        match Decimal::read(self.item()) {
+            Ok(d) => d,
+            Err(_) => {
+                self.good = false;
+                Decimal::zero()
+            }
+        }
+    }
 }
 
 impl<'a> Parameters for Quick<'a> {
@@ -73,13 +89,13 @@ impl<'a> Parameters for Quick<'a> {
 
     #[inline]
     fn double(&mut self) -> Decimal {
-        match Decimal::read(self.item()) {
-            Ok(d) => d,
-            Err(_) => {
-                self.good = false;
-                Decimal::zero()
+        if let Some(text) = self.rest {
+            if let Some((decimal, rest)) = front_decimal(text) {
+                self.rest = rest;
+                return decimal;
             }
         }
+        self.longer_double()
     }
 
     #[inline]

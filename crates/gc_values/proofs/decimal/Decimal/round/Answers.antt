@@ -1,4 +1,4 @@
-use Rattle.std.proofs.Common.{◌≡◌, ◌*◌, ◌^◌, ◌-◌, arith, ap, sym, ◌∙◌, refl, subst}
+use Rattle.std.proofs.Common.{◌≡◌, ◌*◌, ◌^◌, ◌-◌, arith, ap, sym, refl, subst}
 use Rattle.gc_values.specs.Fraction.{signed, IsRounded}
 use Rattle.gc_values.specs.Nearest.{RoundsHalfUp}
 use Rattle.gc_values.proofs.Powers.{ten_pow_pos}

@@ -1,5 +1,15 @@
+use Rattle.std.proofs.Common.{◌∷◌, sym, subst}
+use Rattle.std.specs.Option.{option_copied}
+use Rattle.gc_values.specs.Plainly.{LeftPlain}
 use Rattle.gc_values.specs.declared.value.Value.TheVariants as value
+use Rattle.gc_values.proofs.PlainLists.{plain_next}
 use Rattle.gc_values.proofs.quick.QuickParameters.double.Goals as goal
 
-pub returns-in-Ok-clause-reads : goal.returns-in-Ok-clause-reads
-returns-in-Ok-clause-reads c = λ vs left. c.item.ensures (value.Double c.in-Ok.d) vs left c.in-Ok.ensures.value
+pub returns-in-Some-front_decimal-clause-reads : goal.returns-in-Some-front_decimal-clause-reads
+returns-in-Some-front_decimal-clause-reads c = λ vs left.
+    let made = c.in-Some-front_decimal.ensures in
+    let v = value.Double c.in-Some-front_decimal.decimal in
+    record {
+      well = left.well;
+      left = subst (λ r. LeftPlain (option_copied r) (v ∷ vs)) (sym c.in-Some.is) (plain_next c.in-Some.text.now made.item (option_copied c.in-Some-front_decimal.rest) v vs made.cut made.spelled left.left);
+    }

@@ -1,0 +1,109 @@
+-- A decimal in the common spelling at the front of a list.
+use Rattle.std.proofs.Common.{◌≡◌, ℕ, ℤ, ◌+◌, ◌-◌, ◌*◌, ◌^◌, ◌<◌, ◌≤◌, false, List, [], ◌∷◌, ◌++◌, length, get_or, take, drop, Option, Some, None, refl, sym, ◌∙◌, ap, subst, arith, add-one, append-nil, append_assoc, length-append, lit≤}
+use Rattle.std.proofs.Math.Nat.{mul-le-mul_left, mul-le-mul_right, pow-suc}
+use Rattle.std.proofs.lemmas.Nat.{pow-add}
+use Rattle.std.proofs.lemmas.List.{drop_more, length-take-le, take-append-drop}
+use Rattle.gc_values.specs.Digits.{AreDigits, IsDigit, number}
+use Rattle.gc_values.specs.Nearest.{MadeOf}
+use Rattle.gc_values.specs.Plainly.{CountsDigits, CutsPlain, CutsDecimal, Stands}
+use Rattle.gc_values.specs.Spelling.{Absent, Spells}
+use Rattle.gc_values.specs.declared.decimal.Decimal.{Decimal}
+use Rattle.gc_values.proofs.Kept.{AreDigits-append, AreDigits-take_more, followed_more, number-append, number-lt}
+use Rattle.gc_values.proofs.Powers.{ten_pow_le}
+use Rattle.gc_values.proofs.ReadLemmas.{reads_value}
+use Rattle.gc_values.proofs.TextShape.{AreBare-append, bare_above, bare_digits, bare_param}
+use Rattle.gc_values.proofs.UnitsLemmas.{capped_short}
+
+pub counts_none : (front : ℕ) (text : List ℕ) (most : ℕ) → CountsDigits front text most front 0
+counts_none front text most = record { within = omega arith; few = omega arith; digits = tt; value_is = omega arith }
+
+pub counts_more : (front : ℕ) (text : List ℕ) (most value more i : ℕ) → CountsDigits front text most value i → i < length text → i < most → IsDigit (get_or text i 0) → more ≡ value * 10 + (get_or text i 0 - 48) → CountsDigits front text most more (i + 1)
+counts_more front text most value more i c inside few digit e = record {
+  within = omega arith;
+  few = omega arith;
+  digits = AreDigits-take_more text i c.digits inside digit;
+  value_is = followed_more front value more text i inside c.value_is e;
+}
+
+-- there is room for one digit more
+pub counts_small : (front : ℕ) (text : List ℕ) (most value i : ℕ) → CountsDigits front text most value i → i < most → (front + 1) * 10 ^ most ≤ 10 ^ 18 → value * 10 + 10 ≤ 10 ^ 18
+counts_small front text most value i c inside room =
+    let small : number (take i text) < 10 ^ length (take i text) = number-lt (take i text) c.digits in
+    let size : length (take i text) ≡ i = length-take-le i text c.within in
+    let power : 10 ^ (i + 1) ≡ 10 ^ i * 10 = rw add-one (pow-suc 10 i) in
+    let all : (front + 1) * 10 ^ (i + 1) ≤ (front + 1) * 10 ^ most = mul-le-mul_left {m = 10 ^ (i + 1)} {n = 10 ^ most} (front + 1) (ten_pow_le (i + 1) most (omega arith)) in
+    omega (arith, c.value_is, small, ap (λ k. 10 ^ k) size, ap (λ p. (front + 1) * p) power, all, room)
+
+pub counts_all : (front : ℕ) (text : List ℕ) (most value i : ℕ) → CountsDigits front text most value i → length text ≤ i → CountsDigits front text most value (length text)
+counts_all front text most value i c all = subst (λ n. CountsDigits front text most value n) (let e : i ≡ length text = let w = c.within in omega arith in e) c
+
+-- the digits behind the point find room
+pub counts_room : (text : List ℕ) (most value i : ℕ) → CountsDigits 0 text most value i → i ≤ 18 → (value + 1) * 10 ^ (18 - i) ≤ 10 ^ 18
+counts_room text most value i c few =
+    let small : number (take i text) < 10 ^ length (take i text) = number-lt (take i text) c.digits in
+    let size : length (take i text) ≡ i = length-take-le i text c.within in
+    let most : (value + 1) * 10 ^ (18 - i) ≤ 10 ^ i * 10 ^ (18 - i) = mul-le-mul_right {m = value + 1} {n = 10 ^ i} (10 ^ (18 - i)) (omega (arith, c.value_is, small, ap (λ k. 10 ^ k) size)) in
+    let power : 10 ^ i * 10 ^ (18 - i) ≡ 10 ^ 18 = sym (pow-add 10 i (18 - i)) ∙ ap (λ k. 10 ^ k) (let sum : i + (18 - i) ≡ 18 = omega arith in sum) in
+    omega (arith, most, power)
+
+front_cut : (text w f tail : List ℕ) (rest : Option (List ℕ)) → text ≡ w ++ 46 ∷ (f ++ tail) → AreDigits w → AreDigits f → Stands tail [] rest → CutsPlain text (w ++ 46 ∷ f) rest
+front_cut text w f tail rest e is_w is_f stands = record {
+  text_is = stood rest stands;
+  param = bare_param (w ++ 46 ∷ f) (AreBare-append w (46 ∷ f) (bare_digits w is_w) (bare_above 46 (omega arith), bare_digits f is_f));
+  some = omega (arith, length-append w (46 ∷ f));
+}
+  where
+    stood : (r : Option (List ℕ)) → Stands tail [] r → Stands text (w ++ 46 ∷ f) r
+    stood None h = e ∙ ap (λ t. w ++ 46 ∷ (f ++ t)) h ∙ ap (λ t. w ++ 46 ∷ t) (append-nil f)
+    stood (Some behind) h = e ∙ ap (λ t. w ++ 46 ∷ (f ++ t)) h ∙ sym (append_assoc w (46 ∷ f) (44 ∷ behind))
+
+front_spells : (w f : List ℕ) (units : ℕ) (m : ℤ) (s : ℕ) → AreDigits w → AreDigits f → 0 < length w → length w ≤ 13 → length w + length f ≤ 18 → units ≡ number (w ++ f) → MadeOf false units (length f) m s → Spells (w ++ 46 ∷ f) m s
+front_spells w f units m s is_w is_f some short few e made =
+    let digits = AreDigits-append w f is_w is_f in
+    let size = length-append w f in
+    let below : number (w ++ f) < 10 ^ length (w ++ f) = number-lt (w ++ f) digits in
+    let most : 10 ^ length (w ++ f) ≤ 10 ^ (13 + length f) = ten_pow_le (length (w ++ f)) (13 + length f) (omega (arith, size)) in
+    reads_value (w ++ 46 ∷ f) false w f 0 0 units (length f) m s
+    (record {
+      parts = record { sign = Absent; whole = w; fraction = Some f; exponent = None };
+      form = record { whole = is_w; fraction = is_f; some = omega arith; exponent = tt };
+      text_is = ap (λ t. w ++ 46 ∷ t) (sym (append-nil f));
+      negative_is = refl;
+      whole_is = refl;
+      fraction_is = refl;
+      up_is = refl;
+      down_is = refl;
+    })
+    (capped_short (w ++ f) (length f) 0 0 (10 ^ 37 + 1) units digits (omega (arith, size)) (omega (arith, size)) refl refl (lit≤ tt) e)
+    (omega (arith, e, below, most, pow-add 10 13 (length f))) made
+
+-- digits, a point and digits at the front
+pub front_found : (text behind tail : List ℕ) (at places whole value : ℕ) (rest : Option (List ℕ)) (d : Decimal) → CountsDigits 0 text 13 whole at → 0 < at → at < length text → get_or text at 0 ≡ 46 → behind ≡ drop (at + 1) text
+    → CountsDigits whole behind (18 - at) value places → tail ≡ drop places behind → Stands tail [] rest → MadeOf false value places d.digits d.scale → CutsDecimal text d rest
+front_found text behind tail at places whole value rest d a some inside point behind_is b tail_is stands made =
+    let w : List ℕ = take at text in
+    let f : List ℕ = take places behind in
+    let long_w : length w ≡ at = length-take-le at text a.within in
+    let long_f : length f ≡ places = length-take-le places behind b.within in
+    let few_a = a.few in
+    let few_b = b.few in
+    let parted : behind ≡ f ++ tail = sym (take-append-drop places behind) ∙ ap (λ t. f ++ t) (sym tail_is) in
+    let whole_text : text ≡ w ++ 46 ∷ (f ++ tail) = sym (take-append-drop at text) ∙ ap (λ t. w ++ t) (drop_more text at 0 inside ∙ ap (λ b. b ∷ drop (at + 1) text) point ∙ ap (λ t. 46 ∷ t) (sym behind_is ∙ parted)) in
+    let number_is : value ≡ number (w ++ f) = b.value_is ∙ ap (λ n. n * 10 ^ places + number f) (let n : whole ≡ number w = omega (arith, a.value_is) in n) ∙ ap (λ k. number w * 10 ^ k + number f) (sym long_f) ∙ sym (number-append w f) in
+    record {
+      item = w ++ 46 ∷ f;
+      cut = front_cut text w f tail rest whole_text a.digits b.digits stands;
+      spelled = front_spells w f value d.digits d.scale a.digits b.digits (omega (arith, long_w)) (omega (arith, long_w)) (omega (arith, long_w, long_f)) number_is (subst (λ k. MadeOf false value k d.digits d.scale) (sym long_f) made);
+    }
+
+-- and the number is in range
+pub front_range : (text behind : List ℕ) (at places whole value : ℕ) → CountsDigits 0 text 13 whole at → CountsDigits whole behind (18 - at) value places → value ≤ 10 ^ 13 * 10 ^ places
+front_range text behind at places whole value a b =
+    let small_a : number (take at text) < 10 ^ length (take at text) = number-lt (take at text) a.digits in
+    let small_b : number (take places behind) < 10 ^ length (take places behind) = number-lt (take places behind) b.digits in
+    let long_w : length (take at text) ≡ at = length-take-le at text a.within in
+    let long_f : length (take places behind) ≡ places = length-take-le places behind b.within in
+    let few_a = a.few in
+    let most : 10 ^ at ≤ 10 ^ 13 = ten_pow_le at 13 (omega arith) in
+    let all : (whole + 1) * 10 ^ places ≤ 10 ^ 13 * 10 ^ places = mul-le-mul_right {m = whole + 1} {n = 10 ^ 13} (10 ^ places) (omega (arith, a.value_is, small_a, ap (λ k. 10 ^ k) long_w, most)) in
+    omega (arith, b.value_is, small_b, ap (λ k. 10 ^ k) long_f, all)

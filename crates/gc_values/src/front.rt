@@ -1,0 +1,58 @@
+//! A decimal at the front of a list of parameters in the common spelling, read in one pass through its comma: digits, a
+//! point and digits, few enough for 64 bits. Whatever else stands there isn't found, and is for others to read.
+
+ghost use Rattle.std.specs.Prelude.{◌≡◌, ◌+◌, ◌*◌, ◌^◌, ◌≤◌, [], IfSome};
+ghost use Rattle.std.specs.Option.{option_copied};
+ghost use Rattle.gc_values.specs.Plainly.{CountsDigits, CutsDecimal, Stands};
+
+use crate::decimal::Decimal;
+
+/// Digits in front of the point that are surely in range.
+const WHOLE: usize = 13;
+
+/// So many digits fit in 64 bits, whichever they are.
+const SHORT: usize = 18;
+
+/// The number that the digits at the front write behind a number in front of them, and how many they are. No more
+/// than `most` are taken.
+#[inline]
+fn counted(front: u64, text: &[u8], most: usize) -> (u64, usize)
+    requires { (front + 1) * 10 ^ most ≤ 10 ^ 18 }
+    ensures { CountsDigits front text.now most result.0 result.1 }
+{
+    let mut value = front;
+    for (i, byte) in text.iter().enumerate() {
+        if i == most || !byte.is_ascii_digit() {
+            return (value, i);
+        }
+        value = value * 10 + u64::from(*byte - b'0');
+    }
+    (value, text.len())
+}
+
+/// What follows an item: nothing at the end, or the bytes behind a comma.
+#[inline]
+fn behind_item(text: &[u8]) -> Option<Option<&[u8]>>
+    ensures { IfSome result (λ rest. Stands text.now [] (option_copied rest)) }
+{
+    match text {
+        [] => Some(None),
+        [b',', rest @ ..] => Some(Some(rest)),
+        _ => None,
+    }
+}
+
+/// The decimal at the front, and what follows its comma, if there is one.
+pub fn front_decimal(text: &[u8]) -> Option<(Decimal, Option<&[u8]>)>
+    ensures { IfSome result (λ r. CutsDecimal text.now r.0 (option_copied r.1)) }
+{
+    let (whole, at) = counted(0, text, WHOLE);
+    if at == 0 || at >= text.len() || text[at] != b'.' {
+        return None;
+    }
+    let behind = &text[at + 1..];
+    let (value, places) = counted(whole, behind, SHORT - at);
+    let rest = behind_item(&behind[places..])?;
+    let decimal = Decimal::from_parts(false, u128::from(value), places as u8);
+    Some((decimal, rest))
+}
