@@ -1,7 +1,7 @@
 -- What the instrument does with a request that a client wrote, and how its reply reads.
 use Rattle.std.proofs.Common.{◌≡◌, ℕ, ◌<◌, Bool, true, false, cond, List, Some, refl, sym, ◌∙◌, ap, subst, lit<, eqb}
-use Rattle.gc_lines.specs.Readers.{reply_at}
-use Rattle.gc_lines.proofs.Replies.{reply_found, reply_one}
+use Rattle.gc_lines.specs.Replies.{IsReply}
+use Rattle.gc_lines.proofs.Replies.{reply_one}
 use Rattle.gc_lines.proofs.Written.{reply_back}
 use Rattle.gc_catalogue.specs.declared.answer.Reading.{Reading}
 use Rattle.gc_catalogue.specs.declared.answer.Reading.TheVariants.{Value, Refused}
@@ -73,6 +73,6 @@ fine_reading x = fine_if (eqb x.rc 0) (Value (rounded_answer x.state.precision x
 pub fine : (call : Call) (bytes : List ℕ) (reading : Reading) → IsReplyTo ends IsFittingState call bytes → IsFitting call → ReadsAs call bytes reading → IsValueOrRefusal reading
 fine call bytes reading made fits read =
     let a = handed_answered made.state made.id call made.good made.small fits in
-    let same : a.fields ≡ read.reply = reply_one bytes a.fields read.reply (reply_found bytes a.fields (ap reply_at made.reply ∙ a.reads)) read.is_reply in
+    let same : a.fields ≡ read.reply = reply_one bytes a.fields read.reply (subst (λ (l : List ℕ). IsReply l a.fields) (sym made.reply) a.is_reply) read.is_reply in
     let one : reading_of (exec made.state call) ≡ reading = one_reading call read.reply _ reading (subst (λ f. IsReading call f (reading_of (exec made.state call))) same a.reading) read.is_reading in
     subst IsValueOrRefusal one (fine_reading (exec made.state call))
