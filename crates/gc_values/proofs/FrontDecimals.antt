@@ -109,7 +109,7 @@ front_range text behind at places whole value a b =
     omega (arith, b.value_is, small_b, ap (λ k. 10 ^ k) long_f, all)
 
 -- digits at the front
-pub number_found : (text tail : List ℕ) (count n : ℕ) (rest : Option (List ℕ)) → CountsDigits 0 text 9 n count → 0 < count → tail ≡ drop count text → Stands tail [] rest → CutsNumber text n rest
+pub number_found : (text tail : List ℕ) (count n : ℕ) (rest : Option (List ℕ)) → CountsDigits 0 text 18 n count → 0 < count → tail ≡ drop count text → Stands tail [] rest → CutsNumber text n rest
 number_found text tail count n rest c some tail_is stands =
     let ds : List ℕ = take count text in
     let size : length ds ≡ count = length-take-le count text c.within in

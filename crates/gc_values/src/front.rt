@@ -7,7 +7,7 @@ ghost use Rattle.gc_values.specs.Plainly.{CountsDigits, CutsDecimal, CutsNumber,
 
 use crate::decimal::Decimal;
 
-/// Digits in front of the point that are surely in range.
+/// A number of so many digits before the point is in a decimal's range.
 const WHOLE: usize = 13;
 
 /// So many digits fit in 64 bits, whichever they are.
@@ -57,12 +57,12 @@ pub fn front_decimal(text: &[u8]) -> Option<(Decimal, Option<&[u8]>)>
     Some((decimal, rest))
 }
 
-/// The whole number at the front, of at most nine digits, and what follows its comma, if there is one.
+/// The whole number at the front, and what follows its comma, if there is one.
 #[inline]
 pub fn front_number(text: &[u8]) -> Option<(u64, Option<&[u8]>)>
     ensures { IfSome result (λ r. CutsNumber text.now r.0 (option_copied r.1)) }
 {
-    let (number, count) = counted(0, text, 9);
+    let (number, count) = counted(0, text, SHORT);
     if count == 0 {
         return None;
     }
