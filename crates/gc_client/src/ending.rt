@@ -94,7 +94,7 @@ fn set_late(outcome: &mut Outcome)
     *outcome = Outcome::Late;
 }
 
-// Writes what a reply in time says, where an answer stands into its places.
+// Writes what a reply in time says. Where an answer stands there already, it goes into the places of that one.
 #[inline]
 fn answer(call: &Call, reply: &Reply<'_>, line: &[u8], outcome: &mut Outcome)
     requires { length line.now ≤ 512 }
