@@ -13,6 +13,6 @@ IsReading call r (Refused code) = (r.rc_com ≡ 0) × (r.rc ≢ 0) × (code ≡ 
 IsReading call r (Value answer) = (r.rc_com ≡ 0) × (r.rc ≡ 0) × IsAnswer call r.params answer
 IsReading call r (Unreadable e) = (r.rc_com ≡ 0) × (r.rc ≡ 0) × IsUnreadable call r.params e
 
--- parameters beside two codes of 0
+-- no part of a promise: parameters beside two codes of 0, for what reads parameters alone
 abbrev pub beside_zeros : List ℕ → ReplyFields
 beside_zeros params = record { rc_com = 0; id = None; rc = 0; params = params }

@@ -42,7 +42,7 @@ pub record AreSettlements (settlements : List Settlement) (ruled : List Rule.Set
   pub seen : map settlement_seen settlements ≡ ruled
   pub read : All (λ s. IsWellRead s.call s.outcome) settlements
 
--- the outcome is an answer with these bytes, whose reading is what this reply says of the call
+-- no part of a promise: the outcome is an answer with these bytes, whose reading is what this reply says of the call
 abbrev pub IsAnsweredBy : Call → ReplyFields → List ℕ → Outcome → Type 0
 IsAnsweredBy call reply bytes (Answered reading line) = (line.items ≡ bytes) × IsReading call reply reading
 IsAnsweredBy call reply bytes Late = ⊥

@@ -13,7 +13,7 @@ use crate::pending::Pending;
 use crate::settlement::{Outcome, Settlement};
 use crate::window::{WINDOW, Window};
 use arrayvec::ArrayVec;
-use gc_catalogue::{Call, decode_answer, decode_answer_into};
+use gc_catalogue::{Call, Reading, decode_answer, decode_answer_into};
 use gc_lines::{Line, Reply, append};
 
 /// Makes a list of so many settlements, whatever they say.
@@ -28,13 +28,18 @@ pub(crate) fn make_places(settled: &mut ArrayVec<Settlement, WINDOW>, count: usi
     }
 }
 
-// Appends a settlement, whatever it says. It has its own frame, since a settlement is large.
+// Appends a settlement, whatever it says: an answer, so that another can be written into its places. It has its own
+// frame, since a settlement is large.
 #[inline(never)]
 fn push_place(settled: &mut ArrayVec<Settlement, WINDOW>)
     requires { array_vec_len settled.old < WINDOW }
     ensures { array_vec_len settled.new ≡ array_vec_len settled.old + 1 }
 {
-    settled.push(Settlement::default());
+    settled.push(Settlement {
+        target: 0,
+        call: Call::NullProc,
+        outcome: Outcome::Answered(Reading::Refused(0), Line::new()),
+    });
 }
 
 /// Takes the first `count` out of a window: the first `count` of a list say that they are lost.
@@ -93,7 +98,7 @@ fn set_late(outcome: &mut Outcome)
     *outcome = Outcome::Late;
 }
 
-// Writes what a reply in time says, where an answer stands into its places.
+// Writes what a reply in time says. Where an answer stands there already, it goes into the places of that one.
 #[inline]
 fn answer(call: &Call, reply: &Reply<'_>, line: &[u8], outcome: &mut Outcome)
     requires { length line.now ≤ 512 }

@@ -246,28 +246,39 @@ fn single_bytes(rt: HostRuntime) {
 
 // A list of settlements and a line are used again, and hold what the last call gave.
 #[test]
-fn lines_in_place(rt: HostRuntime) {
+fn lines_in_place(rt: HostRuntime) -> Result<(), Fail> {
     let mut client = Client::new(Slots::new());
     let mut line = Line::new();
-    for target in 0..3 {
+    for target in 0..4 {
         assert!(rt;
             client
                 .send_into(target, &Call::NullProc, 9, &mut line)
                 .is_ok()
         );
     }
-    assert_eq!(rt; line, line_of("%R1Q,0,2:"));
+    assert_eq!(rt; line, line_of("%R1Q,0,3:"));
+    let cases = [
+        ("%R1P,0,1:0", "0 lost, 1 Value(Nothing) %R1P,0,1:0, "),
+        ("%R1P,0,2:27", "2 Refused(27) %R1P,0,2:27, "),
+        ("%R1P,0,3:0", "3 Value(Nothing) %R1P,0,3:0, "),
+    ];
     let mut settled = ArrayVec::new();
-    assert_eq!(rt; client.hear(b"%R1P,0,1:0", &mut settled), Hearing::Settled);
-    assert_eq!(rt; settled.len(), 2);
-    assert_eq!(rt; client.hear(b"%R1P,0,2:0", &mut settled), Hearing::Settled);
-    assert_eq!(rt; settled.len(), 1);
-    assert_eq!(rt; client.hear(b"%R1P,0,2:0", &mut settled), Hearing::Stray);
+    for (reply, want) in cases {
+        assert_eq!(rt;
+            client.hear(reply.as_bytes(), &mut settled),
+            Hearing::Settled
+        );
+        let mut text = String::new(rt.alloc());
+        tell(&mut text, &settled)?;
+        assert_eq!(rt; text.as_str(), want);
+    }
+    assert_eq!(rt; client.hear(b"%R1P,0,3:0", &mut settled), Hearing::Stray);
     assert_eq!(rt; settled.len(), 0);
     assert_eq!(rt;
         client.hear(&[b'%'; 513], &mut settled),
         Hearing::Unread(LineFault::TooLong)
     );
+    Ok(())
 }
 
 // Each handler and mutator once. It takes no memory itself.
