@@ -79,6 +79,7 @@ pub(crate) fn read_row<P: Parameters>(rpc: u16, params: &mut P, call: &mut Call)
 
 // The rows whose parameters are large stand in functions of their own, so that the others don't make room for them.
 
+// CSV_SetDateTime.
 #[inline(never)]
 fn read_set_date<P: Parameters>(params: &mut P, call: &mut Call)
     ensures number { (call_fields call.new).number ≡ 5007 }
@@ -88,6 +89,7 @@ fn read_set_date<P: Parameters>(params: &mut P, call: &mut Call)
     *call = Call::SetDate(read_date(params));
 }
 
+// TMC_SetStation.
 #[inline(never)]
 fn read_set_station<P: Parameters>(params: &mut P, call: &mut Call)
     ensures number { (call_fields call.new).number ≡ 2010 }
@@ -97,6 +99,7 @@ fn read_set_station<P: Parameters>(params: &mut P, call: &mut Call)
     *call = Call::SetStation(read_station(params));
 }
 
+// TMC_SetHeight.
 #[inline(never)]
 fn read_set_height<P: Parameters>(params: &mut P, call: &mut Call)
     ensures number { (call_fields call.new).number ≡ 2012 }
@@ -106,6 +109,7 @@ fn read_set_height<P: Parameters>(params: &mut P, call: &mut Call)
     *call = Call::SetHeight(params.double());
 }
 
+// AUT_MakePositioning.
 #[inline(never)]
 fn read_position<P: Parameters>(params: &mut P, call: &mut Call)
     ensures number { (call_fields call.new).number ≡ 9027 }
@@ -121,6 +125,7 @@ fn read_position<P: Parameters>(params: &mut P, call: &mut Call)
     };
 }
 
+// AUT_FineAdjust.
 #[inline(never)]
 fn read_fine_adjust<P: Parameters>(params: &mut P, call: &mut Call)
     ensures number { (call_fields call.new).number ≡ 9037 }

@@ -6,6 +6,7 @@ use Rattle.gc_lines.specs.Headers.{Gives}
 use Rattle.gc_lines.specs.Requests.{RequestFields, IsRequest}
 use Rattle.gc_lines.specs.declared.fault.LineFault.{LineFault}
 use Rattle.gc_lines.specs.declared.request.Request.{Request}
+use Rattle.gc_lines.proofs.Replies.{reply_found}
 use Rattle.gc_lines.proofs.Requests.{request_found, request_one}
 use Rattle.gc_catalogue.proofs.CallLaws.{one_call, no_refusal}
 use Rattle.gc_catalogue.proofs.LineLaws.{call_again, answer_again, refusal_again, rounded_fits}
@@ -62,7 +63,7 @@ reads_as : (before : State) (number : ℕ) (call : Call) (x : Executed) (reading
     → ReadsBackAnswer call number x.rc x.answer x.state.precision reading → IsAnswered before number call (executed_line number x)
 reads_as before number call x reading e same back = record {
   fields = reply_of number x.rc x.answer x.state.precision;
-  reads = back.line;
+  is_reply = reply_found (executed_line number x) (reply_of number x.rc x.answer x.state.precision) back.line;
   same_id = refl;
   reading = subst (λ (r : Reading). IsReading call (reply_of number x.rc x.answer x.state.precision) r) (sym (ap reading_of e ∙ same)) back.is_reading;
 }

@@ -1,7 +1,6 @@
 -- The reply to a line: what the instrument does with each line that it is handed. The communication codes are the manual's, the rest is this project's own.
-use Rattle.std.specs.Prelude.{◌≡◌, ℕ, List, [], ◌++◌, Bool, true, Option, Some, None, Ok, if◌then◌else◌, ◌==◌, unwrap_or}
-use Rattle.gc_lines.specs.Replies.{ReplyFields, reply_text}
-use Rattle.gc_lines.specs.Readers.{reply_at}
+use Rattle.std.specs.Prelude.{◌≡◌, ℕ, List, [], ◌++◌, Bool, true, Option, Some, None, if◌then◌else◌, ◌==◌, unwrap_or}
+use Rattle.gc_lines.specs.Replies.{ReplyFields, IsReply, reply_text}
 use Rattle.gc_lines.specs.Requests.{RequestFields, IsRequest}
 use Rattle.gc_catalogue.specs.Answers.{rounded_answer}
 use Rattle.gc_catalogue.specs.Calls.{IsCall, IsRefusal}
@@ -61,10 +60,10 @@ handed s number call = record { state = (exec s call).state; reply = executed_li
 abbrev pub reading_of : Executed → Reading
 reading_of x = if x.rc == 0 then Value (rounded_answer x.state.precision x.answer) else Refused x.rc
 
--- the line reads as a reply with this id, which says of the call what carrying it out gave
+-- the line is a reply with this id, which says of the call what carrying it out gave
 pub record IsAnswered (before : State) (number : ℕ) (call : Call) (line : List ℕ) : Type 0 where
   pub fields : ReplyFields
-  pub reads : reply_at line ≡ Ok fields
+  pub is_reply : IsReply line fields
   pub same_id : fields.id ≡ Some number
   pub reading : IsReading call fields (reading_of (exec before call))
 

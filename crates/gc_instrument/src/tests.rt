@@ -75,6 +75,17 @@ fn setting_and_reading(rt: HostRuntime) {
     );
 }
 
+// Each byte alone is a line that is no request: it draws no reply.
+#[test]
+fn single_bytes(rt: HostRuntime) {
+    let mut instrument = Instrument::simulator();
+    for byte in 0..=255 {
+        let mut line = Line::new();
+        line.push(byte);
+        assert_eq!(rt; instrument.on_line(&line), None, "byte {byte}");
+    }
+}
+
 #[test]
 fn measuring(rt: HostRuntime) {
     expect_replies(

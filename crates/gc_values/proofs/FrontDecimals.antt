@@ -1,11 +1,11 @@
--- A decimal in the common spelling at the front of a list.
+-- A number in the common spelling at the front of a list.
 use Rattle.std.proofs.Common.{◌≡◌, ℕ, ℤ, ◌+◌, ◌-◌, ◌*◌, ◌^◌, ◌<◌, ◌≤◌, false, List, [], ◌∷◌, ◌++◌, length, get_or, take, drop, Option, Some, None, refl, sym, ◌∙◌, ap, subst, arith, add-one, append-nil, append_assoc, length-append, lit≤}
 use Rattle.std.proofs.Math.Nat.{mul-le-mul_left, mul-le-mul_right, pow-suc}
 use Rattle.std.proofs.lemmas.Nat.{pow-add}
 use Rattle.std.proofs.lemmas.List.{drop_more, length-take-le, take-append-drop}
 use Rattle.gc_values.specs.Digits.{AreDigits, IsDigit, number}
 use Rattle.gc_values.specs.Nearest.{MadeOf}
-use Rattle.gc_values.specs.Plainly.{CountsDigits, CutsPlain, CutsDecimal, Stands}
+use Rattle.gc_values.specs.Plainly.{CountsDigits, CutsPlain, CutsDecimal, CutsNumber, Stands}
 use Rattle.gc_values.specs.Spelling.{Absent, Spells}
 use Rattle.gc_values.specs.declared.decimal.Decimal.{Decimal}
 use Rattle.gc_values.proofs.Kept.{AreDigits-append, AreDigits-take_more, followed_more, number-append, number-lt}
@@ -107,3 +107,23 @@ front_range text behind at places whole value a b =
     let most : 10 ^ at ≤ 10 ^ 13 = ten_pow_le at 13 (omega arith) in
     let all : (whole + 1) * 10 ^ places ≤ 10 ^ 13 * 10 ^ places = mul-le-mul_right {m = whole + 1} {n = 10 ^ 13} (10 ^ places) (omega (arith, a.value_is, small_a, ap (λ k. 10 ^ k) long_w, most)) in
     omega (arith, b.value_is, small_b, ap (λ k. 10 ^ k) long_f, all)
+
+-- digits at the front
+pub number_found : (text tail : List ℕ) (count n : ℕ) (rest : Option (List ℕ)) → CountsDigits 0 text 18 n count → 0 < count → tail ≡ drop count text → Stands tail [] rest → CutsNumber text n rest
+number_found text tail count n rest c some tail_is stands =
+    let ds : List ℕ = take count text in
+    let size : length ds ≡ count = length-take-le count text c.within in
+    let parted : text ≡ ds ++ tail = sym (take-append-drop count text) ∙ ap (λ t. ds ++ t) (sym tail_is) in
+    record {
+      item = ds;
+      cut = record {
+        text_is = stood rest stands parted;
+        param = bare_param ds (bare_digits ds c.digits);
+        some = omega (arith, size);
+      };
+      names = record { sign = Absent; digits = ds; n = n; text_is = refl; number_is = record { digits = c.digits; some = omega (arith, size); value = omega (arith, c.value_is) }; value = refl };
+    }
+  where
+    stood : (r : Option (List ℕ)) → Stands tail [] r → text ≡ take count text ++ tail → Stands text (take count text) r
+    stood None h e = e ∙ ap (λ t. take count text ++ t) h ∙ append-nil (take count text)
+    stood (Some behind) h e = e ∙ ap (λ t. take count text ++ t) h

@@ -1,10 +1,11 @@
 -- No part of a promise: parameters in the common spelling, without spaces round them, cut from the left.
-use Rattle.std.specs.Prelude.{◌≡◌, ◌+◌, ◌*◌, ◌^◌, ◌<◌, ◌≤◌, ℕ, Bool, true, List, [], ◌∷◌, ◌++◌, length, take, Option, Some, None}
+use Rattle.std.specs.Prelude.{◌≡◌, ◌+◌, ◌*◌, ◌^◌, ◌<◌, ◌≤◌, ℕ, Bool, true, List, [], ◌∷◌, ◌++◌, length, take, Option, Some, None, pos}
 use Rattle.std.specs.List.{AllByRecursion}
 use Rattle.gc_values.specs.Digits.{AreDigits, number}
 use Rattle.gc_values.specs.Lists.{AreItems}
 use Rattle.gc_values.specs.Params.{IsParam, joined}
 use Rattle.gc_values.specs.Spelling.{Spells}
+use Rattle.gc_values.specs.Whole.{NamesWhole}
 use Rattle.gc_values.specs.declared.decimal.Decimal.{Decimal}
 use Rattle.gc_values.specs.declared.value.Value.{Value}
 
@@ -30,6 +31,12 @@ pub record CutsDecimal (text : List ℕ) (d : Decimal) (rest : Option (List ℕ)
   pub item : List ℕ
   pub cut : CutsPlain text item rest
   pub spelled : Spells item d.digits d.scale
+
+-- a whole number of few digits was cut off, and its comma
+pub record CutsNumber (text : List ℕ) (n : ℕ) (rest : Option (List ℕ)) : Type 0 where
+  pub item : List ℕ
+  pub cut : CutsPlain text item rest
+  pub names : NamesWhole item (pos n)
 
 -- the text is parameters joined by commas, at least one, and they are read as the values
 pub record ArePlain (text : List ℕ) (vs : List Value) : Type 0 where

@@ -1,13 +1,13 @@
-//! A decimal at the front of a list of parameters in the common spelling, read in one pass through its comma: digits, a
-//! point and digits, few enough for 64 bits. Whatever else stands there isn't found, and is for others to read.
+//! A number at the front of a list of parameters in the common spelling, read in one pass through its comma: few digits,
+//! and where it is a decimal a point and digits. Whatever else stands there isn't found, and is for others to read.
 
 ghost use Rattle.std.specs.Prelude.{◌≡◌, ◌+◌, ◌*◌, ◌^◌, ◌≤◌, [], IfSome};
 ghost use Rattle.std.specs.Option.{option_copied};
-ghost use Rattle.gc_values.specs.Plainly.{CountsDigits, CutsDecimal, Stands};
+ghost use Rattle.gc_values.specs.Plainly.{CountsDigits, CutsDecimal, CutsNumber, Stands};
 
 use crate::decimal::Decimal;
 
-/// Digits in front of the point that are surely in range.
+/// A number of so many digits before the point is in a decimal's range.
 const WHOLE: usize = 13;
 
 /// So many digits fit in 64 bits, whichever they are.
@@ -55,4 +55,17 @@ pub fn front_decimal(text: &[u8]) -> Option<(Decimal, Option<&[u8]>)>
     let rest = behind_item(&behind[places..])?;
     let decimal = Decimal::from_parts(false, u128::from(value), places as u8);
     Some((decimal, rest))
+}
+
+/// The whole number at the front, and what follows its comma, if there is one.
+#[inline]
+pub fn front_number(text: &[u8]) -> Option<(u64, Option<&[u8]>)>
+    ensures { IfSome result (λ r. CutsNumber text.now r.0 (option_copied r.1)) }
+{
+    let (number, count) = counted(0, text, SHORT);
+    if count == 0 {
+        return None;
+    }
+    let rest = behind_item(&text[count..])?;
+    Some((number, rest))
 }

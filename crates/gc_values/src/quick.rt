@@ -1,16 +1,17 @@
 //! Parameters in the common spelling, read in one pass and without a list of items: no spaces, no strings, no plus.
 //! Whatever else stands there isn't done, and is for `Listed` to read.
 
-ghost use Rattle.std.specs.Prelude.{◌≡◌, ◌∷◌, [], List, IfSome, IsTrue, true};
+ghost use Rattle.std.specs.Prelude.{◌≡◌, ◌∷◌, [], ℕ, pos, List, IfSome, IfNone, IsTrue, true};
 ghost use Rattle.std.specs.Option.{option_copied};
 ghost use Rattle.gc_values.specs.Item.{IsItem};
 ghost use Rattle.gc_values.specs.Lists.{AreParams};
 ghost use Rattle.gc_values.specs.Plainly.{CutsPlain, ReadsPlainly};
+ghost use Rattle.gc_values.specs.Whole.{NamesWhole};
 ghost use Rattle.gc_values.specs.declared.value.Value.{Value};
 
 use crate::byte::read_byte;
 use crate::decimal::Decimal;
-use crate::front::front_decimal;
+use crate::front::{front_decimal, front_number};
 use crate::parameters::Parameters;
 use crate::text::Text;
 use crate::whole::{read_bool, read_long, read_short};
@@ -66,6 +67,22 @@ impl<'a> Quick<'a> {
         &[]
     }
 
+    // The next whole number, if it has few digits and no sign; else it is left.
+    #[inline]
+    fn number(&mut self) -> Option<u64>
+        ensures reads { IfSome result (λ n. (v : Value) (vs : List Value) → ((item : List ℕ) → NamesWhole item (pos n) → IsItem item v)
+            → ReadsPlainly self.new.good (option_copied self.new.rest) vs → ReadsPlainly self.old.good (option_copied self.old.rest) (v ∷ vs)) }
+        ensures none { IfNone result (self.new ≡ self.old) }
+    {
+        if let Some(text) = self.rest {
+            if let Some((number, rest)) = front_number(text) {
+                self.rest = rest;
+                return Some(number);
+            }
+        }
+        None
+    }
+
     // The next decimal, with a sign, an exponent or many digits.
     #[inline(never)]
     fn longer_double(&mut self) -> Decimal
@@ -77,6 +94,51 @@ impl<'a> Quick<'a> {
             Err(_) => {
                 self.good = false;
                 Decimal::zero()
+            }
+        }
+    }
+
+    // The next whole number of 32 bits, with a sign or many digits.
+    #[inline(never)]
+    fn longer_long(&mut self) -> i32
+        ensures { (vs : List Value) → ReadsPlainly self.new.good (option_copied self.new.rest) vs
+            → ReadsPlainly self.old.good (option_copied self.old.rest) (Value.Long result ∷ vs) }
+    {
+        match read_long(self.item()) {
+            Ok(n) => n,
+            Err(_) => {
+                self.good = false;
+                0
+            }
+        }
+    }
+
+    // The next whole number of 16 bits, with a sign or many digits.
+    #[inline(never)]
+    fn longer_short(&mut self) -> i16
+        ensures { (vs : List Value) → ReadsPlainly self.new.good (option_copied self.new.rest) vs
+            → ReadsPlainly self.old.good (option_copied self.old.rest) (Value.Short result ∷ vs) }
+    {
+        match read_short(self.item()) {
+            Ok(n) => n,
+            Err(_) => {
+                self.good = false;
+                0
+            }
+        }
+    }
+
+    // The next Boolean, with a sign or many digits.
+    #[inline(never)]
+    fn longer_boolean(&mut self) -> bool
+        ensures { (vs : List Value) → ReadsPlainly self.new.good (option_copied self.new.rest) vs
+            → ReadsPlainly self.old.good (option_copied self.old.rest) (Value.Bool result ∷ vs) }
+    {
+        match read_bool(self.item()) {
+            Ok(n) => n,
+            Err(_) => {
+                self.good = false;
+                false
             }
         }
     }
@@ -100,7 +162,10 @@ impl<'a> Parameters for Quick<'a> {
 
     #[inline]
     fn long(&mut self) -> i32 {
-        match read_long(self.item()) {
+        let Some(number) = self.number() else {
+            return self.longer_long();
+        };
+        match i32::try_from(number) {
             Ok(n) => n,
             Err(_) => {
                 self.good = false;
@@ -111,7 +176,10 @@ impl<'a> Parameters for Quick<'a> {
 
     #[inline]
     fn short(&mut self) -> i16 {
-        match read_short(self.item()) {
+        let Some(number) = self.number() else {
+            return self.longer_short();
+        };
+        match i16::try_from(number) {
             Ok(n) => n,
             Err(_) => {
                 self.good = false;
@@ -133,9 +201,13 @@ impl<'a> Parameters for Quick<'a> {
 
     #[inline]
     fn boolean(&mut self) -> bool {
-        match read_bool(self.item()) {
-            Ok(b) => b,
-            Err(_) => {
+        let Some(number) = self.number() else {
+            return self.longer_boolean();
+        };
+        match number {
+            0 => false,
+            1 => true,
+            _ => {
                 self.good = false;
                 false
             }

@@ -22,7 +22,7 @@ const NO_TARGET: u16 = 8710;
 
 impl Instrument {
     ghost use Rattle.gc_catalogue.specs.declared.call.Call.TheVariants.{SetPrecision, SetDate, SetStation, SetHeight, GetAngle, SimpleMea, MeasDistance};
-    ghost use Rattle.gc_catalogue.specs.declared.answer.Answer.TheVariants.{Nothing, Angles, Measured, MeasuredMode};
+    ghost use Rattle.gc_catalogue.specs.declared.answer.Answer.TheVariants.{Nothing, Name, Place, Angles, Measured, MeasuredMode};
 
     /// Carries out a call, and gives the return code and the answer, which is `Answer::Nothing`
     /// where the code isn't 0: 2 for a value that isn't allowed, 1285 where no distance is known,
@@ -56,10 +56,7 @@ impl Instrument {
                 *answer = Answer::Long(self.serial);
                 0
             }
-            Call::InstrumentName => {
-                *answer = Answer::Name(self.name);
-                0
-            }
+            Call::InstrumentName => self.tell_name(answer),
             Call::SetDate(date) => self.set_date(*date),
             Call::GetDate => {
                 *answer = Answer::Date(self.settings.date);
@@ -74,10 +71,7 @@ impl Instrument {
                 0
             }
             Call::DoMeasure { command, .. } => self.measure_as(*command),
-            Call::GetStation => {
-                *answer = Answer::Place(self.settings.station);
-                0
-            }
+            Call::GetStation => self.tell_station(answer),
             Call::SetStation(station) => self.set_station(station),
             Call::GetHeight => {
                 *answer = Answer::Height(self.settings.height);
@@ -126,6 +120,24 @@ impl Instrument {
         } else {
             INVALID_PARAMETER
         }
+    }
+
+    // The instrument's name.
+    #[inline(never)]
+    fn tell_name(&self, answer: &mut Answer) -> u16
+        ensures { Gives (done self.now (Name self.now.name)) self.now result answer.new }
+    {
+        *answer = Answer::Name(self.name);
+        0
+    }
+
+    // The station.
+    #[inline(never)]
+    fn tell_station(&self, answer: &mut Answer) -> u16
+        ensures { Gives (done self.now (Place self.now.station)) self.now result answer.new }
+    {
+        *answer = Answer::Place(self.settings.station);
+        0
     }
 
     // Sets the station.

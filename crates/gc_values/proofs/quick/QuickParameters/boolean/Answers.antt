@@ -1,5 +1,10 @@
+use Rattle.std.proofs.Common.{false, pos, subst, true}
+use Rattle.gc_values.specs.Whole.{NamesWhole}
 use Rattle.gc_values.specs.declared.value.Value.TheVariants as value
 use Rattle.gc_values.proofs.quick.QuickParameters.boolean.Goals as goal
 
-pub returns-in-Ok-clause-reads : goal.returns-in-Ok-clause-reads
-returns-in-Ok-clause-reads c = λ vs left. c.item.ensures (value.Bool c.in-Ok.b) vs left c.in-Ok.ensures.value
+pub returns-in-0-clause-reads : goal.returns-in-0-clause-reads
+returns-in-0-clause-reads c = λ vs left. c.in-Some.ensures.reads (value.Bool false) vs (λ item names. subst (λ n. NamesWhole item (pos n)) c.in-0.is names) left
+
+pub returns-in-1-clause-reads : goal.returns-in-1-clause-reads
+returns-in-1-clause-reads c = λ vs left. c.in-Some.ensures.reads (value.Bool true) vs (λ item names. subst (λ n. NamesWhole item (pos n)) c.in-1.is names) left

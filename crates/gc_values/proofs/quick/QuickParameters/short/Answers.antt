@@ -1,8 +1,11 @@
-use Rattle.std.proofs.Common.{rules}
+use Rattle.std.proofs.Common.{◌≡◌, pos, rules, subst, sym}
+use Rattle.gc_values.specs.Whole.{FitsShort, NamesWhole}
 use Rattle.gc_values.specs.declared.value.Value.TheVariants as value
 use Rattle.gc_values.proofs.quick.QuickParameters.short.Goals as goal
 
 pub returns-in-Ok-clause-reads : goal.returns-in-Ok-clause-reads
 returns-in-Ok-clause-reads c = λ vs left.
-    let read = c.item.ensures (value.Short c.in-Ok.n) vs left c.in-Ok.ensures.value in
+    let is : c.in-Ok.n ≡ pos c.in-Some.number = search rules in
+    let fits : FitsShort c.in-Ok.n = search rules in
+    let read = c.in-Some.ensures.reads (value.Short c.in-Ok.n) vs (λ item names. (subst (λ z. NamesWhole item z) (sym is) names, fits)) left in
     search rules
