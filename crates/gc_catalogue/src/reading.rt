@@ -163,6 +163,7 @@ pub(crate) fn read_answer_row<P: Parameters>(shape: Shape, params: &mut P, answe
     }
 }
 
+// A string.
 #[inline(never)]
 fn read_name<P: Parameters>(params: &mut P, answer: &mut Answer)
     ensures shape { (answer_fields answer.new).shape ≡ shape.Name }
@@ -172,6 +173,7 @@ fn read_name<P: Parameters>(params: &mut P, answer: &mut Answer)
     *answer = Answer::Name(params.text());
 }
 
+// A date and a time of day.
 #[inline(never)]
 fn read_clock<P: Parameters>(params: &mut P, answer: &mut Answer)
     ensures shape { (answer_fields answer.new).shape ≡ shape.Date }
@@ -181,6 +183,7 @@ fn read_clock<P: Parameters>(params: &mut P, answer: &mut Answer)
     *answer = Answer::Date(read_date(params));
 }
 
+// A temperature.
 #[inline(never)]
 fn read_temperature<P: Parameters>(params: &mut P, answer: &mut Answer)
     ensures shape { (answer_fields answer.new).shape ≡ shape.Temperature }
@@ -190,6 +193,7 @@ fn read_temperature<P: Parameters>(params: &mut P, answer: &mut Answer)
     *answer = Answer::Temperature(params.double());
 }
 
+// A station.
 #[inline(never)]
 fn read_place<P: Parameters>(params: &mut P, answer: &mut Answer)
     ensures shape { (answer_fields answer.new).shape ≡ shape.Place }
@@ -199,6 +203,7 @@ fn read_place<P: Parameters>(params: &mut P, answer: &mut Answer)
     *answer = Answer::Place(read_station(params));
 }
 
+// A reflector's height.
 #[inline(never)]
 fn read_height<P: Parameters>(params: &mut P, answer: &mut Answer)
     ensures shape { (answer_fields answer.new).shape ≡ shape.Height }
@@ -208,6 +213,7 @@ fn read_height<P: Parameters>(params: &mut P, answer: &mut Answer)
     *answer = Answer::Height(params.double());
 }
 
+// Two angles.
 #[inline(never)]
 fn read_angles<P: Parameters>(params: &mut P, answer: &mut Answer)
     ensures shape { (answer_fields answer.new).shape ≡ shape.Angles }
@@ -220,6 +226,7 @@ fn read_angles<P: Parameters>(params: &mut P, answer: &mut Answer)
     };
 }
 
+// Two angles and a distance.
 #[inline(never)]
 fn read_measured<P: Parameters>(params: &mut P, answer: &mut Answer)
     ensures shape { (answer_fields answer.new).shape ≡ shape.Measured }
@@ -233,6 +240,7 @@ fn read_measured<P: Parameters>(params: &mut P, answer: &mut Answer)
     };
 }
 
+// Two angles, a distance and its mode.
 #[inline(never)]
 fn read_measured_mode<P: Parameters>(params: &mut P, answer: &mut Answer)
     ensures shape { (answer_fields answer.new).shape ≡ shape.MeasuredMode }

@@ -149,6 +149,7 @@ impl<W: Window> Client<W> {
     /// Takes a line as `on_line` does, from any bytes, and settles into a list that is handed in.
     ///
     /// What the list held goes: afterwards it holds this line's settlements, and none after a stray or an unread line.
+    /// Its places are written over, so one list that is kept for all lines costs least.
     /// More than 512 bytes are no line, so they are unread, by `LineFault::TooLong`.
     pub fn hear(&mut self, line: &[u8], settled: &mut ArrayVec<Settlement, WINDOW>) -> Hearing
         ensures heard { length line.now ≤ 512 → HearsInto self.old line.now result settled.new.items self.new }
