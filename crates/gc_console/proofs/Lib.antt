@@ -4,3 +4,5 @@ mod LineEnds
 mod TextLines
 mod Shown
 mod OneSchedule
+mod Checked
+mod OneVerdict

@@ -1,6 +1,7 @@
 //! The program `geocom`: its command line, and the engine behind each subcommand.
 #![tactic(auto)]
 
+mod check;
 mod cuts;
 mod drill;
 mod event;
@@ -11,7 +12,9 @@ mod program;
 mod schedule;
 mod settled;
 mod text;
+mod verdict;
 
+pub use check::run_check;
 pub use drill::run_drill;
 pub use exec::run_exec;
 pub use fault::RunFault;

@@ -12,14 +12,16 @@ ghost use Rattle.gc_world.specs.declared.event.Event.{Event};
 ghost use Rattle.gc_console.specs.declared.fault.RunFault.{RunFault};
 ghost use Rattle.gc_console.specs.Faults.{run_fault_text, fault_line, Tells};
 ghost use Rattle.gc_console.specs.Schedule.{IsSchedule};
+ghost use Rattle.gc_console.specs.Checking.{IsChecking};
 ghost use Rattle.gc_console.specs.Drill.{drill_text, Drills, source_failed, sink_failed};
 
+use crate::check::run_check;
 use crate::drill::run_drill;
 use crate::exec::run_exec;
 use crate::fault::RunFault;
 use clap::error::ErrorKind;
 use clap::{Arg, ArgAction, Command, Error};
-use gc_lines::{FromReader, ReadAhead, Sink, Source, ToWriter};
+use gc_lines::{FromReader, ReadAhead, ServeFault, Served, Sink, Source, ToWriter};
 use std::alloc::Global;
 use std::env::Args;
 use std::io::{self, Read, Write};
@@ -47,6 +49,24 @@ Example:
 writes
   %R1P,0,2:0,123456";
 
+// What the help of `check` ends with.
+const VERDICTS: &str =
+    "What stands before a line feed is a frame. Each gets a line, its number and what it is:
+  N request RPC ok         a request that reads
+  N request RPC fault F    a request of no known procedure (21), or whose parameters don't read (11 to 15)
+  N reply RC_COM RC        a reply
+  N fault F                a line that is neither: F is its first bad field, 1 to 5
+  N cleared                a line feed without a CR before it: an instrument drops what came
+  N overlong               more than 512 bytes
+Bytes behind the last line feed get none.
+
+Example:
+  printf '%%R1Q,5003,2:\\r\\n%%R1P,0,2:0,123456\\r\\nnoise\\r\\n' | geocom check
+writes
+  1 request 5003 ok
+  2 reply 0 0
+  3 fault 1";
+
 // What the help of `drill` ends with.
 const EVENTS: &str =
     "A schedule has an event a line; empty lines and lines that begin with # are skipped:
@@ -68,6 +88,7 @@ writes
 // What a command line asks for.
 enum Subcommand {
     Exec,
+    Check,
     Drill { totals: bool },
 }
 
@@ -91,6 +112,11 @@ pub fn run_program<I: Read + Drop, O: Write + Drop, E: Write + Drop>(
     };
     match subcommand_of(alloc, words.as_slice()) {
         Ok(Subcommand::Exec) => exec(
+            &mut FromReader::new(ReadAhead::new(input)),
+            &mut ToWriter::new(output),
+            &mut messages,
+        ),
+        Ok(Subcommand::Check) => check(
             &mut FromReader::new(ReadAhead::new(input)),
             &mut ToWriter::new(output),
             &mut messages,
@@ -153,6 +179,9 @@ fn subcommand_of(alloc: Global, words: &[String]) -> Result<Subcommand, Error> {
     let exec = Command::new(alloc, "exec")
         .about("Answers the requests of standard input on standard output")
         .after_help(REQUESTS);
+    let check = Command::new(alloc, "check")
+        .about("Says of each frame of standard input what it is, or what is wrong with it")
+        .after_help(VERDICTS);
     let totals = Arg::new(alloc, "totals")
         .long("totals")
         .action(ArgAction::SetTrue)
@@ -168,8 +197,12 @@ fn subcommand_of(alloc: Global, words: &[String]) -> Result<Subcommand, Error> {
         .subcommand_required(true)
         .disable_help_subcommand(true)
         .subcommand(exec)?
+        .subcommand(check)?
         .subcommand(drill)?;
     let matches = command.try_get_matches_from(words)?;
+    if matches.subcommand_matches("check").is_some() {
+        return Ok(Subcommand::Check);
+    }
     match matches.subcommand_matches("drill") {
         Some(drill) => Ok(Subcommand::Drill {
             totals: drill.get_flag("totals"),
@@ -203,7 +236,36 @@ fn exec<S: Source, K: Sink, E: Write>(
         ⊎ (S.reads source.new ≡ S.reads source.old + 4294967295))) }
     ensures bound { IfOk result (λ status. exit_status status ≤ 1) }
 {
-    match run_exec(source, sink, u32::MAX) {
+    tell_end(run_exec(source, sink, u32::MAX), messages)
+}
+
+// Checks, and tells how it ended.
+fn check<S: Source, K: Sink, E: Write>(
+    source: &mut S,
+    sink: &mut K,
+    messages: &mut E,
+) -> io::Result<ExitCode>
+    // What was checked, why it ended, and that the messages and the status tell it.
+    ensures told { IfOk result (λ status. (end : Result Served ServeFault)
+        × IsChecking
+        (record { remaining = S.remaining source.old; reads = S.reads source.old; ended = S.ended source.old; source_failed = S.failed source.old; taken = K.taken sink.old; sink_failed = K.failed sink.old })
+        (record { remaining = S.remaining source.new; reads = S.reads source.new; ended = S.ended source.new; source_failed = S.failed source.new; taken = K.taken sink.new; sink_failed = K.failed sink.new })
+        4294967295 end
+        × Tells fault_text end (exit_status status) (E.contents messages.old) (E.contents messages.new)) }
+
+    // Status 0 exactly where the last read was the end.
+    ensures done { IfOk result (λ status. (exit_status status ≡ 0)
+        ↔ ((S.reads source.old < S.reads source.new) × (S.ended source.new ≡ true))) }
+    ensures bound { IfOk result (λ status. exit_status status ≤ 1) }
+{
+    tell_end(run_check(source, sink, u32::MAX), messages)
+}
+
+// Tells how serving or checking ended.
+fn tell_end<E: Write>(end: Result<Served, ServeFault>, messages: &mut E) -> io::Result<ExitCode>
+    ensures told { IfOk result (λ status. Tells fault_text end (exit_status status) (E.contents messages.old) (E.contents messages.new)) }
+{
+    match end {
         Ok(_) => Ok(ExitCode::SUCCESS),
         Err(fault) => {
             writeln!(messages, "geocom: {fault}")?;

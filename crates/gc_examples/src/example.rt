@@ -1,6 +1,6 @@
 //! One example: what goes in, and what must come out.
 
-use gc_console::{run_drill, run_exec};
+use gc_console::{run_check, run_drill, run_exec};
 use gc_probes::{PieceSink, PieceSource};
 use std::alloc::{AllocError, Global};
 use std::{fmt, fs, io};
@@ -9,6 +9,7 @@ use std::{fmt, fs, io};
 #[derive(Clone, Copy)]
 enum Engine {
     Exec,
+    Check,
     Drill,
 }
 
@@ -44,6 +45,9 @@ impl Example {
         if let Some(stem) = name.strip_suffix(".requests") {
             return Ok(Some(read(rt, Engine::Exec, name, stem, ".replies")?));
         }
+        if let Some(stem) = name.strip_suffix(".recording") {
+            return Ok(Some(read(rt, Engine::Check, name, stem, ".verdicts")?));
+        }
         if let Some(stem) = name.strip_suffix(".schedule") {
             return Ok(Some(read(rt, Engine::Drill, name, stem, ".expected")?));
         }
@@ -76,6 +80,7 @@ impl Example {
         let mut sink = PieceSink::new(alloc, 5, u64::MAX);
         let is_done = match self.engine {
             Engine::Exec => run_exec(&mut source, &mut sink, u32::MAX).is_ok(),
+            Engine::Check => run_check(&mut source, &mut sink, u32::MAX).is_ok(),
             Engine::Drill => run_drill(alloc, &mut source, &mut sink, true).is_ok(),
         };
         is_done && sink.taken() == self.expected.as_slice()

@@ -1,6 +1,6 @@
-//! The examples, played: no part of the product. Each stream of requests goes through `exec` and each schedule through
-//! `drill --totals`, whole, in single bytes, and cut in two at every place, and what is written must be the file of the
-//! expected output each time. The folder it runs in is read whole, so that no example is forgotten.
+//! The examples, played: no part of the product. Each stream of requests goes through `exec`, each recording through `check`
+//! and each schedule through `drill --totals`, whole, in single bytes, and cut in two at every place, and what is written
+//! must be the file of the expected output each time. The folder it runs in is read whole, so that no example is forgotten.
 #![tactic(auto)]
 
 mod example;

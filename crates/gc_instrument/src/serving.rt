@@ -57,5 +57,5 @@ pub fn serve<S: Source, K: Sink>(
         })
         max_reads result }
 {
-    answer_frames(instrument, source, sink, max_reads)
+    answer_frames(instrument, source, sink, max_reads, false)
 }

@@ -1,11 +1,11 @@
 -- What was read so far, and what was done with its frames.
-use Rattle.std.proofs.Common.{ℕ, ◌+◌, ◌*◌, ◌≤◌, List, [], ◌++◌, length, Option, sym, subst, arith, length-append}
+use Rattle.std.proofs.Common.{◌≡◌, Bool, false, ℕ, ◌+◌, ◌*◌, ◌≤◌, List, [], ◌++◌, length, Option, sym, subst, arith, length-append}
 use Rattle.std.specs.Io.KnownBytes.{Consumes}
 use Rattle.std.proofs.lemmas.List.{append-nil}
 use Rattle.gc_lines.specs.Answering.{AnswerRule, AnswersAll, AnswersPart}
 use Rattle.gc_lines.specs.Assembler.{Kept, StandsFor}
 use Rattle.gc_lines.specs.Frames.{frames, rest_behind}
-use Rattle.gc_lines.specs.Passing.{frames_behind}
+use Rattle.gc_lines.specs.Passing.{frames_behind, GathersPart}
 use Rattle.gc_lines.specs.declared.frame.Frame.{Frame}
 use Rattle.gc_lines.proofs.Known.{Consumes-append, Consumes-nil}
 use Rattle.gc_lines.proofs.InOrder.{all_none, all_then, part_then}
@@ -46,13 +46,18 @@ given_end rule a a' a'' b b' kept s t reads n so gave = (
 )
 
 -- one more piece, of which a text went out in part
-pub given_part : {State : Type 0} (rule : AnswerRule State) (a a' a'' b b' b'' : Option (List ℕ)) (kept : Kept) (s t u : State) (reads n n' bytes : ℕ) (piece : List ℕ) → Given rule a a' b b' kept s t reads n → Consumes a' a'' piece → length piece ≤ 256
-    → ((rest : List ℕ) → StandsFor kept rest → AnswersPart rule t u (frames_behind rest piece) b' b'' n n' bytes)
-    → (given : List ℕ) × Consumes a a'' given × (length given ≤ 256 * (reads + 1)) × AnswersPart rule s u (frames given) b b'' 0 n' bytes
-given_part rule a a' a'' b b' b'' kept s t u reads n n' bytes piece so gave short answered = (
-  so.given ++ piece,
-  Consumes-append a a' a'' so.given piece so.gave gave,
-  omega (arith, so.few, length-append so.given piece),
-  subst (λ (seen : List Frame). AnswersPart rule s u seen b b'' 0 n' bytes) (sym (frames-append so.given piece))
-      (part_then rule s t u (frames so.given) (frames_behind (rest_behind [] so.given) piece) b b' b'' 0 n n' bytes so.all (answered (rest_behind [] so.given) so.stands)),
-)
+pub given_part : {State : Type 0} (rule : AnswerRule State) (a a' a'' b b' b'' : Option (List ℕ)) (kept : Kept) (s t u : State) (reads n n' bytes : ℕ) (piece : List ℕ) (gathers : Bool) → Given rule a a' b b' kept s t reads n → Consumes a' a'' piece → length piece ≤ 256
+    → ((rest : List ℕ) → StandsFor kept rest → GathersPart rule t u (frames_behind rest piece) b' b'' n n' bytes gathers)
+    → (reached : State) × ((given : List ℕ) × Consumes a a'' given × (length given ≤ 256 * (reads + 1)) × AnswersPart rule s reached (frames given) b b'' 0 n' bytes) × (gathers ≡ false → reached ≡ u)
+given_part rule a a' a'' b b' b'' kept s t u reads n n' bytes piece gathers so gave short answered =
+    let it = answered (rest_behind [] so.given) so.stands in (
+      it.0,
+      (
+        so.given ++ piece,
+        Consumes-append a a' a'' so.given piece so.gave gave,
+        omega (arith, so.few, length-append so.given piece),
+        subst (λ (seen : List Frame). AnswersPart rule s it.0 seen b b'' 0 n' bytes) (sym (frames-append so.given piece))
+            (part_then rule s t it.0 (frames so.given) (frames_behind (rest_behind [] so.given) piece) b b' b'' 0 n n' bytes so.all it.1),
+      ),
+      it.2,
+    )

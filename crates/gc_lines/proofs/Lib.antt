@@ -11,6 +11,7 @@ pub mod Plain
 pub mod Known
 pub mod Finding
 pub mod InOrder
+pub mod Gathering
 pub mod Passing
 pub mod Given
 pub mod Exactly

@@ -1,5 +1,6 @@
 -- No part of a promise: what the functions inside the answering loop say of a piece of the stream.
-use Rattle.std.specs.Prelude.{ℕ, List, [], ◌∷◌, map}
+use Rattle.std.specs.Prelude.{◌≡◌, ℕ, ◌+◌, ◌-◌, ◌<◌, ◌≤◌, Bool, false, List, [], ◌∷◌, ◌++◌, length, map, nat_lt, if◌then◌else◌, Option}
+use Rattle.gc_lines.specs.Answering.{AnswerRule, AnswersInOrder, AnswersAll, AnswersPart, all_of}
 use Rattle.gc_lines.specs.Frames.{frame_of, pieces_behind}
 use Rattle.gc_lines.specs.declared.frame.Frame.{Frame}
 use Rattle.gc_lines.specs.declared.frame.Frame.TheVariants.{Line, Cleared, Overlong, More}
@@ -14,3 +15,31 @@ completed More = []
 completed (Line line) = Line line ∷ []
 completed Cleared = Cleared ∷ []
 completed Overlong = Overlong ∷ []
+
+-- frames were answered; the texts of the first of them, done, went out, and those of the others, held, stand in a text, with these lengths
+pub record Gathering {State : Type 0} (rule : AnswerRule State) (from to : State) (seen : List Frame) (old now : Option (List ℕ)) (before count : ℕ) (text lengths : List ℕ) : Type 0 where
+  pub state : State
+  pub done : List Frame
+  pub held : List Frame
+  pub texts : List (List ℕ)
+  pub order : seen ≡ done ++ held
+  pub all : AnswersAll rule from state done old now before count
+  pub holds : AnswersInOrder State rule state held to texts
+  pub text_is : text ≡ all_of texts
+  pub lengths_are : lengths ≡ map length texts
+
+-- a text was to go out with those that wait, and did so in part; where none may wait, the answerer stands behind the frame of that text
+abbrev pub GathersPart : {State : Type 0} → AnswerRule State → State → State → List Frame → Option (List ℕ) → Option (List ℕ) → ℕ → ℕ → ℕ → Bool → Type 0
+GathersPart {State} rule from to seen old new before count bytes gathers =
+    (reached : State) × AnswersPart rule from reached seen old new before count bytes × (gathers ≡ false → reached ≡ to)
+
+-- there is room for one more text, and none waits where none may
+pub record HasRoom (text lengths : List ℕ) (gathers : Bool) : Type 0 where
+  pub for_text : length text + 514 ≤ 8192
+  pub for_length : length lengths < 256
+  pub alone : gathers ≡ false → lengths ≡ []
+
+-- how many texts of these lengths the first left bytes hold whole, behind whole others, and how many bytes of the next
+abbrev pub parted : ℕ → ℕ → List ℕ → ℕ × ℕ
+parted whole left [] = (whole, left)
+parted whole left (n ∷ ns) = if nat_lt left n then (whole, left) else parted (whole + 1) (left - n) ns

@@ -19,6 +19,7 @@ mod read_ahead;
 mod reply;
 mod request;
 mod served;
+mod session;
 mod to_writer;
 mod writing;
 

@@ -78,6 +78,16 @@ fn each_engine_runs_with_each_option_on_and_off(rt: HostRuntime) -> Result<(), F
     )?;
     expect_run(&rt, rt.alloc(), &["geocom", "drill"], b"", 0, "", "")?;
     expect_run(&rt, rt.alloc(), &["geocom", "exec"], b"", 0, "", "")?;
+    expect_run(&rt, rt.alloc(), &["geocom", "check"], b"", 0, "", "")?;
+    expect_run(
+        &rt,
+        rt.alloc(),
+        &["geocom", "check"],
+        REQUESTS,
+        0,
+        "1 request 0 ok\n2 request 5003 ok\n",
+        "",
+    )?;
     expect_run(
         &rt,
         rt.alloc(),
@@ -133,7 +143,7 @@ fn a_text_of_the_engines_is_refused(rt: HostRuntime) -> Result<(), Fail> {
 }
 
 // A name, a command line, its status, and a part of its output and of its messages.
-const COMMAND_LINES: [(&str, &[&str], u8, &str, &str); 7] = [
+const COMMAND_LINES: [(&str, &[&str], u8, &str, &str); 8] = [
     (
         "help",
         &["geocom", "--help"],
@@ -146,6 +156,13 @@ const COMMAND_LINES: [(&str, &[&str], u8, &str, &str); 7] = [
         &["geocom", "exec", "--help"],
         0,
         "\n  %R1P,0,2:0,123456\n",
+        "",
+    ),
+    (
+        "help of check",
+        &["geocom", "check", "--help"],
+        0,
+        "\n  2 reply 0 0\n",
         "",
     ),
     (
@@ -235,27 +252,15 @@ fn expect_fault<I: Read + Drop>(
 
 #[test]
 fn an_input_or_an_output_fails(rt: HostRuntime) -> Result<(), Fail> {
-    expect_fault(
-        &rt,
-        rt.alloc(),
-        &["geocom", "exec"],
-        Broken,
-        "geocom: fault 42\n",
-    )?;
-    expect_fault(
-        &rt,
-        rt.alloc(),
-        &["geocom", "drill"],
-        Broken,
-        "geocom: fault 42\n",
-    )?;
-    expect_fault(
-        &rt,
-        rt.alloc(),
-        &["geocom", "exec"],
-        REQUESTS,
-        "geocom: fault 43 reply 0 byte 5\n",
-    )?;
+    for engine in ["exec", "check", "drill"] {
+        let words = &["geocom", engine];
+        expect_fault(&rt, rt.alloc(), words, Broken, "geocom: fault 42\n")?;
+    }
+    for engine in ["exec", "check"] {
+        let words = &["geocom", engine];
+        let fault = "geocom: fault 43 reply 0 byte 5\n";
+        expect_fault(&rt, rt.alloc(), words, REQUESTS, fault)?;
+    }
     expect_fault(
         &rt,
         rt.alloc(),

@@ -1,7 +1,12 @@
+use Rattle.std.proofs.Common.{refl, subst}
+use Rattle.gc_lines.specs.Answering.{AnswersGiven}
+use Rattle.gc_instrument.specs.Serving.{AnswersFrame}
+use Rattle.gc_instrument.specs.State.{State}
 use Rattle.gc_instrument.proofs.HeardFrames.{serves_frames}
 use Rattle.gc_instrument.proofs.serving.serve.Goals as goal
 
 pub returns : goal.returns
 returns g c =
-    let h = c.answer_frames.ensures.answers in
+    let given = c.answer_frames.ensures.answers in
+    let h = rw (given.2 refl) at given.1 in
     record { serves = (h.0, h.1, h.2, serves_frames _ _ _ _ _ _ h.3); ended = c.answer_frames.ensures.ended }

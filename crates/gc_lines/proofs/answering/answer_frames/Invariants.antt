@@ -1,4 +1,4 @@
-use Rattle.std.proofs.Common.{◌≡◌, ◌+◌, ◌*◌, ◌<◌, ◌≤◌, length, false}
+use Rattle.std.proofs.Common.{◌≡◌, ◌+◌, ◌*◌, ◌<◌, ◌≤◌, [], length, false}
 use Rattle.gc_lines.proofs.Given.{Given}
 use Rattle.gc_lines.proofs.answering.answer_frames.Given as goal
 
@@ -10,5 +10,7 @@ invariant-loop g l = record {
   source : g.S.Source.failed l.source ≡ g.S.Source.failed l.initial.source;
   sink : g.K.Sink.failed l.sink ≡ g.K.Sink.failed l.initial.sink;
   few : l.session.replies ≤ 256 * l.counter;
+  nothing : (l.session.text.items ≡ []) × (l.session.lengths.items ≡ []);
+  gathers : l.session.gathers ≡ l.fn.gathers;
   room : length l.buf ≡ 256;
 }

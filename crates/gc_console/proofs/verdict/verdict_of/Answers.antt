@@ -1,0 +1,5 @@
+use Rattle.std.proofs.Common.{rules}
+use Rattle.gc_console.proofs.verdict.verdict_of.Goals as goal
+
+pub returns-in-Line : goal.returns-in-Line
+returns-in-Line c = rw c.in-Line.is c.line_verdict.ensures

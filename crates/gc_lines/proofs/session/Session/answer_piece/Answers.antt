@@ -1,0 +1,66 @@
+use Rattle.std.proofs.Common.{◌≡◌, ◌<◌, ◌++◌, [], sym, ap, ◌∙◌, arith, length-drop, rules, length}
+use Rattle.std.proofs.lemmas.List.{take_rest, nil_from_length}
+use Rattle.std.proofs.lemmas.Bool.{eqb-true}
+use Rattle.gc_lines.proofs.Gathering.{gathering_written, rest_part}
+use Rattle.gc_lines.proofs.Passing.{Takes, takes, not_empty, going_start, going_on, going_part, going_end}
+use Rattle.gc_lines.specs.Lent.{lent_seen}
+use Rattle.gc_lines.specs.Passing.{completed}
+use Rattle.gc_lines.proofs.session.Session.answer_piece.Goals as goal
+
+pub loop-left-init : goal.loop-left-init
+loop-left-init g c =
+    let empty = c.requires.nothing.0 in
+    let none = c.requires.nothing.1 in
+    record {
+      count = omega (arith, ap (λ xs. length xs) none);
+      room = record { for_text = omega (arith, ap (λ xs. length xs) empty); for_length = omega (arith, ap (λ xs. length xs) none); alone = λ _. none };
+      gathers = search rules;
+      failed = search rules;
+      going = λ rest s. going_start _ rest _ _ _ _ _ _ _ empty none s;
+    }
+
+pub loop-left-preserved : goal.loop-left-preserved
+loop-left-preserved g c =
+    let left = c.loop-left.left.now in
+    let used = c.next-taken.result.0 in
+    let more = c.next-taken.ensures.more in
+    let whole = c.next-taken.ensures.frame in
+    let some : 0 < used = c.next-taken.ensures.used.1 (not_empty _ _ c.is_empty.ensures c.loop-left-test.true) in
+    record {
+      count = rw (take_rest left used) (omega (arith, length-drop used left, c.loop-left.invariant.count, c.in_default.ensures.bound));
+      room = c.in_default.ensures.room;
+      gathers = c.answer_frame.ensures.same.1 ∙ c.loop-left.invariant.gathers;
+      failed = c.in_default.ensures.failed ∙ c.loop-left.invariant.failed;
+      going = λ rest s.
+          let h = c.loop-left.invariant.going rest s in
+          let taken : Takes h.now left used (lent_seen c.next-taken.result.1) c.next-taken.new.self = takes h.now left used (lent_seen c.next-taken.result.1) _
+          (λ e. let m = more e in (m.0, m.1, m.2 h.now h.stands)) (λ at e. let m = whole at e in (m.0, m.1 h.now h.stands, m.2)) in
+          rw (take_rest left used, c.answer_frame.ensures.same.0)
+          (going_on _ rest _ left used _ _ _ _ _ _ _ _ _ _ _ _ _ _ _ _ h taken (c.in_default.ensures.ok _ h.answered _ _ h.gathered));
+    }
+
+pub returns-in-Err-clause-err : goal.returns-in-Err-clause-err
+returns-in-Err-clause-err g c rest s =
+    let left = c.loop-left.left.now in
+    let used = c.next-taken.result.0 in
+    let more = c.next-taken.ensures.more in
+    let whole = c.next-taken.ensures.frame in
+    let h = c.loop-left.invariant.going rest s in
+    let taken : Takes h.now left used (lent_seen c.next-taken.result.1) c.next-taken.new.self = takes h.now left used (lent_seen c.next-taken.result.1) _
+    (λ e. let m = more e in (m.0, m.1, m.2 h.now h.stands)) (λ at e. let m = whole at e in (m.0, m.1 h.now h.stands, m.2)) in
+    let part = going_part _ rest _ left used _ _ _ _ _ _ _ _ _ _ _ _ _ _ _ _ h taken (c.in-Err.ensures.err _ h.answered _ _ h.gathered) in
+    (part.0, part.1, λ e. part.2 (c.loop-left.invariant.gathers ∙ e))
+
+pub returns-clause-ok : goal.returns-clause-ok
+returns-clause-ok g c rest s =
+    let empty : c.loop-left.left.now ≡ [] = nil_from_length _ (eqb-true _ 0 (sym c.is_empty.ensures ∙ c.loop-left-test.false)) in
+    let it = going_end _ rest _ _ _ _ _ _ _ _ _ _ (rw empty at (c.loop-left.invariant.going rest s)) in
+    (rw c.write_texts.ensures.same.0 it.0, gathering_written _ _ _ _ _ _ _ _ _ _ _ _ it.1 c.in_default-write_texts.ensures.ok.0 c.in_default-write_texts.ensures.ok.1)
+
+pub returns-in-Err-write_texts-clause-err : goal.returns-in-Err-write_texts-clause-err
+returns-in-Err-write_texts-clause-err g c rest s =
+    let empty : c.loop-left.left.now ≡ [] = nil_from_length _ (eqb-true _ 0 (sym c.is_empty.ensures ∙ c.loop-left-test.false)) in
+    let it = going_end _ rest _ _ _ _ _ _ _ _ _ _ (rw empty at (c.loop-left.invariant.going rest s)) in
+    let failed = c.in-Err-write_texts.ensures.err in
+    let part = rest_part _ _ _ _ _ _ _ _ _ _ _ failed.0 _ _ c.loop-left.self.gathers c.loop-left.invariant.room.alone it.1 failed.1 failed.2 in
+    (part.0, part.1, λ e. part.2 (c.loop-left.invariant.gathers ∙ e))

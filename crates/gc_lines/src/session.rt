@@ -1,0 +1,203 @@
+//! What the answering loop keeps from one read to the next, and how texts go out: each at once, or gathered. All writing of
+//! a whole run lives here.
+
+ghost use Rattle.std.specs.Prelude.{◌≡◌, ℕ, ◌+◌, ◌<◌, ◌≤◌, ◌^◌, [], ◌∷◌, List, Option, ◌++◌, length, IfErr, OnOk, true, false};
+ghost use Rattle.std.specs.Io.KnownBytes.{Appends};
+ghost use Rattle.gc_lines.specs.Answering.{AnswersAll};
+ghost use Rattle.gc_lines.specs.Assembler.{StandsFor};
+ghost use Rattle.gc_lines.specs.Frames.{rest_behind};
+ghost use Rattle.gc_lines.specs.Lent.{lent_seen};
+ghost use Rattle.gc_lines.specs.Passing.{completed, frames_behind, Gathering, GathersPart, HasRoom, parted};
+ghost use Rattle.gc_lines.specs.Ports.{FailsWith, TakesFront};
+ghost use Rattle.gc_lines.specs.declared.frame.Frame.{Frame};
+
+use crate::answering::{Answers, Outgoing};
+use crate::assembler::Assembler;
+use crate::frame::Lent;
+use crate::line::Line;
+use crate::ports::Sink;
+use crate::writing::write_whole;
+use arrayvec::ArrayVec;
+
+// What the loop keeps from one read to the next.
+#[derive(Drop)]
+pub(crate) struct Session {
+    assembler: Assembler,
+    // Whether the texts of one read wait for one another.
+    gathers: bool,
+    // The texts on their way out, one behind the other, and the length of each.
+    text: Outgoing,
+    lengths: ArrayVec<usize, 256>,
+    // How many texts were written whole.
+    pub(crate) replies: u64,
+}
+
+impl Session {
+    pub(crate) fn new(gathers: bool) -> Session
+        ensures assembler { StandsFor result.assembler [] }
+        ensures gathers { result.gathers ≡ gathers }
+        ensures nothing { (result.text.items ≡ []) × (result.lengths.items ≡ []) }
+        ensures replies { result.replies ≡ 0 }
+    {
+        Session {
+            assembler: Assembler::new(),
+            gathers,
+            text: Outgoing::new(),
+            lengths: ArrayVec::new(),
+            replies: 0,
+        }
+    }
+
+    // Answers the frames that a piece completes, and writes all of their texts; a cut line is put together in `cut`.
+    // `Err(bytes)`: the sink took these bytes of a text, and failed.
+    pub(crate) fn answer_piece<A: Answers, K: Sink>(
+        &mut self,
+        answerer: &mut A,
+        sink: &mut K,
+        piece: &[u8],
+        cut: &mut Line,
+    ) -> Result<(), usize>
+        requires count { self.old.replies + length piece.now < 2 ^ 64 }
+        requires nothing { (self.old.text.items ≡ []) × (self.old.lengths.items ≡ []) }
+        ensures bound { self.new.replies ≤ self.old.replies + length piece.now }
+        ensures gathers { self.new.gathers ≡ self.old.gathers }
+        ensures nothing { OnOk result ((self.new.text.items ≡ []) × (self.new.lengths.items ≡ [])) }
+        ensures failed { FailsWith result (K.failed sink.old) (K.failed sink.new) }
+        ensures ok { OnOk result ((rest : List ℕ) → StandsFor self.old.assembler rest
+            → StandsFor self.new.assembler (rest_behind rest piece.now)
+            × AnswersAll A.answers answerer.old answerer.new (frames_behind rest piece.now)
+            (K.taken sink.old) (K.taken sink.new) self.old.replies self.new.replies) }
+        ensures err { IfErr result (λ bytes. (rest : List ℕ) → StandsFor self.old.assembler rest
+            → GathersPart A.answers answerer.old answerer.new (frames_behind rest piece.now)
+            (K.taken sink.old) (K.taken sink.new) self.old.replies self.new.replies bytes self.old.gathers) }
+    {
+        let mut left = piece;
+        while !left.is_empty() {
+            let taken = self.assembler.next(left, cut);
+            left = &left[taken.0..];
+            if let Err(bytes) = self.answer_frame(answerer, sink, taken.1) {
+                return Err(bytes);
+            }
+        }
+        if let Err(bytes) = self.write_texts(sink) {
+            return Err(bytes);
+        }
+        Ok(())
+    }
+
+    // Answers a frame, if a line feed has ended it.
+    fn answer_frame<A: Answers, K: Sink>(
+        &mut self,
+        answerer: &mut A,
+        sink: &mut K,
+        frame: Lent<'_>,
+    ) -> Result<(), usize>
+        requires count { self.old.replies + length self.old.lengths.items + 1 < 2 ^ 64 }
+        requires room { HasRoom self.old.text.items self.old.lengths.items self.old.gathers }
+        ensures few { self.new.replies ≤ self.old.replies + length self.old.lengths.items + 1 }
+        ensures bound { OnOk result (self.new.replies + length self.new.lengths.items ≤ self.old.replies + length self.old.lengths.items + 1) }
+        ensures room { OnOk result (HasRoom self.new.text.items self.new.lengths.items self.new.gathers) }
+        ensures same { (self.new.assembler ≡ self.old.assembler) × (self.new.gathers ≡ self.old.gathers) }
+        ensures failed { FailsWith result (K.failed sink.old) (K.failed sink.new) }
+        ensures ok { OnOk result ((from : A) (seen : List Frame) (old : Option (List ℕ)) (before : ℕ)
+            → Gathering A.answers from answerer.old seen old (K.taken sink.old) before self.old.replies self.old.text.items self.old.lengths.items
+            → Gathering A.answers from answerer.new (seen ++ completed (lent_seen frame.entry)) old (K.taken sink.new) before
+            self.new.replies self.new.text.items self.new.lengths.items) }
+        ensures err { IfErr result (λ bytes. (from : A) (seen : List Frame) (old : Option (List ℕ)) (before : ℕ)
+            → Gathering A.answers from answerer.old seen old (K.taken sink.old) before self.old.replies self.old.text.items self.old.lengths.items
+            → GathersPart A.answers from answerer.new (seen ++ completed (lent_seen frame.entry)) old (K.taken sink.new) before
+            self.new.replies bytes self.old.gathers) }
+    {
+        match frame {
+            Lent::More => Ok(()),
+            Lent::Line(_) | Lent::Cleared | Lent::Overlong => self.answer_ended(
+                answerer, sink, frame,
+            ),
+        }
+    }
+
+    // Answers a frame that a line feed has ended.
+    fn answer_ended<A: Answers, K: Sink>(
+        &mut self,
+        answerer: &mut A,
+        sink: &mut K,
+        frame: Lent<'_>,
+    ) -> Result<(), usize>
+        requires count { self.old.replies + length self.old.lengths.items + 1 < 2 ^ 64 }
+        requires room { HasRoom self.old.text.items self.old.lengths.items self.old.gathers }
+        ensures few { self.new.replies ≤ self.old.replies + length self.old.lengths.items + 1 }
+        ensures bound { OnOk result (self.new.replies + length self.new.lengths.items ≤ self.old.replies + length self.old.lengths.items + 1) }
+        ensures room { OnOk result (HasRoom self.new.text.items self.new.lengths.items self.new.gathers) }
+        ensures same { (self.new.assembler ≡ self.old.assembler) × (self.new.gathers ≡ self.old.gathers) }
+        ensures failed { FailsWith result (K.failed sink.old) (K.failed sink.new) }
+        ensures ok { OnOk result ((from : A) (seen : List Frame) (old : Option (List ℕ)) (before : ℕ)
+            → Gathering A.answers from answerer.old seen old (K.taken sink.old) before self.old.replies self.old.text.items self.old.lengths.items
+            → Gathering A.answers from answerer.new (seen ++ lent_seen frame.entry ∷ []) old (K.taken sink.new) before
+            self.new.replies self.new.text.items self.new.lengths.items) }
+        ensures err { IfErr result (λ bytes. (from : A) (seen : List Frame) (old : Option (List ℕ)) (before : ℕ)
+            → Gathering A.answers from answerer.old seen old (K.taken sink.old) before self.old.replies self.old.text.items self.old.lengths.items
+            → GathersPart A.answers from answerer.new (seen ++ lent_seen frame.entry ∷ []) old (K.taken sink.new) before
+            self.new.replies bytes self.old.gathers) }
+    {
+        let before = self.text.len();
+        if !answerer.answer(frame, &mut self.text) {
+            return Ok(());
+        }
+        self.lengths.push(self.text.len() - before);
+        if self.may_wait() {
+            return Ok(());
+        }
+        if let Err(bytes) = self.write_texts(sink) {
+            return Err(bytes);
+        }
+        Ok(())
+    }
+
+    // Whether the texts may wait for one more.
+    fn may_wait(&self) -> bool
+        ensures { result ≡ true → HasRoom self.now.text.items self.now.lengths.items self.now.gathers }
+    {
+        self.gathers && self.lengths.len() < 256 && self.text.len() <= 8192 - 514
+    }
+
+    // Writes all texts that wait. `Err(bytes)`: the sink took these bytes of a text, and failed.
+    fn write_texts<K: Sink>(&mut self, sink: &mut K) -> Result<(), usize>
+        requires { self.old.replies + length self.old.lengths.items < 2 ^ 64 }
+        ensures bound { self.new.replies ≤ self.old.replies + length self.old.lengths.items }
+        ensures same { (self.new.assembler ≡ self.old.assembler) × (self.new.gathers ≡ self.old.gathers) }
+        ensures failed { FailsWith result (K.failed sink.old) (K.failed sink.new) }
+        ensures nothing { OnOk result ((self.new.text.items ≡ []) × (self.new.lengths.items ≡ [])) }
+        ensures ok { OnOk result (Appends (K.taken sink.old) (K.taken sink.new) self.old.text.items
+            × (self.new.replies ≡ self.old.replies + length self.old.lengths.items)) }
+        ensures err { IfErr result (λ bytes. (n : ℕ) × TakesFront (K.taken sink.old) (K.taken sink.new) n self.old.text.items
+            × ((self.new.replies, bytes) ≡ parted self.old.replies n self.old.lengths.items)) }
+    {
+        if let Err(taken) = write_whole(sink, self.text.as_slice()) {
+            let part = parted(self.replies, taken, self.lengths.as_slice());
+            self.replies = part.0;
+            return Err(part.1);
+        }
+        self.replies += self.lengths.len() as u64;
+        self.text.clear();
+        self.lengths.clear();
+        Ok(())
+    }
+}
+
+// Of texts of these lengths, behind `whole` others, how many went out whole where `taken` bytes did, and how many bytes of the next.
+fn parted(whole: u64, taken: usize, lengths: &[usize]) -> (u64, usize)
+    requires { whole + length lengths.now < 2 ^ 64 }
+    ensures parts { result ≡ parted whole taken lengths.now }
+    ensures bound { result.0 ≤ whole + length lengths.now }
+{
+    let mut count = whole;
+    let mut left = taken;
+    for length in lengths {
+        if left < *length {
+            return (count, left);
+        }
+        left -= *length;
+        count += 1;
+    }
+    (count, left)
+}
