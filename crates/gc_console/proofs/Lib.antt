@@ -4,3 +4,7 @@ mod LineEnds
 mod TextLines
 mod Shown
 mod OneSchedule
+mod FirstReplies
+mod Asked
+mod Exchanging
+mod Telling

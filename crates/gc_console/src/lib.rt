@@ -1,6 +1,9 @@
 //! The program `geocom`: its command line, and the engine behind each subcommand.
 #![tactic(auto)]
 
+mod ask;
+mod client_end;
+mod commands;
 mod cuts;
 mod drill;
 mod event;
@@ -8,10 +11,12 @@ mod exec;
 mod fault;
 pub mod laws;
 mod program;
+mod read_ahead;
 mod schedule;
 mod settled;
 mod text;
 
+pub use commands::Command;
 pub use drill::run_drill;
 pub use exec::run_exec;
 pub use fault::RunFault;
