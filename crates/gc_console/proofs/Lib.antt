@@ -8,3 +8,5 @@ mod FirstReplies
 mod Asked
 mod Exchanging
 mod Telling
+mod CommandForms
+mod ById

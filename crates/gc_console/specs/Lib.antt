@@ -1,5 +1,7 @@
 pub mod Cuts
+pub mod LineForms
 pub mod Schedule
+pub mod Commands
 pub mod Texts
 pub mod Drill
 pub mod Asking

@@ -10,13 +10,14 @@ mod event;
 mod exec;
 mod fault;
 pub mod laws;
+mod line_forms;
 mod program;
 mod read_ahead;
 mod schedule;
 mod settled;
 mod text;
 
-pub use commands::Command;
+pub use commands::{Command, read_commands};
 pub use drill::run_drill;
 pub use exec::run_exec;
 pub use fault::RunFault;
