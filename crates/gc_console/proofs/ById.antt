@@ -1,13 +1,13 @@
 -- A request that waits alone is settled by its id.
-use Rattle.std.proofs.Common.{◌≡◌, ℕ, ◌+◌, ◌-◌, ◌%◌, ◌<◌, ◌≤◌, Bool, true, false, cond, List, [], ◌∷◌, ◌++◌, length, Option, Some, None, IfSome, refl, sym, ap, ◌∙◌, subst, arith}
-use Rattle.gc_client.specs.Ids.{IsWindow, Waits, id_of}
-use Rattle.gc_client.specs.Rule.{heard, fits, hears, met, Settlement}
+use Rattle.std.proofs.Common.{◌≡◌, ℕ, ◌+◌, ◌-◌, ◌%◌, ◌<◌, true, false, cond, List, [], ◌∷◌, ◌++◌, Option, Some, None, IfSome, refl, ap, ◌∙◌, subst, arith}
+use Rattle.gc_client.specs.Ids.{IsWindow, Waits}
+use Rattle.gc_client.specs.Rule.{heard, fits, Settlement}
 use Rattle.gc_client.proofs.Digits.{fits_where_it_waits, heard_by_grammar}
-use Rattle.gc_console.specs.Asking.{Reply, asked_for, waiting_for, first_reply, settled_by, asked_from}
+use Rattle.gc_console.specs.Asking.{waiting_for, first_reply, settled_by, asked_from}
 use Rattle.gc_console.specs.Laws.{HasNoReply, AsksById}
 use Rattle.gc_console.specs.declared.commands.Command.{Command}
 use Rattle.gc_console.proofs.Asked.{hears_one}
-use Rattle.gc_console.proofs.FirstReplies.{first_reply-none, first_reply-at}
+use Rattle.gc_console.proofs.FirstReplies.{first_reply-at}
 
 one_window : (k : ℕ) (c : Command) → IsWindow (waiting_for k c)
 one_window k c = record { digit = omega arith; few = omega arith }
@@ -31,6 +31,7 @@ fits_only : (k : ℕ) (c : Command) (line : List ℕ) → fits (waiting_for k c)
 fits_only k c line fit = by_id (heard line) refl fit where
   the_id : (id : ℕ) → heard line ≡ Some id → Waits (waiting_for k c) id → id ≡ k % 8
   the_id id e (place, below, same) = omega (arith, below, same)
+
   by_id : (o : Option ℕ) → heard line ≡ o → fits (waiting_for k c) o ≡ true → o ≡ Some (k % 8)
   by_id None e f = (cc)
   by_id (Some id) e f = ap Some (the_id id e ((fits_where_it_waits (waiting_for k c) id (one_window k c) (heard_digit line id e)).0 f))

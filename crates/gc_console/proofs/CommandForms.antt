@@ -1,5 +1,5 @@
 -- Which lines have the form of a command, and of which one.
-use Rattle.std.proofs.Common.{◌≡◌, ℕ, List, [], ◌∷◌, ◌++◌, Option, Some, None, ap, subst, sym, ◌∙◌}
+use Rattle.std.proofs.Common.{◌≡◌, ℕ, List, Option, Some, None, ap, subst, sym, ◌∙◌}
 use Rattle.std.specs.Prelude.{filter}
 use Rattle.gc_catalogue.specs.declared.call.Call.{Call}
 use Rattle.gc_console.specs.Commands.{IsCommand, IsCommands}

@@ -1,7 +1,7 @@
 -- Laws of the definitions: this project's own, as the texts are, and what is asked.
-use Rattle.std.specs.Prelude.{◌≡◌, ◌↔◌, ℕ, ◌+◌, ◌%◌, true, List, [], ◌∷◌, ◌++◌, Some}
-use Rattle.gc_client.specs.Rule.{heard, fits, met, Settlement}
-use Rattle.gc_console.specs.Asking.{asked_for, waiting_for, asked_from}
+use Rattle.std.specs.Prelude.{◌≡◌, ℕ, ◌+◌, ◌%◌, List, [], ◌∷◌, ◌++◌, Some}
+use Rattle.gc_client.specs.Rule.{heard, met}
+use Rattle.gc_console.specs.Asking.{asked_for, asked_from}
 use Rattle.gc_console.specs.Commands.{IsCommands}
 use Rattle.gc_console.specs.declared.commands.Command.{Command}
 use Rattle.gc_world.specs.declared.event.Event.{Event}

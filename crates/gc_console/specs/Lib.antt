@@ -5,6 +5,7 @@ pub mod Commands
 pub mod Texts
 pub mod Drill
 pub mod Asking
+pub mod AskRuns
 pub mod Listening
 pub mod Faults
 pub mod Laws

@@ -1,18 +1,23 @@
 //! Asking: each command of a text is sent over a link, once the one before it is settled, and each settlement is told.
 
-ghost use Rattle.std.specs.Prelude.{◌≡◌, ◌+◌, ◌*◌, ◌-◌, ◌<◌, ◌≤◌, ◌++◌, [], ℕ, List, length, Err};
+ghost use Rattle.std.specs.Prelude.{◌≡◌, ◌+◌, ◌*◌, ◌-◌, ◌<◌, ◌≤◌, ◌++◌, [], ℕ, List, length, Err, IfOk, IfErr};
 ghost use Rattle.std.specs.Io.KnownBytes.{Consumes};
 ghost use Rattle.gc_lines.specs.Assembler.{StandsFor};
+ghost use Rattle.gc_console.specs.AskRuns.{AskRuns, GivesCommands, RefusesText};
+ghost use Rattle.gc_console.specs.declared.schedule.TheConstants.{TEXT_LIMIT};
+ghost use Rattle.gc_console.specs.Texts.{end_reads};
 ghost use Rattle.gc_console.specs.Asking.{Asks, AskEnds, idle, waiting_for};
 ghost use Rattle.gc_console.specs.declared.fault.RunFault.{RunFault};
 ghost use Rattle.gc_console.specs.Listening.{Sends, Exchanges, ExchangeEnds, AsksOne, AskOneEnds};
 
 use crate::client_end::ClientEnd;
-use crate::commands::Command;
+use crate::commands::{Command, read_commands};
 use crate::fault::RunFault;
 use crate::read_ahead::ReadAhead;
 use crate::settled::write_settlements;
+use crate::text::read_text;
 use gc_lines::{Line, Sink, Source, write_line};
+use std::alloc::Global;
 
 // What asking keeps from one command to the next.
 #[derive(Drop)]
@@ -123,6 +128,71 @@ impl Asking {
                 }
             }
         }
+    }
+}
+
+/// Reads the whole command text of a source, and asks its commands over a link, in at most `max_reads` reads of it, of at
+/// most 256 bytes each.
+///
+/// Each command is sent once the one before it is settled: request k has id k modulo 8, and the first line behind that
+/// reply that has its id settles it. Other lines are passed over. The line of each settlement goes to the sink as the
+/// reply comes.
+///
+/// Before anything is sent or written, `Read` comes where the source failed, `InputTooLong` where it gave more than 65,536
+/// bytes, `Schedule` at the first line that has the form of no command, counted from 1, and `Memory` where a growth was
+/// refused. Then a fault of the link ends the run: `Read` where it can't be read, `Write` where it can't be written,
+/// `LinkClosed` where it ends, and `TooManyReads` where all reads were made, none was the end, and what came doesn't
+/// settle the request. The request is lost then, and its line is written before the fault is answered. Nothing is sent
+/// afterwards. `Output` comes where the sink failed, also as it took that line.
+pub fn run_ask<S: Source, I: Source, O: Sink, K: Sink>(
+    alloc: Global,
+    commands: &mut S,
+    link_in: &mut I,
+    link_out: &mut O,
+    sink: &mut K,
+    max_reads: u32,
+) -> Result<(), RunFault>
+    // What the text was, and what of its commands was asked: what the link took, what it gave, and what the sink took; and
+    // which ports have failed.
+    ensures asks { (given : List ℕ) × Consumes (S.remaining commands.old) (S.remaining commands.new) given
+        × (S.reads commands.new ≤ S.reads commands.old + length given + end_reads (S.ended commands.new))
+        × AskRuns given
+        (record { remaining = S.remaining commands.old; reads = S.reads commands.old; ended = S.ended commands.old; failed = S.failed commands.old })
+        (record { remaining = S.remaining commands.new; reads = S.reads commands.new; ended = S.ended commands.new; failed = S.failed commands.new })
+        max_reads
+        (record { remaining = I.remaining link_in.old; reads = I.reads link_in.old; ended = I.ended link_in.old; source_failed = I.failed link_in.old; taken = O.taken link_out.old; sink_failed = O.failed link_out.old })
+        (record { remaining = I.remaining link_in.new; reads = I.reads link_in.new; ended = I.ended link_in.new; source_failed = I.failed link_in.new; taken = O.taken link_out.new; sink_failed = O.failed link_out.new })
+        (K.taken sink.old) (K.taken sink.new) (K.failed sink.old) (K.failed sink.new) result }
+
+    // At most 65,537 reads of the source were answered.
+    ensures bounded { S.reads commands.new ≤ S.reads commands.old + (TEXT_LIMIT + 1) }
+{
+    let commands = match read_command_text(alloc, commands) {
+        Ok(commands) => commands,
+        Err(fault) => return Err(fault),
+    };
+    ask_all(commands.as_slice(), link_in, link_out, sink, max_reads)
+}
+
+// Reads the whole command text of a source.
+pub(crate) fn read_command_text<S: Source>(
+    alloc: Global,
+    source: &mut S,
+) -> Result<Vec<Command>, RunFault>
+    ensures found { IfOk result (λ commands. (given : List ℕ) × Consumes (S.remaining source.old) (S.remaining source.new) given
+        × (S.reads source.new ≤ S.reads source.old + length given + end_reads (S.ended source.new))
+        × GivesCommands given
+        (record { remaining = S.remaining source.old; reads = S.reads source.old; ended = S.ended source.old; failed = S.failed source.old })
+        (record { remaining = S.remaining source.new; reads = S.reads source.new; ended = S.ended source.new; failed = S.failed source.new })
+        commands.items) }
+    ensures fault { IfErr result (λ fault. (given : List ℕ) × Consumes (S.remaining source.old) (S.remaining source.new) given
+        × (S.reads source.new ≤ S.reads source.old + length given + end_reads (S.ended source.new))
+        × RefusesText given (S.failed source.old) (S.failed source.new) fault) }
+    ensures bounded { S.reads source.new ≤ S.reads source.old + (TEXT_LIMIT + 1) }
+{
+    match read_text(alloc, source) {
+        Ok(text) => read_commands(alloc, text.as_slice()),
+        Err(fault) => Err(fault),
     }
 }
 

@@ -17,6 +17,7 @@ mod schedule;
 mod settled;
 mod text;
 
+pub use ask::run_ask;
 pub use commands::{Command, read_commands};
 pub use drill::run_drill;
 pub use exec::run_exec;
