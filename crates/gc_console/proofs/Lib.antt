@@ -6,3 +6,9 @@ mod Shown
 mod OneSchedule
 mod Checked
 mod OneVerdict
+mod FirstReplies
+mod Asked
+mod Exchanging
+mod Telling
+mod CommandForms
+mod ById

@@ -1,7 +1,7 @@
 -- One CR at the end of a line.
 use Rattle.std.proofs.Common.{◌≡◌, ◌≢◌, ℕ, List, [], ◌∷◌, ◌++◌, refl, ap, ◌==◌, cond, Bool, true, false}
 use Rattle.std.proofs.lemmas.Bool.{eqb-true}
-use Rattle.gc_console.specs.Schedule.{without_cr}
+use Rattle.gc_console.specs.LineForms.{without_cr}
 
 -- it is dropped where it stands there
 pub without_cr-end : (front : List ℕ) → without_cr (front ++ 13 ∷ []) ≡ front

@@ -9,7 +9,8 @@ use Rattle.gc_catalogue.proofs.CallLaws.{one_call}
 use Rattle.gc_world.specs.declared.event.Event.{Event}
 use Rattle.gc_world.specs.declared.event.Event.TheVariants.{Send, UpDeliver, UpLose, UpRepeat, DownDeliver, DownLose, DownRepeat, Expire, RestartClient, RestartInstrument}
 use Rattle.gc_console.specs.Cuts.{Cuts, Lacks}
-use Rattle.gc_console.specs.Schedule.{IsNumber, IsProcedure, IsRequested, IsSend, IsEvent, AreEvents, IsSchedule, behind_number, is_kept, text_lines}
+use Rattle.gc_console.specs.LineForms.{Form, AreItems, is_kept, text_lines}
+use Rattle.gc_console.specs.Schedule.{IsNumber, IsProcedure, IsRequested, IsSend, IsEvent, IsSchedule, behind_number}
 use Rattle.gc_console.proofs.Cutting.{one_front, digits_lack_spaces}
 use Rattle.gc_console.proofs.Forms.{one_number, procedure_parts}
 
@@ -101,7 +102,7 @@ cut_text text digits None e lacks = (e ∙ append-nil digits, lacks)
 cut_text text digits (Some params) e lacks = (e, lacks)
 
 -- one call stands in a procedure's text
-one_procedure : (text : List ℕ) (c d : Call) → IsProcedure text c → IsProcedure text d → c ≡ d
+pub one_procedure : (text : List ℕ) (c d : Call) → IsProcedure text c → IsProcedure text d → c ≡ d
 one_procedure text c d p q =
     let cut : Cuts 32 text q.rpc_text q.params = cut_text text q.rpc_text q.params q.text_is (digits_lack_spaces q.rpc_text q.number.names.digits) in
     let parts = procedure_parts text q.rpc_text q.params c cut p in
@@ -179,14 +180,14 @@ one_event line a b x y =
     let counts : count a ≡ count b = sym (count_is line a x) ∙ ap (λ k. count_in k line) kinds ∙ count_is line b y in
     sym (joined_is a) ∙ same_joined (kind a) (kind b) (sends a) (sends b) (count a) (count b) kinds (one_sent line a b x y kinds) counts ∙ joined_is b
 
-one_list : (lines : List (List ℕ)) (xs ys : List Event) → AreEvents lines xs → AreEvents lines ys → xs ≡ ys
-one_list [] [] [] h k = refl
-one_list [] [] (y ∷ ys) h k = absurd k
-one_list [] (x ∷ xs) ys h k = absurd h
-one_list (line ∷ lines) [] ys h k = absurd h
-one_list (line ∷ lines) (x ∷ xs) [] h k = absurd k
-one_list (line ∷ lines) (x ∷ xs) (y ∷ ys) h k = ap (λ e. e ∷ xs) (one_event line x y h.0 k.0) ∙ ap (λ es. y ∷ es) (one_list lines xs ys h.1 k.1)
+pub one_list : {Item : Type 0} (form : Form Item) → ((line : List ℕ) (a b : Item) → form line a → form line b → a ≡ b) → (lines : List (List ℕ)) (xs ys : List Item) → AreItems form lines xs → AreItems form lines ys → xs ≡ ys
+one_list form one [] [] [] h k = refl
+one_list form one [] [] (y ∷ ys) h k = absurd k
+one_list form one [] (x ∷ xs) ys h k = absurd h
+one_list form one (line ∷ lines) [] ys h k = absurd h
+one_list form one (line ∷ lines) (x ∷ xs) [] h k = absurd k
+one_list form one (line ∷ lines) (x ∷ xs) (y ∷ ys) h k = ap (λ e. e ∷ xs) (one line x y h.0 k.0) ∙ ap (λ es. y ∷ es) (one_list form one lines xs ys h.1 k.1)
 
 -- a text is the schedule of one list of events
 pub one_schedule : (text : List ℕ) (xs ys : List Event) → IsSchedule text xs → IsSchedule text ys → xs ≡ ys
-one_schedule text xs ys h k = one_list (filter is_kept (text_lines text)) xs ys h k
+one_schedule text xs ys h k = one_list IsEvent one_event (filter is_kept (text_lines text)) xs ys h k

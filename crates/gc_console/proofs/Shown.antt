@@ -40,7 +40,7 @@ drill_shown opening events totals r simulator is =
     text_shown r (played simulator_opening events).wire totals at ∙ sym (text_of_run events totals)
 
 -- one line more behind those before it
-lines_one : (from : ℕ) (before : List Rule.Settlement) (s : Rule.Settlement) → lines_from from (before ++ s ∷ []) ≡ lines_from from before ++ settlement_line (from + length before) s
+pub lines_one : (from : ℕ) (before : List Rule.Settlement) (s : Rule.Settlement) → lines_from from (before ++ s ∷ []) ≡ lines_from from before ++ settlement_line (from + length before) s
 lines_one from [] s = append-nil (settlement_line from s) ∙ ap (λ place. settlement_line place s) (omega arith)
 lines_one from (x ∷ before) s =
     let later : List ℕ = lines_from (from + 1) before in
@@ -48,7 +48,7 @@ lines_one from (x ∷ before) s =
     ap (λ l. settlement_line from x ++ l) (lines_one (from + 1) before s ∙ ap (λ p. later ++ settlement_line p s) place)
     ∙ sym (append_assoc (settlement_line from x) later (settlement_line (from + length (x ∷ before)) s))
 
-map_one : (before : List Settlement) (s : Settlement) → map settlement_seen (before ++ s ∷ []) ≡ map settlement_seen before ++ settlement_seen s ∷ []
+pub map_one : (before : List Settlement) (s : Settlement) → map settlement_seen (before ++ s ∷ []) ≡ map settlement_seen before ++ settlement_seen s ∷ []
 map_one [] s = refl
 map_one (x ∷ before) s = ap (λ l. settlement_seen x ∷ l) (map_one before s)
 

@@ -1,11 +1,9 @@
 -- A schedule's text, and the events that it gives: this project's own.
-use Rattle.std.specs.Prelude.{◌≡◌, ℕ, ◌+◌, ◌<◌, ◌≤◌, ◌==◌, Bool, true, List, [], ◌∷◌, ◌++◌, length, map, filter, not, Option, Some, None, unwrap_or, codes, if◌then◌else◌}
+use Rattle.std.specs.Prelude.{◌≡◌, ℕ, ◌<◌, ◌≤◌, List, [], ◌∷◌, ◌++◌, length, Option, Some, None, unwrap_or, codes}
 use Rattle.gc_values.specs.Whole.{NamesNumber}
 use Rattle.gc_catalogue.specs.Calls.{IsCall}
 use Rattle.gc_catalogue.specs.declared.call.Call.{Call}
-use Rattle.gc_console.specs.declared.fault.RunFault.{RunFault}
-use Rattle.gc_console.specs.declared.fault.RunFault.TheVariants.{Schedule, Memory, InputTooLong}
-use Rattle.gc_console.specs.declared.schedule.TheConstants.{TEXT_LIMIT}
+use Rattle.gc_console.specs.LineForms.{IsText, FirstFaulty, BehindAnItem}
 use Rattle.gc_world.specs.declared.event.Event.{Event}
 use Rattle.gc_world.specs.declared.event.Event.TheVariants.{Send, UpDeliver, UpLose, UpRepeat, DownDeliver, DownLose, DownRepeat, Expire, RestartClient, RestartInstrument}
 
@@ -86,68 +84,14 @@ IsWords RestartClient = Unit {0}
 IsWords RestartInstrument = Unit {0}
 IsWords _ = ⊥
 
--- the pieces of a text, cut at each LF; what stands before is the beginning of the first
-abbrev pub text_pieces : List ℕ → List ℕ → List (List ℕ)
-text_pieces before [] = before ∷ []
-text_pieces before (b ∷ bs) = if b == 10 then before ∷ text_pieces [] bs else text_pieces (before ++ b ∷ []) bs
-
--- without one CR at the end
-abbrev pub without_cr : List ℕ → List ℕ
-without_cr [] = []
-without_cr (b ∷ []) = if b == 13 then [] else b ∷ []
-without_cr (b ∷ c ∷ bs) = b ∷ without_cr (c ∷ bs)
-
--- the lines of a text; an empty piece behind the last LF is an empty line, which is skipped
-abbrev pub text_lines : List ℕ → List (List ℕ)
-text_lines text = map without_cr (text_pieces [] text)
-
--- an empty line, or one that begins with `#`
-abbrev pub is_skipped : List ℕ → Bool
-is_skipped [] = true
-is_skipped (b ∷ bs) = b == 35
-
--- whether a line stands for an event
-abbrev pub is_kept : List ℕ → Bool
-is_kept line = not (is_skipped line)
-
--- each line has the form of its event, one for one
-abbrev pub AreEvents : List (List ℕ) → List Event → Type 0
-AreEvents [] [] = Unit {0}
-AreEvents [] (e ∷ es) = ⊥
-AreEvents (line ∷ lines) [] = ⊥
-AreEvents (line ∷ lines) (e ∷ es) = IsEvent line e × AreEvents lines es
-
 -- the text is a schedule of these events: one for each line that isn't skipped
 abbrev pub IsSchedule : List ℕ → List Event → Type 0
-IsSchedule text events = AreEvents (filter is_kept (text_lines text)) events
+IsSchedule text events = IsText IsEvent text events
 
 -- line number n, counted from 1, is the first that isn't skipped and has the form of no event
-pub record IsFirstFaulty (text : List ℕ) (n : ℕ) : Type 0 where
-  pub front : List (List ℕ)
-  pub line : List ℕ
-  pub rest : List (List ℕ)
-  pub lines_are : text_lines text ≡ front ++ line ∷ rest
-  pub place : n ≡ length front + 1
-  pub kept : is_kept line ≡ true
-  pub no_event : (e : Event) → IsEvent line e → ⊥
-  pub events : List Event
-  pub before : AreEvents (filter is_kept front) events
+abbrev pub IsFirstFaulty : List ℕ → ℕ → Type 0
+IsFirstFaulty text n = FirstFaulty IsEvent text n
 
 -- a line has the form of an event, and no line before it is faulty
-pub record IsBehindAnEvent (text : List ℕ) : Type 0 where
-  pub front : List (List ℕ)
-  pub line : List ℕ
-  pub rest : List (List ℕ)
-  pub lines_are : text_lines text ≡ front ++ line ∷ rest
-  pub kept : is_kept line ≡ true
-  pub event : Event
-  pub is_event : IsEvent line event
-  pub events : List Event
-  pub before : AreEvents (filter is_kept front) events
-
--- why a text is no schedule, or none was read: it is too long, else its first faulty line, or a want of memory
-abbrev pub IsTextFault : List ℕ → RunFault → Type 0
-IsTextFault text InputTooLong = TEXT_LIMIT < length text
-IsTextFault text (Schedule n) = (length text ≤ TEXT_LIMIT) × IsFirstFaulty text n
-IsTextFault text Memory = (length text ≤ TEXT_LIMIT) × IsBehindAnEvent text
-IsTextFault text _ = ⊥
+abbrev pub IsBehindAnEvent : List ℕ → Type 0
+IsBehindAnEvent text = BehindAnItem IsEvent text

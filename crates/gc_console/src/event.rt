@@ -7,16 +7,17 @@ ghost use Rattle.gc_catalogue.specs.declared.call.Call.{Call};
 ghost use Rattle.gc_world.specs.declared.event.Event.{Event};
 
 use crate::cuts::cut_at;
+use crate::line_forms::LineForm;
 use gc_catalogue::{Call, decode_call};
 use gc_lines::Request;
 use gc_values::read_whole;
 use gc_world::Event;
 
 // The greatest target, and the greatest place of a line under way.
-const MOST: u64 = 4294967295;
+pub(crate) const MOST: u64 = 4294967295;
 
 // The number that digits write, where it is at most `max`.
-fn number_of(digits: &[u8], max: u64) -> Option<u64>
+pub(crate) fn number_of(digits: &[u8], max: u64) -> Option<u64>
     ensures { MatchOption result ((n : ℕ) → IsNumber digits.now n max → ⊥) (λ n. IsNumber digits.now n max) }
 {
     match read_whole(digits, max) {
@@ -43,7 +44,7 @@ fn numbered(word: &[u8], line: &[u8], max: u64) -> Option<u64>
 }
 
 // The call of a procedure's number and its parameters.
-fn read_procedure(text: &[u8]) -> Option<Call>
+pub(crate) fn read_procedure(text: &[u8]) -> Option<Call>
     ensures { MatchOption result ((call : Call) → IsProcedure text.now call → ⊥) (λ call. IsProcedure text.now call) }
 {
     let (digits, params) = cut_at(b' ', text);
@@ -152,8 +153,16 @@ fn read_words(line: &[u8]) -> Option<Event>
     None
 }
 
-/// Reads one line of a schedule; none where it has the form of no event.
-pub fn read_event(line: &[u8]) -> Option<Event>
+impl LineForm for Event {
+    ghost form = { IsEvent };
+
+    fn read(line: &[u8]) -> Option<Event> {
+        read_event(line)
+    }
+}
+
+// Reads one line of a schedule; none where it has the form of no event.
+fn read_event(line: &[u8]) -> Option<Event>
     ensures { MatchOption result ((event : Event) → IsEvent line.now event → ⊥) (λ event. IsEvent line.now event) }
 {
     if let Some((target, call, deadline)) = read_send(line) {

@@ -1,20 +1,27 @@
 //! The program `geocom`: its command line, and the engine behind each subcommand.
 #![tactic(auto)]
 
+mod ask;
 mod check;
+mod client_end;
+mod commands;
 mod cuts;
 mod drill;
 mod event;
 mod exec;
 mod fault;
 pub mod laws;
+mod line_forms;
 mod program;
+mod read_ahead;
 mod schedule;
 mod settled;
 mod text;
 mod verdict;
 
+pub use ask::run_ask;
 pub use check::run_check;
+pub use commands::{Command, read_commands};
 pub use drill::run_drill;
 pub use exec::run_exec;
 pub use fault::RunFault;

@@ -1,11 +1,15 @@
-//! The lines of a report: one for each settlement, and one of totals.
+//! The lines of a report: one for each settlement, which takes no memory, and one of totals.
 
-ghost use Rattle.std.specs.Prelude.{◌≡◌, ℕ, ◌++◌, List, [], length, map, if◌then◌else◌, OnOk, IfOk};
+ghost use Rattle.std.specs.Prelude.{◌≡◌, ℕ, ◌+◌, ◌^◌, ◌≤◌, ◌++◌, List, [], length, map, if◌then◌else◌, OnOk, IfOk};
 ghost use Rattle.std.specs.Fmt.{decimal};
 ghost use Rattle.gc_client.specs.Settlements.{settlement_seen};
 ghost use Rattle.gc_console.specs.Drill.{settlement_line, settlement_lines, totals_text, report_text};
+ghost use Rattle.gc_console.specs.Listening.{Told};
 
+use crate::fault::RunFault;
+use arrayvec::ArrayVec;
 use gc_client::{Outcome, Settlement};
+use gc_lines::{Sink, append, write_whole};
 use gc_world::Report;
 use itoa::Buffer;
 use std::alloc::{AllocError, Global};
@@ -40,17 +44,49 @@ fn append_settlement(
 ) -> Result<(), AllocError>
     ensures { OnOk result (text.new.items ≡ text.old.items ++ settlement_line place (settlement_seen settlement.now)) }
 {
-    append_number(text, b"", place)?;
-    append_number(text, b" ", settlement.target as usize)?;
-    match &settlement.outcome {
-        Outcome::Answered(_, line) => {
-            text.extend_from_slice(b" answered ")?;
-            text.extend_from_slice(line)?;
+    text.extend_from_slice(line_of(place, settlement).as_slice())
+}
+
+// Writes the lines of settlements, the first of them at this place, each in one write where the sink takes all of it.
+pub(crate) fn write_settlements<K: Sink>(
+    sink: &mut K,
+    place: usize,
+    settlements: &[Settlement],
+) -> Result<(), RunFault>
+    requires { place + length settlements.now ≤ 2 ^ 64 }
+    ensures { Told place (map settlement_seen settlements.now) (K.taken sink.old) (K.taken sink.new) (K.failed sink.old) (K.failed sink.new) result }
+{
+    for (i, settlement) in settlements.iter().enumerate() {
+        let line = line_of(place + i, settlement);
+        if let Err(_) = write_whole(sink, line.as_slice()) {
+            return Err(RunFault::Output);
         }
-        Outcome::Late => text.extend_from_slice(b" late")?,
-        Outcome::Lost => text.extend_from_slice(b" lost")?,
     }
-    text.extend_from_slice(b"\n")
+    Ok(())
+}
+
+// The most bytes of a settlement's line: a place and a target, the words, and the reply's line.
+const LINE_ROOM: usize = 20 + 1 + 10 + 10 + 512 + 1;
+
+// The line of the settlement at a place.
+fn line_of(place: usize, settlement: &Settlement) -> ArrayVec<u8, LINE_ROOM>
+    ensures { result.items ≡ settlement_line place (settlement_seen settlement.now) }
+{
+    let mut digits = Buffer::new();
+    let mut line = ArrayVec::new();
+    append(&mut line, digits.format(place).as_bytes());
+    append(&mut line, b" ");
+    append(&mut line, digits.format(settlement.target).as_bytes());
+    match &settlement.outcome {
+        Outcome::Answered(_, reply) => {
+            append(&mut line, b" answered ");
+            append(&mut line, reply);
+        }
+        Outcome::Late => append(&mut line, b" late"),
+        Outcome::Lost => append(&mut line, b" lost"),
+    }
+    append(&mut line, b"\n");
+    line
 }
 
 // Appends the line of totals.

@@ -1,9 +1,9 @@
 use Rattle.std.proofs.Common.{◌≡◌, ◌∙◌, sym, ap, ◌++◌, [], ◌∷◌, Some, None}
 use Rattle.std.proofs.lemmas.Slice.Eq.{strip_suffix_is}
 use Rattle.std.proofs.lemmas.Bool.Decides.{Decides-eqb}
-use Rattle.gc_console.specs.Schedule.{without_cr}
+use Rattle.gc_console.specs.LineForms.{without_cr}
 use Rattle.gc_console.proofs.LineEnds.{without_cr-end, without_cr-none}
-use Rattle.gc_console.proofs.schedule.without_cr.Goals as goal
+use Rattle.gc_console.proofs.line_forms.without_cr.Goals as goal
 
 pub returns-in-Some : goal.returns-in-Some
 returns-in-Some c =

@@ -1,0 +1,241 @@
+//! Asking over ports that give and take as a test says.
+
+use crate::{Command, RunFault, read_commands, run_ask};
+use gc_catalogue::Call;
+use gc_probes::{PieceSink, PieceSource};
+use std::alloc::Global;
+use std::process::Abort;
+use std::test::Fail;
+
+// Two commands, the requests that they become, and their lost settlements.
+const TEXT: &[u8] = b"7 5003\n8 0\n";
+
+const FIRST: &[u8] = b"%R1Q,5003,0:\r\n";
+
+const BOTH: &[u8] = b"%R1Q,5003,0:\r\n%R1Q,0,1:\r\n";
+
+const ANSWERED: &[u8] = b"0 7 answered %R1P,0,0:0,123456\n";
+
+// A link: what it gives, in how many answered reads, and what it takes, of so many bytes a write.
+#[derive(Clone, Copy)]
+struct Link<'a> {
+    gives: &'a [u8],
+    reads: u64,
+    most: usize,
+    writes: u64,
+    max_reads: u32,
+}
+
+// A link that fails nowhere.
+fn sound(gives: &[u8]) -> Link<'_> {
+    Link {
+        gives,
+        reads: u64::MAX,
+        most: 1000,
+        writes: u64::MAX,
+        max_reads: 9,
+    }
+}
+
+// Asks the commands over a link, and expects this end, these requests and these lines.
+fn expect_asked(
+    rt: &impl Abort,
+    alloc: Global,
+    name: &str,
+    link: &Link<'_>,
+    sent: &[u8],
+    told: &[u8],
+    expected: Result<(), RunFault>,
+) {
+    let mut commands = PieceSource::new(TEXT, &[3, 1], u64::MAX);
+    let mut link_in = PieceSource::new(link.gives, &[], link.reads);
+    let mut link_out = PieceSink::new(alloc, link.most.max(1), link.writes);
+    let mut sink = PieceSink::new(alloc, 5, u64::MAX);
+    let result = run_ask(
+        alloc,
+        &mut commands,
+        &mut link_in,
+        &mut link_out,
+        &mut sink,
+        link.max_reads,
+    );
+    assert_eq!(rt; result, expected, "{name}");
+    assert_eq!(rt; link_out.taken(), sent, "{name}");
+    assert_eq!(rt; sink.taken(), told, "{name}");
+}
+
+#[test]
+fn a_stray_then_two_answers(rt: HostRuntime) {
+    let gives = b"%R1P,0,3:0\r\n%R1P,0,0:0,123456\r\n%R1P,0,1:0\r\n";
+    let told = b"0 7 answered %R1P,0,0:0,123456\n1 8 answered %R1P,0,1:0\n";
+    expect_asked(
+        &rt,
+        rt.alloc(),
+        "a stray, then two answers",
+        &sound(gives),
+        BOTH,
+        told,
+        Ok(()),
+    );
+}
+
+#[test]
+fn a_link_ends_or_fails(rt: HostRuntime) {
+    let alloc = rt.alloc();
+    let answer = b"%R1P,0,0:0,123456\r\n";
+    let lost = b"0 7 answered %R1P,0,0:0,123456\n1 8 lost\n";
+    expect_asked(
+        &rt,
+        alloc,
+        "the link ends",
+        &sound(answer),
+        BOTH,
+        lost,
+        Err(RunFault::LinkClosed),
+    );
+    let read = Link {
+        reads: 1,
+        ..sound(answer)
+    };
+    expect_asked(
+        &rt,
+        alloc,
+        "its read fails",
+        &read,
+        BOTH,
+        lost,
+        Err(RunFault::Read),
+    );
+    let write = Link {
+        writes: 0,
+        ..sound(answer)
+    };
+    let nothing = Err(RunFault::Write {
+        replies: 0,
+        bytes: 0,
+    });
+    expect_asked(
+        &rt,
+        alloc,
+        "its write fails",
+        &write,
+        b"",
+        b"0 7 lost\n",
+        nothing,
+    );
+    let part = Link {
+        most: 3,
+        writes: 1,
+        ..sound(answer)
+    };
+    let three = Err(RunFault::Write {
+        replies: 0,
+        bytes: 3,
+    });
+    expect_asked(
+        &rt,
+        alloc,
+        "its write falls short",
+        &part,
+        b"%R1",
+        b"0 7 lost\n",
+        three,
+    );
+    let none = Link {
+        max_reads: 0,
+        ..sound(answer)
+    };
+    expect_asked(
+        &rt,
+        alloc,
+        "no reads are allowed",
+        &none,
+        FIRST,
+        b"0 7 lost\n",
+        Err(RunFault::TooManyReads),
+    );
+}
+
+#[test]
+fn the_reply_came_before_the_request_fails(rt: HostRuntime) {
+    let second = Link {
+        most: 20,
+        writes: 1,
+        ..sound(b"%R1P,0,0:0,123456\r\n%R1P,0,1:0\r\n")
+    };
+    let fault = Err(RunFault::Write {
+        replies: 1,
+        bytes: 0,
+    });
+    let told = b"0 7 answered %R1P,0,0:0,123456\n1 8 lost\n";
+    expect_asked(
+        &rt,
+        rt.alloc(),
+        "the second write fails",
+        &second,
+        FIRST,
+        told,
+        fault,
+    );
+}
+
+#[test]
+fn a_command_text_is_read(rt: HostRuntime) -> Result<(), Fail> {
+    let commands = read_commands(rt.alloc(), TEXT)?;
+    let wanted = [
+        Command {
+            target: 7,
+            call: Call::InstrumentNo,
+        },
+        Command {
+            target: 8,
+            call: Call::NullProc,
+        },
+    ];
+    assert_eq!(rt; commands.as_slice(), wanted.as_slice());
+    Ok(())
+}
+
+// Asks a text that is refused, and expects that nothing was read of the link, sent or written.
+fn expect_refused(rt: &impl Abort, alloc: Global, text: &[u8], reads: u64, expected: RunFault) {
+    let mut commands = PieceSource::new(text, &[], reads);
+    let mut link_in = PieceSource::new(b"", &[], 0);
+    let mut link_out = PieceSink::new(alloc, 1, 0);
+    let mut sink = PieceSink::new(alloc, 1, 0);
+    let result = run_ask(
+        alloc,
+        &mut commands,
+        &mut link_in,
+        &mut link_out,
+        &mut sink,
+        9,
+    );
+    assert_eq!(rt; result, Err(expected));
+}
+
+#[test]
+fn a_command_text_is_refused(rt: HostRuntime) {
+    let alloc = rt.alloc();
+    expect_refused(
+        &rt,
+        alloc,
+        b"7 5003\n8 0 \n",
+        u64::MAX,
+        RunFault::Schedule { line: 2 },
+    );
+    expect_refused(
+        &rt,
+        alloc,
+        b"#\n\n7 1\n",
+        u64::MAX,
+        RunFault::Schedule { line: 3 },
+    );
+    expect_refused(&rt, alloc, TEXT, 1, RunFault::Read);
+    expect_refused(
+        &rt,
+        alloc,
+        &[b'\n'; 65537],
+        u64::MAX,
+        RunFault::InputTooLong,
+    );
+}

@@ -1,0 +1,155 @@
+//! A pipe: what one port writes into it, another reads out of it, in one thread. Contracts know nothing of the bytes in it.
+
+ghost use Rattle.std.specs.Prelude.{◌≡◌, ◌≤◌, ◌<◌, None, false, length};
+
+use gc_lines::{PortFailed, Sink, Source};
+use std::alloc::Global;
+use std::cell::RefCell;
+use std::collections::VecDeque;
+
+/// Bytes that were written and not read yet.
+#[derive(Drop)]
+pub struct Pipe {
+    bytes: RefCell<VecDeque<u8>>,
+}
+
+impl Pipe {
+    /// An empty pipe.
+    pub fn new(alloc: Global) -> Pipe {
+        Pipe {
+            bytes: RefCell::new(VecDeque::new(alloc)),
+        }
+    }
+
+    /// The end that reads. It answers `answers` reads and fails at the next one. A read of an empty pipe is the end.
+    pub fn source(&self, answers: u64) -> PipeSource<'_>
+        ensures { result.failed ≡ false }
+    {
+        PipeSource {
+            pipe: self,
+            answers,
+            reads: 0,
+            ended: false,
+            failed: false,
+        }
+    }
+
+    /// The end that writes. It takes up to `most` bytes for each call, answers `answers` writes and fails at the next one.
+    /// It fails, too, where it can't store a byte.
+    pub fn sink(&self, most: usize, answers: u64) -> PipeSink<'_>
+        requires { 0 < most }
+        ensures { result.failed ≡ false }
+    {
+        PipeSink {
+            pipe: self,
+            most,
+            answers,
+            failed: false,
+        }
+    }
+
+    // Takes bytes out into the front of `buf`, and says how many.
+    fn give(&self, buf: &mut [u8]) -> usize
+        ensures within { result ≤ length buf.old }
+        ensures same { length buf.new ≡ length buf.old }
+    {
+        let Ok(mut held) = self.bytes.try_borrow_mut() else {
+            return 0;
+        };
+        let bytes = &mut *held;
+        let mut n = 0;
+        while n < buf.len() {
+            let Some(byte) = bytes.pop_front() else {
+                return n;
+            };
+            buf[n] = byte;
+            n += 1;
+        }
+        n
+    }
+
+    // Stores the first of these bytes, and says how many.
+    fn store(&self, bytes: &[u8]) -> usize
+        ensures { result ≤ length bytes.now }
+    {
+        let Ok(mut held) = self.bytes.try_borrow_mut() else {
+            return 0;
+        };
+        let stored = &mut *held;
+        for (n, byte) in bytes.iter().enumerate() {
+            if stored.push_back(*byte).is_err() {
+                return n;
+            }
+        }
+        bytes.len()
+    }
+}
+
+/// The end of a pipe that reads.
+#[derive(Drop)]
+pub struct PipeSource<'a> {
+    pipe: &'a Pipe,
+    answers: u64,
+    reads: u64,
+    ended: bool,
+    failed: bool,
+}
+
+impl<'a> Source for PipeSource<'a> {
+    ghost remaining = { λ _. None };
+
+    ghost reads = { λ s. s.reads };
+
+    ghost ended = { λ s. s.ended };
+
+    ghost failed = { λ s. s.failed };
+
+    fn read(&mut self, buf: &mut [u8]) -> Result<usize, PortFailed> {
+        if self.failed || self.reads >= self.answers {
+            self.failed = true;
+            return Err(PortFailed);
+        }
+        let n = self.pipe.give(buf);
+        self.reads += 1;
+        self.ended = n == 0;
+        Ok(n)
+    }
+
+    fn has_failed(&self) -> bool {
+        self.failed
+    }
+}
+
+/// The end of a pipe that writes.
+#[derive(Drop)]
+pub struct PipeSink<'a> {
+    pipe: &'a Pipe,
+    most: usize,
+    answers: u64,
+    failed: bool,
+}
+
+impl<'a> Sink for PipeSink<'a> {
+    ghost taken = { λ _. None };
+
+    ghost failed = { λ s. s.failed };
+
+    fn write(&mut self, bytes: &[u8]) -> Result<usize, PortFailed> {
+        if self.failed || self.answers == 0 {
+            self.failed = true;
+            return Err(PortFailed);
+        }
+        let offered = self.most.min(bytes.len());
+        let n = self.pipe.store(&bytes[..offered]);
+        if n == 0 {
+            self.failed = true;
+            return Err(PortFailed);
+        }
+        self.answers -= 1;
+        Ok(n)
+    }
+
+    fn has_failed(&self) -> bool {
+        self.failed
+    }
+}
