@@ -5,7 +5,7 @@ use Rattle.gc_lines.specs.Answering.{Ports, all_of}
 use Rattle.gc_lines.specs.Frames.{lines}
 use Rattle.gc_lines.specs.Lines.{with_end}
 use Rattle.gc_catalogue.specs.Texts.{request_line}
-use Rattle.gc_client.specs.declared.client.TheConstants.{IDS}
+use Rattle.gc_client.specs.declared.window.TheConstants.{IDS}
 use Rattle.gc_client.specs.declared.pending.Pending.{Pending}
 use Rattle.gc_client.specs.Rule.{ById, Settlement, pending_of, lost, heard, fits, hears}
 use Rattle.gc_console.specs.Drill.{settlement_line, settlement_lines}

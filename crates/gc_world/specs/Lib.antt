@@ -1,4 +1,5 @@
 pub mod World
+pub mod Streams
 pub mod Clients
 pub mod Order
 pub mod Exchange
