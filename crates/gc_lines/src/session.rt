@@ -154,6 +154,7 @@ impl Session {
     }
 
     // Whether the texts may wait for one more.
+    #[inline]
     fn may_wait(&self) -> bool
         ensures { result ≡ true → HasRoom self.now.text.items self.now.lengths.items self.now.gathers }
     {
@@ -161,6 +162,7 @@ impl Session {
     }
 
     // Writes all texts that wait. `Err(bytes)`: the sink took these bytes of a text, and failed.
+    #[inline]
     fn write_texts<K: Sink>(&mut self, sink: &mut K) -> Result<(), usize>
         requires { self.old.replies + length self.old.lengths.items < 2 ^ 64 }
         ensures bound { self.new.replies ≤ self.old.replies + length self.old.lengths.items }
@@ -172,15 +174,29 @@ impl Session {
         ensures err { IfErr result (λ bytes. (n : ℕ) × TakesFront (K.taken sink.old) (K.taken sink.new) n self.old.text.items
             × ((self.new.replies, bytes) ≡ parted self.old.replies n self.old.lengths.items)) }
     {
-        if let Err(taken) = write_whole(sink, self.text.as_slice()) {
-            let part = parted(self.replies, taken, self.lengths.as_slice());
-            self.replies = part.0;
-            return Err(part.1);
+        match write_whole(sink, self.text.as_slice()) {
+            Ok(()) => {
+                self.replies += self.lengths.len() as u64;
+                self.text.clear();
+                self.lengths.clear();
+                Ok(())
+            }
+            Err(taken) => Err(self.count_part(taken)),
         }
-        self.replies += self.lengths.len() as u64;
-        self.text.clear();
-        self.lengths.clear();
-        Ok(())
+    }
+
+    // Of the texts that wait the first `taken` bytes went out: counts those that did whole, and says how many bytes of the
+    // next did.
+    #[inline(never)]
+    fn count_part(&mut self, taken: usize) -> usize
+        requires { self.old.replies + length self.old.lengths.items < 2 ^ 64 }
+        ensures bound { self.new.replies ≤ self.old.replies + length self.old.lengths.items }
+        ensures same { (self.new.assembler ≡ self.old.assembler) × (self.new.gathers ≡ self.old.gathers) }
+        ensures parts { (self.new.replies, result) ≡ parted self.old.replies taken self.old.lengths.items }
+    {
+        let (replies, bytes) = parted(self.replies, taken, self.lengths.as_slice());
+        self.replies = replies;
+        bytes
     }
 }
 
