@@ -4,4 +4,6 @@
 mod ask;
 mod drill;
 mod exec;
+mod looped;
 mod program;
+mod sockets;
