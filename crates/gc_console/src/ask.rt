@@ -13,23 +13,23 @@ ghost use Rattle.gc_console.specs.Listening.{Sends, Exchanges, ExchangeEnds, Ask
 use crate::client_end::ClientEnd;
 use crate::commands::{Command, read_commands};
 use crate::fault::RunFault;
-use crate::read_ahead::ReadAhead;
 use crate::settled::write_settlements;
 use crate::text::read_text;
+use crate::unheard::Unheard;
 use gc_lines::{Line, Sink, Source, write_line};
 use std::alloc::Global;
 
 // What asking keeps from one command to the next.
 #[derive(Drop)]
-struct Asking {
-    end: ClientEnd,
-    ahead: ReadAhead,
+pub(crate) struct Asking {
+    pub(crate) end: ClientEnd,
+    pub(crate) ahead: Unheard,
     // How many reads are still allowed.
-    reads: u32,
+    pub(crate) reads: u32,
 }
 
 impl Asking {
-    fn new(max_reads: u32) -> Asking
+    pub(crate) fn new(max_reads: u32) -> Asking
         ensures client { result.end.client ≡ idle 0 }
         ensures assembler { StandsFor result.end.assembler [] }
         ensures ahead { result.ahead ≡ [] }
@@ -37,13 +37,13 @@ impl Asking {
     {
         Asking {
             end: ClientEnd::new(),
-            ahead: ReadAhead::new(),
+            ahead: Unheard::new(),
             reads: max_reads,
         }
     }
 
     // Sends the command at this place, without a deadline.
-    fn send<O: Sink>(
+    pub(crate) fn send<O: Sink>(
         &mut self,
         place: usize,
         command: &Command,
