@@ -21,15 +21,15 @@ use std::alloc::Global;
 
 // What asking keeps from one command to the next.
 #[derive(Drop)]
-struct Asking {
-    end: ClientEnd,
-    ahead: ReadAhead,
+pub(crate) struct Asking {
+    pub(crate) end: ClientEnd,
+    pub(crate) ahead: ReadAhead,
     // How many reads are still allowed.
-    reads: u32,
+    pub(crate) reads: u32,
 }
 
 impl Asking {
-    fn new(max_reads: u32) -> Asking
+    pub(crate) fn new(max_reads: u32) -> Asking
         ensures client { result.end.client ≡ idle 0 }
         ensures assembler { StandsFor result.end.assembler [] }
         ensures ahead { result.ahead ≡ [] }
@@ -43,7 +43,7 @@ impl Asking {
     }
 
     // Sends the command at this place, without a deadline.
-    fn send<O: Sink>(
+    pub(crate) fn send<O: Sink>(
         &mut self,
         place: usize,
         command: &Command,

@@ -5,4 +5,6 @@ mod ask;
 mod check;
 mod drill;
 mod exec;
+mod looped;
 mod program;
+mod sockets;
