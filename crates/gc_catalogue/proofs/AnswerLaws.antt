@@ -9,12 +9,12 @@ use Rattle.gc_catalogue.specs.declared.answer.Answer.{Answer}
 use Rattle.gc_catalogue.specs.declared.answer.Reading.{Reading}
 use Rattle.gc_catalogue.specs.declared.answer.Reading.TheVariants as reading
 use Rattle.gc_catalogue.specs.declared.call.Call.{Call}
-use Rattle.gc_catalogue.specs.Answers.{answer_fields, IsAnswer, IsUnreadable}
+use Rattle.gc_catalogue.specs.Answers.{answer_fields, IsAnswer, IsFittingAnswer, IsUnreadable}
 use Rattle.gc_catalogue.specs.Laws.{AreShown, DoublesAreRounded}
 use Rattle.gc_catalogue.specs.Lists.{shown_values}
 use Rattle.gc_catalogue.specs.Readings.{IsReading}
 use Rattle.gc_values.proofs.RoundedDecimals.{rounded_rounds}
-use Rattle.gc_values.proofs.ListLaws.{no_list_fault, one_list_fault, one_values}
+use Rattle.gc_values.proofs.ListLaws.{no_list_fault, one_list_fault, one_values, params_fit}
 use Rattle.gc_catalogue.proofs.Table.{answer_kinds, few_values_out, same_answer, same_answer_kinds, shape-rounded, values-rounded}
 
 pub one_answer : (call : Call) (params : List ℕ) (a b : Answer) → IsAnswer call params a → IsAnswer call params b → a ≡ b
@@ -47,6 +47,9 @@ one_reading call r (reading.Unreadable a) (reading.ComFault b) x y = absurd (y.0
 one_reading call r (reading.Unreadable a) (reading.Refused b) x y = absurd (y.1 x.1)
 one_reading call r (reading.Unreadable a) (reading.Value b) x y = absurd (no_unreadable call r.params b a y.2 x.2)
 one_reading call r (reading.Unreadable a) (reading.Unreadable b) x y = ap (λ z. reading.Unreadable z) (one_unreadable call r.params a b x.2 y.2)
+
+pub answer_fits : (call : Call) (params : List ℕ) (answer : Answer) → IsAnswer call params answer → IsFittingAnswer answer
+answer_fits call params answer x = params_fit (answer_fields answer).values params x.values
 
 all_shown : (places : ℕ) (vs : List Value) → AreShown places vs (shown_values (Some places) vs)
 all_shown places [] = tt

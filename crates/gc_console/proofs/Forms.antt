@@ -5,7 +5,7 @@ use Rattle.std.proofs.lemmas.List.{append_cancel_left, append-nil}
 use Rattle.gc_catalogue.specs.declared.call.Call.{Call}
 use Rattle.gc_catalogue.specs.Calls.{IsCall}
 use Rattle.gc_world.specs.declared.event.Event.{Event}
-use Rattle.gc_world.specs.declared.event.Event.TheVariants.{Send, UpDeliver, UpLose, UpRepeat, DownDeliver, DownLose, DownRepeat, Expire, RestartClient, RestartInstrument}
+use Rattle.gc_world.specs.declared.event.Event.TheVariants.{Send, UpDeliver, UpBytes, UpLose, UpRepeat, DownDeliver, DownBytes, DownLose, DownRepeat, Expire, RestartClient, RestartInstrument}
 use Rattle.gc_console.specs.Cuts.{Cuts, Lacks}
 use Rattle.gc_console.specs.Schedule.{IsNumber, IsNumbered, IsProcedure, IsRequested, IsSend, IsMore, IsEvent, IsCounted, behind_number}
 use Rattle.gc_console.proofs.Cutting.{cut_found, cut_none, digits_lack_spaces}
@@ -121,19 +121,23 @@ send_is word line rest (Some r) same e requested = record { rest = rest; line_is
 -- the line has the form of no event that is words and a number
 pub no_numbered :
     (line : List ℕ) →
+    ((n : ℕ) → IsNumbered (codes "up bytes ") line n 4294967295 → ⊥) →
     ((n : ℕ) → IsNumbered (codes "up lose ") line n 4294967295 → ⊥) →
     ((n : ℕ) → IsNumbered (codes "up repeat ") line n 4294967295 → ⊥) →
+    ((n : ℕ) → IsNumbered (codes "down bytes ") line n 4294967295 → ⊥) →
     ((n : ℕ) → IsNumbered (codes "down lose ") line n 4294967295 → ⊥) →
     ((n : ℕ) → IsNumbered (codes "down repeat ") line n 4294967295 → ⊥) →
     ((n : ℕ) → IsNumbered (codes "expire ") line n 18446744073709551615 → ⊥) →
     (event : Event) → IsCounted event → IsEvent line event → ⊥
-no_numbered line ul ur dl dr ex (UpLose k) counted h = ul k h
-no_numbered line ul ur dl dr ex (UpRepeat k) counted h = ur k h
-no_numbered line ul ur dl dr ex (DownLose k) counted h = dl k h
-no_numbered line ul ur dl dr ex (DownRepeat k) counted h = dr k h
-no_numbered line ul ur dl dr ex (Expire moment) counted h = ex moment h
-no_numbered line ul ur dl dr ex (Send t call d) counted h = counted
-no_numbered line ul ur dl dr ex UpDeliver counted h = counted
-no_numbered line ul ur dl dr ex DownDeliver counted h = counted
-no_numbered line ul ur dl dr ex RestartClient counted h = counted
-no_numbered line ul ur dl dr ex RestartInstrument counted h = counted
+no_numbered line ub ul ur db dl dr ex (UpBytes n) counted h = ub n h
+no_numbered line ub ul ur db dl dr ex (UpLose k) counted h = ul k h
+no_numbered line ub ul ur db dl dr ex (UpRepeat k) counted h = ur k h
+no_numbered line ub ul ur db dl dr ex (DownBytes n) counted h = db n h
+no_numbered line ub ul ur db dl dr ex (DownLose k) counted h = dl k h
+no_numbered line ub ul ur db dl dr ex (DownRepeat k) counted h = dr k h
+no_numbered line ub ul ur db dl dr ex (Expire moment) counted h = ex moment h
+no_numbered line ub ul ur db dl dr ex (Send t call d) counted h = counted
+no_numbered line ub ul ur db dl dr ex UpDeliver counted h = counted
+no_numbered line ub ul ur db dl dr ex DownDeliver counted h = counted
+no_numbered line ub ul ur db dl dr ex RestartClient counted h = counted
+no_numbered line ub ul ur db dl dr ex RestartInstrument counted h = counted

@@ -7,7 +7,7 @@ use Rattle.gc_catalogue.specs.declared.call.Call.{Call}
 use Rattle.gc_catalogue.specs.Calls.{IsCall}
 use Rattle.gc_catalogue.proofs.CallLaws.{one_call}
 use Rattle.gc_world.specs.declared.event.Event.{Event}
-use Rattle.gc_world.specs.declared.event.Event.TheVariants.{Send, UpDeliver, UpLose, UpRepeat, DownDeliver, DownLose, DownRepeat, Expire, RestartClient, RestartInstrument}
+use Rattle.gc_world.specs.declared.event.Event.TheVariants.{Send, UpDeliver, UpBytes, UpLose, UpRepeat, DownDeliver, DownBytes, DownLose, DownRepeat, Expire, RestartClient, RestartInstrument}
 use Rattle.gc_console.specs.Cuts.{Cuts, Lacks}
 use Rattle.gc_console.specs.LineForms.{Form, AreItems, is_kept, text_lines}
 use Rattle.gc_console.specs.Schedule.{IsNumber, IsProcedure, IsRequested, IsSend, IsEvent, IsSchedule, behind_number}
@@ -26,6 +26,8 @@ kind (DownRepeat k) = 6
 kind (Expire moment) = 7
 kind RestartClient = 8
 kind RestartInstrument = 9
+kind (UpBytes n) = 10
+kind (DownBytes n) = 11
 
 abbrev sends : Event → Option (ℕ × Call × ℕ)
 sends (Send target call deadline) = Some (target, call, deadline)
@@ -37,6 +39,8 @@ count (UpRepeat k) = k
 count (DownLose k) = k
 count (DownRepeat k) = k
 count (Expire moment) = moment
+count (UpBytes n) = n
+count (DownBytes n) = n
 count _ = 0
 
 -- the event of these parts
@@ -44,7 +48,7 @@ abbrev joined : ℕ → Option (ℕ × Call × ℕ) → ℕ → Event
 joined k (Some s) n = Send s.0 s.1 s.2
 joined k None n =
     if k == 1 then UpDeliver else if k == 2 then UpLose n else if k == 3 then UpRepeat n else if k == 4 then DownDeliver else if k == 5 then DownLose n
-    else if k == 6 then DownRepeat n else if k == 7 then Expire n else if k == 8 then RestartClient else RestartInstrument
+    else if k == 6 then DownRepeat n else if k == 7 then Expire n else if k == 8 then RestartClient else if k == 10 then UpBytes n else if k == 11 then DownBytes n else RestartInstrument
 
 joined_is : (e : Event) → joined (kind e) (sends e) (count e) ≡ e
 joined_is (Send target call deadline) = refl
@@ -57,15 +61,17 @@ joined_is (DownRepeat k) = refl
 joined_is (Expire moment) = refl
 joined_is RestartClient = refl
 joined_is RestartInstrument = refl
+joined_is (UpBytes n) = refl
+joined_is (DownBytes n) = refl
 
 -- the kind that a line's bytes tell: `send`, `expire`, `up` and `down` with the word behind them, and `restart` with its own
-abbrev way_kind : ℕ → ℕ → ℕ
-way_kind from b = if b == 100 then from else if b == 108 then from + 1 else from + 2
+abbrev way_kind : ℕ → ℕ → ℕ → ℕ
+way_kind from bytes b = if b == 100 then from else if b == 108 then from + 1 else if b == 98 then bytes else from + 2
 
 abbrev kind_in : List ℕ → ℕ
 kind_in line =
-    if get_or line 0 0 == 115 then 0 else if get_or line 0 0 == 101 then 7 else if get_or line 0 0 == 117 then way_kind 1 (get_or line 3 0)
-    else if get_or line 0 0 == 100 then way_kind 4 (get_or line 5 0) else if get_or line 8 0 == 99 then 8 else 9
+    if get_or line 0 0 == 115 then 0 else if get_or line 0 0 == 101 then 7 else if get_or line 0 0 == 117 then way_kind 1 10 (get_or line 3 0)
+    else if get_or line 0 0 == 100 then way_kind 4 11 (get_or line 5 0) else if get_or line 8 0 == 99 then 8 else 9
 
 kind_is : (line : List ℕ) (e : Event) → IsEvent line e → kind_in line ≡ kind e
 kind_is line (Send target call deadline) h = ap kind_in h.line_is
@@ -78,12 +84,14 @@ kind_is line (DownRepeat k) h = ap kind_in h.line_is
 kind_is line (Expire moment) h = ap kind_in h.line_is
 kind_is line RestartClient h = ap kind_in h
 kind_is line RestartInstrument h = ap kind_in h
+kind_is line (UpBytes n) h = ap kind_in h.line_is
+kind_is line (DownBytes n) h = ap kind_in h.line_is
 
 -- the number behind the words of a kind
 abbrev count_in : ℕ → List ℕ → ℕ
 count_in k line =
     if k == 2 then number (drop 8 line) else if k == 3 then number (drop 10 line) else if k == 5 then number (drop 10 line)
-    else if k == 6 then number (drop 12 line) else if k == 7 then number (drop 7 line) else 0
+    else if k == 6 then number (drop 12 line) else if k == 7 then number (drop 7 line) else if k == 10 then number (drop 9 line) else if k == 11 then number (drop 11 line) else 0
 
 count_is : (line : List ℕ) (e : Event) → IsEvent line e → count_in (kind e) line ≡ count e
 count_is line (Send target call deadline) h = refl
@@ -96,6 +104,8 @@ count_is line (DownRepeat k) h = ap (count_in 6) h.line_is ∙ sym h.number.name
 count_is line (Expire moment) h = ap (count_in 7) h.line_is ∙ sym h.number.names.value
 count_is line RestartClient h = refl
 count_is line RestartInstrument h = refl
+count_is line (UpBytes n) h = ap (count_in 10) h.line_is ∙ sym h.number.names.value
+count_is line (DownBytes n) h = ap (count_in 11) h.line_is ∙ sym h.number.names.value
 
 cut_text : (text digits : List ℕ) (params : Option (List ℕ)) → text ≡ digits ++ behind_number params → Lacks 32 digits → Cuts 32 text digits params
 cut_text text digits None e lacks = (e ∙ append-nil digits, lacks)
@@ -145,6 +155,8 @@ sends_nothing (DownRepeat n) k h = refl
 sends_nothing (Expire moment) k h = refl
 sends_nothing RestartClient k h = refl
 sends_nothing RestartInstrument k h = refl
+sends_nothing (UpBytes n) k h = refl
+sends_nothing (DownBytes n) k h = refl
 
 sends_this : (line : List ℕ) (t : ℕ) (c : Call) (m : ℕ) (e : Event) → IsSend line t c m → IsEvent line e → 0 ≡ kind e → sent t c m ≡ sends e
 sends_this line t c m (Send u d n) x y h = one_send line t u c d m n x y
@@ -157,6 +169,8 @@ sends_this line t c m (DownRepeat n) x y h = absurd (omega (arith, h))
 sends_this line t c m (Expire moment) x y h = absurd (omega (arith, h))
 sends_this line t c m RestartClient x y h = absurd (omega (arith, h))
 sends_this line t c m RestartInstrument x y h = absurd (omega (arith, h))
+sends_this line t c m (UpBytes n) x y h = absurd (omega (arith, h))
+sends_this line t c m (DownBytes n) x y h = absurd (omega (arith, h))
 
 one_sent : (line : List ℕ) (a b : Event) → IsEvent line a → IsEvent line b → kind a ≡ kind b → sends a ≡ sends b
 one_sent line (Send t c m) b x y h = sends_this line t c m b x y h
@@ -169,6 +183,8 @@ one_sent line (DownRepeat n) b x y h = sym (sends_nothing b 5 (sym h))
 one_sent line (Expire moment) b x y h = sym (sends_nothing b 6 (sym h))
 one_sent line RestartClient b x y h = sym (sends_nothing b 7 (sym h))
 one_sent line RestartInstrument b x y h = sym (sends_nothing b 8 (sym h))
+one_sent line (UpBytes n) b x y h = sym (sends_nothing b 9 (sym h))
+one_sent line (DownBytes n) b x y h = sym (sends_nothing b 10 (sym h))
 
 same_joined : (k l : ℕ) (s r : Option (ℕ × Call × ℕ)) (m n : ℕ) → k ≡ l → s ≡ r → m ≡ n → joined k s m ≡ joined l r n
 same_joined k l s r m n e f g = ap (λ x. joined x s m) e ∙ ap (λ x. joined l x m) f ∙ ap (λ x. joined l r x) g

@@ -5,7 +5,7 @@ use Rattle.gc_lines.specs.Answering.{Ports, all_of}
 use Rattle.gc_lines.specs.Frames.{lines}
 use Rattle.gc_lines.specs.Lines.{with_end}
 use Rattle.gc_catalogue.specs.Texts.{request_line}
-use Rattle.gc_client.specs.declared.client.TheConstants.{IDS}
+use Rattle.gc_client.specs.declared.window.TheConstants.{IDS}
 use Rattle.gc_client.specs.declared.pending.Pending.{Pending}
 use Rattle.gc_client.specs.Rule.{ById, Settlement, pending_of, lost, heard, fits, hears}
 use Rattle.gc_console.specs.Drill.{settlement_line, settlement_lines}
@@ -13,7 +13,7 @@ use Rattle.gc_console.specs.declared.commands.Command.{Command}
 use Rattle.gc_console.specs.declared.fault.RunFault.{RunFault}
 use Rattle.gc_console.specs.declared.fault.RunFault.TheVariants.{Read, Write, TooManyReads, LinkClosed, Output}
 
--- a command that was sent and waits; it has no deadline, so it is never given up
+-- a command that was sent and waits; its deadline is the greatest of a u64, and no moment is told, so it is never given up
 abbrev pub asked_for : Command → Pending
 asked_for command = pending_of command.target command.call 18446744073709551615
 

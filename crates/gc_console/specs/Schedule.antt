@@ -5,7 +5,7 @@ use Rattle.gc_catalogue.specs.Calls.{IsCall}
 use Rattle.gc_catalogue.specs.declared.call.Call.{Call}
 use Rattle.gc_console.specs.LineForms.{IsText, FirstFaulty, BehindAnItem}
 use Rattle.gc_world.specs.declared.event.Event.{Event}
-use Rattle.gc_world.specs.declared.event.Event.TheVariants.{Send, UpDeliver, UpLose, UpRepeat, DownDeliver, DownLose, DownRepeat, Expire, RestartClient, RestartInstrument}
+use Rattle.gc_world.specs.declared.event.Event.TheVariants.{Send, UpDeliver, UpBytes, UpLose, UpRepeat, DownDeliver, DownBytes, DownLose, DownRepeat, Expire, RestartClient, RestartInstrument}
 
 -- a number of a text: digits without a sign, at most max
 pub record IsNumber (text : List ℕ) (n max : ℕ) : Type 0 where
@@ -58,9 +58,11 @@ pub record IsSend (line : List ℕ) (target : ℕ) (call : Call) (deadline : ℕ
 abbrev pub IsEvent : List ℕ → Event → Type 0
 IsEvent line (Send target call deadline) = IsSend line target call deadline
 IsEvent line UpDeliver = line ≡ codes "up deliver"
+IsEvent line (UpBytes n) = IsNumbered (codes "up bytes ") line n 4294967295
 IsEvent line (UpLose k) = IsNumbered (codes "up lose ") line k 4294967295
 IsEvent line (UpRepeat k) = IsNumbered (codes "up repeat ") line k 4294967295
 IsEvent line DownDeliver = line ≡ codes "down deliver"
+IsEvent line (DownBytes n) = IsNumbered (codes "down bytes ") line n 4294967295
 IsEvent line (DownLose k) = IsNumbered (codes "down lose ") line k 4294967295
 IsEvent line (DownRepeat k) = IsNumbered (codes "down repeat ") line k 4294967295
 IsEvent line (Expire moment) = IsNumbered (codes "expire ") line moment 18446744073709551615
@@ -69,8 +71,10 @@ IsEvent line RestartInstrument = line ≡ codes "restart instrument"
 
 -- an event that is words and a number
 abbrev pub IsCounted : Event → Type 0
+IsCounted (UpBytes n) = Unit {0}
 IsCounted (UpLose k) = Unit {0}
 IsCounted (UpRepeat k) = Unit {0}
+IsCounted (DownBytes n) = Unit {0}
 IsCounted (DownLose k) = Unit {0}
 IsCounted (DownRepeat k) = Unit {0}
 IsCounted (Expire moment) = Unit {0}

@@ -13,9 +13,9 @@ ghost use Rattle.gc_console.specs.Listening.{Sends, Exchanges, ExchangeEnds, Ask
 use crate::client_end::ClientEnd;
 use crate::commands::{Command, read_commands};
 use crate::fault::RunFault;
-use crate::read_ahead::ReadAhead;
 use crate::settled::write_settlements;
 use crate::text::read_text;
+use crate::unheard::Unheard;
 use gc_lines::{Line, Sink, Source, write_line};
 use std::alloc::Global;
 
@@ -23,7 +23,7 @@ use std::alloc::Global;
 #[derive(Drop)]
 pub(crate) struct Asking {
     pub(crate) end: ClientEnd,
-    pub(crate) ahead: ReadAhead,
+    pub(crate) ahead: Unheard,
     // How many reads are still allowed.
     pub(crate) reads: u32,
 }
@@ -37,7 +37,7 @@ impl Asking {
     {
         Asking {
             end: ClientEnd::new(),
-            ahead: ReadAhead::new(),
+            ahead: Unheard::new(),
             reads: max_reads,
         }
     }
@@ -134,9 +134,9 @@ impl Asking {
 /// Reads the whole command text of a source, and asks its commands over a link, in at most `max_reads` reads of it, of at
 /// most 256 bytes each.
 ///
-/// Each command is sent once the one before it is settled: request k has id k modulo 8, and the first line behind that
-/// reply that has its id settles it. Other lines are passed over. The line of each settlement goes to the sink as the
-/// reply comes.
+/// Each command is sent once the one before it is settled. Request k has id k modulo 8, and it is settled by the first reply
+/// with this id among the lines behind the one that settled request k - 1. Other lines are passed over. The line of each
+/// settlement goes to the sink as the reply comes.
 ///
 /// Before anything is sent or written, `Read` comes where the source failed, `InputTooLong` where it gave more than 65,536
 /// bytes, `Schedule` at the first line that has the form of no command, counted from 1, and `Memory` where a growth was
@@ -187,7 +187,10 @@ pub(crate) fn read_command_text<S: Source>(
         commands.items) }
     ensures fault { IfErr result (λ fault. (given : List ℕ) × Consumes (S.remaining source.old) (S.remaining source.new) given
         × (S.reads source.new ≤ S.reads source.old + length given + end_reads (S.ended source.new))
-        × RefusesText given (S.failed source.old) (S.failed source.new) fault) }
+        × RefusesText given
+        (record { remaining = S.remaining source.old; reads = S.reads source.old; ended = S.ended source.old; failed = S.failed source.old })
+        (record { remaining = S.remaining source.new; reads = S.reads source.new; ended = S.ended source.new; failed = S.failed source.new })
+        fault) }
     ensures bounded { S.reads source.new ≤ S.reads source.old + (TEXT_LIMIT + 1) }
 {
     match read_text(alloc, source) {

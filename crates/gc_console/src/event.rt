@@ -13,7 +13,7 @@ use gc_lines::Request;
 use gc_values::read_whole;
 use gc_world::Event;
 
-// The greatest target, and the greatest place of a line under way.
+// The greatest target, the greatest place of a line under way, and the greatest number of bytes.
 pub(crate) const MOST: u64 = 4294967295;
 
 // The number that digits write, where it is at most `max`.
@@ -116,11 +116,17 @@ fn is_plain(words: &[u8], line: &[u8]) -> bool
 fn read_numbered(line: &[u8]) -> Option<Event>
     ensures { MatchOption result ((event : Event) → IsCounted event → IsEvent line.now event → ⊥) (λ event. IsEvent line.now event) }
 {
+    if let Some(bytes) = numbered(b"up bytes ", line, MOST) {
+        return Some(Event::UpBytes(bytes as usize));
+    }
     if let Some(place) = numbered(b"up lose ", line, MOST) {
         return Some(Event::UpLose(place as usize));
     }
     if let Some(place) = numbered(b"up repeat ", line, MOST) {
         return Some(Event::UpRepeat(place as usize));
+    }
+    if let Some(bytes) = numbered(b"down bytes ", line, MOST) {
+        return Some(Event::DownBytes(bytes as usize));
     }
     if let Some(place) = numbered(b"down lose ", line, MOST) {
         return Some(Event::DownLose(place as usize));

@@ -3,7 +3,7 @@
 ghost use Rattle.std.specs.Prelude.{◌≡◌, ◌+◌, ◌≤◌, length, []};
 
 use crate::fault::RunFault;
-use crate::read_ahead::ReadAhead;
+use crate::unheard::Unheard;
 use gc_instrument::Instrument;
 use gc_lines::{Answers, Assembler, Line, Outgoing, Sink, Source, write_whole};
 
@@ -12,7 +12,7 @@ use gc_lines::{Answers, Assembler, Line, Outgoing, Sink, Source, write_whole};
 pub(crate) struct InstrumentEnd {
     instrument: Instrument,
     assembler: Assembler,
-    ahead: ReadAhead,
+    ahead: Unheard,
 }
 
 impl InstrumentEnd {
@@ -20,7 +20,7 @@ impl InstrumentEnd {
         InstrumentEnd {
             instrument: Instrument::simulator(),
             assembler: Assembler::new(),
-            ahead: ReadAhead::new(),
+            ahead: Unheard::new(),
         }
     }
 

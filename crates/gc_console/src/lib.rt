@@ -15,11 +15,11 @@ pub mod laws;
 mod line_forms;
 mod looped;
 mod program;
-mod read_ahead;
 mod schedule;
 mod settled;
 mod sockets;
 mod text;
+mod unheard;
 mod verdict;
 
 pub use ask::run_ask;

@@ -5,6 +5,7 @@ ghost use Rattle.gc_lines.specs.declared.served.Served.{Served};
 ghost use Rattle.gc_lines.specs.declared.served.ServeFault.{ServeFault};
 ghost use Rattle.gc_instrument.specs.Serving.{IsServing};
 ghost use Rattle.gc_instrument.specs.State.{restarted};
+ghost use Rattle.gc_console.specs.declared.sockets.TheConstants.{MOST_CONNECTIONS};
 ghost use Rattle.gc_console.specs.Faults.{end_of_serving};
 
 use crate::ask::{ask_all, read_command_text};
@@ -60,7 +61,7 @@ pub fn serve_tcp<R: Net<Listener = TcpListener, Stream = TcpStream>>(
 ) -> Result<(), RunFault>
     requires port { 1 ≤ port }
     requires some { 1 ≤ connections }
-    requires few { connections ≤ 1000 }
+    requires few { connections ≤ MOST_CONNECTIONS }
 {
     let Ok(listener) = TcpListener::bind(rt, here(port)) else {
         return Err(RunFault::Socket);

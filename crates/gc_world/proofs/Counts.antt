@@ -1,20 +1,43 @@
--- How much so many steps can bring.
-use Rattle.std.proofs.Common.{ℕ, ◌+◌, ◌≤◌, Bool, true, false, List, [], ◌∷◌, ◌++◌, Option, Some, None, length, arith, subst, ltb, cond, refl, ◌≡◌}
-use Rattle.std.proofs.lemmas.List.{length_push}
+-- How much so many events can bring.
+use Rattle.std.proofs.Common.{ℕ, zero, suc, ◌+◌, ◌-◌, ◌<◌, ◌≤◌, Bool, true, false, List, [], ◌∷◌, ◌++◌, Option, Some, None, length, arith, subst, ltb, cond, refl, ap, ◌≡◌}
+use Rattle.std.specs.Prelude.{replicate}
+use Rattle.std.proofs.lemmas.List.{length-map, length_push}
 use Rattle.gc_catalogue.specs.declared.call.Call.{Call}
 use Rattle.gc_catalogue.specs.Texts.{request_line}
 use Rattle.gc_client.specs.Rule.{Sending}
 use Rattle.gc_instrument.specs.Replying.{Handed}
-use Rattle.gc_world.specs.World.{Request, Sent, Numbered, Ends, Rule, Step, Send, Up_deliver, Up_lose, Up_repeat, Down_deliver, Down_lose, Down_repeat, Expire, Restart_client, Restart_instrument, Nothing, Wire, World, idle, replied, up_delivered, with_up, with_down, started, instrument_restarted, requested, down_delivered, client_restarted, happens, run}
+use Rattle.gc_world.specs.declared.event.Event.{Event}
+use Rattle.gc_world.specs.declared.event.Event.TheVariants as event
+use Rattle.gc_world.specs.Streams.{Streams, Cut, one_more, cut, at_line, passed, up_lines, down_lines, flows, flow}
+use Rattle.gc_world.specs.World.{Request, Sent, Numbered, Ends, Rule, Step, Send, Up_deliver, Up_lose, Up_repeat, Down_deliver, Down_lose, Down_repeat, Expire, Restart_client, Restart_instrument, Nothing, Wire, World, without, doubled, idle, replied, up_delivered, with_up, with_down, started, instrument_restarted, requested, down_delivered, client_restarted, happens, run}
 
--- no more than so many of each
+-- no more than so many of each: the executions and the replies together with the requests that are still to be executed
 pub record IsWithin {State : Type 0} (n : ℕ) (w : Wire State) : Type 0 where
   pub sent : length w.sent ≤ n
-  pub executed : length w.executed ≤ n
-  pub made : length w.made ≤ n
+  pub executed : length w.executed + length w.up ≤ n
+  pub made : length w.made + length w.up ≤ n
   pub starts : length w.starts ≤ n
   pub refused : w.refused ≤ n
   pub idle : w.idle ≤ n
+
+few_left : {A : Type 0} (k : ℕ) (xs : List A) → length (without k xs) ≤ length xs + 1
+few_left k [] = omega arith
+few_left zero (x ∷ xs) = omega arith
+few_left (suc k) (x ∷ xs) = omega (arith, few_left k xs)
+
+one_longer : {A : Type 0} (k : ℕ) (xs : List A) → length (doubled k xs) ≤ length xs + 1
+one_longer k [] = omega arith
+one_longer zero (x ∷ xs) = omega arith
+one_longer (suc k) (x ∷ xs) = omega (arith, one_longer k xs)
+
+-- no more lines are completed than there are
+cut_few : (lines : List (List ℕ)) (n : ℕ) → (cut lines n).lines ≤ length lines
+cut_few [] n = omega arith
+cut_few (line ∷ lines) n = by_size (ltb n (length line)) (cut_few lines (n - length line))
+  where
+    by_size : (b : Bool) → (cut lines (n - length line)).lines ≤ length lines → (cond {A = Cut} b (record { lines = 0; gone = n }) (one_more (cut lines (n - length line)))).lines ≤ suc (length lines)
+    by_size true few = omega arith
+    by_size false few = omega (arith, few)
 
 module _ {Client State : Type 0} (ends : Ends State) (rule : Rule Client) (n : ℕ) where
   -- the same of one more
@@ -28,24 +51,27 @@ module _ {Client State : Type 0} (ends : Ends State) (rule : Rule Client) (n : �
   sends w target call None h = record { sent = omega (arith, h.sent); executed = omega (arith, h.executed); made = omega (arith, h.made); starts = omega (arith, h.starts); refused = omega (arith, h.refused); idle = omega (arith, h.idle) }
   sends w target call (Some x) h =
       let d : Sent = record { target = target; call = call; line = request_line (Some x.id) call } in
-      record { sent = omega (arith, h.sent, length_push w.wire.sent d); executed = omega (arith, h.executed); made = omega (arith, h.made); starts = omega (arith, h.starts); refused = omega (arith, h.refused); idle = omega (arith, h.idle) }
+      let up = length_push w.wire.up (record { number = length w.wire.sent; line = record { id = x.id; call = call } }) in
+      record { sent = omega (arith, h.sent, length_push w.wire.sent d); executed = omega (arith, h.executed, up); made = omega (arith, h.made, up); starts = omega (arith, h.starts); refused = omega (arith, h.refused); idle = omega (arith, h.idle) }
 
-  executes : (executed : List ℕ) (k : ℕ) (b : Bool) → length executed ≤ n → length (cond b (executed ++ k ∷ []) executed) ≤ n + 1
-  executes executed k true h = omega (arith, h, length_push executed k)
-  executes executed k false h = omega (arith, h)
+  executes : (executed : List ℕ) (k more : ℕ) (b : Bool) → length executed + suc more ≤ n → length (cond b (executed ++ k ∷ []) executed) + more ≤ n
+  executes executed k more true h = omega (arith, h, length_push executed k)
+  executes executed k more false h = omega (arith, h)
 
-  answers : (w : Wire State) (k : ℕ) (rest : List (Numbered Request)) (hd : Handed State) → IsWithin n w → IsWithin (n + 1) (replied w k rest hd)
-  answers w k rest hd h =
-      let m : Numbered (List ℕ) = record { number = k; line = hd.reply } in
-      record { sent = omega (arith, h.sent); executed = executes w.executed k hd.executed h.executed; made = omega (arith, h.made, length_push w.made m); starts = omega (arith, h.starts); refused = omega (arith, h.refused); idle = omega (arith, h.idle) }
+  -- a request that is executed is no longer under way
+  answers : (w : Wire State) (x : Numbered Request) (rest : List (Numbered Request)) (hd : Handed State) → w.up ≡ x ∷ rest → IsWithin n w → IsWithin n (replied w x.number rest hd)
+  answers w x rest hd e h =
+      let m : Numbered (List ℕ) = record { number = x.number; line = hd.reply } in
+      let up : length w.up ≡ suc (length rest) = ap length e in
+      record { sent = h.sent; executed = executes w.executed x.number (length rest) hd.executed (omega (arith, h.executed, up)); made = omega (arith, h.made, up, length_push w.made m); starts = h.starts; refused = h.refused; idle = h.idle }
 
-  delivers : (w : Wire State) (q : List (Numbered Request)) → IsWithin n w → IsWithin (n + 1) (up_delivered ends w q)
-  delivers w [] h = idles w h
-  delivers w (x ∷ rest) h = answers w x.number rest (ends.handed w.state x.line.id x.line.call) h
+  delivers : (w : Wire State) (q : List (Numbered Request)) → w.up ≡ q → IsWithin n w → IsWithin (n + 1) (up_delivered ends w q)
+  delivers w [] e h = idles w h
+  delivers w (x ∷ rest) e h = more (replied w x.number rest (ends.handed w.state x.line.id x.line.call)) (answers w x rest (ends.handed w.state x.line.id x.line.call) e h)
 
-  changes_up : (w : Wire State) (up : List (Numbered Request)) (b : Bool) → IsWithin n w → IsWithin (n + 1) (with_up w up b)
-  changes_up w up false h = idles w h
-  changes_up w up true h = record { sent = omega (arith, h.sent); executed = omega (arith, h.executed); made = omega (arith, h.made); starts = omega (arith, h.starts); refused = omega (arith, h.refused); idle = omega (arith, h.idle) }
+  changes_up : (w : Wire State) (up : List (Numbered Request)) (b : Bool) → length up ≤ length w.up + 1 → IsWithin n w → IsWithin (n + 1) (with_up w up b)
+  changes_up w up false le h = idles w h
+  changes_up w up true le h = record { sent = omega (arith, h.sent); executed = omega (arith, h.executed, le); made = omega (arith, h.made, le); starts = omega (arith, h.starts); refused = omega (arith, h.refused); idle = omega (arith, h.idle) }
 
   changes_down : (w : Wire State) (down : List (Numbered (List ℕ))) (b : Bool) → IsWithin n w → IsWithin (n + 1) (with_down w down b)
   changes_down w down false h = idles w h
@@ -70,26 +96,71 @@ module _ {Client State : Type 0} (ends : Ends State) (rule : Rule Client) (n : �
   restarts_client w (x ∷ up) down h = idles w.wire h
 
   -- a step brings at most one of each
-  pub one_more : (w : World Client State) (e : Step) → IsWithin n w.wire → IsWithin (n + 1) (happens ends rule w e).wire
-  one_more w (Send target call deadline) h = sends w target call (rule.send w.client target call deadline) h
-  one_more w Up_deliver h = delivers w.wire w.wire.up h
-  one_more w (Up_lose k) h = changes_up w.wire _ (ltb k (length w.wire.up)) h
-  one_more w (Up_repeat k) h = changes_up w.wire _ (ltb k (length w.wire.up)) h
-  one_more w Down_deliver h = hears w w.wire.down h
-  one_more w (Down_lose k) h = changes_down w.wire _ (ltb k (length w.wire.down)) h
-  one_more w (Down_repeat k) h = changes_down w.wire _ (ltb k (length w.wire.down)) h
-  one_more w (Expire now) h = more w.wire h
-  one_more w Restart_client h = restarts_client w w.wire.up w.wire.down h
-  one_more w Restart_instrument h = restarts_instrument w.wire w.wire.up w.wire.down h
-  one_more w Nothing h = idles w.wire h
+  pub one_step : (w : World Client State) (e : Step) → IsWithin n w.wire → IsWithin (n + 1) (happens ends rule w e).wire
+  one_step w (Send target call deadline) h = sends w target call (rule.send w.client target call deadline) h
+  one_step w Up_deliver h = delivers w.wire w.wire.up refl h
+  one_step w (Up_lose k) h = changes_up w.wire _ (ltb k (length w.wire.up)) (few_left k w.wire.up) h
+  one_step w (Up_repeat k) h = changes_up w.wire _ (ltb k (length w.wire.up)) (one_longer k w.wire.up) h
+  one_step w Down_deliver h = hears w w.wire.down h
+  one_step w (Down_lose k) h = changes_down w.wire _ (ltb k (length w.wire.down)) h
+  one_step w (Down_repeat k) h = changes_down w.wire _ (ltb k (length w.wire.down)) h
+  one_step w (Expire now) h = more w.wire h
+  one_step w Restart_client h = restarts_client w w.wire.up w.wire.down h
+  one_step w Restart_instrument h = restarts_instrument w.wire w.wire.up w.wire.down h
+  one_step w Nothing h = idles w.wire h
+
+  up_once : (w : Wire State) (q : List (Numbered Request)) → w.up ≡ q → 0 < length q → IsWithin n w → IsWithin n (up_delivered ends w q) × (suc (length (up_delivered ends w q).up) ≡ length q)
+  up_once w [] e some h = absurd (omega (arith, some))
+  up_once w (x ∷ rest) e some h = (answers w x rest (ends.handed w.state x.line.id x.line.call) e h, refl)
+
+  down_once : (w : World Client State) (q : List (Numbered (List ℕ))) → w.wire.down ≡ q → 0 < length q → IsWithin n w.wire → IsWithin n (down_delivered rule w q).wire × (suc (length (down_delivered rule w q).wire.down) ≡ length q)
+  down_once w [] e some h = absurd (omega (arith, some))
+  down_once w (x ∷ rest) e some h = (record { sent = h.sent; executed = h.executed; made = h.made; starts = h.starts; refused = h.refused; idle = h.idle }, refl)
+
+  -- however many lines bytes complete
+  up_all : (k : ℕ) (w : World Client State) → k ≤ length w.wire.up → IsWithin n w.wire → IsWithin n (run ends rule (replicate k Up_deliver) w).wire
+  up_all zero w le h = h
+  up_all (suc k) w le h =
+      let one = up_once w.wire w.wire.up refl (omega (arith, le)) h in
+      up_all k (happens ends rule w Up_deliver) (omega (arith, le, one.1)) one.0
+
+  down_all : (k : ℕ) (w : World Client State) → k ≤ length w.wire.down → IsWithin n w.wire → IsWithin n (run ends rule (replicate k Down_deliver) w).wire
+  down_all zero w le h = h
+  down_all (suc k) w le h =
+      let one = down_once w w.wire.down refl (omega (arith, le)) h in
+      down_all k (happens ends rule w Down_deliver) (omega (arith, le, one.1)) one.0
+
+  up_passed : (lines : List (List ℕ)) (gone k : ℕ) (w : World Client State) → length lines ≡ length w.wire.up → IsWithin n w.wire → IsWithin (n + 1) (run ends rule (passed Up_deliver lines gone k) w).wire
+  up_passed [] gone k w e h = idles w.wire h
+  up_passed (line ∷ lines) gone zero w e h = idles w.wire h
+  up_passed (line ∷ lines) gone (suc k) w e h =
+      let d = (cut (line ∷ lines) (gone + suc k)).lines in
+      more (run ends rule (replicate d Up_deliver) w).wire (up_all d w (omega (arith, cut_few (line ∷ lines) (gone + suc k), e)) h)
+
+  down_passed : (lines : List (List ℕ)) (gone k : ℕ) (w : World Client State) → length lines ≡ length w.wire.down → IsWithin n w.wire → IsWithin (n + 1) (run ends rule (passed Down_deliver lines gone k) w).wire
+  down_passed [] gone k w e h = idles w.wire h
+  down_passed (line ∷ lines) gone zero w e h = idles w.wire h
+  down_passed (line ∷ lines) gone (suc k) w e h =
+      let d = (cut (line ∷ lines) (gone + suc k)).lines in
+      more (run ends rule (replicate d Down_deliver) w).wire (down_all d w (omega (arith, cut_few (line ∷ lines) (gone + suc k), e)) h)
+
+  -- so does an event
+  pub one_event : (v : Streams Client State) (e : Event) → IsWithin n v.world.wire → IsWithin (n + 1) (flows ends rule v e).world.wire
+  one_event v (event.Send target call deadline) h = one_step v.world (Send target call deadline) h
+  one_event v event.UpDeliver h = one_step v.world Up_deliver h
+  one_event v (event.UpBytes k) h = up_passed (up_lines v.world.wire) v.up_gone k v.world (length-map v.world.wire.up _) h
+  one_event v (event.UpLose k) h = one_step v.world (at_line k v.up_gone (Up_lose k)) h
+  one_event v (event.UpRepeat k) h = one_step v.world (at_line k v.up_gone (Up_repeat k)) h
+  one_event v event.DownDeliver h = one_step v.world Down_deliver h
+  one_event v (event.DownBytes k) h = down_passed (down_lines v.world.wire) v.down_gone k v.world (length-map v.world.wire.down _) h
+  one_event v (event.DownLose k) h = one_step v.world (at_line k v.down_gone (Down_lose k)) h
+  one_event v (event.DownRepeat k) h = one_step v.world (at_line k v.down_gone (Down_repeat k)) h
+  one_event v (event.Expire now) h = one_step v.world (Expire now) h
+  one_event v event.RestartClient h = one_step v.world Restart_client h
+  one_event v event.RestartInstrument h = one_step v.world Restart_instrument h
 
 module _ {Client State : Type 0} (ends : Ends State) (rule : Rule Client) where
-  -- a run of so many steps brings at most as many of each
-  pub within_all : (es : List Step) (w : World Client State) (n : ℕ) → IsWithin n w.wire → IsWithin (n + length es) (run ends rule es w).wire
-  within_all [] w n h = let z : n ≡ n + 0 = omega arith in subst (λ m. IsWithin m w.wire) z h
-  within_all (e ∷ es) w n h = let z : n + 1 + length es ≡ n + length (e ∷ es) = omega arith in subst (λ m. IsWithin m (run ends rule es (happens ends rule w e)).wire) z (within_all es (happens ends rule w e) (n + 1) (one_more ends rule n w e h))
-
-  -- one step more at the end
-  pub run_push : (es : List Step) (e : Step) (w : World Client State) → run ends rule (es ++ e ∷ []) w ≡ happens ends rule (run ends rule es w) e
-  run_push [] e w = refl
-  run_push (x ∷ es) e w = run_push es e (happens ends rule w x)
+  -- so many events bring at most as many of each
+  pub within_all : (es : List Event) (v : Streams Client State) (n : ℕ) → IsWithin n v.world.wire → IsWithin (n + length es) (flow ends rule es v).world.wire
+  within_all [] v n h = let z : n ≡ n + 0 = omega arith in subst (λ m. IsWithin m v.world.wire) z h
+  within_all (e ∷ es) v n h = let z : n + 1 + length es ≡ n + length (e ∷ es) = omega arith in subst (λ m. IsWithin m (flow ends rule es (flows ends rule v e)).world.wire) z (within_all es (flows ends rule v e) (n + 1) (one_event ends rule n v e h))

@@ -3,29 +3,32 @@ use Rattle.std.proofs.Common.{◌≡◌, ℕ, zero, suc, ◌+◌, ◌-◌, ◌<�
 use mathlib.Core.Path.{ap₂}
 use Rattle.std.specs.Prelude.{slice_get}
 use Rattle.std.proofs.lemmas.Bool.{le-ltb, lt-ltb}
-use Rattle.std.proofs.lemmas.List.{append-nil, length-map, map-append, take-map, drop-map}
+use Rattle.std.proofs.lemmas.List.{append-nil, length-map, take-map, drop-map}
 use Rattle.std.proofs.Math.Seq.{drop-append_seam}
 use Rattle.gc_catalogue.specs.declared.call.Call.{Call}
 use Rattle.gc_client.specs.declared.pending.Pending.{Pending}
 use Rattle.gc_client.specs.declared.window.TheConstants.{WINDOW}
-use Rattle.gc_client.specs.Rule.{Settlement, Outcome, Answered, Late, Lost, pending_of, lost, met, settle}
+use Rattle.gc_client.specs.Rule.{ById, Settlement, Outcome, Answered, Late, Lost, pending_of, lost, met, settle}
+use Rattle.gc_client.specs.OneForOne.{Asked, of_settled, of_pending}
 use Rattle.gc_instrument.specs.State.{State, restarted}
 use Rattle.gc_world.specs.declared.event.Event.{Event}
-use Rattle.gc_world.specs.declared.event.Event.TheVariants.{Send, DownDeliver}
-use Rattle.gc_world.specs.Clients.{ByNumber, number_send, number_reply, by_numbers, numbers_open, run_by_ids, run_by_numbers}
-use Rattle.gc_world.specs.World.{step_of, steps_of}
-use Rattle.gc_world.specs.FirstReply.{IsSentBefore, IsInTime, IsTooLate, IsSettledAs, ended, between, DeliverySettles}
+use Rattle.gc_world.specs.declared.event.Event.TheVariants.{DownDeliver, DownBytes}
+use Rattle.gc_world.specs.declared.event.Event.TheVariants as event
+use Rattle.gc_world.specs.Clients.{ByNumber, number_send, number_reply, by_ids, by_numbers, ids_open, numbers_open, run_by_ids, streams_by_ids, streams_by_numbers}
+use Rattle.gc_world.specs.FirstReply.{IsDelivery, IsSentBefore, IsInTime, IsTooLate, IsSettledAs, ended, between, DeliverySettles}
+use Rattle.gc_world.specs.Streams.{Streams, untouched, flows}
 use Rattle.gc_world.specs.Laws.{left_by_ids}
 use Rattle.gc_world.specs.Clients.{ends}
-use Rattle.gc_world.specs.World.{Sent, Numbered, Wire, World, requested, down_delivered, happens, run}
-use Rattle.gc_world.proofs.Agree.{agree_at, sound_at, same_wire}
-use Rattle.gc_world.proofs.Counts.{run_push}
+use Rattle.gc_world.specs.World.{Sent, Numbered, Wire, World, Send, Down_deliver, requested, down_delivered, happens, run}
+use Rattle.gc_world.proofs.Agree.{Agree, agree_at, sound_at}
+use Rattle.gc_world.proofs.Flow.{taken, flow_run, flow_append, AreLevel, level_at, level_wire}
+use Rattle.gc_world.proofs.Delivering.{delivery_is}
 use Rattle.gc_world.proofs.Handing.{reads}
-use Rattle.gc_world.proofs.Marks.{touched_all, entry_all}
-use Rattle.gc_world.proofs.Moments.{in_time, too_late}
+use Rattle.gc_world.proofs.Marks.{entry_all}
+use Rattle.gc_world.proofs.Moments.{marked_all, in_time, too_late}
 use Rattle.gc_world.proofs.Options.{some_is, none_is_not}
 use Rattle.gc_world.proofs.Places.{get_map, get_push, get_seen}
-use Rattle.gc_world.proofs.Settled.{Asked, of_sent, of_settled, of_pending, whole_at}
+use Rattle.gc_world.proofs.Settled.{of_sent, whole_at}
 use Rattle.gc_world.proofs.Sound.{Sound, sound_step}
 
 -- Lists.
@@ -91,12 +94,12 @@ gained settled waiting sent n line p whole le h =
 -- The run by numbers.
 
 module _ (width : ℕ) where
-  delivered : (w : World ByNumber State) (x : Numbered (List ℕ)) (rest : List (Numbered (List ℕ))) → w.wire.down ≡ x ∷ rest → w.client.count ≤ x.number → (happens ends (by_numbers width) w (step_of DownDeliver)).wire.settled ≡ w.wire.settled ++ settle (x.number - w.client.count) x.line (drop w.client.count w.client.requests)
+  delivered : (w : World ByNumber State) (x : Numbered (List ℕ)) (rest : List (Numbered (List ℕ))) → w.wire.down ≡ x ∷ rest → w.client.count ≤ x.number → (happens ends (by_numbers width) w Down_deliver).wire.settled ≡ w.wire.settled ++ settle (x.number - w.client.count) x.line (drop w.client.count w.client.requests)
   delivered w x rest e le =
       ap (λ q. (down_delivered (by_numbers width) w q).wire.settled) e
       ∙ ap (λ old. w.wire.settled ++ (number_reply w.client x old).settlements) (le-ltb x.number w.client.count le)
 
-  delivered_again : (w : World ByNumber State) (x : Numbered (List ℕ)) (rest : List (Numbered (List ℕ))) → w.wire.down ≡ x ∷ rest → x.number < w.client.count → (happens ends (by_numbers width) w (step_of DownDeliver)).wire.settled ≡ w.wire.settled
+  delivered_again : (w : World ByNumber State) (x : Numbered (List ℕ)) (rest : List (Numbered (List ℕ))) → w.wire.down ≡ x ∷ rest → x.number < w.client.count → (happens ends (by_numbers width) w Down_deliver).wire.settled ≡ w.wire.settled
   delivered_again w x rest e lt =
       ap (λ q. (down_delivered (by_numbers width) w q).wire.settled) e
       ∙ ap (λ old. w.wire.settled ++ (number_reply w.client x old).settlements) (lt-ltb x.number w.client.count lt) ∙ append-nil w.wire.settled
@@ -106,94 +109,118 @@ module _ (width : ℕ) where
   sent_entry w target call deadline false counted more =
       ap (λ k. slice_get (w.client.requests ++ pending_of target call deadline ∷ []) k) (sym counted) ∙ get_push w.client.requests (pending_of target call deadline)
 
-  run_append : (xs ys : List _) (w : World ByNumber State) → run ends (by_numbers width) (xs ++ ys) w ≡ run ends (by_numbers width) ys (run ends (by_numbers width) xs w)
-  run_append [] ys w = refl
-  run_append (x ∷ xs) ys w = run_append xs ys (happens ends (by_numbers width) w x)
-
 module _ (width : ℕ) (narrow : width ≤ WINDOW) (opening : State) where
-  abbrev counted_by : List Event → World ByNumber State
-  counted_by events = run_by_numbers width ends (steps_of events) (restarted opening)
+  abbrev seen_by : List Event → Streams ById State
+  seen_by events = streams_by_ids width ends events (restarted opening)
 
-  sound_in : (events : List Event) → Sound width ends (λ s. Unit {0}) (counted_by events)
-  sound_in events = sound_at width narrow ends (λ s. Unit {0}) reads (steps_of events) (restarted opening) tt
+  abbrev counted_by : List Event → Streams ByNumber State
+  counted_by events = streams_by_numbers width ends events (restarted opening)
 
-  wire_in : (events : List Event) → left_by_ids width opening events ≡ (counted_by events).wire
-  wire_in events = same_wire width narrow ends (λ s. Unit {0}) reads (steps_of events) (restarted opening) tt
+  level : (events : List Event) → AreLevel width narrow ends (λ s. Unit {0}) reads (restarted opening) tt (seen_by events) (counted_by events)
+  level events = level_at width narrow ends (λ s. Unit {0}) reads (restarted opening) tt events
 
-  counted_more : (events : List Event) (e : Event) → counted_by (events ++ e ∷ []) ≡ happens ends (by_numbers width) (counted_by events) (step_of e)
-  counted_more events e =
-      ap (λ es. run ends (by_numbers width) es (numbers_open (restarted opening))) (map-append step_of events (e ∷ []))
-      ∙ run_push ends (by_numbers width) (steps_of events) (step_of e) (numbers_open (restarted opening))
+  sound_in : (events : List Event) → Sound width ends (λ s. Unit {0}) (counted_by events).world
+  sound_in events = subst (Sound width ends (λ s. Unit {0})) (sym (level events).numbers) (sound_at width narrow ends (λ s. Unit {0}) reads (level events).steps (restarted opening) tt)
+
+  wire_in : (events : List Event) → left_by_ids width opening events ≡ (counted_by events).world.wire
+  wire_in events = level_wire width narrow ends (λ s. Unit {0}) reads (restarted opening) tt (seen_by events) (counted_by events) (level events)
+
+  counted_more : (events : List Event) (e : Event) → counted_by (events ++ e ∷ []) ≡ flows ends (by_numbers width) (counted_by events) e
+  counted_more events e = flow_append ends (by_numbers width) events (e ∷ []) (untouched (numbers_open (restarted opening)))
 
   -- what the client that is told the numbers has of request n, while it isn't settled
-  entry : (events : List Event) (n deadline : ℕ) (later : List Event) (s : IsSentBefore width opening events n deadline later) → length (left_by_ids width opening events).settled ≤ n → slice_get (counted_by events).client.requests n ≡ Some (touched_all (steps_of later) (pending_of s.target s.call deadline))
+  -- the streams behind the send of a request
+  abbrev behind : (earlier : List Event) (target : ℕ) (call : Call) (deadline : ℕ) → Streams ByNumber State
+  behind earlier target call deadline = flows ends (by_numbers width) (counted_by earlier) (event.Send target call deadline)
+
+  abbrev mark_of : (earlier : List Event) (target : ℕ) (call : Call) (deadline : ℕ) (later : List Event) → Pending
+  mark_of earlier target call deadline later = marked_all ends (by_numbers width) later (behind earlier target call deadline) (pending_of target call deadline)
+
+  entry : (events : List Event) (n deadline : ℕ) (later : List Event) (s : IsSentBefore width opening events n deadline later) → length (left_by_ids width opening events).settled ≤ n → slice_get (counted_by events).world.client.requests n ≡ Some (mark_of s.earlier s.target s.call deadline later)
   entry events n deadline later s le =
-      let e : Event = Send s.target s.call deadline in
-      let v = counted_by s.earlier in
-      let w = happens ends (by_numbers width) v (step_of e) in
+      let e : Event = event.Send s.target s.call deadline in
+      let v = (counted_by s.earlier).world in
+      let b = behind s.earlier s.target s.call deadline in
+      let w = b.world in
+      let steps = taken ends (by_numbers width) later b in
       let here : length v.wire.sent ≡ n = ap (λ (u : Wire State). length u.sent) (sym (wire_in s.earlier)) ∙ s.number in
       let more : length w.wire.sent ≡ length v.wire.sent + 1 =
-      ap (λ (u : World ByNumber State). length u.wire.sent) (sym (counted_more s.earlier e)) ∙ ap (λ (u : Wire State). length u.sent) (sym (wire_in (s.earlier ++ e ∷ [])))
+      ap (λ (u : Streams ByNumber State). length u.world.wire.sent) (sym (counted_more s.earlier e)) ∙ ap (λ (u : Wire State). length u.sent) (sym (wire_in (s.earlier ++ e ∷ [])))
       ∙ s.taken ∙ ap (λ m. m + 1) (sym here) in
       let full = eqb (length v.client.requests - v.client.count) width in
       let at : slice_get w.client.requests n ≡ Some (pending_of s.target s.call deadline) =
       ap (slice_get w.client.requests) (sym here) ∙ sent_entry width v s.target s.call deadline full (sound_in s.earlier).counted more in
-      let whole : counted_by events ≡ run ends (by_numbers width) (steps_of later) w =
-      ap (λ es. run ends (by_numbers width) (steps_of es) (numbers_open (restarted opening))) s.order
-      ∙ ap (λ es. run ends (by_numbers width) es (numbers_open (restarted opening))) (map-append step_of s.earlier (e ∷ later))
-      ∙ run_append width (steps_of s.earlier) (step_of e ∷ steps_of later) (numbers_open (restarted opening)) in
-      let unsettled : (counted_by events).client.count ≤ n = omega (arith, (sound_in events).booked, ap (λ (u : Wire State). length u.settled) (wire_in events), le) in
-      subst (λ (u : World ByNumber State). slice_get u.client.requests n ≡ Some (touched_all (steps_of later) (pending_of s.target s.call deadline))) (sym whole)
-      (entry_all width ends (λ s. Unit {0}) reads (steps_of later) w n (pending_of s.target s.call deadline)
-      (sound_step width ends (λ s. Unit {0}) reads v (step_of e) (sound_in s.earlier)) at (subst (λ (u : World ByNumber State). u.client.count ≤ n) whole unsettled))
+      let whole : (counted_by events).world ≡ run ends (by_numbers width) steps w =
+      ap (λ es. (counted_by es).world) s.order
+      ∙ ap (λ (u : Streams ByNumber State). u.world) (flow_append ends (by_numbers width) s.earlier (e ∷ later) (untouched (numbers_open (restarted opening))))
+      ∙ flow_run ends (by_numbers width) later b in
+      let unsettled : (counted_by events).world.client.count ≤ n = omega (arith, (sound_in events).booked, ap (λ (u : Wire State). length u.settled) (wire_in events), le) in
+      subst (λ (u : World ByNumber State). slice_get u.client.requests n ≡ Some (mark_of s.earlier s.target s.call deadline later)) (sym whole)
+      (entry_all width ends (λ s. Unit {0}) reads steps w n (pending_of s.target s.call deadline)
+      (sound_step width ends (λ s. Unit {0}) reads v (Send s.target s.call deadline) (sound_in s.earlier)) at (subst (λ (u : World ByNumber State). u.client.count ≤ n) whole unsettled))
+
+  -- what is settled behind a delivery
+  delivered_by : (events : List Event) (delivery : Event) → IsDelivery (seen_by events) delivery → (x : Numbered (List ℕ)) (rest : List (Numbered (List ℕ))) → (left_by_ids width opening events).down ≡ x ∷ rest → (left_by_ids width opening (events ++ delivery ∷ [])).settled ≡ (happens ends (by_numbers width) (counted_by events).world Down_deliver).wire.settled
+  delivered_by events delivery is x rest front =
+      let one : left_by_ids width opening (events ++ delivery ∷ []) ≡ left_by_ids width opening (events ++ DownDeliver ∷ []) =
+      ap (λ (v : Streams ById State). v.world.wire)
+      (flow_append ends (by_ids width ends) events (delivery ∷ []) (untouched (ids_open (restarted opening)))
+      ∙ delivery_is ends (by_ids width ends) (seen_by events) delivery is
+      ∙ sym (flow_append ends (by_ids width ends) events (DownDeliver ∷ []) (untouched (ids_open (restarted opening))))) in
+      ap (λ (u : Wire State). u.settled) (one ∙ wire_in (events ++ DownDeliver ∷ [])) ∙ ap (λ (u : Streams ByNumber State). u.world.wire.settled) (counted_more events DownDeliver)
 
   -- the delivery settles the request as its mark says
-  settled_at : (events : List Event) (n : ℕ) (line : List ℕ) (p : Pending) → slice_get (counted_by events).client.requests n ≡ Some p → DeliverySettles width opening events n line (outcome_of p line)
-  settled_at events n line p h next =
-      let a = run_by_ids width ends (steps_of events) (restarted opening) in
-      let b = counted_by events in
-      let agree = agree_at width narrow ends (λ s. Unit {0}) reads (steps_of events) (restarted opening) tt in
+  settled_at : (events : List Event) (n : ℕ) (line : List ℕ) (p : Pending) → slice_get (counted_by events).world.client.requests n ≡ Some p → DeliverySettles width opening events n line (outcome_of p line)
+  settled_at events n line p h delivery is next =
+      let l = level events in
+      let a = run_by_ids width ends l.steps (restarted opening) in
+      let same : (seen_by events).world ≡ a = l.ids in
+      let b = (counted_by events).world in
+      let agree = subst (Agree width narrow ends (λ s. Unit {0}) a) (sym l.numbers) (agree_at width narrow ends (λ s. Unit {0}) reads l.steps (restarted opening) tt) in
+      let front : a.wire.down ≡ record { number = n; line = line } ∷ next.behind = ap (λ (u : World ById State). u.wire.down) (sym same) ∙ next.front in
+      let unsettled : length a.wire.settled ≤ n = subst (λ (u : World ById State). length u.wire.settled ≤ n) same next.unsettled in
       let count : b.client.count ≡ length a.wire.settled = sym (sound_in events).booked ∙ ap (λ (u : Wire State). length u.settled) (sym agree.wire) in
       let window = agree.client.window in
       let place : slice_get a.client.waiting (n - length a.wire.settled) ≡ Some p =
       ap (λ m. slice_get a.client.waiting (n - m)) (sym count) ∙ ap (λ ps. slice_get ps (n - b.client.count)) window
-      ∙ slice_drop b.client.count b.client.requests n (omega (arith, count, next.unsettled)) ∙ h in
-      let gain = gained a.wire.settled a.client.waiting a.wire.sent n line p (whole_at width ends (steps_of events) (restarted opening)) next.unsettled place in
+      ∙ slice_drop b.client.count b.client.requests n (omega (arith, count, unsettled)) ∙ h in
+      let gain = gained a.wire.settled a.client.waiting a.wire.sent n line p (whole_at width ends l.steps (restarted opening)) unsettled place in
       let x : Numbered (List ℕ) = record { number = n; line = line } in
-      let down : b.wire.down ≡ x ∷ next.behind = ap (λ (u : Wire State). u.down) (sym agree.wire) ∙ next.front in
-      let after : (left_by_ids width opening (events ++ DownDeliver ∷ [])).settled ≡ b.wire.settled ++ settle (n - b.client.count) line (drop b.client.count b.client.requests) =
-      ap (λ (u : Wire State). u.settled) (wire_in (events ++ DownDeliver ∷ [])) ∙ ap (λ (u : World ByNumber State). u.wire.settled) (counted_more events DownDeliver)
-      ∙ delivered width b x next.behind down (omega (arith, count, next.unsettled)) in
-      record {
+      let down : b.wire.down ≡ x ∷ next.behind = ap (λ (u : Wire State). u.down) (sym agree.wire) ∙ front in
+      let after : (left_by_ids width opening (events ++ delivery ∷ [])).settled ≡ b.wire.settled ++ settle (n - b.client.count) line (drop b.client.count b.client.requests) =
+      delivered_by events delivery is x next.behind next.front
+      ∙ delivered width b x next.behind down (omega (arith, count, unsettled)) in
+      subst (λ (u : World ById State). IsSettledAs u.wire (left_by_ids width opening (events ++ delivery ∷ [])) n (outcome_of p line)) (sym same)
+      (record {
         request = gain.request;
         found = gain.found;
         settled =
             after ∙ ap₂ (λ (u : Wire State) (ps : List Pending). u.settled ++ settle (n - b.client.count) line ps) (sym agree.wire) (sym window)
             ∙ ap (λ m. a.wire.settled ++ settle (n - m) line a.client.waiting) count ∙ ap (λ l. a.wire.settled ++ l) gain.gained
             ∙ sym (append_assoc a.wire.settled (map (ended Lost) (between (length a.wire.settled) n a.wire.sent)) (ended (outcome_of p line) gain.request ∷ []));
-      }
+      })
 
   pub books : (events : List Event) (n : ℕ) (line : List ℕ) → IsInTime width opening events n → DeliverySettles width opening events n line (Answered line)
-  books events n line t next =
+  books events n line t delivery is next =
       let s = t.sent in
-      let p = touched_all (steps_of t.later) (pending_of s.target s.call t.deadline) in
-      subst (λ b. IsSettledAs (left_by_ids width opening events) (left_by_ids width opening (events ++ DownDeliver ∷ [])) n (cond b Late (Answered line)))
-      (in_time t.later (pending_of s.target s.call t.deadline) refl t.early)
-      (settled_at events n line p (entry events n t.deadline t.later s next.unsettled) next)
+      let p = mark_of s.earlier s.target s.call t.deadline t.later in
+      subst (λ b. IsSettledAs (left_by_ids width opening events) (left_by_ids width opening (events ++ delivery ∷ [])) n (cond b Late (Answered line)))
+      (in_time ends (by_numbers width) t.later (behind s.earlier s.target s.call t.deadline) (pending_of s.target s.call t.deadline) refl t.early)
+      (settled_at events n line p (entry events n t.deadline t.later s next.unsettled) delivery is next)
 
   pub is_late : (events : List Event) (n : ℕ) (line : List ℕ) → IsTooLate width opening events n → DeliverySettles width opening events n line Late
-  is_late events n line t next =
+  is_late events n line t delivery is next =
       let s = t.sent in
-      let p = touched_all (steps_of t.later) (pending_of s.target s.call t.deadline) in
-      subst (λ b. IsSettledAs (left_by_ids width opening events) (left_by_ids width opening (events ++ DownDeliver ∷ [])) n (cond b Late (Answered line)))
-      (too_late t.later (pending_of s.target s.call t.deadline) t.now t.told t.reached)
-      (settled_at events n line p (entry events n t.deadline t.later s next.unsettled) next)
+      let p = mark_of s.earlier s.target s.call t.deadline t.later in
+      subst (λ b. IsSettledAs (left_by_ids width opening events) (left_by_ids width opening (events ++ delivery ∷ [])) n (cond b Late (Answered line)))
+      (too_late ends (by_numbers width) t.later (behind s.earlier s.target s.call t.deadline) (pending_of s.target s.call t.deadline) t.now t.told t.reached)
+      (settled_at events n line p (entry events n t.deadline t.later s next.unsettled) delivery is next)
 
-  pub no_second : (events : List Event) (n : ℕ) (line : List ℕ) (behind : List (Numbered (List ℕ))) → (left_by_ids width opening events).down ≡ record { number = n; line = line } ∷ behind → n < length (left_by_ids width opening events).settled → (left_by_ids width opening (events ++ DownDeliver ∷ [])).settled ≡ (left_by_ids width opening events).settled
-  no_second events n line behind front lt =
-      let b = counted_by events in
+  pub no_second : (events : List Event) (n : ℕ) (line : List ℕ) (rest : List (Numbered (List ℕ))) (delivery : Event) → IsDelivery (seen_by events) delivery → (left_by_ids width opening events).down ≡ record { number = n; line = line } ∷ rest → n < length (left_by_ids width opening events).settled → (left_by_ids width opening (events ++ delivery ∷ [])).settled ≡ (left_by_ids width opening events).settled
+  no_second events n line rest delivery is front lt =
+      let b = (counted_by events).world in
       let same = sym (wire_in events) in
       let x : Numbered (List ℕ) = record { number = n; line = line } in
       let old : n < b.client.count = omega (arith, (sound_in events).booked, ap (λ (u : Wire State). length u.settled) same, lt) in
-      ap (λ (u : Wire State). u.settled) (wire_in (events ++ DownDeliver ∷ [])) ∙ ap (λ (u : World ByNumber State). u.wire.settled) (counted_more events DownDeliver)
-      ∙ delivered_again width b x behind (ap (λ (u : Wire State). u.down) same ∙ front) old ∙ ap (λ (u : Wire State). u.settled) same
+      delivered_by events delivery is x rest front
+      ∙ delivered_again width b x rest (ap (λ (u : Wire State). u.down) same ∙ front) old ∙ ap (λ (u : Wire State). u.settled) same

@@ -5,13 +5,19 @@ pub mod Rows
 pub mod Stable
 pub mod Sound
 pub mod Agree
+pub mod Flow
 pub mod Settled
 pub mod Booked
 pub mod Replay
 pub mod Execution
 pub mod Runs
 pub mod Queues
+pub mod Pieces
+pub mod Streaming
 pub mod Showing
+pub mod Shown
+pub mod Handed
+pub mod HandedDown
 pub mod Counts
 pub mod Turns
 pub mod Sparing
@@ -22,4 +28,6 @@ pub mod Width
 pub mod Marks
 pub mod Moments
 pub mod Sends
+pub mod Delivering
+pub mod Additive
 pub mod FirstReply

@@ -1,10 +1,14 @@
 -- A request that waits is given up exactly by a moment at or past its deadline.
-use Rattle.std.proofs.Common.{◌≡◌, ℕ, zero, suc, ◌<◌, ◌≤◌, ◌||◌, Bool, true, false, List, [], ◌∷◌, ◌⊎◌, inl, inr, Contains, refl, sym, ◌∙◌, ap, subst, arith, leb}
+use Rattle.std.proofs.Common.{◌≡◌, ℕ, zero, suc, ◌+◌, ◌<◌, ◌≤◌, ◌||◌, Bool, true, false, cond, List, [], ◌∷◌, ◌++◌, ◌⊎◌, inl, inr, Contains, refl, sym, ◌∙◌, ap, subst, arith, leb}
+use Rattle.std.specs.Prelude.{replicate}
 use Rattle.std.proofs.lemmas.Bool.{le-leb, lt-leb, leb-true, leb-false}
 use Rattle.gc_client.specs.declared.pending.Pending.{Pending}
 use Rattle.gc_world.specs.declared.event.Event.{Event}
-use Rattle.gc_world.specs.declared.event.Event.TheVariants.{Send, UpDeliver, UpLose, UpRepeat, DownDeliver, DownLose, DownRepeat, Expire, RestartClient, RestartInstrument}
-use Rattle.gc_world.specs.World.{step_of, steps_of}
+use Rattle.gc_world.specs.declared.event.Event.TheVariants.{Send, UpDeliver, UpBytes, UpLose, UpRepeat, DownDeliver, DownBytes, DownLose, DownRepeat, Expire, RestartClient, RestartInstrument}
+use Rattle.gc_world.specs.Streams.{Streams, passed, cut, is_begun, course_on, flows}
+use Rattle.gc_world.specs.World
+use Rattle.gc_world.specs.World.{Ends, Rule, Step, Up_deliver, Up_lose, Up_repeat, Down_deliver, Down_lose, Down_repeat}
+use Rattle.gc_world.proofs.Flow.{taken}
 use Rattle.gc_world.proofs.Marks.{touched, touched_all}
 
 -- what an event does to the mark of a request that waits
@@ -28,23 +32,54 @@ or_false : (b : Bool) → b || false ≡ b
 or_false true = refl
 or_false false = refl
 
-touch : (e : Event) (p : Pending) → IsTouched e p (touched (step_of e) p)
-touch (Expire now) p =
-    record {
-      deadline = refl;
-      stays = λ g. ap (λ b. b || leb p.deadline now) g;
-      early = λ g h. ap (λ b. p.given_up || b) (lt-leb _ _ (h now refl)) ∙ or_false p.given_up ∙ g;
-      reached = λ m is le. ap (λ b. p.given_up || b) (le-leb p.deadline now (omega (arith, moment_is now m is, le))) ∙ or_true p.given_up;
-    }
-touch (Send target call deadline) p = tells_none (Send target call deadline) p (λ now is. cc)
-touch UpDeliver p = tells_none UpDeliver p (λ now is. cc)
-touch (UpLose k) p = tells_none (UpLose k) p (λ now is. cc)
-touch (UpRepeat k) p = tells_none (UpRepeat k) p (λ now is. cc)
-touch DownDeliver p = tells_none DownDeliver p (λ now is. cc)
-touch (DownLose k) p = tells_none (DownLose k) p (λ now is. cc)
-touch (DownRepeat k) p = tells_none (DownRepeat k) p (λ now is. cc)
-touch RestartClient p = tells_none RestartClient p (λ now is. cc)
-touch RestartInstrument p = tells_none RestartInstrument p (λ now is. cc)
+-- steps that touch nothing
+abbrev IsQuiet : Step → Type 0
+IsQuiet step = (p : Pending) → touched step p ≡ p
+
+quiet_line : (k gone : ℕ) (step : Step) (p : Pending) (b : Bool) → IsQuiet step → touched_all (cond b World.Nothing step ∷ []) p ≡ p
+quiet_line k gone step p true q = refl
+quiet_line k gone step p false q = q p
+
+quiet_all : (step : Step) (k : ℕ) (p : Pending) → IsQuiet step → touched_all (replicate k step) p ≡ p
+quiet_all step zero p q = refl
+quiet_all step (suc k) p q = ap (touched_all (replicate k step)) (q p) ∙ quiet_all step k p q
+
+quiet_passed : (step : Step) (lines : List (List ℕ)) (gone k : ℕ) (p : Pending) → IsQuiet step → touched_all (passed step lines gone k) p ≡ p
+quiet_passed step [] gone k p q = refl
+quiet_passed step (line ∷ lines) gone zero p q = refl
+quiet_passed step (line ∷ lines) gone (suc k) p q = quiet_all step (cut (line ∷ lines) (gone + suc k)).lines p q
+
+touched_append : (xs ys : List Step) (p : Pending) → touched_all (xs ++ ys) p ≡ touched_all ys (touched_all xs p)
+touched_append [] ys p = refl
+touched_append (x ∷ xs) ys p = touched_append xs ys (touched x p)
+
+still : (e : Event) (p q : Pending) → q ≡ p → IsTouched e p p → IsTouched e p q
+still e p q is h = subst (λ x. IsTouched e p x) (sym is) h
+
+module _ {Client State : Type 0} (ends : Ends State) (rule : Rule Client) where
+  -- what an event on these streams leaves of a request that waits
+  abbrev pub marked : Streams Client State → Event → Pending → Pending
+  marked v e p = touched_all (course_on v e).steps p
+
+  touch : (v : Streams Client State) (e : Event) (p : Pending) → IsTouched e p (marked v e p)
+  touch v (Expire now) p =
+      record {
+        deadline = refl;
+        stays = λ g. ap (λ b. b || leb p.deadline now) g;
+        early = λ g h. ap (λ b. p.given_up || b) (lt-leb _ _ (h now refl)) ∙ or_false p.given_up ∙ g;
+        reached = λ m is le. ap (λ b. p.given_up || b) (le-leb p.deadline now (omega (arith, moment_is now m is, le))) ∙ or_true p.given_up;
+      }
+  touch v (Send target call deadline) p = tells_none (Send target call deadline) p (λ now is. cc)
+  touch v UpDeliver p = tells_none UpDeliver p (λ now is. cc)
+  touch v (UpBytes k) p = still (UpBytes k) p _ (quiet_passed Up_deliver _ v.up_gone k p (λ x. refl)) (tells_none (UpBytes k) p (λ now is. cc))
+  touch v (UpLose k) p = still (UpLose k) p _ (quiet_line k v.up_gone (Up_lose k) p (is_begun k v.up_gone) (λ x. refl)) (tells_none (UpLose k) p (λ now is. cc))
+  touch v (UpRepeat k) p = still (UpRepeat k) p _ (quiet_line k v.up_gone (Up_repeat k) p (is_begun k v.up_gone) (λ x. refl)) (tells_none (UpRepeat k) p (λ now is. cc))
+  touch v DownDeliver p = tells_none DownDeliver p (λ now is. cc)
+  touch v (DownBytes k) p = still (DownBytes k) p _ (quiet_passed Down_deliver _ v.down_gone k p (λ x. refl)) (tells_none (DownBytes k) p (λ now is. cc))
+  touch v (DownLose k) p = still (DownLose k) p _ (quiet_line k v.down_gone (Down_lose k) p (is_begun k v.down_gone) (λ x. refl)) (tells_none (DownLose k) p (λ now is. cc))
+  touch v (DownRepeat k) p = still (DownRepeat k) p _ (quiet_line k v.down_gone (Down_repeat k) p (is_begun k v.down_gone) (λ x. refl)) (tells_none (DownRepeat k) p (λ now is. cc))
+  touch v RestartClient p = tells_none RestartClient p (λ now is. cc)
+  touch v RestartInstrument p = tells_none RestartInstrument p (λ now is. cc)
 
 module _ {A : Type 0} where
   at_head : (x y : A) (xs : List A) → x ≡ y → Contains (x ∷ xs) y
@@ -60,29 +95,39 @@ module _ {A : Type 0} where
   none_in : (y : A) → Contains [] y → ⊥
   none_in y (k, lt, is) = absurd (omega (arith, lt))
 
-stays_marked : (es : List Event) (p : Pending) → p.given_up ≡ true → (touched_all (steps_of es) p).given_up ≡ true
-stays_marked [] p g = g
-stays_marked (e ∷ es) p g = stays_marked es (touched (step_of e) p) ((touch e p).stays g)
+module _ {Client State : Type 0} (ends : Ends State) (rule : Rule Client) where
+  -- what these events leave of it
+  abbrev pub marked_all : List Event → Streams Client State → Pending → Pending
+  marked_all es v p = touched_all (taken ends rule es v) p
 
--- no moment reached the deadline
-pub in_time : (es : List Event) (p : Pending) → p.given_up ≡ false → ((now : ℕ) → Contains es (Expire now) → now < p.deadline) → (touched_all (steps_of es) p).given_up ≡ false
-in_time [] p g h = g
-in_time (e ∷ es) p g h =
-    let t = touch e p in
-    in_time es (touched (step_of e) p) (t.early g (λ now is. h now (at_head e (Expire now) es is)))
-    (λ now has. subst (λ d. now < d) (sym t.deadline) (h now (at_tail e (Expire now) es has)))
+  marked_more : (e : Event) (es : List Event) (v : Streams Client State) (p : Pending) → marked_all (e ∷ es) v p ≡ marked_all es (flows ends rule v e) (marked ends rule v e p)
+  marked_more e es v p = touched_append (course_on v e).steps (taken ends rule es (flows ends rule v e)) p
 
-late_by : (e : Event) (es : List Event) (p : Pending) (now : ℕ) → p.deadline ≤ now → (Contains es (Expire now) → (touched_all (steps_of es) (touched (step_of e) p)).given_up ≡ true) → (e ≡ Expire now) ⊎ Contains es (Expire now) → (touched_all (steps_of es) (touched (step_of e) p)).given_up ≡ true
-late_by e es p now le rest (inl is) = stays_marked es (touched (step_of e) p) ((touch e p).reached now is le)
-late_by e es p now le rest (inr has) = rest has
+  stays_marked : (es : List Event) (v : Streams Client State) (p : Pending) → p.given_up ≡ true → (marked_all es v p).given_up ≡ true
+  stays_marked [] v p g = g
+  stays_marked (e ∷ es) v p g = ap (λ (q : Pending). q.given_up) (marked_more e es v p) ∙ stays_marked es (flows ends rule v e) (marked ends rule v e p) ((touch ends rule v e p).stays g)
 
--- one did
-pub too_late : (es : List Event) (p : Pending) (now : ℕ) → Contains es (Expire now) → p.deadline ≤ now → (touched_all (steps_of es) p).given_up ≡ true
-too_late [] p now has le = absurd (none_in (Expire now) has)
-too_late (e ∷ es) p now has le =
-    late_by e es p now le
-    (λ more. too_late es (touched (step_of e) p) now more (subst (λ d. d ≤ now) (sym (touch e p).deadline) le))
-    (head_or_tail e (Expire now) es has)
+  -- no moment reached the deadline
+  pub in_time : (es : List Event) (v : Streams Client State) (p : Pending) → p.given_up ≡ false → ((now : ℕ) → Contains es (Expire now) → now < p.deadline) → (marked_all es v p).given_up ≡ false
+  in_time [] v p g h = g
+  in_time (e ∷ es) v p g h =
+      let t = touch ends rule v e p in
+      ap (λ (q : Pending). q.given_up) (marked_more e es v p)
+      ∙ in_time es (flows ends rule v e) (marked ends rule v e p) (t.early g (λ now is. h now (at_head e (Expire now) es is)))
+      (λ now has. subst (λ d. now < d) (sym t.deadline) (h now (at_tail e (Expire now) es has)))
+
+  late_by : (e : Event) (es : List Event) (v : Streams Client State) (p : Pending) (now : ℕ) → p.deadline ≤ now → (Contains es (Expire now) → (marked_all es (flows ends rule v e) (marked ends rule v e p)).given_up ≡ true) → (e ≡ Expire now) ⊎ Contains es (Expire now) → (marked_all es (flows ends rule v e) (marked ends rule v e p)).given_up ≡ true
+  late_by e es v p now le rest (inl is) = stays_marked es (flows ends rule v e) (marked ends rule v e p) ((touch ends rule v e p).reached now is le)
+  late_by e es v p now le rest (inr has) = rest has
+
+  -- one did
+  pub too_late : (es : List Event) (v : Streams Client State) (p : Pending) (now : ℕ) → Contains es (Expire now) → p.deadline ≤ now → (marked_all es v p).given_up ≡ true
+  too_late [] v p now has le = absurd (none_in (Expire now) has)
+  too_late (e ∷ es) v p now has le =
+      ap (λ (q : Pending). q.given_up) (marked_more e es v p)
+      ∙ late_by e es v p now le
+      (λ more. too_late es (flows ends rule v e) (marked ends rule v e p) now more (subst (λ d. d ≤ now) (sym (touch ends rule v e p).deadline) le))
+      (head_or_tail e (Expire now) es has)
 
 -- an event by itself
 abbrev Early : ℕ → Event → Type 0
@@ -99,9 +144,11 @@ event_tells : (deadline : ℕ) (e : Event) → Early deadline e ⊎ Reaches dead
 event_tells deadline (Expire now) = moment_tells deadline now (leb deadline now) refl
 event_tells deadline (Send target call d) = inl (λ now is. cc)
 event_tells deadline UpDeliver = inl (λ now is. cc)
+event_tells deadline (UpBytes k) = inl (λ now is. cc)
 event_tells deadline (UpLose k) = inl (λ now is. cc)
 event_tells deadline (UpRepeat k) = inl (λ now is. cc)
 event_tells deadline DownDeliver = inl (λ now is. cc)
+event_tells deadline (DownBytes k) = inl (λ now is. cc)
 event_tells deadline (DownLose k) = inl (λ now is. cc)
 event_tells deadline (DownRepeat k) = inl (λ now is. cc)
 event_tells deadline RestartClient = inl (λ now is. cc)

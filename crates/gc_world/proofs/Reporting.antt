@@ -122,7 +122,7 @@ module _ (r : Report) (w : Wire State) (h : IsReport r w) where
   no_longer n few one =
       record {
         sent = omega (arith, sent_length, few.sent);
-        executed = subst (λ l. length l ≤ n) (sym h.executed) few.executed;
+        executed = omega (arith, ap length h.executed, few.executed);
         made = omega (arith, made_length, few.made);
         settled = omega (arith, sent_length, few.sent, one.count);
         starts = subst (λ l. length l ≤ n) (sym h.starts) few.starts;

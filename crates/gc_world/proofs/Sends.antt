@@ -1,20 +1,22 @@
 -- Each request that was sent has its send in the list of events.
-use Rattle.std.proofs.Common.{◌≡◌, ℕ, ◌+◌, ◌<◌, ◌≤◌, Bool, true, false, List, [], ◌∷◌, ◌++◌, length, Option, Some, None, ◌⊎◌, inl, inr, Contains, refl, sym, ◌∙◌, ap, subst, arith, append_assoc, ltb, eqb}
+use Rattle.std.proofs.Common.{◌≡◌, ℕ, zero, suc, cond, ◌+◌, ◌<◌, ◌≤◌, Bool, true, false, List, [], ◌∷◌, ◌++◌, length, Option, Some, None, ◌⊎◌, inl, inr, Contains, refl, sym, ◌∙◌, ap, subst, arith, append_assoc, ltb, eqb}
+use Rattle.std.specs.Prelude.{replicate}
 use Rattle.std.proofs.lemmas.Bool.{eqb-true, eqb-false}
-use Rattle.std.proofs.lemmas.List.{append-nil, length_push, map-append}
+use Rattle.std.proofs.lemmas.List.{append-nil, length_push}
 use Rattle.gc_catalogue.specs.declared.call.Call.{Call}
 use Rattle.gc_catalogue.specs.Texts.{request_line}
 use Rattle.gc_client.specs.Rule.{ById, Sending}
 use Rattle.gc_instrument.specs.State.{State, restarted}
 use Rattle.gc_world.specs.declared.event.Event.{Event}
-use Rattle.gc_world.specs.declared.event.Event.TheVariants.{Send, UpDeliver, UpLose, UpRepeat, DownDeliver, DownLose, DownRepeat, Expire, RestartClient, RestartInstrument}
-use Rattle.gc_world.specs.Clients.{by_ids, ids_open, run_by_ids}
-use Rattle.gc_world.specs.World.{step_of, steps_of}
+use Rattle.gc_world.specs.declared.event.Event.TheVariants.{Send, UpDeliver, UpBytes, UpLose, UpRepeat, DownDeliver, DownBytes, DownLose, DownRepeat, Expire, RestartClient, RestartInstrument}
+use Rattle.gc_world.specs.Clients.{by_ids, ids_open, streams_by_ids}
+use Rattle.gc_world.specs.Streams.{Streams, untouched, cut, passed, is_begun, up_lines, down_lines, flows, flow}
+use Rattle.gc_world.specs.World
 use Rattle.gc_world.specs.FirstReply.{IsSentBefore, IsInTime, IsTooLate}
 use Rattle.gc_world.specs.Laws.{left_by_ids}
 use Rattle.gc_world.specs.Clients.{ends}
-use Rattle.gc_world.specs.World.{Request, Numbered, Ends, Rule, Wire, World, up_delivered, with_up, with_down, started, instrument_restarted, requested, down_delivered, client_restarted, happens, run}
-use Rattle.gc_world.proofs.Counts.{run_push}
+use Rattle.gc_world.specs.World.{Request, Numbered, Ends, Rule, Wire, World, Step, Up_deliver, Down_deliver, up_delivered, with_up, with_down, started, instrument_restarted, requested, down_delivered, client_restarted, happens, run}
+use Rattle.gc_world.proofs.Flow.{flow_append}
 use Rattle.gc_world.proofs.Moments.{AllEarly, OneReaches, tells}
 
 -- the event is a send
@@ -23,10 +25,10 @@ IsSend e = (target : ℕ) × (call : Call) × (deadline : ℕ) × (e ≡ Send ta
 
 module _ {Client S : Type 0} (ends : Ends S) (rule : Rule Client) where
   -- no event sends more than one request, and none but a send does
-  abbrev SendsOne : World Client S → Event → Type 0
-  SendsOne w e =
-      (length (happens ends rule w (step_of e)).wire.sent ≡ length w.wire.sent)
-      ⊎ (IsSend e × (length (happens ends rule w (step_of e)).wire.sent ≡ length w.wire.sent + 1))
+  abbrev SendsOne : Streams Client S → Event → Type 0
+  SendsOne v e =
+      (length (flows ends rule v e).world.wire.sent ≡ length v.world.wire.sent)
+      ⊎ (IsSend e × (length (flows ends rule v e).world.wire.sent ≡ length v.world.wire.sent + 1))
 
   at_send : (w : World Client S) (target : ℕ) (call : Call) (deadline : ℕ) (o : Option (Sending Client)) → (length (requested w target call o).wire.sent ≡ length w.wire.sent) ⊎ (IsSend (Send target call deadline) × (length (requested w target call o).wire.sent ≡ length w.wire.sent + 1))
   at_send w target call deadline None = inl refl
@@ -62,17 +64,41 @@ module _ {Client S : Type 0} (ends : Ends S) (rule : Rule Client) where
   at_instrument w [] (y ∷ down) = refl
   at_instrument w (x ∷ up) down = refl
 
-  sends_one : (w : World Client S) (e : Event) → SendsOne w e
-  sends_one w (Send target call deadline) = at_send w target call deadline (rule.send w.client target call deadline)
-  sends_one w UpDeliver = inl (ap length (at_up w.wire w.wire.up))
-  sends_one w (UpLose k) = inl (ap length (at_with_up w.wire _ (ltb k (length w.wire.up))))
-  sends_one w (UpRepeat k) = inl (ap length (at_with_up w.wire _ (ltb k (length w.wire.up))))
-  sends_one w DownDeliver = inl (ap length (at_down w w.wire.down))
-  sends_one w (DownLose k) = inl (ap length (at_with_down w.wire _ (ltb k (length w.wire.down))))
-  sends_one w (DownRepeat k) = inl (ap length (at_with_down w.wire _ (ltb k (length w.wire.down))))
-  sends_one w (Expire now) = inl refl
-  sends_one w RestartClient = inl (ap length (at_restart w w.wire.up w.wire.down))
-  sends_one w RestartInstrument = inl (ap length (at_instrument w.wire w.wire.up w.wire.down))
+  at_begun : (w : World Client S) (step : Step) (b : Bool) → (happens ends rule w step).wire.sent ≡ w.wire.sent → (happens ends rule w (cond b World.Nothing step)).wire.sent ≡ w.wire.sent
+  at_begun w step true e = refl
+  at_begun w step false e = e
+
+  up_all : (k : ℕ) (w : World Client S) → (run ends rule (replicate k Up_deliver) w).wire.sent ≡ w.wire.sent
+  up_all zero w = refl
+  up_all (suc k) w = up_all k (happens ends rule w Up_deliver) ∙ at_up w.wire w.wire.up
+
+  down_all : (k : ℕ) (w : World Client S) → (run ends rule (replicate k Down_deliver) w).wire.sent ≡ w.wire.sent
+  down_all zero w = refl
+  down_all (suc k) w = down_all k (happens ends rule w Down_deliver) ∙ at_down w w.wire.down
+
+  up_passed : (lines : List (List ℕ)) (gone k : ℕ) (w : World Client S) → (run ends rule (passed Up_deliver lines gone k) w).wire.sent ≡ w.wire.sent
+  up_passed [] gone k w = refl
+  up_passed (line ∷ lines) gone zero w = refl
+  up_passed (line ∷ lines) gone (suc k) w = up_all (cut (line ∷ lines) (gone + suc k)).lines w
+
+  down_passed : (lines : List (List ℕ)) (gone k : ℕ) (w : World Client S) → (run ends rule (passed Down_deliver lines gone k) w).wire.sent ≡ w.wire.sent
+  down_passed [] gone k w = refl
+  down_passed (line ∷ lines) gone zero w = refl
+  down_passed (line ∷ lines) gone (suc k) w = down_all (cut (line ∷ lines) (gone + suc k)).lines w
+
+  sends_one : (v : Streams Client S) (e : Event) → SendsOne v e
+  sends_one v (Send target call deadline) = at_send v.world target call deadline (rule.send v.world.client target call deadline)
+  sends_one v UpDeliver = inl (ap length (at_up v.world.wire v.world.wire.up))
+  sends_one v (UpBytes k) = inl (ap length (up_passed (up_lines v.world.wire) v.up_gone k v.world))
+  sends_one v (UpLose k) = inl (ap length (at_begun v.world (World.Up_lose k) (is_begun k v.up_gone) (at_with_up v.world.wire _ (ltb k (length v.world.wire.up)))))
+  sends_one v (UpRepeat k) = inl (ap length (at_begun v.world (World.Up_repeat k) (is_begun k v.up_gone) (at_with_up v.world.wire _ (ltb k (length v.world.wire.up)))))
+  sends_one v DownDeliver = inl (ap length (at_down v.world v.world.wire.down))
+  sends_one v (DownBytes k) = inl (ap length (down_passed (down_lines v.world.wire) v.down_gone k v.world))
+  sends_one v (DownLose k) = inl (ap length (at_begun v.world (World.Down_lose k) (is_begun k v.down_gone) (at_with_down v.world.wire _ (ltb k (length v.world.wire.down)))))
+  sends_one v (DownRepeat k) = inl (ap length (at_begun v.world (World.Down_repeat k) (is_begun k v.down_gone) (at_with_down v.world.wire _ (ltb k (length v.world.wire.down)))))
+  sends_one v (Expire now) = inl refl
+  sends_one v RestartClient = inl (ap length (at_restart v.world v.world.wire.up v.world.wire.down))
+  sends_one v RestartInstrument = inl (ap length (at_instrument v.world.wire v.world.wire.up v.world.wire.down))
 
 module _ (width : ℕ) (opening : State) (n : ℕ) where
   -- how many were sent
@@ -80,10 +106,8 @@ module _ (width : ℕ) (opening : State) (n : ℕ) where
   sent_in events = length (left_by_ids width opening events).sent
 
   -- the run by ids of one event more
-  pub left_more : (events : List Event) (e : Event) → left_by_ids width opening (events ++ e ∷ []) ≡ (happens ends (by_ids width ends) (run_by_ids width ends (steps_of events) (restarted opening)) (step_of e)).wire
-  left_more events e =
-      ap (λ es. (run ends (by_ids width ends) es (ids_open (restarted opening))).wire) (map-append step_of events (e ∷ []))
-      ∙ ap (λ (w : World _ State). w.wire) (run_push ends (by_ids width ends) (steps_of events) (step_of e) (ids_open (restarted opening)))
+  left_more : (events : List Event) (e : Event) → left_by_ids width opening (events ++ e ∷ []) ≡ (flows ends (by_ids width ends) (streams_by_ids width ends events (restarted opening)) e).world.wire
+  left_more events e = ap (λ (v : Streams ById State). v.world.wire) (flow_append ends (by_ids width ends) events (e ∷ []) (untouched (ids_open (restarted opening))))
 
   -- its send, and what came later
   abbrev pub IsSentIn : List Event → Type 0
@@ -112,7 +136,7 @@ module _ (width : ℕ) (opening : State) (n : ℕ) where
   sends_one_in : (earlier : List Event) (e : Event) → (sent_in (earlier ++ e ∷ []) ≡ sent_in earlier) ⊎ (IsSend e × (sent_in (earlier ++ e ∷ []) ≡ sent_in earlier + 1))
   sends_one_in earlier e =
       subst (λ (w : Wire State). (length w.sent ≡ sent_in earlier) ⊎ (IsSend e × (length w.sent ≡ sent_in earlier + 1))) (sym (left_more earlier e))
-      (sends_one ends (by_ids width ends) (run_by_ids width ends (steps_of earlier) (restarted opening)) e)
+      (sends_one ends (by_ids width ends) (streams_by_ids width ends earlier (restarted opening)) e)
 
   found : (earlier later : List Event) → sent_in earlier ≤ n → n < sent_in (earlier ++ later) → IsSentIn (earlier ++ later)
   found earlier [] le lt = absurd (omega (arith, le, lt, ap sent_in (append-nil earlier)))
@@ -137,36 +161,36 @@ one_or_other width opening events n lt =
 -- The send of a request stands once in the list.
 
 module _ (rule : Rule ById) (n : ℕ) where
-  abbrev runs : List Event → World ById State → World ById State
-  runs es w = run ends rule (steps_of es) w
+  abbrev runs : List Event → Streams ById State → Streams ById State
+  runs es v = flow ends rule es v
 
-  no_fewer : (w : World ById State) (e : Event) → SendsOne ends rule w e → length w.wire.sent ≤ length (happens ends rule w (step_of e)).wire.sent
+  no_fewer : (w : Streams ById State) (e : Event) → SendsOne ends rule w e → length w.world.wire.sent ≤ length (flows ends rule w e).world.wire.sent
   no_fewer w e (inl same) = omega (arith, same)
   no_fewer w e (inr (send, more)) = omega (arith, more)
 
-  sent_grows : (es : List Event) (w : World ById State) → length w.wire.sent ≤ length (runs es w).wire.sent
+  sent_grows : (es : List Event) (w : Streams ById State) → length w.world.wire.sent ≤ length (runs es w).world.wire.sent
   sent_grows [] w = omega arith
-  sent_grows (e ∷ es) w = omega (arith, no_fewer w e (sends_one ends rule w e), sent_grows es (happens ends rule w (step_of e)))
+  sent_grows (e ∷ es) w = omega (arith, no_fewer w e (sends_one ends rule w e), sent_grows es (flows ends rule w e))
 
-  one_split : (xs ys : List Event) (a b : Event) (later rest : List Event) (w : World ById State) → xs ++ a ∷ later ≡ ys ++ b ∷ rest → length (runs xs w).wire.sent ≡ n → length (runs ys w).wire.sent ≡ n → length (runs (xs ++ a ∷ []) w).wire.sent ≡ n + 1 → length (runs (ys ++ b ∷ []) w).wire.sent ≡ n + 1 → a ∷ later ≡ b ∷ rest
+  one_split : (xs ys : List Event) (a b : Event) (later rest : List Event) (w : Streams ById State) → xs ++ a ∷ later ≡ ys ++ b ∷ rest → length (runs xs w).world.wire.sent ≡ n → length (runs ys w).world.wire.sent ≡ n → length (runs (xs ++ a ∷ []) w).world.wire.sent ≡ n + 1 → length (runs (ys ++ b ∷ []) w).world.wire.sent ≡ n + 1 → a ∷ later ≡ b ∷ rest
   one_split [] [] a b later rest w e hx hy tx ty = e
   one_split [] (y ∷ ys) a b later rest w e hx hy tx ty =
       let same : a ≡ y = cc in
-      let v = happens ends rule w (step_of y) in
-      let more : length v.wire.sent ≡ n + 1 = ap (λ z. length (happens ends rule w (step_of z)).wire.sent) (sym same) ∙ tx in
+      let v = flows ends rule w y in
+      let more : length v.world.wire.sent ≡ n + 1 = ap (λ z. length (flows ends rule w z).world.wire.sent) (sym same) ∙ tx in
       absurd (omega (arith, more, sent_grows ys v, hy))
   one_split (x ∷ xs) [] a b later rest w e hx hy tx ty =
       let same : b ≡ x = cc in
-      let v = happens ends rule w (step_of x) in
-      let more : length v.wire.sent ≡ n + 1 = ap (λ z. length (happens ends rule w (step_of z)).wire.sent) (sym same) ∙ ty in
+      let v = flows ends rule w x in
+      let more : length v.world.wire.sent ≡ n + 1 = ap (λ z. length (flows ends rule w z).world.wire.sent) (sym same) ∙ ty in
       absurd (omega (arith, more, sent_grows xs v, hx))
   one_split (x ∷ xs) (y ∷ ys) a b later rest w e hx hy tx ty =
       let same : y ≡ x = cc in
       let tail : xs ++ a ∷ later ≡ ys ++ b ∷ rest = cc in
-      let v = happens ends rule w (step_of x) in
+      let v = flows ends rule w x in
       one_split xs ys a b later rest v tail hx
-      (subst (λ z. length (runs ys (happens ends rule w (step_of z))).wire.sent ≡ n) same hy) tx
-      (subst (λ z. length (runs (ys ++ b ∷ []) (happens ends rule w (step_of z))).wire.sent ≡ n + 1) same ty)
+      (subst (λ z. length (runs ys (flows ends rule w z)).world.wire.sent ≡ n) same hy) tx
+      (subst (λ z. length (runs (ys ++ b ∷ []) (flows ends rule w z)).world.wire.sent ≡ n + 1) same ty)
 
 same_deadline : (t u : ℕ) (c d : Call) (k m : ℕ) (later rest : List Event) → Send t c k ∷ later ≡ Send u d m ∷ rest → k ≡ m
 same_deadline t u c d k m later rest e = cc
@@ -180,6 +204,6 @@ never_both width opening events n a b =
     let t = b.sent in
     let x : Event = Send s.target s.call a.deadline in
     let y : Event = Send t.target t.call b.deadline in
-    let one = one_split (by_ids width ends) n s.earlier t.earlier x y a.later b.later (ids_open (restarted opening)) (sym s.order ∙ t.order) s.number t.number s.taken t.taken in
+    let one = one_split (by_ids width ends) n s.earlier t.earlier x y a.later b.later (untouched (ids_open (restarted opening))) (sym s.order ∙ t.order) s.number t.number s.taken t.taken in
     let lt : b.now < a.deadline = a.early b.now (subst (λ es. Contains es (Expire b.now)) (sym (same_later x y a.later b.later one)) b.told) in
     absurd (omega (arith, lt, b.reached, same_deadline s.target t.target s.call t.call a.deadline b.deadline a.later b.later one))

@@ -1,51 +1,21 @@
 -- What is settled and what is waiting are the requests that were sent, in order, each once.
-use Rattle.std.proofs.Common.{◌≡◌, ℕ, zero, suc, ◌+◌, Bool, true, false, List, [], ◌∷◌, ◌++◌, length, map, drop, Option, Some, None, refl, sym, ◌∙◌, ap, subst, ◌%◌, arith, append_assoc, length-append, ltb, eqb}
+use Rattle.std.proofs.Common.{◌≡◌, ℕ, zero, suc, ◌+◌, Bool, true, false, List, [], ◌∷◌, ◌++◌, length, map, Some, refl, sym, ◌∙◌, ap, subst, ◌%◌, arith, append_assoc, length-append, eqb}
 use Rattle.std.specs.Prelude.{slice_get}
 use Rattle.std.proofs.lemmas.List.{map-append, append-nil, length-map}
 use Rattle.gc_catalogue.specs.declared.call.Call.{Call}
 use Rattle.gc_client.specs.declared.pending.Pending.{Pending}
-use Rattle.gc_client.specs.Rule.{Settlement, Settled, ById, pending_of, expired, lost, settle, place, id_send, id_settled, hears}
+use Rattle.gc_client.specs.Rule.{Settlement, Settled, ById, pending_of, id_send}
 use Rattle.gc_client.specs.Rule.{Sending}
+use Rattle.gc_client.specs.OneForOne.{Asked, of_settled, of_pending}
+use Rattle.gc_client.proofs.OneForOne.{lost_parts, expired_parts, heard_parts}
 use Rattle.gc_world.specs.World.{Sent, Ends, Step, Wire, World, started, requested, with_settled, run}
 use Rattle.gc_world.specs.Clients.{by_ids, ids_open}
 use Rattle.gc_world.specs.Record.{IsOneForOne}
 use Rattle.gc_world.proofs.Stable.{IsStable, stable_all}
 use Rattle.gc_world.proofs.Options.{some_is, none_is_not}
 
--- a target and a call
-pub record Asked : Type 0 where
-  pub target : ℕ
-  pub call : Call
-
 abbrev pub of_sent : Sent → Asked
 of_sent r = record { target = r.target; call = r.call }
-
-abbrev pub of_settled : Settlement → Asked
-of_settled s = record { target = s.target; call = s.call }
-
-abbrev pub of_pending : Pending → Asked
-of_pending p = record { target = p.target; call = p.call }
-
-settle_parts : (k : ℕ) (line : List ℕ) (ps : List Pending) → map of_settled (settle k line ps) ++ map of_pending (drop (suc k) ps) ≡ map of_pending ps
-settle_parts k line [] = refl
-settle_parts zero line (p ∷ ps) = refl
-settle_parts (suc k) line (p ∷ ps) = ap (λ qs. of_pending p ∷ qs) (settle_parts k line ps)
-
-lost_parts : (ps : List Pending) → map of_settled (map lost ps) ≡ map of_pending ps
-lost_parts [] = refl
-lost_parts (p ∷ ps) = ap (λ qs. of_pending p ∷ qs) (lost_parts ps)
-
-expired_parts : (now : ℕ) (ps : List Pending) → map of_pending (map (expired now) ps) ≡ map of_pending ps
-expired_parts now [] = refl
-expired_parts now (p ∷ ps) = ap (λ qs. of_pending p ∷ qs) (expired_parts now ps)
-
-reply_parts : (c : ById) (line : List ℕ) (k : ℕ) (b : Bool) → map of_settled (id_settled c line k b).settlements ++ map of_pending (id_settled c line k b).client.waiting ≡ map of_pending c.waiting
-reply_parts c line k false = refl
-reply_parts c line k true = ap (λ n. map of_settled (settle k line c.waiting) ++ map of_pending (drop n c.waiting)) (let e : k + 1 ≡ suc k = omega arith in e) ∙ settle_parts k line c.waiting
-
-heard_parts : (c : ById) (line : List ℕ) (o : Option ℕ) → map of_settled (hears c line o).settlements ++ map of_pending (hears c line o).client.waiting ≡ map of_pending c.waiting
-heard_parts c line None = refl
-heard_parts c line (Some id) = reply_parts c line (place c.next (length c.waiting) id) (ltb (place c.next (length c.waiting) id) (length c.waiting))
 
 module _ {State : Type 0} (width : ℕ) (ends : Ends State) where
   abbrev pub Whole : World ById State → Type 0

@@ -181,7 +181,7 @@ module _ (r : Report) (up down : List ℕ) (c : ById) (w : World ById State) (h 
       (sym (doubled_map (slice_get (map made_seen r.made)) k down) ∙ ap (doubled k) h.down_is ∙ doubled_map Some k w.wire.down)
 
   -- the request in front is the one of that number
-  up_front : (n : ℕ) (rest : List ℕ) → up ≡ n ∷ rest → (y : Numbered Request) × (ys : List (Numbered Request)) × (w.wire.up ≡ y ∷ ys) × (y.number ≡ n) × (rest ≡ numbers ys)
+  pub up_front : (n : ℕ) (rest : List ℕ) → up ≡ n ∷ rest → (y : Numbered Request) × (ys : List (Numbered Request)) × (w.wire.up ≡ y ∷ ys) × (y.number ≡ n) × (rest ≡ numbers ys)
   up_front n rest e = front w.wire.up (sym h.up_is ∙ e)
     where
       front : (us : List (Numbered Request)) → numbers us ≡ n ∷ rest → (y : Numbered Request) × (ys : List (Numbered Request)) × (us ≡ y ∷ ys) × (y.number ≡ n) × (rest ≡ numbers ys)

@@ -1,29 +1,27 @@
 -- A turn of the loop that plays events.
 use Rattle.std.proofs.Common.{◌≡◌, ℕ, ◌+◌, ◌<◌, ◌≤◌, List, [], ◌∷◌, ◌++◌, length, take, get_or, sym, ◌∙◌, ap, subst, arith, length-take}
-use Rattle.std.proofs.lemmas.List.{map-append, length-map, take_more}
+use Rattle.std.proofs.lemmas.List.{take_more}
+use Rattle.gc_client.specs.declared.window.TheConstants.{WINDOW}
 use Rattle.gc_instrument.specs.State.{State}
 use Rattle.gc_world.specs.declared.event.Event.{Event}
 use Rattle.gc_world.specs.declared.report.Report.{Report}
 use Rattle.gc_world.specs.Reports.{IsReport}
-use Rattle.gc_world.specs.World.{run}
-use Rattle.gc_world.specs.Clients.{by_ids}
-use Rattle.gc_world.specs.World.{step_of, steps_of}
-use Rattle.gc_world.specs.Clients.{ends, played}
-use Rattle.gc_world.specs.Stages.{does, begins}
-use Rattle.gc_world.proofs.Counts.{IsWithin, within_all, run_push}
+use Rattle.gc_world.specs.Clients.{by_ids, ends, streamed, played}
+use Rattle.gc_world.specs.Stages.{goes_on, begins}
+use Rattle.gc_world.proofs.Counts.{IsWithin, within_all}
+use Rattle.gc_world.proofs.Flow.{flow_append}
 
 -- one event more
-pub played_more : (opening : State) (events : List Event) (i : ℕ) (e : Event) → i < length events → e ≡ get_or events i e → played opening (take (i + 1) events) ≡ does (played opening (take i events)) (step_of e)
+pub played_more : (opening : State) (events : List Event) (i : ℕ) (e : Event) → i < length events → e ≡ get_or events i e → streamed opening (take (i + 1) events) ≡ goes_on (streamed opening (take i events)) e
 played_more opening events i e lt is =
-    ap (played opening) (take_more events i e lt ∙ ap (λ x. take i events ++ x ∷ []) (sym is))
-    ∙ ap (λ es. run ends (by_ids 7 ends) es (begins opening)) (map-append step_of (take i events) (e ∷ []))
-    ∙ run_push ends (by_ids 7 ends) (steps_of (take i events)) (step_of e) (begins opening)
+    ap (streamed opening) (take_more events i e lt ∙ ap (λ x. take i events ++ x ∷ []) (sym is))
+    ∙ flow_append ends (by_ids WINDOW ends) (take i events) (e ∷ []) (begins opening)
 
 pub played_within : (opening : State) (events : List Event) → IsWithin (length events) (played opening events).wire
 played_within opening events =
-    let e : 0 + length (steps_of events) ≡ length events = omega (arith, length-map events step_of) in
+    let e : 0 + length events ≡ length events = omega arith in
     subst (λ n. IsWithin n (played opening events).wire) e
-    (within_all ends (by_ids 7 ends) (steps_of events) (begins opening) 0 (record { sent = omega arith; executed = omega arith; made = omega arith; starts = omega arith; refused = omega arith; idle = omega arith }))
+    (within_all ends (by_ids WINDOW ends) events (begins opening) 0 (record { sent = omega arith; executed = omega arith; made = omega arith; starts = omega arith; refused = omega arith; idle = omega arith }))
 
 -- a stage after so many events has counted no more
 pub counts_at : (opening : State) (events : List Event) (i : ℕ) (report : Report) → IsReport report (played opening (take i events)).wire → i ≤ length events → (report.refused_sends ≤ i) × (report.idle_events ≤ i)

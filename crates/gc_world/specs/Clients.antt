@@ -8,7 +8,8 @@ use Rattle.gc_client.specs.Rule.{Settled, Sending, ById, fresh, pending_of, expi
 use Rattle.gc_instrument.specs.Replying.{handed}
 use Rattle.gc_instrument.specs.State.{State, restarted}
 use Rattle.gc_world.specs.declared.event.Event.{Event}
-use Rattle.gc_world.specs.World.{Numbered, Ends, Rule, World, Step, opened, steps_of, run}
+use Rattle.gc_world.specs.Streams.{Streams, untouched, flow}
+use Rattle.gc_world.specs.World.{Numbered, Ends, Rule, World, Step, opened, run}
 
 -- By ids.
 
@@ -79,14 +80,25 @@ module _ {State : Type 0} where
   abbrev pub run_by_numbers : ℕ → Ends State → List Step → State → World ByNumber State
   run_by_numbers width ends steps state = run ends (by_numbers width) steps (numbers_open state)
 
+  -- the same of events, with what has gone of the front lines: a reply is delivered with its last byte
+  abbrev pub streams_by_ids : ℕ → Ends State → List Event → State → Streams ById State
+  streams_by_ids width ends events state = flow ends (by_ids width ends) events (untouched (ids_open state))
+
+  abbrev pub streams_by_numbers : ℕ → Ends State → List Event → State → Streams ByNumber State
+  streams_by_numbers width ends events state = flow ends (by_numbers width) events (untouched (numbers_open state))
+
 -- the two ends: the simulated instrument, and a client that reads replies by their grammar
 abbrev pub ends : Ends State
 ends = record { handed = handed; restarted = restarted; heard = heard; joint = false }
 
--- the run by ids of these events, from the restarted opening state, with the client's window
+-- the streams that the run by ids of these events leaves, from the restarted opening state, with the client's window
+abbrev pub streamed : State → List Event → Streams ById State
+streamed opening events = streams_by_ids WINDOW ends events (restarted opening)
+
+-- the world that it leaves
 abbrev pub played : State → List Event → World ById State
-played opening events = run_by_ids WINDOW ends (steps_of events) (restarted opening)
+played opening events = (streamed opening events).world
 
 -- the run by numbers of the same events
 abbrev pub played_by_numbers : State → List Event → World ByNumber State
-played_by_numbers opening events = run_by_numbers WINDOW ends (steps_of events) (restarted opening)
+played_by_numbers opening events = (streams_by_numbers WINDOW ends events (restarted opening)).world

@@ -3,15 +3,19 @@
 -- "First": the first of the replies to a request that is delivered. A reply that finds its request unsettled is the first,
 -- since it settles it; a further one settles nothing. "Unsettled": the request's number isn't below the count of the
 -- settlements so far. "In time": since the request was sent the client wasn't told a moment at or past its deadline.
+-- "Delivered": its last byte goes over. Where one event hands over several replies, each is delivered in turn: the law that
+-- bytes go over in turn cuts such an event into one delivery for each.
 -- The width is that of the window; `play` has the width `WINDOW`.
 use Rattle.std.specs.Prelude.{◌≡◌, ◌⊎◌, ℕ, ◌+◌, ◌-◌, ◌<◌, ◌≤◌, List, [], ◌∷◌, ◌++◌, length, map, take, drop, Some, slice_get, Contains}
 use Rattle.gc_catalogue.specs.declared.call.Call.{Call}
 use Rattle.gc_client.specs.declared.window.TheConstants.{WINDOW}
-use Rattle.gc_client.specs.Rule.{Outcome, Answered, Late, Lost, Settlement}
-use Rattle.gc_instrument.specs.State.{State}
+use Rattle.gc_client.specs.Rule.{ById, Outcome, Answered, Late, Lost, Settlement}
+use Rattle.gc_instrument.specs.State.{State, restarted}
 use Rattle.gc_world.specs.declared.event.Event.{Event}
-use Rattle.gc_world.specs.declared.event.Event.TheVariants.{Send, DownDeliver, Expire}
+use Rattle.gc_world.specs.declared.event.Event.TheVariants.{Send, DownDeliver, DownBytes, Expire}
+use Rattle.gc_world.specs.Clients.{ends, streams_by_ids}
 use Rattle.gc_world.specs.Laws.{left_by_ids}
+use Rattle.gc_world.specs.Streams.{Streams, down_lines, remaining}
 use Rattle.gc_world.specs.World.{Sent, Numbered, Wire}
 
 -- the list of events has the send of request n, with this deadline, and then these later ones
@@ -62,11 +66,15 @@ pub record IsSettledAs (before after : Wire State) (n : ℕ) (outcome : Outcome)
   pub found : slice_get before.sent n ≡ Some request
   pub settled : after.settled ≡ before.settled ++ map (ended Lost) (between (length before.settled) n before.sent) ++ ended outcome request ∷ []
 
+-- the event hands over the last byte of the line in front of the downward queue, and no byte behind it
+abbrev pub IsDelivery : Streams ById State → Event → Type 0
+IsDelivery v e = (e ≡ DownDeliver) ⊎ ((n : ℕ) × (e ≡ DownBytes (n + 1)) × (remaining v.down_gone (down_lines v.world.wire) ≡ n + 1))
+
 -- the delivery of the reply in front settles its request, which wasn't settled, with this outcome
 abbrev pub DeliverySettles : ℕ → State → List Event → ℕ → List ℕ → Outcome → Type 0
 DeliverySettles width opening events n line outcome =
-    IsNextFor (left_by_ids width opening events) n line →
-    IsSettledAs (left_by_ids width opening events) (left_by_ids width opening (events ++ DownDeliver ∷ [])) n outcome
+    (delivery : Event) → IsDelivery (streams_by_ids width ends events (restarted opening)) delivery → IsNextFor (left_by_ids width opening events) n line →
+    IsSettledAs (left_by_ids width opening events) (left_by_ids width opening (events ++ delivery ∷ [])) n outcome
 
 -- in time it is answered, with that very line. What the report then has as its reading is what the line says of the call:
 -- that is proved of each settlement of the report, in `AreSettlements`
@@ -96,5 +104,6 @@ IsNeverBoth =
 abbrev pub NoSecondReply : Type 0
 NoSecondReply =
     (width : ℕ) → width ≤ WINDOW → (opening : State) (events : List Event) (n : ℕ) (line : List ℕ) (behind : List (Numbered (List ℕ))) →
+    (delivery : Event) → IsDelivery (streams_by_ids width ends events (restarted opening)) delivery →
     (left_by_ids width opening events).down ≡ record { number = n; line = line } ∷ behind → n < length (left_by_ids width opening events).settled →
-    (left_by_ids width opening (events ++ DownDeliver ∷ [])).settled ≡ (left_by_ids width opening events).settled
+    (left_by_ids width opening (events ++ delivery ∷ [])).settled ≡ (left_by_ids width opening events).settled

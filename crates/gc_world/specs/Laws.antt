@@ -8,19 +8,19 @@ use Rattle.gc_client.specs.Rule.{Settlement}
 use Rattle.gc_client.specs.Settlements.{ReadsAs}
 use Rattle.gc_instrument.specs.State.{State, IsFittingState, restarted}
 use Rattle.gc_world.specs.declared.event.Event.{Event}
-use Rattle.gc_world.specs.Clients.{ends, run_by_ids, run_by_numbers}
+use Rattle.gc_world.specs.Clients.{ends, streams_by_ids, streams_by_numbers}
 use Rattle.gc_world.specs.Faithful.{IsValueOrRefusal}
 use Rattle.gc_world.specs.Order.{IsOrderly}
 use Rattle.gc_world.specs.Record.{IsOneForOne, IsReplyTo, IsBooked, IsExecution}
-use Rattle.gc_world.specs.World.{Wire, steps_of}
+use Rattle.gc_world.specs.World.{Wire}
 
 -- what the run by ids leaves, apart from its client
 abbrev pub left_by_ids : ℕ → State → List Event → Wire State
-left_by_ids width opening events = (run_by_ids width ends (steps_of events) (restarted opening)).wire
+left_by_ids width opening events = (streams_by_ids width ends events (restarted opening)).world.wire
 
 -- what the run by numbers leaves, apart from its client
 abbrev pub left_by_numbers : ℕ → State → List Event → Wire State
-left_by_numbers width opening events = (run_by_numbers width ends (steps_of events) (restarted opening)).wire
+left_by_numbers width opening events = (streams_by_numbers width ends events (restarted opening)).world.wire
 
 -- the line keeps its order
 abbrev pub KeepsOrder : Type 0

@@ -1,4 +1,5 @@
 pub mod World
+pub mod Streams
 pub mod Clients
 pub mod Order
 pub mod Exchange
@@ -9,4 +10,5 @@ pub mod Faithful
 pub mod Memory
 pub mod Laws
 pub mod FirstReply
+pub mod Pieces
 pub mod Width

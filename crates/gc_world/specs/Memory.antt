@@ -1,11 +1,12 @@
 -- Which events take no memory, this project's own: those at which none of the report's lists and no queue grows.
-use Rattle.std.specs.Prelude.{◌≡◌, ℕ, ◌≤◌, false, List, [], ◌∷◌, length, take, Some, slice_get, ⊤}
+use Rattle.std.specs.Prelude.{◌≡◌, ◌⊎◌, ℕ, zero, suc, ◌+◌, ◌≤◌, true, false, List, [], ◌∷◌, length, take, Some, slice_get, ⊤}
 use Rattle.gc_client.specs.declared.window.TheConstants.{WINDOW}
 use Rattle.gc_client.specs.Rule.{ById, fits, heard}
 use Rattle.gc_instrument.specs.State.{State}
 use Rattle.gc_world.specs.declared.event.Event.{Event}
-use Rattle.gc_world.specs.declared.event.Event.TheVariants.{Send, UpDeliver, UpLose, UpRepeat, DownDeliver, DownLose, DownRepeat, Expire, RestartClient, RestartInstrument}
-use Rattle.gc_world.specs.Clients.{played}
+use Rattle.gc_world.specs.declared.event.Event.TheVariants.{Send, UpDeliver, UpBytes, UpLose, UpRepeat, DownDeliver, DownBytes, DownLose, DownRepeat, Expire, RestartClient, RestartInstrument}
+use Rattle.gc_world.specs.Clients.{streamed}
+use Rattle.gc_world.specs.Streams.{Streams, up_lines, down_lines, cut, is_begun}
 use Rattle.gc_world.specs.World.{Numbered}
 
 -- a line is under way
@@ -17,21 +18,33 @@ abbrev pub IsStray : ById → List (Numbered (List ℕ)) → Type 0
 IsStray client [] = ⊤
 IsStray client (x ∷ rest) = fits client (heard x.line) ≡ false
 
--- with this client and these queues the event is a refused send, a loss, an expiry, a delivery of a stray, or isn't possible
-abbrev pub TakesNone : {A : Type 0} → ById → List A → List (Numbered (List ℕ)) → Event → Type 0
-TakesNone client up down (Send target call deadline) = length client.waiting ≡ WINDOW
-TakesNone client up down UpDeliver = up ≡ []
-TakesNone client up down (UpLose k) = ⊤
-TakesNone client up down (UpRepeat k) = length up ≤ k
-TakesNone client up down DownDeliver = IsStray client down
-TakesNone client up down (DownLose k) = ⊤
-TakesNone client up down (DownRepeat k) = length down ≤ k
-TakesNone client up down (Expire now) = ⊤
-TakesNone client up down RestartClient = IsBusy up down
-TakesNone client up down RestartInstrument = IsBusy up down
+-- each of the first k lines is one that no request waits for
+abbrev pub AreStrays : ById → ℕ → List (Numbered (List ℕ)) → Type 0
+AreStrays client zero down = ⊤
+AreStrays client (suc k) [] = ⊤
+AreStrays client (suc k) (x ∷ rest) = (fits client (heard x.line) ≡ false) × AreStrays client k rest
 
--- none of these events takes memory, in the world that those before it leave
+-- there is no line k to be repeated, or its first byte has gone
+abbrev pub IsNoRepeat : {A : Type 0} → ℕ → ℕ → List A → Type 0
+IsNoRepeat k gone queue = (is_begun k gone ≡ true) ⊎ (length queue ≤ k)
+
+-- on these streams the event is a refused send, a loss, an expiry, a delivery of strays, bytes that complete no line, or isn't
+-- possible
+abbrev pub TakesNone : Streams ById State → Event → Type 0
+TakesNone v (Send target call deadline) = length v.world.client.waiting ≡ WINDOW
+TakesNone v UpDeliver = v.world.wire.up ≡ []
+TakesNone v (UpBytes n) = (cut (up_lines v.world.wire) (v.up_gone + n)).lines ≡ 0
+TakesNone v (UpLose k) = ⊤
+TakesNone v (UpRepeat k) = IsNoRepeat k v.up_gone v.world.wire.up
+TakesNone v DownDeliver = IsStray v.world.client v.world.wire.down
+TakesNone v (DownBytes n) = AreStrays v.world.client (cut (down_lines v.world.wire) (v.down_gone + n)).lines v.world.wire.down
+TakesNone v (DownLose k) = ⊤
+TakesNone v (DownRepeat k) = IsNoRepeat k v.down_gone v.world.wire.down
+TakesNone v (Expire now) = ⊤
+TakesNone v RestartClient = IsBusy v.world.wire.up v.world.wire.down
+TakesNone v RestartInstrument = IsBusy v.world.wire.up v.world.wire.down
+
+-- none of these events takes memory, on the streams that those before it leave
 abbrev pub TakeNone : State → List Event → Type 0
 TakeNone opening events =
-    (i : ℕ) (event : Event) → slice_get events i ≡ Some event →
-    (let w = played opening (take i events) in TakesNone w.client w.wire.up w.wire.down event)
+    (i : ℕ) (event : Event) → slice_get events i ≡ Some event → TakesNone (streamed opening (take i events)) event

@@ -1,10 +1,13 @@
--- No part of a promise: what a stage shows of a world.
-use Rattle.std.specs.Prelude.{◌≡◌, ℕ, ◌<◌, List, Option, Some, map, slice_get}
+-- No part of a promise: what a stage shows of the streams of a run.
+use Rattle.std.specs.Prelude.{◌≡◌, ℕ, ◌+◌, ◌<◌, List, [], ◌∷◌, length, Option, Some, map, replicate, slice_get}
+use Rattle.gc_lines.specs.Assembler.{Kept, StandsFor}
+use Rattle.gc_lines.specs.Lines.{IsPlain, with_end}
 use Rattle.gc_catalogue.specs.Calls.{IsFitting}
 use Rattle.gc_catalogue.specs.Texts.{request_line}
 use Rattle.gc_client.specs.declared.window.TheConstants.{WINDOW, IDS}
 use Rattle.gc_client.specs.Rule.{ById}
 use Rattle.gc_instrument.specs.State.{State, restarted}
+use Rattle.gc_world.specs.declared.event.Event.{Event}
 use Rattle.gc_world.specs.declared.report.Made.{Made}
 use Rattle.gc_world.specs.declared.report.Report.{Report}
 use Rattle.gc_world.specs.declared.report.Sent.{Sent}
@@ -12,14 +15,29 @@ use Rattle.gc_world.specs.declared.stage.Stage.{Stage}
 use Rattle.gc_world.specs.Clients.{by_ids, ids_open, ends}
 use Rattle.gc_world.specs.Order.{Each, numbers}
 use Rattle.gc_world.specs.Reports.{made_seen, IsReport}
-use Rattle.gc_world.specs.World.{Request, Numbered, Step, World, happens}
+use Rattle.gc_world.specs.Streams.{Streams, up_lines, down_lines, untouched, gone_of, cut, flows}
+use Rattle.gc_world.specs.World.{Request, Numbered, Step, Up_deliver, Down_deliver, World, happens, run}
 
--- the world before the first event, and one step of the run by ids
-abbrev pub begins : State → World ById State
-begins opening = ids_open (restarted opening)
+-- the streams before the first event, one step of the run by ids, and one event
+abbrev pub begins : State → Streams ById State
+begins opening = untouched (ids_open (restarted opening))
 
 abbrev pub does : World ById State → Step → World ById State
 does w step = happens ends (by_ids WINDOW ends) w step
+
+abbrev pub goes_on : Streams ById State → Event → Streams ById State
+goes_on v e = flows ends (by_ids WINDOW ends) v e
+
+-- the streams behind the next n bytes
+abbrev pub up_handed : Streams ById State → ℕ → Streams ById State
+up_handed v n =
+    let c = cut (up_lines v.world.wire) (v.up_gone + n) in
+    record { world = run ends (by_ids WINDOW ends) (replicate c.lines Up_deliver) v.world; up_gone = c.gone; down_gone = v.down_gone }
+
+abbrev pub down_handed : Streams ById State → ℕ → Streams ById State
+down_handed v n =
+    let c = cut (down_lines v.world.wire) (v.down_gone + n) in
+    record { world = run ends (by_ids WINDOW ends) (replicate c.lines Down_deliver) v.world; up_gone = v.up_gone; down_gone = c.gone }
 
 -- the bytes of a request's line
 abbrev pub bytes_of : Request → List ℕ
@@ -48,14 +66,37 @@ pub record AreOf (report : Report) (up down : List ℕ) (client : ById) (w : Wor
   pub requests : Each (IsSentIn report.sent) w.wire.up
   pub calls : Each (λ (q : Sent). IsFitting q.call) report.sent
 
--- a stage shows this world
-abbrev pub Shows : {W : Type 0} → Stage W → World ById State → Type 0
-Shows s w = AreOf s.report s.up s.down s.client w
+-- of the front line of a queue its last byte is still to go, and where there is none, nothing has gone
+abbrev pub IsPart : ℕ → List (List ℕ) → Type 0
+IsPart gone [] = gone ≡ 0
+IsPart gone (line ∷ lines) = gone < length line
 
--- it shows a world
+-- an assembler stands for the bytes of the front line of a queue that have gone, and no line has a CR or an LF in it
+pub record IsFlow {Line : Type 0} (bytes : Line → List ℕ) (kept : Kept) (gone : ℕ) (queue : List (Numbered Line)) : Type 0 where
+  pub part : IsPart gone (map (λ x. with_end (bytes x.line)) queue)
+  pub stands : StandsFor kept (gone_of gone (map (λ x. with_end (bytes x.line)) queue))
+  pub plain : Each (λ x. IsPlain (bytes x.line)) queue
+
+-- the bytes of a reply's line
+abbrev pub itself : List ℕ → List ℕ
+itself line = line
+
+-- the report, the queues, what has gone of their front lines and the client are those of these streams
+pub record AreStreamsOf (report : Report) (up down : List ℕ) (up_gone down_gone : ℕ) (client : ById) (v : Streams ById State) : Type 0 where
+  pub lines : AreOf report up down client v.world
+  pub up_is : up_gone ≡ v.up_gone
+  pub down_is : down_gone ≡ v.down_gone
+  pub up_flow : IsFlow bytes_of report.up v.up_gone v.world.wire.up
+  pub down_flow : IsFlow itself report.down v.down_gone v.world.wire.down
+
+-- a stage shows these streams
+abbrev pub Shows : {W : Type 0} → Stage W → Streams ById State → Type 0
+Shows s v = AreStreamsOf s.report s.up s.down s.up_gone s.down_gone s.client v
+
+-- it shows some
 abbrev pub IsShown : {W : Type 0} → Stage W → Type 0
-IsShown s = (w : World ById State) × Shows s w
+IsShown s = (v : Streams ById State) × Shows s v
 
--- whatever world the one stage shows, the other shows the world after this step
-abbrev pub Follows : {W : Type 0} → Stage W → Step → Stage W → Type 0
-Follows s step t = (w : World ById State) → Shows s w → Shows t (does w step)
+-- whatever streams the one stage shows, the other shows those behind this event
+abbrev pub Follows : {W : Type 0} → Stage W → Event → Stage W → Type 0
+Follows s e t = (v : Streams ById State) → Shows s v → Shows t (goes_on v e)

@@ -1,11 +1,9 @@
 -- The world, this project's own: a client and an instrument, the line between them, what may happen on it, and a run.
-use Rattle.std.specs.Prelude.{ℕ, zero, suc, ◌+◌, Bool, true, false, List, [], ◌∷◌, ◌++◌, length, map, Option, Some, None, if◌then◌else◌, nat_lt}
+use Rattle.std.specs.Prelude.{ℕ, zero, suc, ◌+◌, Bool, true, false, List, [], ◌∷◌, ◌++◌, length, Option, Some, None, if◌then◌else◌, nat_lt}
 use Rattle.gc_catalogue.specs.declared.call.Call.{Call}
 use Rattle.gc_catalogue.specs.Texts.{request_line}
 use Rattle.gc_client.specs.Rule.{Settlement, Settled, Sending}
 use Rattle.gc_instrument.specs.Replying.{Handed}
-use Rattle.gc_world.specs.declared.event.Event.{Event}
-use Rattle.gc_world.specs.declared.event.Event.TheVariants as event
 
 -- The line.
 
@@ -91,25 +89,8 @@ pub data Step : Type 0 where
   Expire : (now : ℕ) → Step
   Restart_client : Step
   Restart_instrument : Step
-  -- something that is not possible: for bytes that complete no line
+  -- something that is not possible
   Nothing : Step
-
--- an event is one step
-abbrev pub step_of : Event → Step
-step_of (event.Send target call deadline) = Send target call deadline
-step_of event.UpDeliver = Up_deliver
-step_of (event.UpLose k) = Up_lose k
-step_of (event.UpRepeat k) = Up_repeat k
-step_of event.DownDeliver = Down_deliver
-step_of (event.DownLose k) = Down_lose k
-step_of (event.DownRepeat k) = Down_repeat k
-step_of (event.Expire now) = Expire now
-step_of event.RestartClient = Restart_client
-step_of event.RestartInstrument = Restart_instrument
-
--- the steps of a list of events
-abbrev pub steps_of : List Event → List Step
-steps_of events = map step_of events
 
 -- without element k
 abbrev pub without : {A : Type 0} → ℕ → List A → List A

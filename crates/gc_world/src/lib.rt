@@ -3,6 +3,7 @@
 
 mod entries;
 mod event;
+mod feeding;
 pub mod laws;
 mod playing;
 mod queue;

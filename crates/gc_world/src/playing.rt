@@ -1,9 +1,11 @@
 //! Playing a list of events on a real client and a real instrument.
 
 ghost use Rattle.std.specs.Prelude.{◌≡◌, length, IfOk, IsOk};
+ghost use Rattle.gc_lines.specs.Assembler.{StandsFor};
 ghost use Rattle.gc_world.specs.Faithful.{Faithful};
-ghost use Rattle.gc_world.specs.Clients.{played};
+ghost use Rattle.gc_world.specs.Clients.{played, streamed};
 ghost use Rattle.gc_world.specs.Memory.{TakeNone};
+ghost use Rattle.gc_world.specs.Streams.{up_lines, down_lines, gone_of};
 ghost use Rattle.gc_world.specs.Reports.{IsReport, IsNoLongerThan};
 
 use crate::event::Event;
@@ -22,9 +24,12 @@ use std::alloc::{AllocError, Global};
 /// which request each reply belongs to. So each request's first reply, if it comes unsettled and in time, is booked: first is the first of the
 /// request's replies that is delivered; it comes unsettled where the request's number isn't below the count of requests
 /// settled until then; and in time where no `Expire` with a moment at or past its deadline came between its send and this
-/// delivery. The line keeps order, a line arrives whole or not at all and a repeat stands directly behind its original,
-/// and either end restarts only while no line is under way: that is what the events are. An event that isn't possible
-/// changes nothing and is counted.
+/// delivery, which is that of its last byte. The line keeps order, a line that has begun to arrive does arrive, whole, and
+/// a repeat stands directly behind its original, and either end restarts only while no byte is under way: that is what the
+/// events are. An event that isn't possible changes nothing and is counted.
+///
+/// Either end stands behind an assembler and gets the lines that come out of it. Each of the two in the report stands for
+/// the bytes of the front line of its direction that have gone: so it is at the start where none have.
 ///
 /// Want of memory comes only where a growth was refused; then nothing is handed back. A list of events that all take none
 /// never meets it.
@@ -36,6 +41,8 @@ pub fn play<W: Window>(
 ) -> Result<(Report, Client<W>), AllocError>
     ensures report { IfOk result (λ done. IsReport done.0 (played instrument events.now).wire) }
     ensures client { IfOk result (λ done. done.1 ≡ (played instrument events.now).client) }
+    ensures up { IfOk result (λ done. StandsFor done.0.up (gone_of (streamed instrument events.now).up_gone (up_lines (played instrument events.now).wire))) }
+    ensures down { IfOk result (λ done. StandsFor done.0.down (gone_of (streamed instrument events.now).down_gone (down_lines (played instrument events.now).wire))) }
     ensures faithful { IfOk result (λ done. Faithful instrument events.now done.0) }
     ensures spare { TakeNone instrument events.now → IsOk result }
     ensures few { IfOk result (λ done. IsNoLongerThan (length events.now) done.0) }

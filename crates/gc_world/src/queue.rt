@@ -1,6 +1,6 @@
 //! A queue of lines under way in one direction.
 
-ghost use Rattle.std.specs.Prelude.{◌≡◌, ◌≤◌, ◌↔◌, [], ◌∷◌, ◌++◌, length, nat_lt, OnOk, IfOk, IsOk, IsTrue, MatchOption};
+ghost use Rattle.std.specs.Prelude.{◌≡◌, ℕ, List, ◌≤◌, ◌↔◌, [], ◌∷◌, ◌++◌, length, nat_lt, OnOk, IfOk, IsOk, IsTrue, MatchOption};
 ghost use Rattle.gc_world.specs.World.{without, doubled};
 
 use std::alloc::{AllocError, Global};
@@ -37,6 +37,13 @@ impl Queue {
         ensures { IsTrue result ↔ (self.now ≡ []) }
     {
         self.places.is_empty()
+    }
+
+    /// The line in front.
+    pub fn front(&self) -> Option<usize>
+        ensures { MatchOption result (self.now ≡ []) (λ front. (rest : List ℕ) × (self.now ≡ front ∷ rest)) }
+    {
+        self.places.front().copied()
     }
 
     /// A line is written.

@@ -4,7 +4,7 @@ use crate::entries::Entries;
 use gc_catalogue::Call;
 use gc_client::Settlement;
 use gc_instrument::Instrument;
-use gc_lines::Line;
+use gc_lines::{Assembler, Line};
 
 /// A request that was sent. Its number is its place among these, counted from 0.
 #[derive(Debug, PartialEq, Eq, Drop)]
@@ -27,7 +27,7 @@ pub struct Made {
 }
 
 /// What a list of events led to.
-#[derive(Debug, Drop)]
+#[derive(Drop)]
 pub struct Report {
     /// The requests that were sent, refused ones not among them.
     pub sent: Entries<Sent>,
@@ -41,6 +41,10 @@ pub struct Report {
     pub starts: Entries<usize>,
     /// The instrument, as the last event left it.
     pub instrument: Instrument,
+    /// What stands before the instrument and makes lines of the bytes that reach it, as the last event left it.
+    pub up: Assembler,
+    /// What stands before the client, likewise.
+    pub down: Assembler,
     /// How many sends were refused.
     pub refused_sends: usize,
     /// How many events were not possible.

@@ -4,7 +4,8 @@ use crate::event::Event;
 use crate::playing::play;
 use crate::report::Report;
 use Event::{
-    DownDeliver, DownLose, DownRepeat, Expire, RestartClient, Send, UpDeliver, UpLose, UpRepeat,
+    DownBytes, DownDeliver, DownLose, DownRepeat, Expire, RestartClient, Send, UpBytes, UpDeliver,
+    UpLose, UpRepeat,
 };
 use gc_catalogue::Call;
 use gc_client::{Outcome, Pending, Ring, Slots, Window};
@@ -58,8 +59,43 @@ fn told<W: Window>(alloc: Global, window: W, events: &[Event]) -> Result<String,
     Ok(text)
 }
 
-// The events lead to this, with either window.
+// The events with each delivery in single bytes: as many as are still to go, or one where nothing is under way.
+fn in_single_bytes(alloc: Global, events: &[Event]) -> Result<Vec<Event>, AllocError> {
+    let mut pieces = Vec::new(alloc);
+    for event in events {
+        let byte = match *event {
+            UpDeliver => UpBytes(1),
+            DownDeliver => DownBytes(1),
+            other => {
+                pieces.push(other)?;
+                continue;
+            }
+        };
+        for _ in 0..514 {
+            pieces.push(byte)?;
+            if is_whole(alloc, pieces.as_slice(), byte)? {
+                break;
+            }
+        }
+    }
+    Ok(pieces)
+}
+
+// Whether no part of a line has gone, in the direction of the byte.
+fn is_whole(alloc: Global, events: &[Event], byte: Event) -> Result<bool, AllocError> {
+    let (report, _) = play(alloc, Instrument::simulator(), Slots::new(), events)?;
+    Ok(if byte == UpBytes(1) {
+        report.up.at_start()
+    } else {
+        report.down.at_start()
+    })
+}
+
+// The events lead to this, with either window, and with each delivery in single bytes.
 fn expect(rt: &impl Abort, alloc: Global, events: &[Event], want: &str) -> Result<(), AllocError> {
+    let pieces = in_single_bytes(alloc, events)?;
+    let piecewise = told(alloc, Slots::new(), pieces.as_slice())?;
+    assert_eq!(rt; piecewise.as_str(), want, "in single bytes");
     let with_places = told(alloc, Slots::new(), events)?;
     assert_eq!(rt; with_places.as_str(), want, "{}", with_places.as_str());
     let with_ring = told(alloc, Ring::new(alloc)?, events)?;
@@ -208,6 +244,87 @@ fn repeat_that_acts(rt: HostRuntime) -> Result<(), Fail> {
         &events,
         "0 1 answered %R1P,0,0:0 / 1 2 answered %R1P,0,1:0,0 / sent 2 executed 3 made 3 settled 2 refused 0 idle 0; 0 wait, next 2",
     )?;
+    Ok(())
+}
+
+#[test]
+fn bytes_of_two_lines(rt: HostRuntime) -> Result<(), Fail> {
+    let events = [
+        Send(1, Call::NullProc, 9),
+        Send(2, Call::NullProc, 9),
+        UpBytes(10),
+        UpLose(0),
+        UpLose(1),
+        UpBytes(1),
+        DownBytes(11),
+        RestartClient,
+        DownBytes(1),
+    ];
+    expect(
+        &rt,
+        rt.alloc(),
+        &events,
+        "0 1 answered %R1P,0,0:0 / sent 2 executed 1 made 1 settled 1 refused 0 idle 2; 1 wait, next 2",
+    )?;
+    Ok(())
+}
+
+#[test]
+fn late_in_one_delivery(rt: HostRuntime) -> Result<(), Fail> {
+    let events = [
+        Send(1, Call::NullProc, 9),
+        Send(2, Call::InstrumentNo, 9),
+        UpBytes(100),
+        DownBytes(13),
+        Expire(9),
+        DownBytes(100),
+    ];
+    expect(
+        &rt,
+        rt.alloc(),
+        &events,
+        "0 1 answered %R1P,0,0:0 / 1 2 late / sent 2 executed 2 made 2 settled 2 refused 0 idle 0; 0 wait, next 2",
+    )?;
+    Ok(())
+}
+
+#[test]
+fn no_bytes_under_way(rt: HostRuntime) -> Result<(), Fail> {
+    expect(
+        &rt,
+        rt.alloc(),
+        &[UpBytes(0), DownBytes(5)],
+        "sent 0 executed 0 made 0 settled 0 refused 0 idle 2; 0 wait, next 0",
+    )?;
+    Ok(())
+}
+
+#[test]
+fn a_repeat_of_a_line_that_has_begun_to_go(rt: HostRuntime) -> Result<(), Fail> {
+    let events = [
+        Send(1, Call::NullProc, 9),
+        UpBytes(10),
+        UpRepeat(0),
+        UpDeliver,
+        DownBytes(1),
+        DownRepeat(0),
+        DownDeliver,
+    ];
+    expect(
+        &rt,
+        rt.alloc(),
+        &events,
+        "0 1 answered %R1P,0,0:0 / sent 1 executed 1 made 1 settled 1 refused 0 idle 2; 0 wait, next 1",
+    )?;
+    Ok(())
+}
+
+#[test]
+fn the_assemblers_stand_for_what_has_gone(rt: HostRuntime) -> Result<(), Fail> {
+    let events = [Send(1, Call::NullProc, 9), UpBytes(10)];
+    let (report, _) = play(rt.alloc(), Instrument::simulator(), Slots::new(), &events)?;
+    assert!(rt; !report.up.at_start());
+    assert!(rt; report.down.at_start());
     Ok(())
 }
 

@@ -1,8 +1,16 @@
-use Rattle.gc_instrument.specs.State.{restarted}
-use Rattle.gc_world.specs.World.{steps_of}
-use Rattle.gc_world.specs.Clients.{ends}
+use Rattle.std.proofs.Common.{sym, subst}
+use Rattle.gc_client.specs.Rule.{ById}
+use Rattle.gc_instrument.specs.State.{State, restarted}
+use Rattle.gc_world.specs.Clients.{by_ids, ends, ids_open}
+use Rattle.gc_world.specs.Record.{IsOneForOne}
+use Rattle.gc_world.specs.Streams.{untouched}
+use Rattle.gc_world.specs.World.{World}
+use Rattle.gc_world.proofs.Flow.{taken, flow_run}
 use Rattle.gc_world.proofs.Runs.{one_for_one_at}
 use Rattle.gc_world.proofs.laws.settlements_are_one_for_one.Goals as goal
 
 pub returns : goal.returns
-returns c = λ width opening events. one_for_one_at width ends (steps_of events) (restarted opening)
+returns c = λ width opening events.
+    let v = untouched (ids_open (restarted opening)) in
+    subst (λ (w : World ById State). IsOneForOne w.wire.sent w.wire.settled) (sym (flow_run ends (by_ids width ends) events v))
+    (one_for_one_at width ends (taken ends (by_ids width ends) events v) (restarted opening))

@@ -1,5 +1,5 @@
 use Rattle.std.proofs.Common.{◌≤◌, take}
-use Rattle.gc_world.specs.Clients.{played}
+use Rattle.gc_world.specs.Clients.{streamed}
 use Rattle.gc_world.specs.Stages.{Shows}
 use Rattle.gc_world.proofs.playing.play.Given as goal
 
@@ -7,7 +7,7 @@ use Rattle.gc_world.proofs.playing.play.Given as goal
 abbrev pub invariant-loop-event : goal.invariant-loop-event
 invariant-loop-event g l =
     record {
-      shows : Shows l.stage (played l.fn.instrument (take l.event-index l.events));
+      shows : Shows l.stage (streamed l.fn.instrument (take l.event-index l.events));
       refused : l.stage.report.refused_sends ≤ l.event-index;
       idle : l.stage.report.idle_events ≤ l.event-index;
     }

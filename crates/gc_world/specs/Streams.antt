@@ -1,0 +1,116 @@
+-- The line as two streams of bytes, this project's own. Each line under way is its bytes with CR LF; of the front line of each
+-- direction some first bytes may have gone. It is under way until its last byte goes, and with that one it is handed over.
+use Rattle.std.specs.Prelude.{ℕ, zero, suc, ◌+◌, ◌-◌, ◌&&◌, Bool, List, [], ◌∷◌, length, map, take, replicate, Some, if◌then◌else◌, nat_lt, nat_eq}
+use Rattle.gc_lines.specs.Lines.{with_end}
+use Rattle.gc_catalogue.specs.Texts.{request_line}
+use Rattle.gc_world.specs.declared.event.Event.{Event}
+use Rattle.gc_world.specs.declared.event.Event.TheVariants as event
+use Rattle.gc_world.specs.World.{Ends, Rule, Wire, World, Step, Send, Up_deliver, Up_lose, Up_repeat, Down_deliver, Down_lose, Down_repeat, Expire, Restart_client, Restart_instrument, Nothing, run}
+
+-- What is under way.
+
+module _ {State : Type 0} where
+  -- the bytes of each line under way, the front line first
+  abbrev pub up_lines : Wire State → List (List ℕ)
+  up_lines w = map (λ x. with_end (request_line (Some x.line.id) x.line.call)) w.up
+
+  abbrev pub down_lines : Wire State → List (List ℕ)
+  down_lines w = map (λ x. with_end x.line) w.down
+
+-- a world, and how many bytes of the front line of each direction have gone
+pub record Streams (Client State : Type 0) : Type 0 where
+  pub world : World Client State
+  pub up_gone : ℕ
+  pub down_gone : ℕ
+
+-- a world of which no byte has gone
+abbrev pub untouched : {Client State : Type 0} → World Client State → Streams Client State
+untouched w = record { world = w; up_gone = 0; down_gone = 0 }
+
+-- the bytes of the front line that have gone
+abbrev pub gone_of : ℕ → List (List ℕ) → List ℕ
+gone_of gone [] = []
+gone_of gone (line ∷ lines) = take gone line
+
+-- how many bytes of the front line are still to go
+abbrev pub remaining : ℕ → List (List ℕ) → ℕ
+remaining gone [] = 0
+remaining gone (line ∷ lines) = length line - gone
+
+-- What an event does to a stream.
+
+-- how many lines some bytes complete, and how many bytes of the next one have gone then
+pub record Cut : Type 0 where
+  pub lines : ℕ
+  pub gone : ℕ
+
+-- the same behind one line more
+abbrev pub one_more : Cut → Cut
+one_more c = record { lines = suc c.lines; gone = c.gone }
+
+-- the first n bytes of these lines
+abbrev pub cut : List (List ℕ) → ℕ → Cut
+cut [] n = record { lines = 0; gone = 0 }
+cut (line ∷ lines) n = if nat_lt n (length line) then record { lines = 0; gone = n } else one_more (cut lines (n - length line))
+
+-- the steps of the world that an event is, and what has gone behind it
+pub record Course : Type 0 where
+  pub steps : List Step
+  pub up_gone : ℕ
+  pub down_gone : ℕ
+
+-- one step
+abbrev pub moved : Step → ℕ → ℕ → Course
+moved step up down = record { steps = step ∷ []; up_gone = up; down_gone = down }
+
+-- whether the first byte of line k has gone: it is the front line, and some of its bytes have
+abbrev pub is_begun : ℕ → ℕ → Bool
+is_begun k gone = nat_eq k 0 && nat_lt 0 gone
+
+-- a loss or a repeat of line k, possible only before its first byte has gone
+abbrev pub at_line : ℕ → ℕ → Step → Step
+at_line k gone step = if is_begun k gone then Nothing else step
+
+-- the steps of the next n bytes, where n is not 0 and a byte is under way: each line that they complete is handed over, in
+-- order. Else they are not possible
+abbrev pub passed : Step → List (List ℕ) → ℕ → ℕ → List Step
+passed step [] gone n = Nothing ∷ []
+passed step (line ∷ lines) gone zero = Nothing ∷ []
+passed step (line ∷ lines) gone (suc n) = replicate (cut (line ∷ lines) (gone + suc n)).lines step
+
+-- and what has gone of the front line behind them
+abbrev pub left_gone : List (List ℕ) → ℕ → ℕ → ℕ
+left_gone [] gone n = gone
+left_gone (line ∷ lines) gone zero = gone
+left_gone (line ∷ lines) gone (suc n) = (cut (line ∷ lines) (gone + suc n)).gone
+
+-- an event, with these lines under way, of whose front lines so many bytes have gone
+abbrev pub course : (ups downs : List (List ℕ)) (up down : ℕ) → Event → Course
+course ups downs up down (event.Send target call deadline) = moved (Send target call deadline) up down
+course ups downs up down event.UpDeliver = moved Up_deliver 0 down
+course ups downs up down (event.UpBytes n) = record { steps = passed Up_deliver ups up n; up_gone = left_gone ups up n; down_gone = down }
+course ups downs up down (event.UpLose k) = moved (at_line k up (Up_lose k)) up down
+course ups downs up down (event.UpRepeat k) = moved (at_line k up (Up_repeat k)) up down
+course ups downs up down event.DownDeliver = moved Down_deliver up 0
+course ups downs up down (event.DownBytes n) = record { steps = passed Down_deliver downs down n; up_gone = up; down_gone = left_gone downs down n }
+course ups downs up down (event.DownLose k) = moved (at_line k down (Down_lose k)) up down
+course ups downs up down (event.DownRepeat k) = moved (at_line k down (Down_repeat k)) up down
+course ups downs up down (event.Expire now) = moved (Expire now) up down
+course ups downs up down event.RestartClient = moved Restart_client up down
+course ups downs up down event.RestartInstrument = moved Restart_instrument up down
+
+-- Runs.
+
+module _ {Client State : Type 0} where
+  -- an event on these streams
+  abbrev pub course_on : Streams Client State → Event → Course
+  course_on v e = course (up_lines v.world.wire) (down_lines v.world.wire) v.up_gone v.down_gone e
+
+  -- the streams behind it
+  abbrev pub flows : Ends State → Rule Client → Streams Client State → Event → Streams Client State
+  flows ends rule v e = let c = course_on v e in record { world = run ends rule c.steps v.world; up_gone = c.up_gone; down_gone = c.down_gone }
+
+  -- and behind each of a list, in order
+  abbrev pub flow : Ends State → Rule Client → List Event → Streams Client State → Streams Client State
+  flow ends rule [] v = v
+  flow ends rule (e ∷ es) v = flow ends rule es (flows ends rule v e)
