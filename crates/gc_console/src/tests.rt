@@ -4,6 +4,7 @@
 mod ask;
 mod drill;
 mod exec;
+mod failing;
 mod looped;
 mod program;
 mod sockets;
