@@ -50,9 +50,10 @@ fn read_lines(alloc: Global, text: &[u8]) -> Result<Vec<Event>, RunFault>
         }
         match read_event(line) {
             Some(event) => {
-                if events.push(event).is_err() {
+                if events.reserve(1).is_err() {
                     return Err(RunFault::Memory);
                 }
+                events.push_reserved(event);
             }
             None => return Err(RunFault::Schedule { line: number }),
         }

@@ -15,10 +15,10 @@ loop-left-preserved-then-is_skipped c =
 
 pub loop-left-preserved : goal.loop-left-preserved
 loop-left-preserved c =
-    let grown : c.push.new.self.items ≡ c.loop-left.events.items ++ c.in-Some-read_event.event ∷ [] = search rules in
+    let grown : c.push_reserved.new.self.items ≡ c.loop-left.events.items ++ c.in-Some-read_event.event ∷ [] = search rules in
     turn_reads c.args.text.now (option_copied c.loop-left.left) c.in-Some.text.now c.cut_at.result.0.now c.without_cr-line.result.now (option_copied c.cut_at.result.1) c.loop-left.number
     c.loop-left.events.items c.is_skipped.result c.loop-left.invariant (ap option_copied c.in-Some.is) c.cut_at.ensures c.without_cr-line.ensures c.is_skipped.ensures
-    c.in-Some-read_event.event c.push.new.self.items c.if-is_skipped.false c.in-Some-read_event.ensures grown
+    c.in-Some-read_event.event c.push_reserved.new.self.items c.if-is_skipped.false c.in-Some-read_event.ensures grown
 
 pub returns-in-None-clause-fault : goal.returns-in-None-clause-fault
 returns-in-None-clause-fault c = (
