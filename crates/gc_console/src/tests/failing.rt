@@ -78,125 +78,146 @@ fn none() -> Calls {
     failing(0, RunFault::Read, NOTHING)
 }
 
-// Each engine with each of its ports, in order.
-fn rows() -> [Row; 14] {
+fn tried(name: &'static str, engine: Engine, port: Port, calls: [Calls; 3]) -> Row {
+    Row {
+        name,
+        engine,
+        port,
+        calls,
+    }
+}
+
+// `serve` and `drill`, with each of the ports.
+fn served_rows() -> [Row; 4] {
     [
-        Row {
-            name: "serve reads",
-            engine: Engine::Serve,
-            port: Port::Input,
-            calls: [
+        tried(
+            "serve reads",
+            Engine::Serve,
+            Port::Input,
+            [
                 failing(14, RunFault::Read, NOTHING),
                 failing(11, RunFault::Read, FIRST_REPLY),
                 failing(1, RunFault::Read, Some(REPLIES)),
             ],
-        },
-        Row {
-            name: "serve writes",
-            engine: Engine::Serve,
-            port: Port::Output,
-            calls: [
+        ),
+        tried(
+            "serve writes",
+            Engine::Serve,
+            Port::Output,
+            [
                 failing(19, write(0), A_PART),
                 failing(12, write(1), A_PART),
                 none(),
             ],
-        },
-        Row {
-            name: "drill reads",
-            engine: Engine::Drill,
-            port: Port::Input,
-            calls: [failing(39, RunFault::Read, NOTHING), none(), none()],
-        },
-        Row {
-            name: "drill writes",
-            engine: Engine::Drill,
-            port: Port::Output,
-            calls: [failing(31, RunFault::Output, A_PART), none(), none()],
-        },
-        Row {
-            name: "ask reads its commands",
-            engine: Engine::Ask,
-            port: Port::Input,
-            calls: [failing(12, RunFault::Read, NOTHING), none(), none()],
-        },
-        Row {
-            name: "ask reads its link",
-            engine: Engine::Ask,
-            port: Port::LinkIn,
-            calls: [
+        ),
+        tried(
+            "drill reads",
+            Engine::Drill,
+            Port::Input,
+            [failing(39, RunFault::Read, NOTHING), none(), none()],
+        ),
+        tried(
+            "drill writes",
+            Engine::Drill,
+            Port::Output,
+            [failing(31, RunFault::Output, A_PART), none(), none()],
+        ),
+    ]
+}
+
+// `ask`, with each of the ports.
+fn asked_rows() -> [Row; 4] {
+    [
+        tried(
+            "ask reads its commands",
+            Engine::Ask,
+            Port::Input,
+            [failing(12, RunFault::Read, NOTHING), none(), none()],
+        ),
+        tried(
+            "ask reads its link",
+            Engine::Ask,
+            Port::LinkIn,
+            [
                 failing(19, RunFault::Read, LOST_FIRST),
                 failing(12, RunFault::Read, LOST_SECOND),
                 none(),
             ],
-        },
-        Row {
-            name: "ask writes to its link",
-            engine: Engine::Ask,
-            port: Port::LinkOut,
-            calls: [
+        ),
+        tried(
+            "ask writes to its link",
+            Engine::Ask,
+            Port::LinkOut,
+            [
                 failing(14, write(0), LOST_FIRST),
                 failing(11, write(1), LOST_SECOND),
                 none(),
             ],
-        },
-        Row {
-            name: "ask writes",
-            engine: Engine::Ask,
-            port: Port::Output,
-            calls: [failing(55, RunFault::Output, A_PART), none(), none()],
-        },
-        Row {
-            name: "loop reads its commands",
-            engine: Engine::Loop,
-            port: Port::Input,
-            calls: [failing(12, RunFault::Read, NOTHING), none(), none()],
-        },
-        Row {
-            name: "loop writes a request",
-            engine: Engine::Loop,
-            port: Port::LinkOut,
-            calls: [
+        ),
+        tried(
+            "ask writes",
+            Engine::Ask,
+            Port::Output,
+            [failing(55, RunFault::Output, A_PART), none(), none()],
+        ),
+    ]
+}
+
+// `loop`, with each of the ports.
+fn looped_rows() -> [Row; 6] {
+    [
+        tried(
+            "loop reads its commands",
+            Engine::Loop,
+            Port::Input,
+            [failing(12, RunFault::Read, NOTHING), none(), none()],
+        ),
+        tried(
+            "loop writes a request",
+            Engine::Loop,
+            Port::LinkOut,
+            [
                 failing(14, write(0), LOST_FIRST),
                 failing(11, write(1), LOST_SECOND),
                 none(),
             ],
-        },
-        Row {
-            name: "loop reads a request",
-            engine: Engine::Loop,
-            port: Port::InstrumentIn,
-            calls: [
+        ),
+        tried(
+            "loop reads a request",
+            Engine::Loop,
+            Port::InstrumentIn,
+            [
                 failing(1, RunFault::Read, LOST_FIRST),
                 failing(1, RunFault::Read, LOST_SECOND),
                 none(),
             ],
-        },
-        Row {
-            name: "loop writes a reply",
-            engine: Engine::Loop,
-            port: Port::InstrumentOut,
-            calls: [
+        ),
+        tried(
+            "loop writes a reply",
+            Engine::Loop,
+            Port::InstrumentOut,
+            [
                 failing(19, write(0), LOST_FIRST),
                 failing(12, write(1), LOST_SECOND),
                 none(),
             ],
-        },
-        Row {
-            name: "loop reads a reply",
-            engine: Engine::Loop,
-            port: Port::LinkIn,
-            calls: [
+        ),
+        tried(
+            "loop reads a reply",
+            Engine::Loop,
+            Port::LinkIn,
+            [
                 failing(1, RunFault::Read, LOST_FIRST),
                 failing(1, RunFault::Read, LOST_SECOND),
                 none(),
             ],
-        },
-        Row {
-            name: "loop writes",
-            engine: Engine::Loop,
-            port: Port::Output,
-            calls: [failing(55, RunFault::Output, A_PART), none(), none()],
-        },
+        ),
+        tried(
+            "loop writes",
+            Engine::Loop,
+            Port::Output,
+            [failing(55, RunFault::Output, A_PART), none(), none()],
+        ),
     ]
 }
 
@@ -290,17 +311,24 @@ fn fault_at(fault: RunFault, bytes: u64) -> RunFault {
     }
 }
 
-#[test]
-fn each_port_fails_at_each_call(rt: HostRuntime) {
-    for row in rows() {
+// Lets the port of each row fail at each call.
+fn expect_each(rt: &impl Abort, alloc: Global, rows: &[Row]) {
+    for row in rows {
         let mut k = 0u64;
         for part in row.calls {
             for offset in 0..part.count {
                 let fault = fault_at(part.fault, offset);
-                expect_end(&rt, rt.alloc(), &row, k, Err(fault), part.told);
+                expect_end(rt, alloc, row, k, Err(fault), part.told);
                 k = k.saturating_add(1);
             }
         }
-        expect_end(&rt, rt.alloc(), &row, k, Ok(()), Some(whole(row.engine)));
+        expect_end(rt, alloc, row, k, Ok(()), Some(whole(row.engine)));
     }
+}
+
+#[test]
+fn each_port_fails_at_each_call(rt: HostRuntime) {
+    expect_each(&rt, rt.alloc(), &served_rows());
+    expect_each(&rt, rt.alloc(), &asked_rows());
+    expect_each(&rt, rt.alloc(), &looped_rows());
 }
