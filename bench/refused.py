@@ -11,9 +11,12 @@ and has written nothing then.
 
 import collections
 import os
+import socket
 import subprocess
 import sys
 import tempfile
+import threading
+import time
 
 MAY = ("no memory", "a port could not store")
 MOST = 100000
@@ -114,16 +117,50 @@ def runs(geocom, folder):
                 text = file.read()
             with open(os.path.join(folder, stem + output), "rb") as file:
                 yield name, [geocom, *words], text, file.read()
-    if subprocess.run([geocom, "loop", "--help"], capture_output=True, check=False).returncode == 0:
-        yield "three commands", [geocom, "loop"], LOOPED, TOLD
+    yield "three commands", [geocom, "loop"], LOOPED, TOLD
+
+
+ASKED = b"7 5003\n8 0\n"
+REPLIES = b"%R1P,0,0:0,123456\r\n", b"%R1P,0,1:0\r\n"
+ANSWERED = b"0 7 answered %R1P,0,0:0,123456\n1 8 answered %R1P,0,1:0\n"
+
+
+def answer(listener, opened):
+    """Gives the replies on each connection, one for each request, and counts the connections."""
+    while True:
+        link, _ = listener.accept()
+        opened.append(link)
+        with link, link.makefile("rwb") as lines:
+            for reply in REPLIES:
+                lines.readline()
+                lines.write(reply)
+                lines.flush()
+
+
+def asks(library, geocom):
+    """Each allocation of `geocom ask`: it opens a connection only where it writes all of its output."""
+    opened = []
+    with socket.create_server(("127.0.0.1", 0)) as listener:
+        threading.Thread(target=answer, args=(listener, opened), daemon=True).start()
+        counts = program(library, [geocom, "ask", str(listener.getsockname()[1])], ASKED, ANSWERED)
+        time.sleep(0.5)
+    # The first run, with ample memory, and the last one, which met no refusal, opened one too.
+    if len(opened) != counts[False] + 2:
+        sys.exit(f"ask: {len(opened)} connections, {counts}")
+    return counts
+
+
+def tell(name, counts):
+    """The line of a command."""
+    print(f"{name}: {counts[True]} fault 52, {counts[False]} all of its output")
 
 
 def main():
     library, gc_examples, geocom, folder = map(os.path.abspath, sys.argv[1:])
     examples(library, folder, gc_examples)
     for name, words, text, expected in runs(geocom, folder):
-        counts = program(library, words, text, expected)
-        print(f"{' '.join(words[1:])} < {name}: {counts[True]} fault 52, {counts[False]} all of its output")
+        tell(f"{' '.join(words[1:])} < {name}", program(library, words, text, expected))
+    tell("ask, two commands", asks(library, geocom))
 
 
 main()
