@@ -40,7 +40,7 @@ fn append_settlement(
 ) -> Result<(), AllocError>
     ensures { OnOk result (text.new.items ≡ text.old.items ++ settlement_line place (settlement_seen settlement.now)) }
 {
-    append_number(text, b"", place)?;
+    append_digits(text, place)?;
     append_number(text, b" ", settlement.target as usize)?;
     match &settlement.outcome {
         Outcome::Answered(_, line) => {
@@ -70,7 +70,14 @@ fn append_totals(text: &mut Vec<u8>, report: &Report) -> Result<(), AllocError>
 fn append_number(text: &mut Vec<u8>, word: &[u8], n: usize) -> Result<(), AllocError>
     ensures { OnOk result (text.new.items ≡ text.old.items ++ (word.now ++ decimal n)) }
 {
-    let mut digits = Buffer::new();
     text.extend_from_slice(word)?;
+    append_digits(text, n)
+}
+
+// Appends a number.
+fn append_digits(text: &mut Vec<u8>, n: usize) -> Result<(), AllocError>
+    ensures { OnOk result (text.new.items ≡ text.old.items ++ decimal n) }
+{
+    let mut digits = Buffer::new();
     text.extend_from_slice(digits.format(n).as_bytes())
 }
