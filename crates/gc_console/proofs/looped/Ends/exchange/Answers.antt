@@ -1,4 +1,4 @@
-use Rattle.std.proofs.Common.{◌≡◌, ◌++◌, sym, subst, ℕ, List}
+use Rattle.std.proofs.Common.{◌++◌, sym, subst}
 use Rattle.gc_lines.specs.Assembler.{Kept, StandsFor}
 use Rattle.gc_console.proofs.Exchanging.{one_settled}
 use Rattle.gc_console.proofs.looped.Ends.exchange.Goals as goal
