@@ -155,14 +155,11 @@ pub fn run_program<
             totals,
             &mut messages,
         ),
-        Ok(Subcommand::Loop) => end_of(
-            loop_tcp(
-                rt,
-                alloc,
-                &mut FromReader::new(input),
-                &mut ToWriter::new(output),
-                u32::MAX,
-            ),
+        Ok(Subcommand::Loop) => loop_port(
+            rt,
+            alloc,
+            &mut FromReader::new(input),
+            &mut ToWriter::new(output),
             &mut messages,
         ),
         Ok(Subcommand::Serve { port, connections }) => serve_port(
@@ -323,6 +320,19 @@ fn serve_port<R: Net<Listener = TcpListener, Stream = TcpStream>, E: Write>(
         serve_tcp(rt, port, connections, &mut instrument, u32::MAX),
         messages,
     )
+}
+
+// Asks over a connection to a simulator, and tells how it ended.
+fn loop_port<R: Net<Listener = TcpListener, Stream = TcpStream>, S: Source, K: Sink, E: Write>(
+    rt: &R,
+    alloc: Global,
+    source: &mut S,
+    sink: &mut K,
+    messages: &mut E,
+) -> io::Result<ExitCode>
+    ensures { IfOk result (λ status. exit_status status ≤ 1) }
+{
+    end_of(loop_tcp(rt, alloc, source, sink, u32::MAX), messages)
 }
 
 // Asks on a port, and tells how it ended.

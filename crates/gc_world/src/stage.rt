@@ -144,6 +144,7 @@ impl<W: Window> Stage<W> {
         Ok(())
     }
 
+    #[inline(never)]
     fn up_bytes(&mut self, n: usize) -> Result<(), AllocError>
         requires idle { self.old.report.idle_events + 1 < 2 ^ 64 }
         requires shown { IsShown self.old }
@@ -243,6 +244,7 @@ impl<W: Window> Stage<W> {
         Ok(())
     }
 
+    #[inline(never)]
     fn down_bytes(&mut self, n: usize) -> Result<(), AllocError>
         requires idle { self.old.report.idle_events + 1 < 2 ^ 64 }
         requires shown { IsShown self.old }

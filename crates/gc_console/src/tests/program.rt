@@ -153,7 +153,7 @@ fn a_text_of_the_engines_is_refused(rt: HostRuntime) -> Result<(), Fail> {
 }
 
 // A name, a command line, its status, and a part of its output and of its messages.
-const COMMAND_LINES: [(&str, &[&str], u8, &str, &str); 13] = [
+const COMMAND_LINES: [(&str, &[&str], u8, &str, &str); 14] = [
     (
         "help",
         &["geocom", "--help"],
