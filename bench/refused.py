@@ -67,31 +67,34 @@ def examples(library, folder, program):
     if ample.status != 0 or len(names) != len(outcomes(ample.output)):
         sys.exit(f"with ample memory:\n{ample.output.decode()}")
     ends = {name: collections.Counter() for name in names}
-    unread = 0
+    whole = unread = 0
     for number, done in refusals(library, folder, words):
         given = outcomes(done.output)
         others = [(name, outcome) for name, outcome in given if outcome != "its answer"]
-        is_whole = done.status == 0 and [name for name, _ in given] == names
-        if is_whole and len(others) == 1 and others[0][1] in MAY:
+        in_order = [name for name, _ in given] == names[: len(given)]
+        is_whole = done.status == 0 and in_order and len(given) == len(names)
+        if is_whole and not others:
+            whole += 1
+        elif is_whole and len(others) == 1 and others[0][1] in MAY:
             ends[others[0][0]][others[0][1]] += 1
-        elif done.status == 1 and not others and b"out of memory" in done.messages.lower():
+        elif done.status == 1 and in_order and not others and done.messages == b"Error: Kind(OutOfMemory)\n":
             unread += 1
         else:
             sys.exit(f"allocation {number} refused: {done}")
     for name, counts in ends.items():
         told = ", ".join(f"{counts[end]} {end}" for end in MAY if counts[end])
         print(f"{name}: {told or 'takes none'}")
-    print(f"{unread} refused before an example, as its files were read")
+    print(f"{unread} refused before an example, as its files were read; {whole} after which each gave its answer")
 
 
 def program(library, words, text, expected):
     """Each allocation of a run of the program, which gives this output with ample memory."""
-    whole, none = (0, expected, b""), (1, b"", b"geocom: fault 52\n")
-    if run(library, 0, "/", words, text)[1:] != whole:
+    full, none = (0, expected, b""), (1, b"", b"geocom: fault 52\n")
+    if run(library, 0, "/", words, text)[1:] != full:
         sys.exit(f"{words}: another output with ample memory")
     counts = collections.Counter()
     for number, done in refusals(library, "/", words, text):
-        if done[1:] not in (whole, none):
+        if done[1:] not in (full, none):
             sys.exit(f"{words}, allocation {number} refused: {done}")
         counts[done[1:] == none] += 1
     return counts

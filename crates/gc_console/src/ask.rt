@@ -166,6 +166,11 @@ pub fn run_ask<S: Source, I: Source, O: Sink, K: Sink>(
 
     // At most 65,537 reads of the source were answered.
     ensures bounded { S.reads commands.new ≤ S.reads commands.old + (TEXT_LIMIT + 1) }
+
+    // After want of memory nothing was read of the link, sent or written.
+    ensures memory { result ≡ Err RunFault.Memory
+        → (I.remaining link_in.new ≡ I.remaining link_in.old) × (I.reads link_in.new ≡ I.reads link_in.old)
+        × (O.taken link_out.new ≡ O.taken link_out.old) × (K.taken sink.new ≡ K.taken sink.old) }
 {
     let commands = match read_command_text(alloc, commands) {
         Ok(commands) => commands,

@@ -109,6 +109,8 @@ fn is_one(report: &Report, other: &Report) -> bool {
         && report.made.as_slice() == other.made.as_slice()
         && report.settled.as_slice() == other.settled.as_slice()
         && report.starts.as_slice() == other.starts.as_slice()
+        && report.up.at_start() == other.up.at_start()
+        && report.down.at_start() == other.down.at_start()
         && report.refused_sends == other.refused_sends
         && report.idle_events == other.idle_events
 }
