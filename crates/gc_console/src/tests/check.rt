@@ -118,23 +118,6 @@ const FRAMES: &[u8] = b"%R1Q,0,1:\r\nnoise\r\n%R1P,0,1:0\r\n";
 const VERDICTS: &[u8] = b"1 request 0 ok\n2 fault 1\n3 reply 0 0\n";
 
 #[test]
-fn each_read_of_a_check_fails(rt: HostRuntime) {
-    for k in 0..=FRAMES.len() {
-        let mut source = PieceSource::new(FRAMES, &[1; 600], k as u64);
-        let mut sink = PieceSink::new(rt.alloc(), 5, u64::MAX);
-        let (replies, taken) = match k {
-            0..11 => (0, 0),
-            11..18 => (1, 15),
-            18..30 => (2, 25),
-            _ => (3, 37),
-        };
-        let result = run_check(&mut source, &mut sink, u32::MAX);
-        assert_eq!(rt; result, Err(ServeFault::Read { replies }), "read {k}");
-        assert_eq!(rt; sink.taken(), &VERDICTS[..taken], "read {k}");
-    }
-}
-
-#[test]
 fn each_write_of_a_check_fails(rt: HostRuntime) {
     for k in 0..VERDICTS.len() {
         let mut source = PieceSource::new(FRAMES, &[], u64::MAX);

@@ -1,6 +1,6 @@
 //! Each port of each engine fails at call k, for each k from 0 until a run ends without a fault.
 
-use crate::{RunFault, ServeFault, run_ask, run_drill, run_loop, serve};
+use crate::{RunFault, ServeFault, Served, run_ask, run_check, run_drill, run_loop, serve};
 use gc_instrument::Instrument;
 use gc_probes::{PieceSink, PieceSource, Pipe};
 use std::alloc::Global;
@@ -9,6 +9,7 @@ use std::process::Abort;
 #[derive(Clone, Copy, PartialEq, Eq)]
 enum Engine {
     Serve,
+    Check,
     Drill,
     Ask,
     Loop,
@@ -50,6 +51,12 @@ const REQUESTS: &[u8] = b"%R1Q,5003,0:\r\n%R1Q,0,1:\r\n";
 
 const SETTLED: &[u8] = b"0 7 answered %R1P,0,0:0,123456\n1 8 answered %R1P,0,1:0\n";
 
+const FRAMES: &[u8] = b"%R1Q,0,1:\r\nnoise\r\n";
+
+const VERDICTS: &[u8] = b"1 request 0 ok\n2 fault 1\n";
+
+const FIRST_VERDICT: Option<&[u8]> = Some(b"1 request 0 ok\n");
+
 const SCHEDULE: &[u8] = b"send 7 9 5003\nup deliver\ndown deliver\n";
 
 const PLAYED: &[u8] = b"0 7 answered %R1P,0,0:0,123456\n";
@@ -87,8 +94,8 @@ fn tried(name: &'static str, engine: Engine, port: Port, calls: [Calls; 3]) -> R
     }
 }
 
-// `serve` and `drill`, with each of the ports.
-fn served_rows() -> [Row; 4] {
+// `serve`, `check` and `drill`, with each of the ports.
+fn served_rows() -> [Row; 6] {
     [
         tried(
             "serve reads",
@@ -107,6 +114,26 @@ fn served_rows() -> [Row; 4] {
             [
                 failing(19, write(0), A_PART),
                 failing(12, write(1), A_PART),
+                none(),
+            ],
+        ),
+        tried(
+            "check reads",
+            Engine::Check,
+            Port::Input,
+            [
+                failing(11, RunFault::Read, NOTHING),
+                failing(7, RunFault::Read, FIRST_VERDICT),
+                failing(1, RunFault::Read, Some(VERDICTS)),
+            ],
+        ),
+        tried(
+            "check writes",
+            Engine::Check,
+            Port::Output,
+            [
+                failing(15, write(0), A_PART),
+                failing(10, write(1), A_PART),
                 none(),
             ],
         ),
@@ -225,8 +252,19 @@ fn looped_rows() -> [Row; 6] {
 fn whole(engine: Engine) -> &'static [u8] {
     match engine {
         Engine::Serve => REPLIES,
+        Engine::Check => VERDICTS,
         Engine::Drill => PLAYED,
         Engine::Ask | Engine::Loop => SETTLED,
+    }
+}
+
+// The end of an engine that serves, as a run's.
+fn end_of(end: Result<Served, ServeFault>) -> Result<(), RunFault> {
+    match end {
+        Ok(_) => Ok(()),
+        Err(ServeFault::Read { .. }) => Err(RunFault::Read),
+        Err(ServeFault::TooManyReads { .. }) => Err(RunFault::TooManyReads),
+        Err(ServeFault::Write { replies, bytes }) => Err(RunFault::Write { replies, bytes }),
     }
 }
 
@@ -241,20 +279,14 @@ impl Row {
         let single = [1usize; 100];
         let text = match self.engine {
             Engine::Serve => REQUESTS,
+            Engine::Check => FRAMES,
             Engine::Drill => SCHEDULE,
             Engine::Ask | Engine::Loop => COMMANDS,
         };
         let mut input = PieceSource::new(text, &single, self.answers(Port::Input, k));
         match self.engine {
-            Engine::Serve => match serve(&mut Instrument::simulator(), &mut input, sink, 100) {
-                Ok(_) => Ok(()),
-                Err(ServeFault::Read { .. }) => Err(RunFault::Read),
-                Err(ServeFault::TooManyReads { .. }) => Err(RunFault::TooManyReads),
-                Err(ServeFault::Write { replies, bytes }) => Err(RunFault::Write {
-                    replies,
-                    bytes,
-                }),
-            },
+            Engine::Serve => end_of(serve(&mut Instrument::simulator(), &mut input, sink, 100)),
+            Engine::Check => end_of(run_check(&mut input, sink, 100)),
             Engine::Drill => run_drill(alloc, &mut input, sink, false),
             Engine::Ask => run_ask(
                 alloc,
