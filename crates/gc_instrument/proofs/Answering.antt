@@ -168,7 +168,7 @@ silence_exchanged state line bytes fault view id call same only small fits own =
     absurd never
 
 -- handing a call's request line to an instrument has the call's reply
-kept_or_not : (o : Option (List ℕ)) → ((line : List ℕ) × (o ≡ Some line)) ⊎ (o ≡ None)
+pub kept_or_not : (o : Option (List ℕ)) → ((line : List ℕ) × (o ≡ Some line)) ⊎ (o ≡ None)
 kept_or_not (Some line) = inl (line, refl)
 kept_or_not None = inr refl
 

@@ -109,7 +109,7 @@ behind old new all text start same is first = ap (λ xs. take (length xs - start
 number_is : (id : Option ℕ) (n number : ℕ) → id ≡ Some n → number ≡ unwrap_or id 0 → number ≡ n
 number_is id n number e same = same ∙ ap (λ o. unwrap_or o 0) e
 
-fits_kept : (s : State) (kept : Option KeptReply) → IsFittingState s → IsFittingKept kept → IsFittingState (with_kept kept s)
+pub fits_kept : (s : State) (kept : Option KeptReply) → IsFittingState s → IsFittingKept kept → IsFittingState (with_kept kept s)
 fits_kept s kept h k = record { precision = h.precision; serial = h.serial; name = h.name; date = h.date; kept = k }
 
 -- an instrument that keeps it is one
