@@ -10,7 +10,7 @@ use Rattle.gc_instrument.specs.Replying.{Handed, kept_line}
 use Rattle.gc_instrument.specs.State.{KeptReply}
 use Rattle.gc_world.specs.Clients.{ByNumber, number_send, number_reply, by_numbers, numbers_open}
 use Rattle.gc_world.specs.Exchange.{IsExchange, IsKeeper}
-use Rattle.gc_world.specs.Order.{Each, Rising, numbers}
+use Rattle.gc_world.specs.Order.{Each, Rising, IsRecent, numbers}
 use Rattle.gc_world.specs.Record.{Increasing}
 use Rattle.gc_world.specs.World.{Request, Sent, Numbered, Ends, Step, World, Wire, without, doubled, replied, started, on_wire, requested, with_settled, run}
 use Rattle.gc_world.proofs.Booked.{Has, has_more, has_push}
@@ -18,7 +18,7 @@ use Rattle.gc_world.proofs.Execution.{digits}
 use Rattle.gc_world.proofs.Options.{some_is}
 use Rattle.gc_world.proofs.Places.{get_push}
 use Rattle.gc_world.proofs.Replay.{IsOf, of_more, Replays, replays_more, replays_push, replays_started, no_number}
-use Rattle.gc_world.proofs.Rows.{each_append, each_more, each_without, each_doubled}
+use Rattle.gc_world.proofs.Rows.{each_append, each_more, each_number, each_without, each_doubled}
 use Rattle.gc_world.proofs.Sound.{IsGoing, Sound, keeps, sound_open, length_expired}
 use Rattle.gc_world.proofs.Stable.{IsStable, stable_all}
 
@@ -106,6 +106,26 @@ held_line (Some k) id n top line replies e t h =
     let m : top - 1 ≡ n = omega arith in
     subst (λ i. Has (record { number = i; line = line }) replies) m (subst (λ (q : List ℕ). Has (record { number = top - 1; line = q }) replies) l h)
 
+-- the number last executed, while its reply is kept
+abbrev IsLast : Option KeptReply → ℕ → List ℕ → Type 0
+IsLast None top executed = Unit {0}
+IsLast (Some k) top executed = (earlier : List ℕ) × (executed ≡ earlier ++ (top - 1) ∷ [])
+
+last_none : (top : ℕ) (executed : List ℕ) (kept : Option KeptReply) → kept ≡ None → IsLast kept top executed
+last_none top executed kept none = subst (λ k. IsLast k top executed) (sym none) tt
+
+recent_row : (width since count top total : ℕ) (k : KeptReply) (executed earlier : List ℕ) (up : List (Numbered Request)) → executed ≡ earlier ++ (top - 1) ∷ [] → since < top → count ≤ top → total ≤ count + width → Each (λ x. top ≤ x.number + 1) up → Each (IsGoing since total) up → IsRecent width (Some k) executed (numbers up)
+recent_row width since count top total k executed earlier up is some counted few above going =
+    (earlier, top - 1, is, each_number (λ n. (top - 1 ≤ n) × (n ≤ top - 1 + width)) up (both up above going))
+  where
+    both : (up : List (Numbered Request)) → Each (λ x. top ≤ x.number + 1) up → Each (IsGoing since total) up → Each (λ x. (top - 1 ≤ x.number) × (x.number ≤ top - 1 + width)) up
+    both [] a g = tt
+    both (x ∷ xs) a g = ((omega (arith, a.0), omega (arith, g.0.sent, some, counted, few)), both xs a.1 g.1)
+
+recent_of : (width since count top total : ℕ) (kept : Option KeptReply) (executed : List ℕ) (up : List (Numbered Request)) → Above kept since count top up → IsLast kept top executed → total ≤ count + width → Each (IsGoing since total) up → IsRecent width kept executed (numbers up)
+recent_of width since count top total None executed up above last few going = tt
+recent_of width since count top total (Some k) executed up above last few going = recent_row width since count top total k executed last.0 up last.1 above.0 above.2 few above.3 going
+
 module _ {State : Type 0} (width : ℕ) (narrow : width ≤ 7) (ends : Ends State) (Good : State → Type 0) (ex : IsExchange ends Good) (kept : State → Option KeptReply) (keeper : IsKeeper ends kept) (opening : State) where
   -- what was executed is a run of the instrument, with these replies; each entry is one of them, and each of them is an entry
   pub record IsTold (w : Wire State) (top : ℕ) : Type 0 where
@@ -124,6 +144,7 @@ module _ {State : Type 0} (width : ℕ) (narrow : width ≤ 7) (ends : Ends Stat
     pub sent : top ≤ length c.requests
     pub made : Each (λ x. x.number < top) w.down
     pub above : Above (kept w.state) c.since c.count top w.up
+    pub last : IsLast (kept w.state) top w.executed
     pub told : IsTold w top
 
   -- the line keeps its order, and each request is executed once
@@ -181,6 +202,7 @@ module _ {State : Type 0} (width : ℕ) (narrow : width ≤ 7) (ends : Ends Stat
         sent = omega (arith, g.0.sent);
         made = each_append _ w.wire.down _ (each_more (λ (y : Numbered (List ℕ)). y.number < h.top) (λ y. y.number < x.number + 1) (λ y l. omega (arith, l, new)) w.wire.down h.made) (omega arith, tt);
         above = subst (λ k. Above k c.since c.count (x.number + 1) rest) (sym keeps_it) (omega (arith, g.0.recent), g.0.id ∙ ap (λ n. (n - c.since) % 8) m, order.0, rising_each (x.number + 1) rest order.1);
+        last = subst (λ k. IsLast k (x.number + 1) (w.wire.executed ++ x.number ∷ [])) (sym keeps_it) (w.wire.executed, ap (λ n. w.wire.executed ++ n ∷ []) m);
         told = told_new w.wire x rest h.top q hd is none h.told exe;
       }
 
@@ -200,6 +222,7 @@ module _ {State : Type 0} (width : ℕ) (narrow : width ≤ 7) (ends : Ends Stat
         sent = h.sent;
         made = each_append _ w.wire.down _ h.made (omega (arith, last), tt);
         above = above_tail (kept w.wire.state) c.since c.count h.top x rest a;
+        last = h.last;
         told = record {
           replies = r.replies;
           replays = r.replays;
@@ -228,6 +251,7 @@ module _ {State : Type 0} (width : ℕ) (narrow : width ≤ 7) (ends : Ends Stat
         below = h.below;
         sent = omega (arith, h.sent, grows);
         made = h.made;
+        last = h.last;
         above =
             subst (λ n. Above (kept w.wire.state) n x.client.count h.top (w.wire.up ++ record { number = length w.wire.sent; line = record { id = x.id; call = call } } ∷ [])) (sym since)
             (subst (λ n. Above (kept w.wire.state) w.client.since n h.top (w.wire.up ++ record { number = length w.wire.sent; line = record { id = x.id; call = call } } ∷ [])) (sym count)
@@ -257,22 +281,22 @@ module _ {State : Type 0} (width : ℕ) (narrow : width ≤ 7) (ends : Ends Stat
   told_up w top up down u t = record { replies = t.replies; replays = t.replays; among = t.among; each = t.each; begins = t.begins; held = t.held; lines = u }
 
   once_queues : (c : ByNumber) (w : Wire State) (up : List (Numbered Request)) (down : List (Numbered (List ℕ))) (h : IsOnce c w) → Each (λ x. x.number < h.top) down → Above (kept w.state) c.since c.count h.top up → Each (IsOf w.sent) up → IsOnce c (record w { up = up; down = down })
-  once_queues c w up down h d u l = record { top = h.top; climbs = h.climbs; below = h.below; sent = h.sent; made = d; above = u; told = told_up w h.top up down l h.told }
+  once_queues c w up down h d u l = record { top = h.top; last = h.last; climbs = h.climbs; below = h.below; sent = h.sent; made = d; above = u; told = told_up w h.top up down l h.told }
 
   -- nothing that counts here is another one
   told_else : (w : Wire State) (top : ℕ) (settled : _) (down : _) (refused idle : ℕ) → IsTold w top → IsTold (record w { settled = settled; down = down; refused = refused; idle = idle }) top
   told_else w top settled down refused idle t = record { replies = t.replies; replays = t.replays; among = t.among; each = t.each; begins = t.begins; held = t.held; lines = t.lines }
 
   once_else : (c : ByNumber) (w : Wire State) (settled : _) (refused idle : ℕ) → IsOnce c w → IsOnce c (record w { settled = settled; refused = refused; idle = idle })
-  once_else c w settled refused idle h = record { top = h.top; climbs = h.climbs; below = h.below; sent = h.sent; made = h.made; above = h.above; told = told_else w h.top settled w.down refused idle h.told }
+  once_else c w settled refused idle h = record { top = h.top; last = h.last; climbs = h.climbs; below = h.below; sent = h.sent; made = h.made; above = h.above; told = told_else w h.top settled w.down refused idle h.told }
 
   once_reply : (w : World ByNumber State) (x : Numbered (List ℕ)) (rest : List (Numbered (List ℕ))) (old : Bool) → w.wire.down ≡ x ∷ rest → IsOnce w.client w.wire → IsOnce (number_reply w.client x old).client (with_settled (record w.wire { down = rest }) (number_reply w.client x old)).wire
   once_reply w x rest true e h =
       let m = subst (λ q. Each (λ y. y.number < h.top) q) e h.made in
-      record { top = h.top; climbs = h.climbs; below = h.below; sent = h.sent; made = m.1; above = h.above; told = told_else w.wire h.top _ rest w.wire.refused w.wire.idle h.told }
+      record { top = h.top; last = h.last; climbs = h.climbs; below = h.below; sent = h.sent; made = m.1; above = h.above; told = told_else w.wire h.top _ rest w.wire.refused w.wire.idle h.told }
   once_reply w x rest false e h =
       let m = subst (λ q. Each (λ y. y.number < h.top) q) e h.made in
-      record { top = h.top; climbs = h.climbs; below = h.below; sent = h.sent; made = m.1; above = above_count (kept w.wire.state) w.client.since w.client.count (x.number + 1) h.top w.wire.up (omega (arith, m.0)) h.above; told = told_else w.wire h.top _ rest w.wire.refused w.wire.idle h.told }
+      record { top = h.top; last = h.last; climbs = h.climbs; below = h.below; sent = h.sent; made = m.1; above = above_count (kept w.wire.state) w.client.since w.client.count (x.number + 1) h.top w.wire.up (omega (arith, m.0)) h.above; told = told_else w.wire h.top _ rest w.wire.refused w.wire.idle h.told }
 
   -- the instrument forgets what it kept
   once_forgotten : (c : ByNumber) (w : Wire State) (count since : ℕ) → w.up ≡ [] → IsOnce c w → IsOnce (record c { count = count; since = since }) (started ends w true)
@@ -285,6 +309,7 @@ module _ {State : Type 0} (width : ℕ) (narrow : width ≤ 7) (ends : Ends Stat
         sent = h.sent;
         made = h.made;
         above = above_none since count h.top w.up (kept (ends.restarted w.state)) e (keeper.forgets w.state);
+        last = last_none h.top w.executed (kept (ends.restarted w.state)) (keeper.forgets w.state);
         told = record {
           replies = t.replies;
           replays = replays_started ends keeper.twice w.sent w.starts opening w.executed t.replies w.state t.replays;
@@ -297,7 +322,7 @@ module _ {State : Type 0} (width : ℕ) (narrow : width ≤ 7) (ends : Ends Stat
       }
 
   once_expired : (w : World ByNumber State) (now : ℕ) → IsOnce w.client w.wire → IsOnce ((by_numbers width).expire w.client now) w.wire
-  once_expired w now h = record { top = h.top; climbs = h.climbs; below = h.below; sent = omega (arith, h.sent, length_expired now w.client.count w.client.requests); made = h.made; above = h.above; told = h.told }
+  once_expired w now h = record { top = h.top; last = h.last; climbs = h.climbs; below = h.below; sent = omega (arith, h.sent, length_expired now w.client.count w.client.requests); made = h.made; above = h.above; told = h.told }
 
   -- a restart of the client restarts the instrument too
   once_restarted : (w : World ByNumber State) → ends.joint ≡ true → w.wire.up ≡ [] → IsOnce w.client w.wire → IsOnce ((by_numbers width).restart w.client).client (with_settled (started ends w.wire ends.joint) ((by_numbers width).restart w.client)).wire
@@ -345,6 +370,11 @@ module _ {State : Type 0} (width : ℕ) (narrow : width ≤ 7) (ends : Ends Stat
           sent = omega arith;
           made = tt;
           above = above_none 0 0 0 [] (kept (ends.restarted opening)) refl (keeper.forgets opening);
+          last = last_none 0 [] (kept (ends.restarted opening)) (keeper.forgets opening);
           told = record { replies = []; replays = refl; among = tt; each = tt; begins = tt; held = held_none 0 [] (kept (ends.restarted opening)) (keeper.forgets opening); lines = tt };
         };
       })
+
+  -- what is under way upward, while a reply is kept
+  pub recent : (w : World ByNumber State) → Once w → IsRecent width (kept w.wire.state) w.wire.executed (numbers w.wire.up)
+  recent w h = recent_of width w.client.since w.client.count h.once.top (length w.client.requests) (kept w.wire.state) w.wire.executed w.wire.up h.once.above h.once.last h.sound.few h.sound.going

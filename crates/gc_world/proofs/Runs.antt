@@ -1,7 +1,7 @@
 -- What every run by ids has at its end.
 use Rattle.std.proofs.Common.{◌≡◌, ℕ, ◌≤◌, List, Option, Some, true, sym, subst}
 use Rattle.gc_instrument.specs.State.{KeptReply}
-use Rattle.gc_world.specs.Order.{Each}
+use Rattle.gc_world.specs.Order.{Each, IsRecent, numbers}
 use Rattle.std.specs.Prelude.{slice_get}
 use Rattle.gc_client.specs.Rule.{Settlement}
 use Rattle.gc_world.specs.World.{Ends, Step, Wire, World}
@@ -10,7 +10,7 @@ use Rattle.gc_world.specs.Exchange.{IsExchange, IsKeeper}
 use Rattle.gc_world.specs.Record.{IsOneForOne, IsBooked, IsExecution}
 use Rattle.gc_world.proofs.Agree.{same_wire}
 use Rattle.gc_world.proofs.Booked.{Has, AllMade, backed_at}
-use Rattle.gc_world.proofs.Once.{Once, once_at}
+use Rattle.gc_world.proofs.Once.{Once, once_at, recent}
 use Rattle.gc_world.proofs.Rows.{each_more}
 use Rattle.gc_world.proofs.Settled.{one_for_one, whole_at}
 use Rattle.gc_world.proofs.Execution.{IsAnswerAt, each_has, execution, answers_at, booked}
@@ -39,6 +39,10 @@ module _ {State : Type 0} (width : ℕ) (narrow : width ≤ 7) (ends : Ends Stat
   execution_at =
       let t = once.once.told in
       subst (IsExecution ends opening) (sym same) (execution ends opening by_number.wire t.replies t.replays t.each t.among once.once.climbs)
+
+  pub recent_at : IsRecent width (kept wire.state) wire.executed (numbers wire.up)
+  recent_at =
+      subst (λ (w : Wire State). IsRecent width (kept w.state) w.executed (numbers w.up)) (sym same) (recent width narrow ends Good ex kept keeper opening by_number once)
 
   all_made : AllMade wire.made 0 wire.settled
   all_made = subst (λ (w : Wire State). AllMade w.made 0 w.settled) (sym same) (backed_at width ends Good ex es (ends.restarted opening) good).backed.booked
