@@ -247,7 +247,9 @@ impl<W: Window> Client<W> {
 
     /// Settles all that wait as lost, in order, and begins anew at id 0.
     ///
-    /// The caller vouches that no line is under way in either direction.
+    /// The caller vouches that no line is under way in either direction, and that the instrument restarts too: one that
+    /// still kept the reply to its last request would take a new request with that id for a repeat, and not act on it. An
+    /// operator closes the connection, switches the instrument off and on, and opens the connection anew.
     pub fn restart(&mut self) -> ArrayVec<Settlement, WINDOW>
         ensures settled { AreSettlements result.items (restarts self.old).settlements }
         ensures client { self.new ≡ (restarts self.old).client }

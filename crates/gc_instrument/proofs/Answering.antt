@@ -1,5 +1,7 @@
 -- What was made for a request is the reply that it has.
-use Rattle.std.proofs.Common.{◌≡◌, ◌≢◌, ◌⊎◌, inl, inr, ℕ, zero, suc, ◌<◌, arith, List, cond, ◌==◌, if◌then◌else◌, Some, None, Result, Ok, Err, refl, sym, ap, ◌∙◌, subst, Bool, [], true}
+use Rattle.std.proofs.Common.{◌≡◌, ◌≢◌, ◌⊎◌, inl, inr, ℕ, zero, suc, ◌<◌, arith, List, cond, ◌==◌, if◌then◌else◌, Some, None, Result, Ok, Err, refl, sym, ap, ◌∙◌, subst, Bool, [], true, false, Option}
+use Rattle.std.specs.Prelude.{unwrap_or}
+use Rattle.gc_lines.specs.Lines.{IsPlain}
 use Rattle.std.proofs.lemmas.Bool.{ne_eqb}
 use Rattle.gc_lines.specs.Answering.{AppendsAnswer}
 use Rattle.gc_lines.specs.Headers.{Gives}
@@ -23,16 +25,12 @@ use Rattle.gc_catalogue.specs.declared.call.Call.{Call}
 use Rattle.gc_instrument.proofs.Executions.{ComesOut, exec_outcome}
 use Rattle.gc_instrument.specs.State.{State, IsFittingState}
 use Rattle.gc_instrument.specs.Execution.{Executed, Executes, exec}
-use Rattle.gc_instrument.specs.Replying.{IsReplied, silent, answers, AnswersRequest, refuses, executes, IsAnswered, IsExchanged, handed, reading_of, refusal_line, executed_line, reply_id}
+use Rattle.gc_instrument.specs.Replying.{IsReplied, silent, answers, AnswersCall, repeats, executes, AnswersRequest, refuses, answers_call, AppendsCall, AppendsExecuted, AppendsReply, IsAnswered, IsExchanged, Handed, handed, again_or_new, kept_line, with_kept, reading_of, refusal_line, executed_line, reply_id}
 
--- a call that was carried out
-pub executed_reply : (before after : State) (q : RequestFields) (call : Call) (number code places : ℕ) (answer : Answer) (line : List ℕ)
-    → IsCall q.rpc q.params call → Executes before call after code answer → number ≡ reply_id q → places ≡ after.precision → line ≡ reply_line number code answer places
-    → AnswersRequest before q after line
-executed_reply before after q call number code places answer line is done same precision made =
-    executes call is (sym (ap (λ (x : Executed). x.state) done))
-    (made ∙ ap (λ n. reply_line n code answer places) same ∙ ap (λ n. reply_line (reply_id q) code answer n) precision
-    ∙ sym (ap (λ (x : Executed). executed_line (reply_id q) x) done))
+-- the line of a call that was carried out
+pub executed_is : (before after : State) (call : Call) (number code places : ℕ) (answer : Answer) → Executes before call after code answer → places ≡ after.precision → reply_line number code answer places ≡ executed_line number (exec before call)
+executed_is before after call number code places answer done precision =
+    ap (λ n. reply_line number code answer n) precision ∙ sym (ap (λ (x : Executed). executed_line number x) done)
 
 -- a request that names no call
 pub refused_reply : (state : State) (q : RequestFields) (fault : CallFault) (number : ℕ) (line : List ℕ)
@@ -78,18 +76,16 @@ reads_executed before number call x e done refused = elim (zero_or_more x.rc) [
 ]
 
 -- the same of a line that was made of the parts
-pub made_answered : (before after : State) (q : RequestFields) (call made : Call) (number code places : ℕ) (answer : Answer) (line : List ℕ)
-    → IsCall q.rpc q.params made → IsCall q.rpc q.params call → Executes before made after code answer → number ≡ reply_id q → places ≡ after.precision → line ≡ reply_line number code answer places
-    → (code ≡ 0 → IsAnswerOf made answer → ReadsBackAnswer made number code answer places (Value (rounded_answer places answer))) → (code ≢ 0 → ReadsBackAnswer made number code answer places (Refused code))
-    → IsAnswered before (reply_id q) call line
-made_answered before after q call made number code places answer line is_made is_call done same precision text back refused =
+pub made_answered : (before after : State) (call : Call) (number code places : ℕ) (answer : Answer) → Executes before call after code answer → places ≡ after.precision
+    → (code ≡ 0 → IsAnswerOf call answer → ReadsBackAnswer call number code answer places (Value (rounded_answer places answer))) → (code ≢ 0 → ReadsBackAnswer call number code answer places (Refused code))
+    → IsAnswered before number call (reply_line number code answer places)
+made_answered before after call number code places answer done precision back refused =
     let x : Executed = record { state = after; rc = code; answer = answer } in
-    let outcome : ComesOut before made x = subst (λ (y : Executed). ComesOut before made y) done (exec_outcome before made) in
-    let value = λ (h : code ≡ 0). subst (λ (p : ℕ). ReadsBackAnswer made number code answer p (Value (rounded_answer p answer))) precision (back h (outcome.answers h)) in
-    let refusal = λ (h : code ≢ 0). subst (λ (p : ℕ). ReadsBackAnswer made number code answer p (Refused code)) precision (refused h) in
-    let whole : line ≡ executed_line number x = text ∙ ap (λ (p : ℕ). reply_line number code answer p) precision in
-    let reads : IsAnswered before number made line = subst (λ (l : List ℕ). IsAnswered before number made l) (sym whole) (reads_executed before number made x done value refusal) in
-    subst (λ (c : Call). IsAnswered before (reply_id q) c line) (one_call q.rpc q.params made call is_made is_call) (subst (λ (n : ℕ). IsAnswered before n made line) same reads)
+    let outcome : ComesOut before call x = subst (λ (y : Executed). ComesOut before call y) done (exec_outcome before call) in
+    let value = λ (h : code ≡ 0). subst (λ (p : ℕ). ReadsBackAnswer call number code answer p (Value (rounded_answer p answer))) precision (back h (outcome.answers h)) in
+    let refusal = λ (h : code ≢ 0). subst (λ (p : ℕ). ReadsBackAnswer call number code answer p (Refused code)) precision (refused h) in
+    let whole : reply_line number code answer places ≡ executed_line number x = ap (λ (p : ℕ). reply_line number code answer p) precision in
+    subst (λ (l : List ℕ). IsAnswered before number call l) (sym whole) (reads_executed before number call x done value refusal)
 
 -- a request line that reads as a request is the call's
 pub read_of : (line : List ℕ) (q : RequestFields) (id : ℕ) (call : Call) → id < 8 → IsFitting call → line ≡ request_line (Some id) call → IsRequest line q → q ≡ request_of (Some id) call
@@ -97,25 +93,46 @@ read_of line q id call small fits e is =
     request_one line q (request_of (Some id) call) is
     (subst (λ (x : List ℕ). IsRequest x (request_of (Some id) call)) (sym e) (request_found (request_line (Some id) call) (request_of (Some id) call) (call_again (Some id) call small fits).line))
 
--- what came of a call's own request
-pub exchanged : (before after : State) (q : RequestFields) (id : ℕ) (call : Call) (text : List ℕ) → q ≡ request_of (Some id) call → IsCall q.rpc q.params call
-    → AnswersRequest before q after text → IsAnswered before (reply_id q) call text → IsExchanged before id call after (Some text)
+-- a request with the kept id, and one with another
+pub handed_again : (s : State) (id : ℕ) (call : Call) (line : List ℕ) → kept_line s.kept (Some id) ≡ Some line → handed s id call ≡ record { state = s; reply = line; executed = false }
 unfolding handed
-exchanged before after q id call text same is (refuses fault refusal state line) answered = absurd (no_refusal q.rpc q.params call fault is refusal)
-exchanged before after q id call text same is (executes made is_made state line) answered =
+handed_again s id call line e = ap (again_or_new s id call) e
+
+pub handed_new : (s : State) (id : ℕ) (call : Call) → kept_line s.kept (Some id) ≡ None → handed s id call ≡ again_or_new s id call None
+unfolding handed
+handed_new s id call e = ap (again_or_new s id call) e
+
+-- what was done with a call is what handing over its request line gives
+pub handed_does : (before after : State) (id : ℕ) (call : Call) (text : List ℕ) → AnswersCall before (Some id) call after text → (after ≡ (handed before id call).state) × (text ≡ (handed before id call).reply)
+handed_does before after id call text (repeats e same) =
+    let h = handed_again before id call text e in
+    (same ∙ sym (ap (λ (x : Handed State). x.state) h), sym (ap (λ (x : Handed State). x.reply) h))
+handed_does before after id call text (executes e state line) =
+    let h = handed_new before id call e in (
+      state ∙ ap (λ (l : List ℕ). with_kept (Some (record { id = id; line = l })) (exec before call).state) line ∙ sym (ap (λ (x : Handed State). x.state) h),
+      line ∙ sym (ap (λ (x : Handed State). x.reply) h),
+    )
+
+-- what came of a call's own request
+pub exchanged : (before after : State) (q : RequestFields) (id : ℕ) (call : Call) (text : List ℕ) → q.id ≡ Some id → IsCall q.rpc q.params call
+    → AnswersRequest before q after text → IsPlain text → (kept_line before.kept q.id ≡ None → IsAnswered before (reply_id q) call text) → IsExchanged before id call after (Some text)
+exchanged before after q id call text same is (refuses fault refusal state line) plain answered = absurd (no_refusal q.rpc q.params call fault is refusal)
+exchanged before after q id call text same is (answers_call made is_made does) plain answered =
     let one : made ≡ call = one_call q.rpc q.params made call is_made is in
-    let own : reply_id q ≡ id = ap reply_id same in
-    let whole : text ≡ executed_line id (exec before call) = line ∙ ap (λ (c : Call). executed_line (reply_id q) (exec before c)) one ∙ ap (λ (n : ℕ). executed_line n (exec before call)) own in
+    let own : AnswersCall before (Some id) call after text = subst (λ (c : Call). AnswersCall before (Some id) c after text) one (subst (λ (o : Option ℕ). AnswersCall before o made after text) same does) in
+    let h = handed_does before after id call text own in
     record {
-      state = state ∙ ap (λ (c : Call). (exec before c).state) one;
-      line = ap (λ (l : List ℕ). Some l) whole;
-      answered = subst (λ (l : List ℕ). IsAnswered before id call l) whole (subst (λ (n : ℕ). IsAnswered before n call text) own answered);
+      state = h.0;
+      line = ap (λ (l : List ℕ). Some l) h.1;
+      plain = subst IsPlain h.1 plain;
+      answered = λ new.
+          subst (λ (l : List ℕ). IsAnswered before id call l) h.1
+          (subst (λ (n : ℕ). IsAnswered before n call text) (ap (λ (o : Option ℕ). unwrap_or o 0) same) (answered (ap (kept_line before.kept) same ∙ new)));
     }
 
 -- handing a call's request line to an instrument in a state that fits
-pub handed_answered : (s : State) (id : ℕ) (call : Call) → IsFittingState s → id < 8 → IsFitting call → IsAnswered s id call (handed s id call).reply
-unfolding handed
-handed_answered s id call good small fits =
+pub executed_answered : (s : State) (id : ℕ) (call : Call) → IsFittingState s → id < 8 → IsFitting call → IsAnswered s id call (executed_line id (exec s call))
+executed_answered s id call good small fits =
     let x = exec s call in
     let outcome = exec_outcome s call in
     reads_executed s id call x refl
@@ -124,17 +141,22 @@ handed_answered s id call good small fits =
     (λ h. subst (λ (a : Answer). ReadsBackAnswer call id x.rc a x.state.precision (Refused x.rc)) (sym (outcome.refuses h))
     (refusal_again call id x.rc x.state.precision small (omega (arith, h)) outcome.code))
 
+pub handed_answered : (s : State) (id : ℕ) (call : Call) → IsFittingState s → id < 8 → IsFitting call → kept_line s.kept (Some id) ≡ None → IsAnswered s id call (handed s id call).reply
+handed_answered s id call good small fits new =
+    subst (λ (h : Handed State). IsAnswered s id call h.reply) (sym (handed_new s id call new)) (executed_answered s id call good small fits)
+
 -- the line of a call's request reads as a request
 own_request : (id : ℕ) (call : Call) → id < 8 → IsFitting call → IsRequest (request_line (Some id) call) (request_of (Some id) call)
 own_request id call small fits = request_found (request_line (Some id) call) (request_of (Some id) call) (call_again (Some id) call small fits).line
 
 -- a call's own line, where it read as a request
 pub line_exchanged : (before after : State) (line bytes : List ℕ) (q : RequestFields) (id : ℕ) (call : Call) (text : List ℕ) → bytes ≡ line → IsRequest bytes q → id < 8 → IsFitting call → line ≡ request_line (Some id) call
-    → AnswersRequest before q after text → ((d : Call) → IsCall q.rpc q.params d → IsAnswered before (reply_id q) d text) → IsExchanged before id call after (Some text)
-line_exchanged before after line bytes q id call text same is small fits own made answered =
+    → AnswersRequest before q after text → ((d : Call) → IsCall q.rpc q.params d → IsPlain text)
+    → ((d : Call) → IsCall q.rpc q.params d → kept_line before.kept q.id ≡ None → IsAnswered before (reply_id q) d text) → IsExchanged before id call after (Some text)
+line_exchanged before after line bytes q id call text same is small fits own made plain answered =
     let q_is : q ≡ request_of (Some id) call = read_of bytes q id call small fits (same ∙ own) is in
     let call_is : IsCall q.rpc q.params call = subst (λ (p : RequestFields). IsCall p.rpc p.params call) (sym q_is) (call_again (Some id) call small fits).is_call in
-    exchanged before after q id call text q_is call_is made (answered call call_is)
+    exchanged before after q id call text (ap (λ (p : RequestFields). p.id) q_is) call_is made (plain call call_is) (answered call call_is)
 
 -- it always reads as one
 pub silence_exchanged : (state : State) (line bytes : List ℕ) (fault : LineFault) (view : Request → RequestFields) (id : ℕ) (call : Call) → bytes ≡ line
@@ -146,10 +168,19 @@ silence_exchanged state line bytes fault view id call same only small fits own =
     absurd never
 
 -- handing a call's request line to an instrument has the call's reply
+pub kept_or_not : (o : Option (List ℕ)) → ((line : List ℕ) × (o ≡ Some line)) ⊎ (o ≡ None)
+kept_or_not (Some line) = inl (line, refl)
+kept_or_not None = inr refl
+
+pub handed_answers : (s : State) (id : ℕ) (call : Call) → AnswersCall s (Some id) call (handed s id call).state (handed s id call).reply
+handed_answers s id call = elim (kept_or_not (kept_line s.kept (Some id))) [
+  | inl h ↦ subst (λ (x : Handed State). AnswersCall s (Some id) call x.state x.reply) (sym (handed_again s id call h.0 h.1)) (repeats h.1 refl)
+  | inr e ↦ subst (λ (x : Handed State). AnswersCall s (Some id) call x.state x.reply) (sym (handed_new s id call e)) (executes e refl refl)
+]
+
 pub handed_replied : (s : State) (id : ℕ) (call : Call) → id < 8 → IsFitting call → IsReplied s (request_line (Some id) call) (handed s id call).state (Some (handed s id call).reply)
-unfolding handed
 handed_replied s id call small fits =
-    answers (request_of (Some id) call) (own_request id call small fits) (executed_line id (exec s call)) (executes call (call_again (Some id) call small fits).is_call refl refl) refl
+    answers (request_of (Some id) call) (own_request id call small fits) (handed s id call).reply (answers_call call (call_again (Some id) call small fits).is_call (handed_answers s id call)) refl
 
 -- what was appended to nothing is what stands there
 pub replied_alone : (s t : State) (line new : List ℕ) → AppendsAnswer (IsReplied s line t) [] new true → IsReplied s line t (Some new)
@@ -157,3 +188,13 @@ replied_alone s t line new h = subst (λ (text : List ℕ). IsReplied s line t (
 
 pub exchanged_alone : (s t : State) (id : ℕ) (call : Call) (new : List ℕ) → AppendsAnswer (IsExchanged s id call t) [] new true → IsExchanged s id call t (Some new)
 exchanged_alone s t id call new h = subst (λ (text : List ℕ). IsExchanged s id call t (Some text)) (sym h.2) h.1
+
+-- a request that names a call
+pub request_call : (before after : State) (q : RequestFields) (call : Call) (old new : List ℕ) → IsCall q.rpc q.params call → AppendsCall before q.id call after old new → AppendsReply before q after old new
+request_call before after q call old new is h = record {
+  text = h.text;
+  appended = h.appended;
+  answers = answers_call call is h.answers;
+  plain = λ d other. h.plain;
+  says = λ d other none. subst (λ (c : Call). IsAnswered before (reply_id q) c h.text) (one_call q.rpc q.params call d is other) (h.says none);
+}

@@ -17,7 +17,7 @@ use Rattle.gc_catalogue.specs.declared.call.DateTime.{DateTime}
 use Rattle.gc_instrument.specs.Execution.{exec, done, refused, set_if, told, commanded, searched, adjusted, measured, unmeasured, pointed, is_precision, is_date}
 use Rattle.gc_instrument.specs.Faces.{face_number}
 pub use Rattle.gc_instrument.specs.Outcomes.{ComesOut}
-use Rattle.gc_instrument.specs.State.{State, IsFittingState, restarted, first_date}
+use Rattle.gc_instrument.specs.State.{State, KeptReply, IsFittingState, IsFittingKept, restarted, first_date}
 use Rattle.gc_instrument.specs.Targets.{first_within}
 use Rattle.gc_instrument.specs.declared.face.Face.{Face}
 use Rattle.gc_instrument.specs.declared.face.Face.TheVariants.{Normal, Turned}
@@ -48,12 +48,13 @@ told_outcome : (s : State) (call : Call) (a : Answer) → IsAnswerOf call a → 
 told_outcome s call a of_call answer_fits = done_outcome s s call a refl (λ f. f) of_call answer_fits
 
 -- the facts on a state stand in these parts of it
-moved : (s t : State) → s.precision ≡ t.precision → s.serial ≡ t.serial → s.name ≡ t.name → s.date ≡ t.date → IsFittingState s → IsFittingState t
-moved s t p n l d f = record {
+moved : (s t : State) → s.precision ≡ t.precision → s.serial ≡ t.serial → s.name ≡ t.name → s.date ≡ t.date → s.kept ≡ t.kept → IsFittingState s → IsFittingState t
+moved s t p n l d k f = record {
   precision = subst (λ (x : ℕ). x ≤ 15) p f.precision;
   serial = subst FitsLong n f.serial;
   name = rw (← l) f.name;
   date = subst (λ (x : DateTime). AreValues (date_values x)) d f.date;
+  kept = subst IsFittingKept k f.kept;
 }
 
 set_outcome : (b : Bool) (s t : State) (call : Call) → restarted t ≡ restarted s → (b ≡ true → IsFittingState s → IsFittingState t) → IsAnswerOf call Nothing → ComesOut s call (set_if b s t)
@@ -69,12 +70,12 @@ commanded_outcome : (s : State) (call : Call) (command : ℤ) → IsAnswerOf cal
 commanded_outcome s call command of_call = by_tests (int_eq command (pos 0)) (int_eq command (pos 1)) (int_eq command (pos 3)) where
   by_tests : (a b c : Bool) → ComesOut s call (cond a (done s Nothing) (cond b (done (measured s) Nothing) (cond c (done (unmeasured s) Nothing) (refused s 2))))
   by_tests true b c = told_outcome s call Nothing of_call (λ _ _. tt)
-  by_tests false true c = done_outcome s (measured s) call Nothing refl (moved s (measured s) refl refl refl refl) of_call (λ _ _. tt)
-  by_tests false false true = done_outcome s (unmeasured s) call Nothing refl (moved s (unmeasured s) refl refl refl refl) of_call (λ _ _. tt)
+  by_tests false true c = done_outcome s (measured s) call Nothing refl (moved s (measured s) refl refl refl refl refl) of_call (λ _ _. tt)
+  by_tests false false true = done_outcome s (unmeasured s) call Nothing refl (moved s (unmeasured s) refl refl refl refl refl) of_call (λ _ _. tt)
   by_tests false false false = refused_outcome s s call 2 refl (λ f. f) (omega arith) (omega arith)
 
 adjusted_outcome : (s : State) (call : Call) (t : Option Target) → IsAnswerOf call Nothing → ComesOut s call (adjusted s t)
-adjusted_outcome s call (Some t) of_call = done_outcome s (pointed s t.hz t.v) call Nothing refl (moved s (pointed s t.hz t.v) refl refl refl refl) of_call (λ _ _. tt)
+adjusted_outcome s call (Some t) of_call = done_outcome s (pointed s t.hz t.v) call Nothing refl (moved s (pointed s t.hz t.v) refl refl refl refl refl) of_call (λ _ _. tt)
 adjusted_outcome s call None of_call = refused_outcome s s call 8710 refl (λ f. f) (omega arith) (omega arith)
 
 searched_outcome : (s : State) (call : Call) (area_hz area_v : Decimal) → IsAnswerOf call Nothing → ComesOut s call (searched s area_hz area_v)
@@ -143,14 +144,14 @@ precision_fits n h = (omega (arith, ints), omega (arith, ints, h))
 
 -- the values at the start fit, where those that are handed in do
 pub restarted_fits : (s : State) → IsFittingState s → IsFittingState (restarted s)
-restarted_fits s f = record { precision = omega arith; serial = f.serial; name = f.name; date = date_fits first_date refl }
+restarted_fits s f = record { precision = omega arith; serial = f.serial; name = f.name; date = date_fits first_date refl; kept = tt }
 
 -- a new precision, and a new date
 precise : (s : State) (n : ℤ) → is_precision n ≡ true → IsFittingState s → IsFittingState (record s { precision = unsigned_abs n })
-precise s n h f = record { precision = precision_few n h; serial = f.serial; name = f.name; date = f.date }
+precise s n h f = record { precision = precision_few n h; serial = f.serial; name = f.name; date = f.date; kept = f.kept }
 
 dated : (s : State) (d : DateTime) → is_date d ≡ true → IsFittingState s → IsFittingState (record s { date = d })
-dated s d h f = record { precision = f.precision; serial = f.serial; name = f.name; date = date_fits d h }
+dated s d h f = record { precision = f.precision; serial = f.serial; name = f.name; date = date_fits d h; kept = f.kept }
 
 -- what the rows of the table are made of
 ruleset row_rules = (told_outcome, done_outcome, set_outcome, with_outcome, commanded_outcome, searched_outcome, moved, precise, dated, face_fits, precision_fits, arith)

@@ -1,5 +1,5 @@
 -- A line has one reply, and lines have one output.
-use Rattle.std.proofs.Common.{◌≡◌, ℕ, List, [], ◌∷◌, ◌++◌, Option, Some, sym, ap, ◌∙◌, subst}
+use Rattle.std.proofs.Common.{◌≡◌, ℕ, List, [], ◌∷◌, ◌++◌, Option, Some, None, sym, ap, ◌∙◌, subst}
 use Rattle.std.specs.Option.{option_to_list}
 use Rattle.gc_lines.specs.Frames.{lines, rest_of}
 use Rattle.gc_lines.specs.Requests.{RequestFields}
@@ -9,22 +9,28 @@ use Rattle.gc_catalogue.specs.declared.call.Call.{Call}
 use Rattle.gc_catalogue.proofs.CallLaws.{one_call, one_refusal, no_refusal}
 use Rattle.gc_instrument.specs.Execution.{exec}
 use Rattle.gc_instrument.specs.Hearing.{Hears, IsOutput, replies_text}
-use Rattle.gc_instrument.specs.Replying.{IsReplied, silent, answers, AnswersRequest, refuses, executes, executed_line, refusal_line, reply_id}
+use Rattle.gc_instrument.specs.Replying.{IsReplied, silent, answers, AnswersCall, repeats, executes, AnswersRequest, refuses, answers_call, kept_after, with_kept, refusal_line, reply_id}
 use Rattle.gc_instrument.specs.State.{State}
 use Rattle.gc_instrument.proofs.Hearing.{hears_then, replies_text-append}
 use Rattle.gc_instrument.proofs.HeardFrames.{lines-next}
+
+-- a call has one answer
+one_done : (s t u : State) (id : Option ℕ) (call : Call) (x y : List ℕ) → AnswersCall s id call t x → AnswersCall s id call u y → (t ≡ u) × (x ≡ y)
+one_done s t u id call x y (repeats e same) (repeats f again) = (same ∙ sym again, (let g : ◌≡◌ {A = Option (List ℕ)} (Some x) (Some y) = sym e ∙ f in cc))
+one_done s t u id call x y (repeats e same) (executes f again told) = let wrong : ◌≡◌ {A = Option (List ℕ)} (Some x) None = sym e ∙ f in let never : ⊥ = cc in absurd never
+one_done s t u id call x y (executes e same made) (repeats f again) = let wrong : ◌≡◌ {A = Option (List ℕ)} None (Some y) = sym e ∙ f in let never : ⊥ = cc in absurd never
+one_done s t u id call x y (executes e same made) (executes f again told) =
+    let one : x ≡ y = made ∙ sym told in
+    (same ∙ ap (λ (line : List ℕ). with_kept (kept_after s.kept id line) (exec s call).state) one ∙ sym again, one)
 
 -- a request has one answer
 one_answer : (s t u : State) (q : RequestFields) (x y : List ℕ) → AnswersRequest s q t x → AnswersRequest s q u y → (t ≡ u) × (x ≡ y)
 one_answer s t u q x y (refuses e is same made) (refuses f other again told) =
     (same ∙ sym again, made ∙ ap (λ (g : CallFault). refusal_line (reply_id q) g) (one_refusal q.rpc q.params e f is other) ∙ sym told)
-one_answer s t u q x y (refuses e is same made) (executes c other again told) = absurd (no_refusal q.rpc q.params c e other is)
-one_answer s t u q x y (executes c is same made) (refuses e other again told) = absurd (no_refusal q.rpc q.params c e is other)
-one_answer s t u q x y (executes c is same made) (executes d other again told) =
-    let one : c ≡ d = one_call q.rpc q.params c d is other in (
-      same ∙ ap (λ (e : Call). (exec s e).state) one ∙ sym again,
-      made ∙ ap (λ (e : Call). executed_line (reply_id q) (exec s e)) one ∙ sym told,
-    )
+one_answer s t u q x y (refuses e is same made) (answers_call c other does) = absurd (no_refusal q.rpc q.params c e other is)
+one_answer s t u q x y (answers_call c is does) (refuses e other again told) = absurd (no_refusal q.rpc q.params c e is other)
+one_answer s t u q x y (answers_call c is does) (answers_call d other makes) =
+    one_done s t u q.id d x y (subst (λ (e : Call). AnswersCall s q.id e t x) (one_call q.rpc q.params c d is other) does) makes
 
 -- a line has one reply
 pub one_reply : (s t u : State) (line : List ℕ) (p q : Option (List ℕ)) → IsReplied s line t p → IsReplied s line u q → (t ≡ u) × (p ≡ q)

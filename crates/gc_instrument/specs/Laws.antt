@@ -1,20 +1,24 @@
 -- What is claimed of the definitions themselves, apart from any call of a function: this project's own.
-use Rattle.std.specs.Prelude.{◌≡◌, ◌↔◌, ◌⊎◌, ℕ, ◌<◌, List, [], ◌∷◌, ◌++◌, Option, Some}
+use Rattle.std.specs.Prelude.{◌≡◌, ◌↔◌, ◌⊎◌, ℕ, ◌<◌, List, [], ◌∷◌, ◌++◌, Option, Some, None}
 use Rattle.std.specs.List.{AllByRecursion}
 use Rattle.gc_lines.specs.Frames.{lines, rest_of}
 use Rattle.gc_lines.specs.Requests.{RequestFields, IsRequest}
 use Rattle.gc_catalogue.specs.Calls.{IsFitting}
 use Rattle.gc_catalogue.specs.Texts.{request_line}
 use Rattle.gc_catalogue.specs.declared.call.Call.{Call}
-use Rattle.gc_instrument.specs.Execution.{exec}
+use Rattle.gc_instrument.specs.Execution.{Executed, exec}
 use Rattle.gc_instrument.specs.Hearing.{Hears, IsOutput}
 use Rattle.gc_instrument.specs.Outcomes.{ComesOut}
-use Rattle.gc_instrument.specs.Replying.{IsReplied, IsAnswered, handed}
-use Rattle.gc_instrument.specs.State.{State, IsFittingState, restarted}
+use Rattle.gc_instrument.specs.Replying.{IsReplied, IsAnswered, handed, kept_line, with_kept, executed_with}
+use Rattle.gc_instrument.specs.State.{State, KeptReply, IsFittingState, restarted}
 
 -- every call comes out, in every state
 abbrev pub CallsComeOut : Type 0
 CallsComeOut = (s : State) (call : Call) → ComesOut s call (exec s call)
+
+-- what is kept neither counts for a call nor is changed by it
+abbrev pub ExecutesApart : Type 0
+ExecutesApart = (s : State) (kept : Option KeptReply) (call : Call) → exec (with_kept kept s) call ≡ executed_with kept (exec s call)
 
 -- starting twice is starting once, and a state that fits starts as one that fits
 pub record Restarts : Type 0 where
@@ -25,10 +29,11 @@ pub record Restarts : Type 0 where
 abbrev pub OneReply : Type 0
 OneReply = (s t u : State) (line : List ℕ) (p q : Option (List ℕ)) → IsReplied s line t p → IsReplied s line u q → (t ≡ u) × (p ≡ q)
 
--- handing over a call's request line has the reply of the call, which says of it what carrying it out gave
+-- handing over a call's request line has the reply of the call, which says of it what carrying it out gave, where the id
+-- isn't the kept one
 pub record ExchangesCalls : Type 0 where
   pub replied : (s : State) (id : ℕ) (call : Call) → id < 8 → IsFitting call → IsReplied s (request_line (Some id) call) (handed s id call).state (Some (handed s id call).reply)
-  pub answered : (s : State) (id : ℕ) (call : Call) → IsFittingState s → id < 8 → IsFitting call → IsAnswered s id call (handed s id call).reply
+  pub answered : (s : State) (id : ℕ) (call : Call) → IsFittingState s → id < 8 → IsFitting call → kept_line s.kept (Some id) ≡ None → IsAnswered s id call (handed s id call).reply
 
 -- lines have one output; what comes first is answered first, and what comes next from the state after it; a stream may be
 -- parted behind each line feed

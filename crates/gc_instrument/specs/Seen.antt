@@ -1,5 +1,7 @@
 -- What a contract sees of an instrument, and what is known of every one: this project's own.
-use Rattle.gc_instrument.specs.State.{State, IsFittingState}
+use Rattle.std.specs.Prelude.{Option, Some, None, ⊤}
+use Rattle.gc_lines.specs.Lines.{IsPlain}
+use Rattle.gc_instrument.specs.State.{State, KeptReply, IsFittingState}
 use Rattle.gc_instrument.specs.declared.instrument.Instrument.TheInside.{Inside}
 
 -- the state, field by field
@@ -15,8 +17,14 @@ state_of i = record {
   pointing = i.settings.pointing;
   distance = i.settings.distance;
   date = i.settings.date;
+  kept = i.kept;
 }
 
--- its values fit
+-- what is kept is one line
+abbrev pub IsPlainKept : Option KeptReply → Type 0
+IsPlainKept None = ⊤
+IsPlainKept (Some k) = IsPlain k.line
+
+-- its values fit, and it can be sent
 abbrev pub IsSound : Inside → Type 0
-IsSound i = IsFittingState (state_of i)
+IsSound i = IsFittingState (state_of i) × IsPlainKept i.kept

@@ -1,5 +1,6 @@
 -- The state of a simulated instrument, as it is at the start and after a restart: this project's own.
-use Rattle.std.specs.Prelude.{◌≤◌, ℕ, ℤ, pos, List, [], ◌∷◌, Option, None, codes, refl}
+use Rattle.std.specs.Prelude.{◌≡◌, ◌≤◌, ℕ, ℤ, pos, List, [], ◌∷◌, Option, Some, None, codes, refl, ⊤}
+use Rattle.gc_lines.specs.Replies.{ReplyFields, IsReply}
 use Rattle.gc_values.specs.Decimals.{decimal, zero}
 use Rattle.gc_values.specs.declared.decimal.Decimal.{Decimal}
 use Rattle.gc_values.specs.Text.{IsText}
@@ -13,7 +14,17 @@ use Rattle.gc_instrument.specs.declared.face.Face.TheVariants.{Normal}
 use Rattle.gc_instrument.specs.declared.pointing.Pointing.{Pointing}
 use Rattle.gc_instrument.specs.declared.target.Target.{Target}
 
--- what an instrument is, and what its calls have set
+-- what is kept of a request that was executed: its id, and the line of its reply
+pub record KeptReply : Type 0 where
+  pub id : ℕ
+  pub line : List ℕ
+
+-- what is kept in these two places: nothing without an id
+abbrev pub kept_in : Option ℕ → List ℕ → Option KeptReply
+kept_in None line = None
+kept_in (Some id) line = Some (record { id = id; line = line })
+
+-- what an instrument is, what its calls have set, and what it keeps of the last request that carried an id and was executed
 pub record State : Type 0 where
   pub serial : ℤ
   pub name : List ℕ
@@ -25,13 +36,25 @@ pub record State : Type 0 where
   pub pointing : Pointing
   pub distance : Option Decimal
   pub date : DateTime
+  pub kept : Option KeptReply
 
--- what is known of every instrument's state: a precision is at most 15, and the other values lie in their types
+-- a kept line is a reply with the id of its request
+pub record IsFittingReply (k : KeptReply) : Type 0 where
+  pub fields : ReplyFields
+  pub is_reply : IsReply k.line fields
+  pub same_id : fields.id ≡ Some k.id
+
+abbrev pub IsFittingKept : Option KeptReply → Type 0
+IsFittingKept None = ⊤
+IsFittingKept (Some k) = IsFittingReply k
+
+-- what is known of every instrument's state: a precision is at most 15, the other values lie in their types, and what is kept is a reply
 pub record IsFittingState (s : State) : Type 0 where
   pub precision : s.precision ≤ 15
   pub serial : FitsLong s.serial
   pub name : IsText s.name
   pub date : AreValues (date_values s.date)
+  pub kept : IsFittingKept s.kept
 
 -- a station of zeros
 abbrev pub origin : Station
@@ -58,9 +81,10 @@ opening number letters targets = record {
   pointing = ahead;
   distance = None;
   date = first_date;
+  kept = None;
 }
 
--- the state after a restart: that of the start, with the same serial number, name and scene
+-- the state after a restart: that of the start, with the same serial number, name and scene. Nothing is kept
 abbrev pub restarted : State → State
 restarted s = opening s.serial s.name s.scene
 

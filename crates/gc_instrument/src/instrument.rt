@@ -4,6 +4,7 @@ ghost use Rattle.std.specs.Prelude.{◌≡◌, ◌<◌, ◌≤◌, ◌↔◌, le
 ghost use Rattle.gc_instrument.specs.State.{IsFittingState, opening, restarted, simulator_opening};
 
 mod execution;
+mod kept;
 mod replying;
 mod settings;
 
@@ -14,6 +15,7 @@ use crate::target::Target;
 use arrayvec::ArrayVec;
 use gc_catalogue::{DateTime, Station};
 use gc_values::{Decimal, Text};
+use kept::Kept;
 use settings::Settings;
 use std::error::Error;
 use std::fmt;
@@ -44,14 +46,16 @@ impl fmt::Display for SceneFull {
 
 impl Error for SceneFull {}
 
-/// A simulated total station: its serial number, its name, a scene of at most 32 targets, and what
-/// calls have set. It holds no allocated memory.
+/// A simulated total station: its serial number, its name, a scene of at most 32 targets, what calls
+/// have set, and the id and the reply of the last request that carried an id and was executed. It
+/// holds no allocated memory.
 #[derive(Debug, Drop)]
 pub struct Instrument {
     serial: i32,
     name: Text,
     scene: ArrayVec<Target, 32>,
     settings: Settings,
+    kept: Kept,
 }
 
 impl Model for Instrument {
@@ -67,11 +71,12 @@ impl Model for Instrument {
 }
 
 impl Instrument {
+    ghost use Rattle.std.specs.Option.{option_map};
     ghost use Rattle.gc_instrument.specs.Targets.{nowhere};
 
     /// An instrument with this serial number, name and scene, in the opening state: precision 15,
     /// all values 0.0, the normal face, no distance, and the date 1996-07-25 16:19:47 (this
-    /// project's own). A scene of more than 32 targets is refused.
+    /// project's own). It keeps no reply. A scene of more than 32 targets is refused.
     pub fn new(serial: i32, name: Text, scene: &[Target]) -> Result<Instrument, SceneFull>
         ensures opening { IfOk result (λ i. i ≡ opening serial name scene.now) }
         ensures fits { IfOk result (λ i. IsFittingState i) }
@@ -88,15 +93,18 @@ impl Instrument {
             name,
             scene: targets,
             settings: Settings::opening(),
+            kept: Kept::nothing(),
         })
     }
 
-    /// Brings back the opening state. The serial number, the name and the scene stay.
+    /// Brings back the opening state, and forgets the reply that was kept. The serial number, the name
+    /// and the scene stay.
     pub fn restart(&mut self)
         ensures state { self.new ≡ restarted self.old }
         ensures fits { IsFittingState self.new }
     {
         self.settings = Settings::opening();
+        self.kept.forget();
     }
 
     /// The simulator: serial number 123456, name `GEOCOM SIM`, and three targets.
@@ -152,6 +160,14 @@ impl Instrument {
         ensures { result ≡ self.now.distance }
     {
         self.settings.distance
+    }
+
+    /// The id of the last request that carried one and was executed since the instrument was made or
+    /// restarted. A request with this id is answered by the reply that is kept.
+    pub fn kept_id(&self) -> Option<u8>
+        ensures { result ≡ option_map (λ k. k.id) self.now.kept }
+    {
+        self.kept.id()
     }
 
     /// The date and time that were set last.

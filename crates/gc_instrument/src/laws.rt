@@ -1,11 +1,16 @@
 //! What is proved of the definitions themselves. Each function does nothing: its contract is the law.
 
-ghost use Rattle.gc_instrument.specs.Laws.{CallsComeOut, Restarts, OneReply, ExchangesCalls, AnswersInTurn, ForeignLinesAreSilent};
+ghost use Rattle.gc_instrument.specs.Laws.{CallsComeOut, ExecutesApart, Restarts, OneReply, ExchangesCalls, AnswersInTurn, ForeignLinesAreSilent};
 
 /// Every call leaves the instrument's serial number, name and scene as they are, and gives an answer
 /// of its own with the return code 0, or nothing with another one.
 pub fn calls_come_out()
     ensures { CallsComeOut }
+{}
+
+/// The reply that is kept neither counts for a call that is carried out nor is changed by it.
+pub fn executes_apart()
+    ensures { ExecutesApart }
 {}
 
 /// Starting twice is starting once, and what fits before a start fits after it.
@@ -18,7 +23,8 @@ pub fn one_reply()
     ensures { OneReply }
 {}
 
-/// The reply to a call's request line says of the call what carrying it out gave.
+/// The reply to a call's request line, where its id isn't the kept one, says of the call what carrying it
+/// out gave.
 pub fn exchanges_calls()
     ensures { ExchangesCalls }
 {}

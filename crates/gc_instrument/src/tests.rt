@@ -1,6 +1,6 @@
 //! The worked examples that a simulated instrument answers, scenes, and the restart.
 
-use crate::{Instrument, ServeFault, Served, Target, serve};
+use crate::{Face, Instrument, ServeFault, Served, Target, serve};
 use gc_catalogue::{Answer, Call};
 use gc_lines::{FromReader, Line, ToWriter};
 use gc_probes::{PieceSink, PieceSource};
@@ -193,6 +193,62 @@ fn restart(rt: HostRuntime) {
     };
     assert_eq!(rt; instrument.execute(&adjust), (0, Answer::Nothing));
     assert_eq!(rt; instrument.pointing().hz, Decimal::literal(5, 1));
+}
+
+// Hands one line to an instrument, and gives the reply and the id that is kept then.
+fn reply_and_kept(instrument: &mut Instrument, request: &[u8]) -> (Option<Line>, Option<u8>) {
+    let mut line = Line::new();
+    let fits = line.try_extend_from_slice(request).is_ok();
+    let reply = if fits {
+        instrument.on_line(&line)
+    } else {
+        None
+    };
+    (reply, instrument.kept_id())
+}
+
+// Each line in turn has this reply, and leaves this id kept.
+#[test]
+fn what_is_kept(rt: HostRuntime) {
+    let mut instrument = Instrument::simulator();
+    assert_eq!(rt; instrument.kept_id(), None);
+    let rows: [(&[u8], &[u8], Option<u8>); 11] = [
+        (b"%R1Q,9028:0,0,0", b"%R1P,0,0:0", None),
+        (b"%R1Q,9028,0:0,0,0", b"%R1P,0,0:0", Some(0)),
+        (b"%R1Q,2026:", b"%R1P,0,0:0,0", Some(0)),
+        (b"%R1Q,9028,0:0,0,0", b"%R1P,0,0:0", Some(0)),
+        (b"%R1Q,2026,0:", b"%R1P,0,0:0", Some(0)),
+        (b"%R1Q,65535,1:", b"%R1P,3081,1:0", Some(0)),
+        (b"%R1Q,2012,0:", b"%R1P,3080,0:0", Some(0)),
+        (b"%R1Q,9028,1:0,0,0", b"%R1P,0,1:0", Some(1)),
+        (b"%R1Q,2026,2:", b"%R1P,0,2:0,1", Some(2)),
+        (b"%R1Q,107,2:0", b"%R1P,0,2:0,1", Some(2)),
+        (b"%R1Q,9028,2", b"", Some(2)),
+    ];
+    for (request, reply, kept) in rows {
+        let (told, id) = reply_and_kept(&mut instrument, request);
+        let text = told.unwrap_or_default();
+        let name = core::str::from_utf8(request).unwrap_or("?");
+        assert_eq!(rt; text.as_slice(), reply, "{name}");
+        assert_eq!(rt; id, kept, "{name}");
+    }
+    assert_eq!(rt; instrument.precision(), 15);
+    assert_eq!(rt; instrument.execute(&Call::SetPrecision(3)).0, 0);
+    assert_eq!(rt; instrument.kept_id(), Some(2));
+}
+
+// The first request behind a restart is executed, whatever id was kept.
+#[test]
+fn restart_forgets_the_reply(rt: HostRuntime) {
+    let mut instrument = Instrument::simulator();
+    let request = b"%R1Q,9028,0:0,0,0";
+    assert_eq!(rt; reply_and_kept(&mut instrument, request).1, Some(0));
+    assert_eq!(rt; instrument.face(), Face::Turned);
+    instrument.restart();
+    assert_eq!(rt; instrument.kept_id(), None);
+    assert_eq!(rt; instrument.face(), Face::Normal);
+    assert_eq!(rt; reply_and_kept(&mut instrument, request).1, Some(0));
+    assert_eq!(rt; instrument.face(), Face::Turned);
 }
 
 // An instrument with a scene of its own behind any reader and writer, as docs/INSTRUMENT.md shows it.

@@ -18,12 +18,12 @@ abbrev pub Has : {A : Type 0} → A → List A → Type 0
 Has a [] = ⊥
 Has a (x ∷ xs) = (x ≡ a) ⊎ Has a xs
 
-has_more : {A : Type 0} (a : A) (xs ys : List A) → Has a xs → Has a (xs ++ ys)
+pub has_more : {A : Type 0} (a : A) (xs ys : List A) → Has a xs → Has a (xs ++ ys)
 has_more a [] ys h = absurd h
 has_more a (x ∷ xs) ys (inl e) = inl e
 has_more a (x ∷ xs) ys (inr h) = inr (has_more a xs ys h)
 
-has_push : {A : Type 0} (a : A) (xs : List A) → Has a (xs ++ a ∷ [])
+pub has_push : {A : Type 0} (a : A) (xs : List A) → Has a (xs ++ a ∷ [])
 has_push a [] = inl refl
 has_push a (x ∷ xs) = inr (has_push a xs)
 

@@ -10,12 +10,13 @@ use Rattle.gc_world.specs.Clients.{ByNumber, number_send, by_numbers}
 use Rattle.gc_world.specs.Exchange.{IsExchange}
 use Rattle.gc_world.specs.Order.{Each}
 use Rattle.gc_world.specs.Faithful.{has_number, begun}
-use Rattle.gc_world.specs.Record.{IsOneForOne, IsReplyTo, IsBooked, IsExecution}
+use Rattle.gc_world.specs.Record.{Increasing, IsOneForOne, IsReplyTo, IsBooked, IsExecuted, IsReplyAt, IsExecution}
 use Rattle.gc_world.proofs.Booked.{Has, has_at, IsMade, AllMade}
 use Rattle.gc_world.proofs.Replay.{IsReply, Replays}
 use Rattle.gc_world.proofs.Options.{some_is, none_is_not}
+use Rattle.gc_world.proofs.Places.{each_get, in_range, below}
 
-each_has : {A : Type 0} (P : A → Type 0) (xs : List A) (x : A) → Each P xs → Has x xs → P x
+pub each_has : {A : Type 0} (P : A → Type 0) (xs : List A) (x : A) → Each P xs → Has x xs → P x
 each_has P [] x h e = absurd e
 each_has P (y ∷ xs) x h (inl e) = subst P e h.0
 each_has P (y ∷ xs) x h (inr e) = each_has P xs x h.1 e
@@ -64,6 +65,7 @@ module _ {State : Type 0} (ends : Ends State) where
     id : ℕ
     small : id < 8
     text : request.line ≡ request_line (Some id) request.call
+    executed : (ends.handed state id request.call).executed ≡ true
     made : entry ≡ Some (record { number = n; line = (ends.handed state id request.call).reply })
     next_is : next ≡ begun ends.restarted (has_number i starts) (ends.handed state id request.call).state
 
@@ -80,6 +82,7 @@ module _ {State : Type 0} (ends : Ends State) where
         id = r.id;
         small = r.small;
         text = r.text;
+        executed = r.executed;
         made = ap Some (entry_is m n r.number same (ends.handed s r.id r.request.call).reply r.line);
         next_is =
             before_first sent starts (j + 1) (begun ends.restarted (has_number (j + 1) starts) h.0) ns ms t h.2
@@ -97,31 +100,57 @@ module _ {State : Type 0} (ends : Ends State) where
   step_at sent starts j s [] (m ∷ ms) t h k n e = absurd h
   step_at sent starts j s (n' ∷ ns) [] t h k n e = absurd h
 
-  pub execution : (opening : State) (w : Wire State) → Replays ends w.sent w.starts 0 (ends.restarted opening) w.executed w.made w.state → IsExecution ends opening w
-  execution opening w h =
-      let state = ends.restarted opening in
-      let before = before_in w.sent w.starts 0 state w.executed w.made w.state h in
-      record {
-        before = before;
-        first = before_first w.sent w.starts 0 state w.executed w.made w.state h;
-        entries = replays_entries w.sent w.starts 0 state w.executed w.made w.state h;
-        each = λ j n e.
-            let s = step_at w.sent w.starts 0 state w.executed w.made w.state h j n e in
-            let i : j + 1 ≡ suc j = omega arith in
-            let i' : 0 + j + 1 ≡ j + 1 = omega arith in
-            record {
-              request = s.request;
-              found = s.found;
-              id = s.id;
-              small = s.small;
-              line = s.text;
-              made = s.made;
-              next =
-                  ap before i ∙ s.next_is
-                  ∙ ap (λ x. begun ends.restarted (has_number x w.starts) (ends.handed (before j) s.id s.request.call).state) i';
-            };
-        last = before_last w.sent w.starts 0 state w.executed w.made w.state h;
-      }
+  -- these replies are among those that were made, each of those is one of them, and no request is executed twice
+  module _ (opening : State) (w : Wire State) (replies : List (Numbered (List ℕ))) (h : Replays ends w.sent w.starts 0 (ends.restarted opening) w.executed replies w.state) (each : Each (λ m. Has m w.made) replies) (among : Each (λ m. Has m replies) w.made) where
+    state_before : ℕ → State
+    state_before = before_in w.sent w.starts 0 (ends.restarted opening) w.executed replies w.state h
+
+    executed_at : (j n : ℕ) → slice_get w.executed j ≡ Some n → IsExecuted ends w state_before j n
+    unfolding state_before
+    executed_at j n e =
+        let s = step_at w.sent w.starts 0 (ends.restarted opening) w.executed replies w.state h j n e in
+        let i : j + 1 ≡ suc j = omega arith in
+        let i' : 0 + j + 1 ≡ j + 1 = omega arith in
+        let m : Numbered (List ℕ) = record { number = n; line = (ends.handed (state_before j) s.id s.request.call).reply } in
+        let at = has_at m w.made (each_get (λ x. Has x w.made) replies j m each s.made) in
+        record {
+          request = s.request;
+          found = s.found;
+          id = s.id;
+          small = s.small;
+          line = s.text;
+          executed = s.executed;
+          next =
+              ap state_before i ∙ s.next_is
+              ∙ ap (λ x. begun ends.restarted (has_number x w.starts) (ends.handed (state_before j) s.id s.request.call).state) i';
+          place = at.0;
+          made = at.1;
+        }
+
+    reply_at : (entry : Numbered (List ℕ)) → Has entry replies → IsReplyAt ends w state_before entry
+    unfolding state_before executed_at
+    reply_at entry has =
+        let at = has_at entry replies has in
+        let size = replays_entries w.sent w.starts 0 (ends.restarted opening) w.executed replies w.state h in
+        let n = in_range w.executed at.0 (omega (arith, size, below replies at.0 entry at.1)) in
+        let s = step_at w.sent w.starts 0 (ends.restarted opening) w.executed replies w.state h at.0 n.0 n.1 in
+        let entry_is : entry ≡ record { number = n.0; line = (ends.handed (state_before at.0) s.id s.request.call).reply } = some_is _ _ (sym at.1 ∙ s.made) in
+        let number : n.0 ≡ entry.number = sym (ap (λ (m : Numbered (List ℕ)). m.number) entry_is) in
+        let found : slice_get w.executed at.0 ≡ Some entry.number = n.1 ∙ ap Some number in
+        subst (λ (m : Numbered (List ℕ)). IsReplyAt ends w state_before m) (sym entry_is) (record { j = at.0; executed = n.1; execution = executed_at at.0 n.0 n.1; line = refl })
+
+    pub execution : Increasing 0 w.executed → IsExecution ends opening w
+    unfolding state_before
+    execution climbs =
+        let state = ends.restarted opening in
+        record {
+          before = state_before;
+          first = before_first w.sent w.starts 0 state w.executed replies w.state h;
+          each = executed_at;
+          replies = λ k entry e. reply_at entry (each_get (λ m. Has m replies) w.made k entry among e);
+          last = before_last w.sent w.starts 0 state w.executed replies w.state h;
+          climbs = climbs;
+        }
 
 module _ {State : Type 0} (ends : Ends State) (Good : State → Type 0) (ex : IsExchange ends Good) where
   -- the entry is a reply to the call of the request of its number
@@ -135,7 +164,7 @@ module _ {State : Type 0} (ends : Ends State) (Good : State → Type 0) (ex : Is
       record {
         request = h.request;
         found = ap (λ k. slice_get sent k) h.number ∙ h.found;
-        reply = record { state = s; good = good; id = h.id; small = h.small; reply = h.line };
+        reply = record { state = s; good = good; id = h.id; small = h.small; executed = h.executed; reply = h.line };
       }
 
   good_next : (sent : List Sent) (s : State) (n : ℕ) (m : Numbered (List ℕ)) (t : State) (b : Bool) → Good s → IsReply ends sent s n m t → Good (begun ends.restarted b t)

@@ -1,23 +1,23 @@
 -- The report of a list of events is faithful.
-use Rattle.std.proofs.Common.{ℕ, List, length, lit≤, subst}
+use Rattle.std.proofs.Common.{ℕ, List, length, refl, lit≤, subst}
 use Rattle.gc_client.specs.Rule.{ById}
 use Rattle.gc_instrument.specs.State.{State, IsFittingState, restarted}
 use Rattle.gc_world.specs.declared.event.Event.{Event}
 use Rattle.gc_world.specs.declared.report.Report.{Report}
-use Rattle.gc_world.specs.Faithful.{Faithful}
+use Rattle.gc_world.specs.Faithful.{ActsOnce, Faithful}
 use Rattle.gc_world.specs.Reports.{IsReport, IsNoLongerThan}
 use Rattle.gc_world.specs.Clients.{ends, played, played_by_numbers, run_by_ids, streams_by_ids, streams_by_numbers}
 use Rattle.gc_world.specs.Stages.{AreOf}
 use Rattle.gc_world.specs.World.{World}
 use Rattle.gc_world.proofs.Flow.{AreLevel, level_at, level_wire}
-use Rattle.gc_world.proofs.Handing.{reads, exchange, simple, fine}
-use Rattle.gc_world.proofs.Reporting.{one_for_one, books_answers, records_execution, agrees_with, no_longer}
+use Rattle.gc_world.proofs.Handing.{KeptFits, reads, exchange, kept_of, keeper, fine}
+use Rattle.gc_world.proofs.Reporting.{one_for_one, books_answers, records_execution, acts_once, agrees_with, no_longer}
 use Rattle.gc_world.proofs.Turns.{played_within}
 use Rattle.gc_world.proofs.Runs.{one_for_one_at, execution_at, booked_at}
 
 module _ (opening : State) (events : List Event) where
-  level : AreLevel 7 (lit≤ tt) ends (λ s. Unit {0}) reads (restarted opening) tt (streams_by_ids 7 ends events (restarted opening)) (streams_by_numbers 7 ends events (restarted opening))
-  level = level_at 7 (lit≤ tt) ends (λ s. Unit {0}) reads (restarted opening) tt events
+  level : AreLevel 7 (lit≤ tt) ends KeptFits reads (restarted opening) tt (streams_by_ids 7 ends events (restarted opening)) (streams_by_numbers 7 ends events (restarted opening))
+  level = level_at 7 (lit≤ tt) ends KeptFits reads (restarted opening) tt events
 
   pub faithful : (r : Report) (up down : List ℕ) (client : ById) → IsFittingState (restarted opening) → AreOf r up down client (played opening events) → Faithful opening events r
   faithful r up down client good shows =
@@ -27,12 +27,19 @@ module _ (opening : State) (events : List Event) where
       let one = one_for_one r w h (one_for_one_at 7 ends es (restarted opening)) in
       record {
         one_for_one = one;
-        booked = books_answers r w h IsFittingState fine shows.calls one (booked_at 7 (lit≤ tt) ends IsFittingState exchange simple es opening good);
-        executed = records_execution r w h shows.calls opening (execution_at 7 (lit≤ tt) ends IsFittingState exchange simple es opening good);
+        booked = books_answers r w h IsFittingState fine shows.calls one (booked_at 7 (lit≤ tt) ends IsFittingState exchange kept_of keeper refl es opening good);
+        executed = records_execution r w h opening (execution_at 7 (lit≤ tt) ends IsFittingState exchange kept_of keeper refl es opening good);
         agrees =
             agrees_with r (played opening events).wire shows.reports (played_by_numbers opening events).wire
-            (level_wire 7 (lit≤ tt) ends (λ s. Unit {0}) reads (restarted opening) tt (streams_by_ids 7 ends events (restarted opening)) (streams_by_numbers 7 ends events (restarted opening)) level);
+            (level_wire 7 (lit≤ tt) ends KeptFits reads (restarted opening) tt (streams_by_ids 7 ends events (restarted opening)) (streams_by_numbers 7 ends events (restarted opening)) level);
       }
+
+  pub once : (r : Report) (up down : List ℕ) (client : ById) → IsFittingState (restarted opening) → AreOf r up down client (played opening events) → ActsOnce opening r
+  once r up down client good shows =
+      let es = level.steps in
+      let w = (run_by_ids 7 ends es (restarted opening)).wire in
+      let h : IsReport r w = subst (λ (v : World ById State). IsReport r v.wire) level.ids shows.reports in
+      acts_once r w h opening (execution_at 7 (lit≤ tt) ends IsFittingState exchange kept_of keeper refl es opening good)
 
   pub no_longer_than : (r : Report) (up down : List ℕ) (client : ById) → AreOf r up down client (played opening events) → IsNoLongerThan (length events) r
   no_longer_than r up down client shows =

@@ -23,7 +23,7 @@ use Rattle.gc_world.specs.World.{Sent, Numbered, Wire, World, Send, Down_deliver
 use Rattle.gc_world.proofs.Agree.{Agree, agree_at, sound_at}
 use Rattle.gc_world.proofs.Flow.{taken, flow_run, flow_append, AreLevel, level_at, level_wire}
 use Rattle.gc_world.proofs.Delivering.{delivery_is}
-use Rattle.gc_world.proofs.Handing.{reads}
+use Rattle.gc_world.proofs.Handing.{KeptFits, reads}
 use Rattle.gc_world.proofs.Marks.{entry_all}
 use Rattle.gc_world.proofs.Moments.{marked_all, in_time, too_late}
 use Rattle.gc_world.proofs.Options.{some_is, none_is_not}
@@ -116,14 +116,14 @@ module _ (width : ℕ) (narrow : width ≤ WINDOW) (opening : State) where
   abbrev counted_by : List Event → Streams ByNumber State
   counted_by events = streams_by_numbers width ends events (restarted opening)
 
-  level : (events : List Event) → AreLevel width narrow ends (λ s. Unit {0}) reads (restarted opening) tt (seen_by events) (counted_by events)
-  level events = level_at width narrow ends (λ s. Unit {0}) reads (restarted opening) tt events
+  level : (events : List Event) → AreLevel width narrow ends KeptFits reads (restarted opening) tt (seen_by events) (counted_by events)
+  level events = level_at width narrow ends KeptFits reads (restarted opening) tt events
 
-  sound_in : (events : List Event) → Sound width ends (λ s. Unit {0}) (counted_by events).world
-  sound_in events = subst (Sound width ends (λ s. Unit {0})) (sym (level events).numbers) (sound_at width narrow ends (λ s. Unit {0}) reads (level events).steps (restarted opening) tt)
+  sound_in : (events : List Event) → Sound width ends KeptFits (counted_by events).world
+  sound_in events = subst (Sound width ends KeptFits) (sym (level events).numbers) (sound_at width narrow ends KeptFits reads (level events).steps (restarted opening) tt)
 
   wire_in : (events : List Event) → left_by_ids width opening events ≡ (counted_by events).world.wire
-  wire_in events = level_wire width narrow ends (λ s. Unit {0}) reads (restarted opening) tt (seen_by events) (counted_by events) (level events)
+  wire_in events = level_wire width narrow ends KeptFits reads (restarted opening) tt (seen_by events) (counted_by events) (level events)
 
   counted_more : (events : List Event) (e : Event) → counted_by (events ++ e ∷ []) ≡ flows ends (by_numbers width) (counted_by events) e
   counted_more events e = flow_append ends (by_numbers width) events (e ∷ []) (untouched (numbers_open (restarted opening)))
@@ -156,8 +156,8 @@ module _ (width : ℕ) (narrow : width ≤ WINDOW) (opening : State) where
       ∙ flow_run ends (by_numbers width) later b in
       let unsettled : (counted_by events).world.client.count ≤ n = omega (arith, (sound_in events).booked, ap (λ (u : Wire State). length u.settled) (wire_in events), le) in
       subst (λ (u : World ByNumber State). slice_get u.client.requests n ≡ Some (mark_of s.earlier s.target s.call deadline later)) (sym whole)
-      (entry_all width ends (λ s. Unit {0}) reads steps w n (pending_of s.target s.call deadline)
-      (sound_step width ends (λ s. Unit {0}) reads v (Send s.target s.call deadline) (sound_in s.earlier)) at (subst (λ (u : World ByNumber State). u.client.count ≤ n) whole unsettled))
+      (entry_all width ends KeptFits reads steps w n (pending_of s.target s.call deadline)
+      (sound_step width ends KeptFits reads v (Send s.target s.call deadline) (sound_in s.earlier)) at (subst (λ (u : World ByNumber State). u.client.count ≤ n) whole unsettled))
 
   -- what is settled behind a delivery
   delivered_by : (events : List Event) (delivery : Event) → IsDelivery (seen_by events) delivery → (x : Numbered (List ℕ)) (rest : List (Numbered (List ℕ))) → (left_by_ids width opening events).down ≡ x ∷ rest → (left_by_ids width opening (events ++ delivery ∷ [])).settled ≡ (happens ends (by_numbers width) (counted_by events).world Down_deliver).wire.settled
@@ -176,7 +176,7 @@ module _ (width : ℕ) (narrow : width ≤ WINDOW) (opening : State) where
       let a = run_by_ids width ends l.steps (restarted opening) in
       let same : (seen_by events).world ≡ a = l.ids in
       let b = (counted_by events).world in
-      let agree = subst (Agree width narrow ends (λ s. Unit {0}) a) (sym l.numbers) (agree_at width narrow ends (λ s. Unit {0}) reads l.steps (restarted opening) tt) in
+      let agree = subst (Agree width narrow ends KeptFits a) (sym l.numbers) (agree_at width narrow ends KeptFits reads l.steps (restarted opening) tt) in
       let front : a.wire.down ≡ record { number = n; line = line } ∷ next.behind = ap (λ (u : World ById State). u.wire.down) (sym same) ∙ next.front in
       let unsettled : length a.wire.settled ≤ n = subst (λ (u : World ById State). length u.wire.settled ≤ n) same next.unsettled in
       let count : b.client.count ≡ length a.wire.settled = sym (sound_in events).booked ∙ ap (λ (u : Wire State). length u.settled) (sym agree.wire) in

@@ -1,69 +1,141 @@
 -- What the instrument does with a request that a client wrote, and how its reply reads.
-use Rattle.std.proofs.Common.{◌≡◌, ℕ, ◌<◌, Bool, true, false, cond, List, Some, refl, sym, ap, subst, lit<, eqb}
-use Rattle.std.proofs.lemmas.Bool.{eqb-false}
-use Rattle.gc_lines.specs.Lines.{IsPlain}
-use Rattle.gc_lines.specs.Replies.{ReplyFields, IsReply}
-use Rattle.gc_lines.proofs.Replies.{reply_one}
+use Rattle.std.proofs.Common.{◌≡◌, ℕ, ◌<◌, Bool, true, false, cond, List, Option, Some, None, Ok, inl, inr, refl, sym, ap, ◌∙◌, subst, lit<, eqb}
+use Rattle.std.specs.Option.{option_map}
+use Rattle.std.proofs.lemmas.Bool.{eqb-true, eq-eqb}
+use Rattle.gc_lines.specs.Readers.{reply_at}
+use Rattle.gc_lines.specs.Replies.{IsReply}
+use Rattle.gc_lines.proofs.Replies.{reply_one, reply_again, reply_found}
 use Rattle.gc_lines.proofs.Written.{reply_back}
 use Rattle.gc_catalogue.specs.declared.answer.Reading.{Reading}
 use Rattle.gc_catalogue.specs.declared.answer.Reading.TheVariants.{Value, Refused}
 use Rattle.gc_catalogue.specs.declared.call.Call.{Call}
-use Rattle.gc_catalogue.specs.Answers.{answer_fields, IsFittingAnswer, rounded_answer}
+use Rattle.gc_catalogue.specs.Answers.{rounded_answer}
 use Rattle.gc_catalogue.specs.Calls.{IsFitting}
 use Rattle.gc_catalogue.specs.Readings.{IsReading}
-use Rattle.gc_catalogue.specs.Texts.{request_line, reply_of}
-use Rattle.gc_catalogue.proofs.AnswerLaws.{answer_fits, one_reading}
-use Rattle.gc_catalogue.proofs.Plain.{plain_reply}
-use Rattle.gc_client.specs.Rule.{id_in}
+use Rattle.gc_catalogue.specs.Texts.{reply_of}
+use Rattle.gc_catalogue.proofs.AnswerLaws.{one_reading}
+use Rattle.gc_client.specs.Rule.{id_in, heard}
 use Rattle.gc_client.specs.Settlements.{ReadsAs}
-use Rattle.gc_instrument.specs.State.{State, IsFittingState}
+use Rattle.gc_instrument.specs.State.{State, KeptReply, IsFittingState, IsFittingKept, IsFittingReply, restarted}
 use Rattle.gc_instrument.specs.Execution.{Executed, exec}
-use Rattle.gc_instrument.specs.Replying
-use Rattle.gc_instrument.specs.Replying.{IsReplied, IsAnswered, reading_of}
-use Rattle.gc_instrument.proofs.Answering.{handed_answered, handed_replied}
-use Rattle.gc_instrument.proofs.Executions.{ComesOut, exec_outcome, restarted_fits}
-use Rattle.gc_world.specs.Exchange.{IsExchange, IsSimple}
-use Rattle.gc_world.specs.Faithful.{IsValueOrRefusal}
+use Rattle.gc_instrument.specs.Replying.{Handed, handed, kept_line, with_kept, executed_line, reading_of}
+use Rattle.gc_instrument.proofs.Answering.{handed_answered, handed_again, handed_new, kept_or_not}
+use Rattle.gc_instrument.proofs.Keeping.{executes_apart, fits_kept}
+use Rattle.gc_instrument.proofs.Executions.{exec_outcome, restarted_fits}
+use Rattle.gc_world.specs.Exchange.{IsExchange, IsKeeper}
+use Rattle.gc_world.specs.Faithful.{IsValueOrRefusal, begun}
 use Rattle.gc_world.specs.Record.{IsReplyTo}
 use Rattle.gc_world.specs.Clients.{ends}
-use Rattle.gc_instrument.specs.Replying.{handed}
+use Rattle.gc_world.proofs.Options.{some_is}
 
--- whatever an instrument's state is, its reply to a request reads as one with the request's id
-pub reads : IsExchange ends (λ s. Unit {0})
-unfolding Replying.handed
+-- what is kept is a reply with its id
+abbrev pub KeptFits : State → Type 0
+KeptFits s = IsFittingKept s.kept
+
+chosen : (b : Bool) (l line : List ℕ) → cond b (Some l) None ≡ Some line → (b ≡ true) × (l ≡ line)
+chosen true l line e = (refl, (cc))
+chosen false l line e = let never : ⊥ = cc in absurd never
+
+kept_heard : (k : Option KeptReply) (id : ℕ) (line : List ℕ) → kept_line k (Some id) ≡ Some line → IsFittingKept k → heard line ≡ Some id
+kept_heard None id line e h = let never : ⊥ = cc in absurd never
+kept_heard (Some k) id line e h =
+    let c = chosen (eqb k.id id) k.line line e in
+    ap heard (sym c.1) ∙ ap id_in (reply_again k.line h.fields h.is_reply) ∙ h.same_id ∙ ap Some (eqb-true k.id id c.0)
+
+-- the line of what was executed
+new_read : (s : State) (id : ℕ) (call : Call) → id < 8 → (let x = exec s call in reply_at (executed_line id x) ≡ Ok (reply_of id x.rc x.answer x.state.precision))
+new_read s id call digit = let x = exec s call in reply_back (reply_of id x.rc x.answer x.state.precision) (record { rc_com = lit< tt; id = digit; rc = (exec_outcome s call).code })
+
+new_kept : (s : State) (id : ℕ) (call : Call) → id < 8 → IsFittingReply (record { id = id; line = executed_line id (exec s call) })
+new_kept s id call digit =
+    let x = exec s call in
+    record { fields = reply_of id x.rc x.answer x.state.precision; is_reply = reply_found (executed_line id x) (reply_of id x.rc x.answer x.state.precision) (new_read s id call digit); same_id = refl }
+
+-- the reply to a request reads as one with the request's id, where what is kept does
+pub reads : IsExchange ends KeptFits
 reads =
     record {
-      reads = λ s id call good digit.
-          let x = exec s call in
-          ap id_in (reply_back (reply_of id x.rc x.answer x.state.precision) (record { rc_com = lit< tt; id = digit; rc = (exec_outcome s call).code }));
-      stays_good = λ s id call good digit. tt;
+      reads = λ s id call good digit. elim (kept_or_not (kept_line s.kept (Some id))) [
+        | inl h ↦ ap (λ (x : Handed State). heard x.reply) (handed_again s id call h.0 h.1) ∙ kept_heard s.kept id h.0 h.1 good
+        | inr e ↦ ap (λ (x : Handed State). heard x.reply) (handed_new s id call e) ∙ ap id_in (new_read s id call digit)
+      ];
+      stays_good = λ s id call good digit. elim (kept_or_not (kept_line s.kept (Some id))) [
+        | inl h ↦ subst (λ (x : Handed State). KeptFits x.state) (sym (handed_again s id call h.0 h.1)) good
+        | inr e ↦ subst (λ (x : Handed State). KeptFits x.state) (sym (handed_new s id call e)) (new_kept s id call digit)
+      ];
       restart_good = λ s good. tt;
     }
 
 -- the two ends understand one another
 pub exchange : IsExchange ends IsFittingState
-unfolding Replying.handed
 exchange =
     record {
-      reads = λ s id call good digit. reads.reads s id call tt digit;
-      stays_good = λ s id call good digit. (exec_outcome s call).fits good;
+      reads = λ s id call good digit. reads.reads s id call good.kept digit;
+      stays_good = λ s id call good digit. elim (kept_or_not (kept_line s.kept (Some id))) [
+        | inl h ↦ subst (λ (x : Handed State). IsFittingState x.state) (sym (handed_again s id call h.0 h.1)) good
+        | inr e ↦ subst (λ (x : Handed State). IsFittingState x.state) (sym (handed_new s id call e)) (fits_kept (exec s call).state _ ((exec_outcome s call).fits good) (new_kept s id call digit))
+      ];
       restart_good = restarted_fits;
     }
 
-pub simple : IsSimple ends
-unfolding Replying.handed
-simple = record { twice = λ s. refl; executes = λ s id call. refl }
+-- what the instrument keeps
+abbrev pub kept_of : State → Option KeptReply
+kept_of s = s.kept
 
--- the reply is the instrument's to that line, and the state that of carrying the call out
-pub replied_as : (s : State) (id : ℕ) (call : Call) (line text : List ℕ) → id < 8 → IsFitting call → line ≡ request_line (Some id) call → text ≡ (handed s id call).reply → IsReplied s line (exec s call).state (Some text)
-unfolding Replying.handed
-replied_as s id call line text digit fits e made =
-    subst (λ (l : List ℕ). IsReplied s l (exec s call).state (Some text)) (sym e)
-    (subst (λ (t : List ℕ). IsReplied s (request_line (Some id) call) (exec s call).state (Some t)) (sym made) (handed_replied s id call digit fits))
+pub keeper : IsKeeper ends kept_of
+keeper =
+    record {
+      twice = λ s. refl;
+      forgets = λ s. refl;
+      again = λ s id call line e. handed_again s id call line e;
+      executes = λ s id call e. ap (λ (x : Handed State). x.executed) (handed_new s id call e);
+      keeps = λ s id call e. subst (λ (x : Handed State). x.state.kept ≡ Some (record { id = id; line = x.reply })) (sym (handed_new s id call e)) refl;
+    }
 
-pub after_is : (s : State) (id : ℕ) (call : Call) → (handed s id call).state ≡ (exec s call).state
-unfolding Replying.handed
-after_is s id call = refl
+-- what was executed didn't have the kept id
+new_id : (s : State) (id : ℕ) (call : Call) → (handed s id call).executed ≡ true → kept_line s.kept (Some id) ≡ None
+new_id s id call e = elim (kept_or_not (kept_line s.kept (Some id))) [
+  | inl h ↦ let wrong : false ≡ true = sym (ap (λ (x : Handed State). x.executed) (handed_again s id call h.0 h.1)) ∙ e in let never : ⊥ = cc in absurd never
+  | inr none ↦ none
+]
+
+-- the state apart from what is kept
+abbrev pub bare : State → State
+bare s = with_kept None s
+
+-- executing a call there
+pub bare_after : (s : State) (id : ℕ) (call : Call) → (handed s id call).executed ≡ true → bare (handed s id call).state ≡ (exec (bare s) call).state
+bare_after s id call e =
+    ap (λ (x : Handed State). bare x.state) (handed_new s id call (new_id s id call e))
+    ∙ sym (ap (λ (x : Executed). x.state) (executes_apart s None call))
+
+pub bare_line : (s : State) (id : ℕ) (call : Call) → (handed s id call).executed ≡ true → (handed s id call).reply ≡ executed_line id (exec (bare s) call)
+bare_line s id call e =
+    ap (λ (x : Handed State). x.reply) (handed_new s id call (new_id s id call e))
+    ∙ sym (ap (λ (x : Executed). executed_line id x) (executes_apart s None call))
+
+pub bare_begun : (b : Bool) (s t : State) → bare s ≡ t → bare (begun restarted b s) ≡ begun restarted b t
+bare_begun false s t e = e
+bare_begun true s t e = ap restarted e
+
+-- the id that is kept tells whether a request was executed
+pub executed_by_id : (s : State) (id : ℕ) (call : Call) → (option_map (λ (k : KeptReply). k.id) s.kept ≡ option_map (λ (k : KeptReply). k.id) (handed s id call).state.kept → ⊥) → (handed s id call).executed ≡ true
+executed_by_id s id call other = elim (kept_or_not (kept_line s.kept (Some id))) [
+  | inl h ↦ absurd (other (sym (ap (λ (x : Handed State). option_map (λ (k : KeptReply). k.id) x.state.kept) (handed_again s id call h.0 h.1))))
+  | inr e ↦ ap (λ (x : Handed State). x.executed) (handed_new s id call e)
+]
+
+not_kept : (k : Option KeptReply) (id : ℕ) → kept_line k (Some id) ≡ None → option_map (λ (k : KeptReply). k.id) k ≡ Some id → ⊥
+not_kept None id e same = cc
+not_kept (Some k) id e same =
+    let own : k.id ≡ id = some_is k.id id same in
+    let wrong : Some k.line ≡ None = sym (ap (λ b. cond b (Some k.line) None) (eq-eqb k.id id own)) ∙ e in cc
+
+pub repeated_by_id : (s : State) (id : ℕ) (call : Call) → option_map (λ (k : KeptReply). k.id) s.kept ≡ option_map (λ (k : KeptReply). k.id) (handed s id call).state.kept → (handed s id call).executed ≡ false
+repeated_by_id s id call same = elim (kept_or_not (kept_line s.kept (Some id))) [
+  | inl h ↦ ap (λ (x : Handed State). x.executed) (handed_again s id call h.0 h.1)
+  | inr e ↦ absurd (not_kept s.kept id e (same ∙ ap (λ (x : Handed State). option_map (λ (k : KeptReply). k.id) x.state.kept) (handed_new s id call e)))
+]
 
 fine_if : (b : Bool) (value refusal : Reading) → IsValueOrRefusal value → IsValueOrRefusal refusal → IsValueOrRefusal (cond b value refusal)
 fine_if true value refusal v r = v
@@ -75,20 +147,7 @@ fine_reading x = fine_if (eqb x.rc 0) (Value (rounded_answer x.state.precision x
 -- a reply in a fitting state to a call that fits reads as a value or a refusal
 pub fine : (call : Call) (bytes : List ℕ) (reading : Reading) → IsReplyTo ends IsFittingState call bytes → IsFitting call → ReadsAs call bytes reading → IsValueOrRefusal reading
 fine call bytes reading made fits read =
-    let a = handed_answered made.state made.id call made.good made.small fits in
+    let a = handed_answered made.state made.id call made.good made.small fits (new_id made.state made.id call made.executed) in
     let same : a.fields ≡ read.reply = reply_one bytes a.fields read.reply (subst (λ (l : List ℕ). IsReply l a.fields) (sym made.reply) a.is_reply) read.is_reply in
     let one : reading_of (exec made.state call) ≡ reading = one_reading call read.reply _ reading (subst (λ f. IsReading call f (reading_of (exec made.state call))) same a.reading) read.is_reading in
     subst IsValueOrRefusal one (fine_reading (exec made.state call))
-
-answer_values : (s : State) (call : Call) (x : Executed) (fields : ReplyFields) (b : Bool) → ComesOut s call x → eqb x.rc 0 ≡ b → IsReading call fields (cond b (Value (rounded_answer x.state.precision x.answer)) (Refused x.rc)) → IsFittingAnswer (rounded_answer x.state.precision x.answer)
-answer_values s call x fields true out e read = answer_fits call fields.params (rounded_answer x.state.precision x.answer) read.2
-answer_values s call x fields false out e read = subst (λ a. IsFittingAnswer (rounded_answer x.state.precision a)) (sym (out.refuses (eqb-false _ _ e))) tt
-
--- the reply to a request is one line
-pub reply_is_plain : (s : State) (id : ℕ) (call : Call) → IsAnswered s id call (handed s id call).reply → IsPlain (handed s id call).reply
-unfolding Replying.handed
-reply_is_plain s id call a =
-    let x = exec s call in
-    let out = exec_outcome s call in
-    plain_reply 0 (Some id) x.rc (answer_fields (rounded_answer x.state.precision x.answer)).values (lit< tt) out.code
-    (answer_values s call x a.fields (eqb x.rc 0) out refl a.reading)

@@ -1,3 +1,4 @@
+pub mod Once
 pub mod Options
 pub mod Places
 pub mod Ids

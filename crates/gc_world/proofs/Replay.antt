@@ -5,17 +5,13 @@ use Rattle.std.proofs.lemmas.Bool.{ne_eqb, eq-eqb}
 use Rattle.std.proofs.lemmas.List.{length_push}
 use Rattle.gc_catalogue.specs.declared.call.Call.{Call}
 use Rattle.gc_catalogue.specs.Texts.{request_line}
-use Rattle.gc_client.specs.Rule.{Sending}
-use Rattle.gc_world.specs.World.{Request, Sent, Numbered, Ends, Rule, Step, Wire, World, replied, started, requested, run}
-use Rattle.gc_world.specs.Exchange.{IsSimple}
+use Rattle.gc_world.specs.World.{Request, Sent, Numbered, Ends}
 use Rattle.gc_world.specs.Order.{Each}
 use Rattle.gc_world.specs.Faithful.{has_number, begun}
-use Rattle.gc_world.proofs.Places.{get_more, get_push}
-use Rattle.gc_world.proofs.Rows.{each_append, each_more, each_without, each_doubled}
-use Rattle.gc_world.proofs.Stable.{IsStable, stable_all}
+use Rattle.gc_world.proofs.Places.{get_more}
 
 -- above all of them
-no_number : (n : ℕ) (xs : List ℕ) → Each (λ x. x < n) xs → has_number n xs ≡ false
+pub no_number : (n : ℕ) (xs : List ℕ) → Each (λ x. x < n) xs → has_number n xs ≡ false
 no_number n [] h = refl
 no_number n (x ∷ xs) h = ap (λ b. b || has_number n xs) (ne_eqb x n (λ e. omega (arith, h.0, e))) ∙ no_number n xs h.1
 
@@ -39,6 +35,7 @@ module _ {State : Type 0} (ends : Ends State) where
     pub id : ℕ
     pub small : id < 8
     pub text : request.line ≡ request_line (Some id) request.call
+    pub executed : (ends.handed state id request.call).executed ≡ true
     pub number : entry.number ≡ n
     pub line : entry.line ≡ (ends.handed state id request.call).reply
     pub leads : (ends.handed state id request.call).state ≡ after
@@ -51,17 +48,17 @@ module _ {State : Type 0} (ends : Ends State) where
   Replays sent starts j s (n ∷ ns) [] t = ⊥
 
   reply_more : (sent more : List Sent) (s : State) (n : ℕ) (m : Numbered (List ℕ)) (t : State) → IsReply sent s n m t → IsReply (sent ++ more) s n m t
-  reply_more sent more s n m t h = record { request = h.request; found = get_more sent more n h.request h.found; id = h.id; small = h.small; text = h.text; number = h.number; line = h.line; leads = h.leads }
+  reply_more sent more s n m t h = record { request = h.request; found = get_more sent more n h.request h.found; id = h.id; small = h.small; text = h.text; executed = h.executed; number = h.number; line = h.line; leads = h.leads }
 
   -- further requests change nothing
-  replays_more : (sent more : List Sent) (starts : List ℕ) (j : ℕ) (s : State) (ns : List ℕ) (ms : List (Numbered (List ℕ))) (t : State) → Replays sent starts j s ns ms t → Replays (sent ++ more) starts j s ns ms t
+  pub replays_more : (sent more : List Sent) (starts : List ℕ) (j : ℕ) (s : State) (ns : List ℕ) (ms : List (Numbered (List ℕ))) (t : State) → Replays sent starts j s ns ms t → Replays (sent ++ more) starts j s ns ms t
   replays_more sent more starts j s [] [] t h = h
   replays_more sent more starts j s (n ∷ ns) (m ∷ ms) t h = (h.0, reply_more sent more s n m h.0 h.1, replays_more sent more starts (j + 1) _ ns ms t h.2)
   replays_more sent more starts j s [] (m ∷ ms) t h = h
   replays_more sent more starts j s (n ∷ ns) [] t h = h
 
   -- one more request is executed, after the last start
-  replays_push : (sent : List Sent) (starts : List ℕ) (j l : ℕ) (s : State) (ns : List ℕ) (ms : List (Numbered (List ℕ))) (t : State) (n : ℕ) (m : Numbered (List ℕ)) (u : State) → j + length ns + 1 ≡ l → has_number l starts ≡ false → IsReply sent t n m u → Replays sent starts j s ns ms t → Replays sent starts j s (ns ++ n ∷ []) (ms ++ m ∷ []) u
+  pub replays_push : (sent : List Sent) (starts : List ℕ) (j l : ℕ) (s : State) (ns : List ℕ) (ms : List (Numbered (List ℕ))) (t : State) (n : ℕ) (m : Numbered (List ℕ)) (u : State) → j + length ns + 1 ≡ l → has_number l starts ≡ false → IsReply sent t n m u → Replays sent starts j s ns ms t → Replays sent starts j s (ns ++ n ∷ []) (ms ++ m ∷ []) u
   replays_push sent starts j l s [] [] t n m u e none r h =
       let e1 : l ≡ j + 1 = omega (arith, e) in
       (u, subst (λ x. IsReply sent x n m u) (sym h) r, ap (λ b. begun ends.restarted b u) (subst (λ k. has_number k starts ≡ false) e1 none))
@@ -85,7 +82,7 @@ module _ {State : Type 0} (ends : Ends State) where
   replays_start twice sent starts j l s n [] (m ∷ (x ∷ ms)) t e h = absurd h.2
   replays_start twice sent starts j l s n (k ∷ ns) [] t e h = absurd h
 
-  replays_started : ((s : State) → ends.restarted (ends.restarted s) ≡ ends.restarted s) → (sent : List Sent) (starts : List ℕ) (opening : State) (ns : List ℕ) (ms : List (Numbered (List ℕ))) (t : State) → Replays sent starts 0 (ends.restarted opening) ns ms t → Replays sent (starts ++ length ns ∷ []) 0 (ends.restarted opening) ns ms (ends.restarted t)
+  pub replays_started : ((s : State) → ends.restarted (ends.restarted s) ≡ ends.restarted s) → (sent : List Sent) (starts : List ℕ) (opening : State) (ns : List ℕ) (ms : List (Numbered (List ℕ))) (t : State) → Replays sent starts 0 (ends.restarted opening) ns ms t → Replays sent (starts ++ length ns ∷ []) 0 (ends.restarted opening) ns ms (ends.restarted t)
   replays_started twice sent starts opening [] [] t h = sym (twice opening) ∙ ap ends.restarted h
   replays_started twice sent starts opening (n ∷ ns) ms t h = replays_start twice sent starts 0 (length (n ∷ ns)) (ends.restarted opening) n ns ms t (omega arith) h
   replays_started twice sent starts opening [] (m ∷ ms) t h = absurd h
@@ -98,85 +95,5 @@ pub record IsOf (sent : List Sent) (x : Numbered Request) : Type 0 where
   pub call : request.call ≡ x.line.call
   pub text : request.line ≡ request_line (Some x.line.id) x.line.call
 
-of_more : (sent more : List Sent) (x : Numbered Request) → IsOf sent x → IsOf (sent ++ more) x
+pub of_more : (sent more : List Sent) (x : Numbered Request) → IsOf sent x → IsOf (sent ++ more) x
 of_more sent more x h = record { request = h.request; found = get_more sent more x.number h.request h.found; small = h.small; call = h.call; text = h.text }
-
-module _ {Client State : Type 0} (ends : Ends State) (rule : Rule Client) (simple : IsSimple ends) (digits : (c : Client) (target : ℕ) (call : Call) (deadline : ℕ) (x : Sending Client) → rule.send c target call deadline ≡ Some x → x.id < 8) (opening : State) where
-  pub record IsReplayed (w : Wire State) : Type 0 where
-    pub replays : Replays ends w.sent w.starts 0 (ends.restarted opening) w.executed w.made w.state
-    pub begins : Each (λ x. x < length w.executed + 1) w.starts
-    pub lines : Each (IsOf w.sent) w.up
-
-  replayed_sent : (w : World Client State) (target : ℕ) (call : Call) (x : Sending Client) → x.id < 8 → IsReplayed w.wire → IsReplayed (requested w target call (Some x)).wire
-  replayed_sent w target call x digit h =
-      let r : Sent = record { target = target; call = call; line = request_line (Some x.id) call } in
-      record {
-        replays = replays_more ends w.wire.sent (r ∷ []) w.wire.starts 0 (ends.restarted opening) w.wire.executed w.wire.made w.wire.state h.replays;
-        begins = h.begins;
-        lines =
-            each_append _ w.wire.up _ (each_more _ _ (of_more w.wire.sent (r ∷ [])) w.wire.up h.lines)
-            (record { request = r; found = get_push w.wire.sent r; small = digit; call = refl; text = refl }, tt);
-      }
-
-  replayed_answer : (w : Wire State) (x : Numbered Request) (rest : List (Numbered Request)) → w.up ≡ x ∷ rest → IsReplayed w → IsReplayed (replied w x.number rest (ends.handed w.state x.line.id x.line.call))
-  replayed_answer w x rest q h =
-      let hd = ends.handed w.state x.line.id x.line.call in
-      let of = subst (λ l. Each (IsOf w.sent) l) q h.lines in
-      let y : Numbered (List ℕ) = record { number = x.number; line = hd.reply } in
-      let after : Wire State = record w { up = rest; executed = w.executed ++ x.number ∷ []; made = w.made ++ y ∷ []; down = w.down ++ y ∷ []; state = hd.state } in
-      let done : IsReplayed after = record {
-        replays =
-            replays_push ends w.sent w.starts 0 (length w.executed + 1) (ends.restarted opening) w.executed w.made w.state x.number y hd.state (omega arith)
-            (no_number (length w.executed + 1) w.starts h.begins)
-            (record {
-              request = of.0.request;
-              found = of.0.found;
-              id = x.line.id;
-              small = of.0.small;
-              text = of.0.text ∙ ap (λ c. request_line (Some x.line.id) c) (sym of.0.call);
-              number = refl;
-              line = ap (λ c. (ends.handed w.state x.line.id c).reply) (sym of.0.call);
-              leads = ap (λ c. (ends.handed w.state x.line.id c).state) of.0.call;
-            })
-            h.replays;
-        begins = each_more (λ n. n < length w.executed + 1) (λ n. n < length (w.executed ++ x.number ∷ []) + 1) (λ n l. omega (arith, l, length_push w.executed x.number)) w.starts h.begins;
-        lines = of.1;
-      } in
-      subst (λ b. IsReplayed (record after { executed = cond b (w.executed ++ x.number ∷ []) w.executed })) (sym (simple.executes w.state x.line.id x.line.call)) done
-
-  -- the upward queue is another one
-  replayed_up : (w : Wire State) (up : List (Numbered Request)) → Each (IsOf w.sent) up → IsReplayed w → IsReplayed (record w { up = up })
-  replayed_up w up u h = record { replays = h.replays; begins = h.begins; lines = u }
-
-  -- nothing that counts here is another one
-  replayed_else : (w : Wire State) (settled : _) (down : _) (refused idle : ℕ) → IsReplayed w → IsReplayed (record w { settled = settled; down = down; refused = refused; idle = idle })
-  replayed_else w settled down refused idle h = record { replays = h.replays; begins = h.begins; lines = h.lines }
-
-  replayed_started : (w : Wire State) (b : Bool) → IsReplayed w → IsReplayed (started ends w b)
-  replayed_started w false h = h
-  replayed_started w true h =
-      record {
-        replays = replays_started ends simple.twice w.sent w.starts opening w.executed w.made w.state h.replays;
-        begins = each_append _ w.starts _ h.begins (omega arith, tt);
-        lines = h.lines;
-      }
-
-  keeps_replayed : IsStable ends rule (λ (w : World Client State). IsReplayed w.wire)
-  keeps_replayed =
-      record {
-        idles = λ w h. replayed_else w.wire w.wire.settled w.wire.down w.wire.refused _ h;
-        refuses = λ w h. replayed_else w.wire w.wire.settled w.wire.down _ w.wire.idle h;
-        sends = λ w target call deadline x e h. replayed_sent w target call x (digits w.client target call deadline x e) h;
-        answers = λ w x rest q h. replayed_answer w.wire x rest q h;
-        loses_up = λ w k h. replayed_up w.wire _ (each_without _ k w.wire.up h.lines) h;
-        repeats_up = λ w k h. replayed_up w.wire _ (each_doubled _ k w.wire.up h.lines) h;
-        loses_down = λ w k h. replayed_else w.wire w.wire.settled _ w.wire.refused w.wire.idle h;
-        repeats_down = λ w k h. replayed_else w.wire w.wire.settled _ w.wire.refused w.wire.idle h;
-        hears = λ w x rest q h. replayed_else w.wire _ rest w.wire.refused w.wire.idle h;
-        expires = λ w now h. h;
-        restarts = λ w u d h. let v = started ends w.wire ends.joint in replayed_else v _ v.down v.refused v.idle (replayed_started w.wire ends.joint h);
-        starts = λ w u d h. replayed_started w.wire true h;
-      }
-
-  pub replayed_all : (es : List Step) (w : World Client State) → IsReplayed w.wire → IsReplayed (run ends rule es w).wire
-  replayed_all es w h = stable_all ends rule (λ (v : World Client State). IsReplayed v.wire) keeps_replayed es w h

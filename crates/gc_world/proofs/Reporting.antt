@@ -1,6 +1,7 @@
 -- A report that shows a run has what the run has.
-use Rattle.std.proofs.Common.{◌≡◌, ℕ, zero, suc, ◌+◌, ◌≤◌, List, [], ◌∷◌, length, Some, refl, sym, ◌∙◌, ap, subst, arith}
+use Rattle.std.proofs.Common.{◌≡◌, ℕ, zero, suc, ◌+◌, ◌<◌, ◌≤◌, inl, inr, List, [], ◌∷◌, length, Some, refl, sym, ◌∙◌, ap, subst, arith}
 use Rattle.std.specs.Prelude.{slice_get, All}
+use Rattle.std.proofs.lemmas.Bool.{cases_lt}
 use Rattle.std.proofs.lemmas.List.{length-map}
 use Rattle.std.proofs.lemmas.List.Elements.{All-head, All-tail}
 use Rattle.gc_catalogue.specs.Calls.{IsFitting}
@@ -13,18 +14,20 @@ use Rattle.gc_client.specs.declared.settlement.Outcome.TheVariants.{Answered, La
 use Rattle.gc_client.specs.Rule
 use Rattle.gc_client.specs.Settlements.{ReadsAs, IsWellRead, settlement_seen, outcome_seen}
 use Rattle.gc_instrument.specs.State.{State, restarted}
+use Rattle.gc_world.specs.declared.report.Made.{Made}
 use Rattle.gc_world.specs.declared.report.Report.{Report}
 use Rattle.gc_world.specs.declared.report.Sent.{Sent}
-use Rattle.gc_world.specs.Faithful.{OneForOne, IsValueOrRefusal, IsBookedAnswer, BooksAnswers, has_number, begun, IsExecutionOf, RecordsExecution, sent_seen, AgreesWith}
+use Rattle.gc_world.specs.Faithful.{OneForOne, IsValueOrRefusal, IsBookedAnswer, BooksAnswers, has_number, begun, AreBefore, IsReplyOf, RecordsExecution, ActsOnce, sent_seen, AgreesWith}
 use Rattle.gc_world.specs.Order.{Each}
-use Rattle.gc_world.specs.Record.{IsOneForOne, IsReplyTo, IsBooked, IsExecuted, IsExecution}
+use Rattle.gc_world.specs.Record.{Increasing, IsOneForOne, IsReplyTo, IsBooked, IsExecuted, IsExecution}
 use Rattle.gc_world.specs.Reports.{made_seen, IsReport, IsNoLongerThan}
 use Rattle.gc_world.specs.Clients.{ends}
-use Rattle.gc_instrument.specs.Replying.{handed}
+use Rattle.gc_instrument.specs.Execution.{exec}
+use Rattle.gc_instrument.specs.Replying.{executed_line}
 use Rattle.gc_world.specs.World
 use Rattle.gc_world.specs.World.{Numbered, Wire}
 use Rattle.gc_world.proofs.Counts.{IsWithin}
-use Rattle.gc_world.proofs.Handing.{replied_as, after_is}
+use Rattle.gc_world.proofs.Handing.{bare, bare_after, bare_line, bare_begun}
 use Rattle.gc_world.proofs.Options.{some_is, none_is_not}
 use Rattle.gc_world.proofs.Places.{get_map, get_seen, below, in_range, each_get}
 
@@ -32,6 +35,18 @@ all_get : {A : Type 0} (P : A → Type 0) (xs : List A) (n : ℕ) (x : A) → Al
 all_get P [] n x h e = absurd (none_is_not x e)
 all_get P (y ∷ xs) zero x h e = subst P (some_is y x e) (All-head P y xs h)
 all_get P (y ∷ xs) (suc n) x h e = all_get P xs n x (All-tail P y xs h) e
+
+-- numbers that strictly increase are above those before them
+above_low : (low : ℕ) (xs : List ℕ) (j m : ℕ) → Increasing low xs → slice_get xs j ≡ Some m → low ≤ m
+above_low low [] j m h e = absurd (none_is_not m e)
+above_low low (x ∷ xs) zero m h e = subst (λ k. low ≤ k) (some_is x m e) h.0
+above_low low (x ∷ xs) (suc j) m h e = omega (arith, h.0, above_low (x + 1) xs j m h.1 e)
+
+rises : (low : ℕ) (xs : List ℕ) (i j n m : ℕ) → Increasing low xs → i < j → slice_get xs i ≡ Some n → slice_get xs j ≡ Some m → n < m
+rises low [] i j n m h lt e f = absurd (none_is_not n e)
+rises low (x ∷ xs) i zero n m h lt e f = absurd (omega (arith, lt))
+rises low (x ∷ xs) zero (suc j) n m h lt e f = let above = above_low (x + 1) xs j m h.1 f in omega (arith, above, some_is x n e)
+rises low (x ∷ xs) (suc i) (suc j) n m h lt e f = rises (x + 1) xs i j n m h.1 (omega (arith, lt)) e f
 
 module _ (r : Report) (w : Wire State) (h : IsReport r w) where
   sent_length : length r.sent ≡ length w.sent
@@ -78,41 +93,78 @@ module _ (r : Report) (w : Wire State) (h : IsReport r w) where
     pub books_answers : OneForOne r → ((m : ℕ) (s : Rule.Settlement) → slice_get w.settled m ≡ Some s → IsBooked ends Good w.made m s) → BooksAnswers r
     books_answers one booked m s e = booked_at one booked m s s.outcome refl e (all_get (λ (x : Settlement). IsWellRead x.call x.outcome) r.settled m s h.settled.read e)
 
-  module _ (fits : Each (λ (q : Sent). IsFitting q.call) r.sent) where
-    execution_of : (before : ℕ → State) (j n : ℕ) → IsExecuted ends w before j n → IsExecutionOf r before j n
-    execution_of before j n x =
-        let d = x.request in
-        let id = x.id in
-        let q = get_seen sent_seen r.sent n d (ap (λ l. slice_get l n) h.sent ∙ x.found) in
-        let call : q.0.call ≡ d.call = ap (λ (p : World.Sent). p.call) q.2 in
-        let line = ap (λ (p : World.Sent). p.line) q.2 ∙ x.line ∙ ap (λ c. request_line (Some id) c) (sym call) in
-        let entry = get_seen made_seen r.made j _ (ap (λ l. slice_get l j) h.made ∙ x.made) in
-        let reply = ap (λ (y : Numbered (List ℕ)). y.line) entry.2 ∙ ap (λ c. (handed (before j) id c).reply) (sym call) in
+  module _ (opening : State) (x : IsExecution ends opening w) where
+    abbrev before : ℕ → State
+    before j = bare (x.before j)
+
+    executed_is : (j n : ℕ) → slice_get r.executed j ≡ Some n → slice_get w.executed j ≡ Some n
+    executed_is j n e = ap (λ l. slice_get l j) (sym h.executed) ∙ e
+
+    -- the request that was executed
+    request_of : (j n : ℕ) (d : IsExecuted ends w x.before j n) → (q : Sent) × (slice_get r.sent n ≡ Some q) × (sent_seen q ≡ d.request)
+    request_of j n d = get_seen sent_seen r.sent n d.request (ap (λ l. slice_get l n) h.sent ∙ d.found)
+
+    states : AreBefore opening r before
+    states =
         record {
-          request = q.0;
-          sent = q.1;
-          id = id;
-          digit = x.small;
-          request_is = line;
-          entry = entry.0;
-          made = entry.1;
-          number = ap (λ (y : Numbered (List ℕ)). y.number) entry.2;
-          replied = replied_as (before j) id q.0.call q.0.line.items entry.0.line.items x.small (each_get (λ (p : Sent). IsFitting p.call) r.sent n q.0 fits q.1) line reply;
-          next =
-              x.next
-              ∙ ap (λ starts. begun restarted (has_number (j + 1) starts) (handed (before j) id d.call).state) (sym h.starts)
-              ∙ ap (λ c. begun restarted (has_number (j + 1) r.starts) (handed (before j) id c).state) (sym call)
-              ∙ ap (λ s. begun restarted (has_number (j + 1) r.starts) s) (after_is (before j) id q.0.call);
+          first = ap bare x.first;
+          next = λ j n request e sent.
+              let d = x.each j n (executed_is j n e) in
+              let q = request_of j n d in
+              let call : d.request.call ≡ request.call = sym (ap (λ (p : World.Sent). p.call) q.2) ∙ ap (λ (p : Sent). p.call) (some_is q.0 request (sym q.1 ∙ sent)) in
+              ap bare d.next
+              ∙ bare_begun (has_number (j + 1) w.starts) _ _ (bare_after (x.before j) d.id d.request.call d.executed)
+              ∙ ap (λ starts. begun restarted (has_number (j + 1) starts) (exec (before j) d.request.call).state) (sym h.starts)
+              ∙ ap (λ c. begun restarted (has_number (j + 1) r.starts) (exec (before j) c).state) call;
         }
 
-    pub records_execution : (opening : State) → IsExecution ends opening w → RecordsExecution opening r
-    records_execution opening x =
+    climbs : (i j n m : ℕ) → i < j → slice_get r.executed i ≡ Some n → slice_get r.executed j ≡ Some m → n < m
+    climbs i j n m lt e f = rises 0 w.executed i j n m x.climbs lt (executed_is i n e) (executed_is j m f)
+
+    alone : (i j n : ℕ) → slice_get r.executed i ≡ Some n → slice_get r.executed j ≡ Some n → i ≡ j
+    alone i j n e f = elim (cases_lt i j) [
+      | inl lt ↦ absurd (omega (arith, climbs i j n n lt e f))
+      | inr ge ↦ elim (cases_lt j i) [
+        | inl gt ↦ absurd (omega (arith, climbs j i n n gt f e))
+        | inr le ↦ omega (arith, ge, le)
+      ]
+    ]
+
+    reply_of : (k : ℕ) (entry : Made) → slice_get r.made k ≡ Some entry → IsReplyOf r before entry
+    reply_of k entry e =
+        let y = x.replies k (made_seen entry) (ap (λ l. slice_get l k) (sym h.made) ∙ get_map made_seen r.made k entry e) in
+        let d = y.execution in
+        let q = request_of y.j entry.number d in
+        let call : q.0.call ≡ d.request.call = ap (λ (p : World.Sent). p.call) q.2 in
+        let executed = ap (λ l. slice_get l y.j) h.executed ∙ y.executed in
         record {
-          entries = made_length ∙ x.entries ∙ ap length (sym h.executed);
-          before = x.before;
-          first = x.first;
-          each = λ j n e. execution_of x.before j n (x.each j n (ap (λ l. slice_get l j) (sym h.executed) ∙ e));
-          last = h.instrument ∙ x.last ∙ ap (λ l. x.before (length l)) (sym h.executed);
+          j = y.j;
+          executed = executed;
+          alone = λ i f. alone i y.j entry.number f executed;
+          request = q.0;
+          sent = q.1;
+          id = d.id;
+          digit = d.small;
+          request_is = ap (λ (p : World.Sent). p.line) q.2 ∙ d.line ∙ ap (λ c. request_line (Some d.id) c) (sym call);
+          line_is = y.line ∙ bare_line (x.before y.j) d.id d.request.call d.executed ∙ ap (λ c. executed_line d.id (exec (before y.j) c)) (sym call);
+        }
+
+    replied : (j n : ℕ) → slice_get r.executed j ≡ Some n → (k : ℕ) × (entry : Made) × (slice_get r.made k ≡ Some entry) × (entry.number ≡ n)
+    replied j n e =
+        let d = x.each j n (executed_is j n e) in
+        let entry = get_seen made_seen r.made d.place _ (ap (λ l. slice_get l d.place) h.made ∙ d.made) in
+        (d.place, entry.0, entry.1, ap (λ (y : Numbered (List ℕ)). y.number) entry.2)
+
+    pub records_execution : RecordsExecution opening r
+    records_execution = record { before = before; states = states; replies = reply_of; replied = replied }
+
+    pub acts_once : ActsOnce opening r
+    acts_once =
+        record {
+          climbs = climbs;
+          before = before;
+          states = states;
+          last = ap bare (h.instrument ∙ x.last) ∙ ap (λ l. before (length l)) (sym h.executed);
         }
 
   pub agrees_with : (v : Wire State) → w ≡ v → AgreesWith v r

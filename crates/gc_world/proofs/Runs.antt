@@ -1,16 +1,19 @@
 -- What every run by ids has at its end.
-use Rattle.std.proofs.Common.{◌≡◌, ℕ, ◌≤◌, List, Some, refl, sym, subst}
+use Rattle.std.proofs.Common.{◌≡◌, ℕ, ◌≤◌, List, Option, Some, true, sym, subst}
+use Rattle.gc_instrument.specs.State.{KeptReply}
+use Rattle.gc_world.specs.Order.{Each, IsRecent, numbers}
 use Rattle.std.specs.Prelude.{slice_get}
 use Rattle.gc_client.specs.Rule.{Settlement}
-use Rattle.gc_world.specs.World.{Ends, Step, Wire}
-use Rattle.gc_world.specs.Clients.{by_numbers, numbers_open, run_by_ids}
-use Rattle.gc_world.specs.Exchange.{IsExchange, IsSimple}
+use Rattle.gc_world.specs.World.{Ends, Step, Wire, World}
+use Rattle.gc_world.specs.Clients.{ByNumber, run_by_ids, run_by_numbers}
+use Rattle.gc_world.specs.Exchange.{IsExchange, IsKeeper}
 use Rattle.gc_world.specs.Record.{IsOneForOne, IsBooked, IsExecution}
 use Rattle.gc_world.proofs.Agree.{same_wire}
-use Rattle.gc_world.proofs.Booked.{AllMade, backed_at}
-use Rattle.gc_world.proofs.Replay.{IsReplayed, replayed_all}
+use Rattle.gc_world.proofs.Booked.{Has, AllMade, backed_at}
+use Rattle.gc_world.proofs.Once.{Once, once_at, recent}
+use Rattle.gc_world.proofs.Rows.{each_more}
 use Rattle.gc_world.proofs.Settled.{one_for_one, whole_at}
-use Rattle.gc_world.proofs.Execution.{digits, execution, answers_at, booked}
+use Rattle.gc_world.proofs.Execution.{IsAnswerAt, each_has, execution, answers_at, booked}
 
 module _ {State : Type 0} (width : ℕ) (ends : Ends State) (es : List Step) where
   -- no law of the ends is needed
@@ -19,24 +22,37 @@ module _ {State : Type 0} (width : ℕ) (ends : Ends State) (es : List Step) whe
       let w = run_by_ids width ends es state in
       one_for_one w.wire.settled w.client.waiting w.wire.sent (whole_at width ends es state)
 
-module _ {State : Type 0} (width : ℕ) (narrow : width ≤ 7) (ends : Ends State) (Good : State → Type 0) (ex : IsExchange ends Good) (simple : IsSimple ends) (es : List Step) (opening : State) (good : Good (ends.restarted opening)) where
+module _ {State : Type 0} (width : ℕ) (narrow : width ≤ 7) (ends : Ends State) (Good : State → Type 0) (ex : IsExchange ends Good) (kept : State → Option KeptReply) (keeper : IsKeeper ends kept) (joint : ends.joint ≡ true) (es : List Step) (opening : State) (good : Good (ends.restarted opening)) where
+  abbrev by_number : World ByNumber State
+  by_number = run_by_numbers width ends es (ends.restarted opening)
+
   abbrev wire : Wire State
   wire = (run_by_ids width ends es (ends.restarted opening)).wire
 
-  replayed : IsReplayed ends (by_numbers width) simple (digits width) opening wire
-  replayed =
-      subst (IsReplayed ends (by_numbers width) simple (digits width) opening) (sym (same_wire width narrow ends Good ex es (ends.restarted opening) good))
-      (replayed_all ends (by_numbers width) simple (digits width) opening es (numbers_open (ends.restarted opening)) (record { replays = refl; begins = tt; lines = tt }))
+  once : Once width narrow ends Good ex kept keeper opening by_number
+  once = once_at width narrow ends Good ex kept keeper opening joint good es
+
+  same : wire ≡ by_number.wire
+  same = same_wire width narrow ends Good ex es (ends.restarted opening) good
 
   pub execution_at : IsExecution ends opening wire
-  execution_at = execution ends opening wire replayed.replays
+  execution_at =
+      let t = once.once.told in
+      subst (IsExecution ends opening) (sym same) (execution ends opening by_number.wire t.replies t.replays t.each t.among once.once.climbs)
+
+  pub recent_at : IsRecent width (kept wire.state) wire.executed (numbers wire.up)
+  recent_at =
+      subst (λ (w : Wire State). IsRecent width (kept w.state) w.executed (numbers w.up)) (sym same) (recent width narrow ends Good ex kept keeper opening by_number once)
 
   all_made : AllMade wire.made 0 wire.settled
-  all_made =
-      subst (λ (w : Wire State). AllMade w.made 0 w.settled) (sym (same_wire width narrow ends Good ex es (ends.restarted opening) good))
-      (backed_at width ends Good ex es (ends.restarted opening) good).backed.booked
+  all_made = subst (λ (w : Wire State). AllMade w.made 0 w.settled) (sym same) (backed_at width ends Good ex es (ends.restarted opening) good).backed.booked
+
+  answered : Each (IsAnswerAt ends Good ex wire.sent) wire.made
+  answered =
+      let t = once.once.told in
+      let w = by_number.wire in
+      subst (λ (w : Wire State). Each (IsAnswerAt ends Good ex w.sent) w.made) (sym same)
+      (each_more (λ m. Has m t.replies) (IsAnswerAt ends Good ex w.sent) (λ m has. each_has (IsAnswerAt ends Good ex w.sent) t.replies m (answers_at ends Good ex w.sent w.starts 0 (ends.restarted opening) w.executed t.replies w.state good t.replays) has) w.made t.among)
 
   pub booked_at : (m : ℕ) (s : Settlement) → slice_get wire.settled m ≡ Some s → IsBooked ends Good wire.made m s
-  booked_at m s e =
-      booked ends Good ex wire.sent wire.made wire.settled (one_for_one_at width ends es (ends.restarted opening)) all_made
-      (answers_at ends Good ex wire.sent wire.starts 0 (ends.restarted opening) wire.executed wire.made wire.state good replayed.replays) m s e
+  booked_at m s e = booked ends Good ex wire.sent wire.made wire.settled (one_for_one_at width ends es (ends.restarted opening)) all_made answered m s e

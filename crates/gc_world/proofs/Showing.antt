@@ -1,10 +1,11 @@
 -- What each step of a stage has to show, over plain variables.
-use Rattle.std.proofs.Common.{◌≡◌, ℕ, ◌+◌, ◌<◌, ◌≤◌, Bool, true, false, cond, List, [], ◌∷◌, ◌++◌, length, map, Option, Some, None, refl, sym, ◌∙◌, ap, subst, ltb, eqb, arith}
+use Rattle.std.proofs.Common.{◌≡◌, ℕ, ◌+◌, ◌<◌, ◌≤◌, Bool, true, false, cond, List, [], ◌∷◌, ◌++◌, length, map, Option, Some, None, ◌⊎◌, inl, inr, refl, sym, ◌∙◌, ap, subst, ltb, eqb, arith}
+use Rattle.std.specs.Option.{option_map}
 use mathlib.Core.Path.{ap₂}
 use Rattle.std.specs.Prelude.{slice_get}
 use Rattle.std.proofs.lemmas.List.{map-append, length-map, append-nil}
 use Rattle.std.proofs.lemmas.List.Elements.{All-append}
-use Rattle.std.proofs.lemmas.Bool.{ltb-false}
+use Rattle.std.proofs.lemmas.Bool.{ltb-false, cases_eq}
 use Rattle.gc_lines.specs.Answering.{AppendsAnswer}
 use Rattle.gc_catalogue.specs.declared.call.Call.{Call}
 use Rattle.gc_catalogue.specs.Calls.{IsFitting}
@@ -17,8 +18,7 @@ use Rattle.gc_client.specs.Hearing.{HearsInto}
 use Rattle.gc_client.specs.Rule.{ById, Sending, heard, hears, place_in, id_settled, id_send, sends, restarts}
 use Rattle.gc_client.specs.Rule
 use Rattle.gc_client.specs.Settlements.{AreSettlements, settlement_seen, IsWellRead}
-use Rattle.gc_instrument.specs.State.{State, restarted}
-use Rattle.gc_instrument.specs.Replying
+use Rattle.gc_instrument.specs.State.{State, KeptReply, restarted}
 use Rattle.gc_instrument.specs.Replying.{handed, IsExchanged}
 use Rattle.gc_world.specs.declared.report.Made.{Made}
 use Rattle.gc_world.specs.declared.report.Report.{Report}
@@ -31,6 +31,7 @@ use Rattle.gc_world.specs.Memory.{IsBusy}
 use Rattle.gc_world.specs.Order.{Each, numbers}
 use Rattle.gc_world.specs.Reports.{made_seen, IsReport}
 use Rattle.gc_world.specs.Stages.{does, bytes_of, IsSentIn, named, AreOf}
+use Rattle.gc_world.proofs.Handing.{executed_by_id, repeated_by_id}
 use Rattle.gc_world.proofs.Queues.{without_map, doubled_map, without_past, doubled_past}
 use Rattle.gc_world.proofs.Rows.{each_append, each_more, each_without, each_doubled}
 use Rattle.gc_world.proofs.Options.{some_is, none_is_not}
@@ -46,6 +47,28 @@ exchanges_any before bytes line after old new true is none h id call digit fits 
     let a = h id call digit fits (is ∙ e) in
     subst (λ (t : List ℕ). IsExchanged before id call after (Some t)) (sym (a.2 ∙ ap (λ l. l ++ a.0) none)) a.1
 exchanges_any before bytes line after old new false is none h id call digit fits e = (h id call digit fits (is ∙ e)).0
+
+-- what was executed, by the ids that are kept before and after
+pub record Notes (before after : State) (n : ℕ) (old new : List ℕ) : Type 0 where
+  pub new_is : (option_map (λ (k : KeptReply). k.id) before.kept ≡ option_map (λ (k : KeptReply). k.id) after.kept → ⊥) → new ≡ old ++ n ∷ []
+  pub same_is : option_map (λ (k : KeptReply). k.id) before.kept ≡ option_map (λ (k : KeptReply). k.id) after.kept → new ≡ old
+
+either_id : (a b : Option ℕ) → (a ≡ b) ⊎ (a ≡ b → ⊥)
+either_id None None = inl refl
+either_id None (Some y) = inr (λ e. cc)
+either_id (Some x) None = inr (λ e. cc)
+either_id (Some x) (Some y) = elim (cases_eq x y) [
+  | inl e ↦ inl (ap Some e)
+  | inr ne ↦ inr (λ e. ne (some_is x y e))
+]
+
+noted : (s : State) (id : ℕ) (call : Call) (after : State) (n : ℕ) (old new : List ℕ) → after ≡ (handed s id call).state → Notes s after n old new → new ≡ cond (handed s id call).executed (old ++ n ∷ []) old
+noted s id call after n old new is h =
+    let same_id = λ (e : option_map (λ (k : KeptReply). k.id) s.kept ≡ option_map (λ (k : KeptReply). k.id) after.kept). e ∙ ap (λ (t : State). option_map (λ (k : KeptReply). k.id) t.kept) is in
+    elim (either_id (option_map (λ (k : KeptReply). k.id) s.kept) (option_map (λ (k : KeptReply). k.id) after.kept)) [
+      | inl e ↦ h.same_is e ∙ ap (λ b. cond b (old ++ n ∷ []) old) (sym (repeated_by_id s id call (same_id e)))
+      | inr ne ↦ h.new_is ne ∙ ap (λ b. cond b (old ++ n ∷ []) old) (sym (executed_by_id s id call (λ e. ne (e ∙ sym (ap (λ (t : State). option_map (λ (k : KeptReply). k.id) t.kept) is)))))
+    ]
 
 -- the report counts one event more that was not possible, or is as before
 abbrev pub counted : Bool → Report → Report
@@ -242,8 +265,7 @@ module _ (r : Report) (up down : List ℕ) (c : ById) (w : World ById State) (h 
       }))
 
   -- the line in front of the upward queue was handed to the instrument
-  pub shows_up_deliver : (n : ℕ) (rest down' : List ℕ) (request : Sent) (entry : Made) (executed : List ℕ) (made : List Made) (state : State) (o : Option (List ℕ)) → up ≡ n ∷ rest → slice_get r.sent n ≡ Some request → ExchangesAny r.instrument request.line.items state o → o ≡ Some entry.line.items → entry.number ≡ n → executed ≡ r.executed ++ n ∷ [] → made ≡ r.made ++ entry ∷ [] → down' ≡ down ++ length r.made ∷ [] → AreOf (record r { executed = executed; made = made; instrument = state }) rest down' c (does w Up_deliver)
-  unfolding Replying.handed
+  pub shows_up_deliver : (n : ℕ) (rest down' : List ℕ) (request : Sent) (entry : Made) (executed : List ℕ) (made : List Made) (state : State) (o : Option (List ℕ)) → up ≡ n ∷ rest → slice_get r.sent n ≡ Some request → ExchangesAny r.instrument request.line.items state o → o ≡ Some entry.line.items → entry.number ≡ n → Notes r.instrument state n r.executed executed → made ≡ r.made ++ entry ∷ [] → down' ≡ down ++ length r.made ∷ [] → AreOf (record r { executed = executed; made = made; instrument = state }) rest down' c (does w Up_deliver)
   shows_up_deliver n rest down' request entry executed made state o e found replied told same executed_is made_is down'_is =
       let f = up_front n rest e in
       let y = f.0 in
@@ -259,7 +281,10 @@ module _ (r : Report) (up down : List ℕ) (c : ById) (w : World ById State) (h 
       subst (λ q. AreOf (record r { executed = executed; made = made; instrument = state }) rest down' c (on_wire w (up_delivered ends w.wire q))) (sym f.2) (record {
         reports = record {
           sent = h.reports.sent;
-          executed = executed_is ∙ ap₂ (λ l k. l ++ k ∷ []) h.reports.executed (sym f.3);
+          executed =
+              noted r.instrument y.line.id y.line.call state n r.executed executed did.state executed_is
+              ∙ ap (λ (s : State). cond (handed s y.line.id y.line.call).executed (r.executed ++ n ∷ []) r.executed) h.reports.instrument
+              ∙ ap₂ (λ l k. cond (handed w.wire.state y.line.id y.line.call).executed (l ++ k ∷ []) l) h.reports.executed (sym f.3);
           made = ap (map made_seen) made_is ∙ map-append made_seen r.made (entry ∷ []) ∙ ap₂ (λ l m. l ++ m ∷ []) h.reports.made entry_is;
           settled = h.reports.settled;
           starts = h.reports.starts;
@@ -315,18 +340,18 @@ module _ (r : Report) (up down : List ℕ) (c : ById) (w : World ById State) (h 
       })
 
   -- no line is under way, and the client was restarted
-  pub shows_restart_client : (more settled : List Settlement) (client : ById) → up ≡ [] → down ≡ [] → AreSettlements more (restarts c).settlements → client ≡ (restarts c).client → settled ≡ r.settled ++ more → AreOf (record r { settled = settled }) up down client (does w Restart_client)
-  shows_restart_client more settled client eu ed more_are client_is settled_is =
+  pub shows_restart_client : (more settled : List Settlement) (client : ById) (starts : List ℕ) (state : State) → up ≡ [] → down ≡ [] → AreSettlements more (restarts c).settlements → client ≡ (restarts c).client → settled ≡ r.settled ++ more → starts ≡ r.starts ++ length r.executed ∷ [] → state ≡ restarted r.instrument → AreOf (record r { settled = settled; starts = starts; instrument = state }) up down client (does w Restart_client)
+  shows_restart_client more settled client starts state eu ed more_are client_is settled_is starts_is state_is =
       let are : AreSettlements more (restarts w.client).settlements = subst (λ k. AreSettlements more (restarts k).settlements) h.client_is more_are in
-      subst (λ u. AreOf (record r { settled = settled }) up down client (client_restarted ends (by_ids WINDOW ends) w u w.wire.down)) (sym (no_up eu))
-      (subst (λ d. AreOf (record r { settled = settled }) up down client (client_restarted ends (by_ids WINDOW ends) w [] d)) (sym (no_down ed)) (record {
+      subst (λ u. AreOf (record r { settled = settled; starts = starts; instrument = state }) up down client (client_restarted ends (by_ids WINDOW ends) w u w.wire.down)) (sym (no_up eu))
+      (subst (λ d. AreOf (record r { settled = settled; starts = starts; instrument = state }) up down client (client_restarted ends (by_ids WINDOW ends) w [] d)) (sym (no_down ed)) (record {
         reports = record {
           sent = h.reports.sent;
           executed = h.reports.executed;
           made = h.reports.made;
           settled = subst (λ l. AreSettlements l (w.wire.settled ++ (restarts w.client).settlements)) (sym settled_is) (are_more r.settled more w.wire.settled (restarts w.client).settlements h.reports.settled are);
-          starts = h.reports.starts;
-          instrument = h.reports.instrument;
+          starts = starts_is ∙ ap₂ (λ (l m : List ℕ). l ++ length m ∷ []) h.reports.starts h.reports.executed;
+          instrument = state_is ∙ ap restarted h.reports.instrument;
           refused = h.reports.refused;
           idle = h.reports.idle;
         };

@@ -21,8 +21,7 @@ use Rattle.gc_world.specs.Order.{Each}
 use Rattle.gc_world.specs.Stages.{does, goes_on, bytes_of, itself, IsSentIn, AreOf, IsFlow, AreStreamsOf, up_handed, down_handed}
 use Rattle.gc_world.specs.Streams.{Streams, Cut, passed, left_gone, up_lines, down_lines, gone_of, is_begun, remaining}
 use Rattle.gc_world.specs.World.{Request, Numbered, Wire, World, Step, Send, Up_deliver, Up_lose, Up_repeat, Down_deliver, Down_lose, Down_repeat, Restart_client, Restart_instrument, Nothing, without, doubled, idle, up_delivered, with_up, with_down, on_wire, requested, down_delivered, client_restarted, instrument_restarted, run}
-use Rattle.gc_world.proofs.Showing.{ExchangesAny, counted, shows_idle, shows_up_lose, shows_up_repeat, shows_down_lose, shows_down_repeat, shows_send, shows_up_deliver, shows_down_deliver, shows_restart_client, shows_restart_instrument, busy_client, busy_instrument, up_front, down_front, down_line, no_up, no_down}
-use Rattle.gc_world.proofs.Handing.{reply_is_plain}
+use Rattle.gc_world.proofs.Showing.{Notes, ExchangesAny, counted, shows_idle, shows_up_lose, shows_up_repeat, shows_down_lose, shows_down_repeat, shows_send, shows_up_deliver, shows_down_deliver, shows_restart_client, shows_restart_instrument, busy_client, busy_instrument, up_front, down_front, down_line, no_up, no_down}
 use Rattle.gc_world.proofs.Options.{some_is}
 use Rattle.gc_world.proofs.Streaming.{flow_start, flow_push, flow_without, flow_doubled, flow_more, IsFront, front_of, remaining_is, gone_is, cut_short}
 
@@ -227,9 +226,9 @@ module _ (r : Report) (up down : List ℕ) (ug dg : ℕ) (c : ById) (v : Streams
 
   -- Restarts.
 
-  pub streams_restart_client : (more settled : List Settlement) (client : ById) → up ≡ [] → down ≡ [] → AreSettlements more (restarts c).settlements → client ≡ (restarts c).client → settled ≡ r.settled ++ more → AreStreamsOf (record r { settled = settled }) up down ug dg client (goes_on v event.RestartClient)
-  streams_restart_client more settled client eu ed more_are client_is settled_is =
-      kept (record r { settled = settled }) client (does v.world Restart_client) (shows_restart_client r up down c v.world h.lines more settled client eu ed more_are client_is settled_is) refl refl
+  pub streams_restart_client : (more settled : List Settlement) (client : ById) (starts : List ℕ) (state : State) → up ≡ [] → down ≡ [] → AreSettlements more (restarts c).settlements → client ≡ (restarts c).client → settled ≡ r.settled ++ more → starts ≡ r.starts ++ length r.executed ∷ [] → state ≡ restarted r.instrument → AreStreamsOf (record r { settled = settled; starts = starts; instrument = state }) up down ug dg client (goes_on v event.RestartClient)
+  streams_restart_client more settled client starts state eu ed more_are client_is settled_is starts_is state_is =
+      kept (record r { settled = settled; starts = starts; instrument = state }) client (does v.world Restart_client) (shows_restart_client r up down c v.world h.lines more settled client starts state eu ed more_are client_is settled_is starts_is state_is) refl refl
       (up_of_restart v.world v.world.wire.up v.world.wire.down) (down_of_restart v.world v.world.wire.up v.world.wire.down)
 
   pub streams_restart_instrument : (starts : List ℕ) (state : State) → up ≡ [] → down ≡ [] → starts ≡ r.starts ++ length r.executed ∷ [] → state ≡ restarted r.instrument → AreStreamsOf (record r { starts = starts; instrument = state }) up down ug dg c (goes_on v event.RestartInstrument)
@@ -266,7 +265,7 @@ module _ (r : Report) (up down : List ℕ) (ug dg : ℕ) (c : ById) (v : Streams
       (subst (λ n. AreStreamsOf (counted false r) up down ug dg c (record { world = on_wire v.world (idle v.world.wire); up_gone = v.up_gone; down_gone = n })) gone nothing)
 
   -- the line in front of the upward queue went over
-  pub streams_up_deliver : (n : ℕ) (rest down' : List ℕ) (request : Sent) (entry : Made) (executed : List ℕ) (made : List Made) (state : State) (o : Option (List ℕ)) (after : Kept) → up ≡ n ∷ rest → slice_get r.sent n ≡ Some request → ExchangesAny r.instrument request.line.items state o → o ≡ Some entry.line.items → entry.number ≡ n → executed ≡ r.executed ++ n ∷ [] → made ≡ r.made ++ entry ∷ [] → down' ≡ down ++ length r.made ∷ [] → StandsFor after [] → AreStreamsOf (record r { executed = executed; made = made; instrument = state; up = after }) rest down' 0 dg c (goes_on v event.UpDeliver)
+  pub streams_up_deliver : (n : ℕ) (rest down' : List ℕ) (request : Sent) (entry : Made) (executed : List ℕ) (made : List Made) (state : State) (o : Option (List ℕ)) (after : Kept) → up ≡ n ∷ rest → slice_get r.sent n ≡ Some request → ExchangesAny r.instrument request.line.items state o → o ≡ Some entry.line.items → entry.number ≡ n → Notes r.instrument state n r.executed executed → made ≡ r.made ++ entry ∷ [] → down' ≡ down ++ length r.made ∷ [] → StandsFor after [] → AreStreamsOf (record r { executed = executed; made = made; instrument = state; up = after }) rest down' 0 dg c (goes_on v event.UpDeliver)
   streams_up_deliver n rest down' request entry executed made state o after e found replied told same executed_is made_is down'_is stands =
       let lines = shows_up_deliver r up down c v.world h.lines n rest down' request entry executed made state o e found replied told same executed_is made_is down'_is in
       let f = up_front r up down c v.world h.lines n rest e in
@@ -274,7 +273,7 @@ module _ (r : Report) (up down : List ℕ) (ug dg : ℕ) (c : ById) (v : Streams
       let sound = subst (λ q. Each (IsSentIn r.sent) q) f.2 h.lines.requests in
       let this : request ≡ sound.0.request = some_is request sound.0.request (sym found ∙ ap (λ k. slice_get r.sent k) (sym f.3) ∙ sound.0.found) in
       let did = replied x.line.id x.line.call sound.0.digit sound.0.fits (ap (λ (q : Sent). q.line.items) this ∙ sound.0.line) in
-      let plain : IsPlain (handed v.world.wire.state x.line.id x.line.call).reply = subst (λ s. IsPlain (handed s x.line.id x.line.call).reply) h.lines.reports.instrument (reply_is_plain r.instrument x.line.id x.line.call did.answered) in
+      let plain : IsPlain (handed v.world.wire.state x.line.id x.line.call).reply = subst (λ s. IsPlain (handed s x.line.id x.line.call).reply) h.lines.reports.instrument did.plain in
       let m : Numbered (List ℕ) = record { number = x.number; line = (handed v.world.wire.state x.line.id x.line.call).reply } in
       let whole : does v.world Up_deliver ≡ on_wire v.world (up_delivered ends v.world.wire (x ∷ f.1)) = ap (λ q. on_wire v.world (up_delivered ends v.world.wire q)) f.2 in
       record {

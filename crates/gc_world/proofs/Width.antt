@@ -9,7 +9,7 @@ use Rattle.gc_world.specs.Laws.{left_by_ids, left_by_numbers}
 use Rattle.gc_world.specs.Clients.{ends}
 use Rattle.gc_world.specs.Width.{boundary_of_eight}
 use Rattle.gc_world.specs.World.{Ends, Step, Send, Up_deliver, Down_deliver, Down_repeat, World, Wire, with_settled, run}
-use Rattle.gc_world.proofs.Handing.{reads}
+use Rattle.gc_world.proofs.Handing.{KeptFits, reads}
 
 abbrev pub opening_steps : List Step
 opening_steps = Send 1 NullProc 9 ∷ Up_deliver ∷ Down_repeat 0 ∷ []
@@ -54,10 +54,10 @@ module _ {State : Type 0} (ends : Ends State) (Good : State → Type 0) (ex : Is
   settles_one = refl
 
 pub nine : (opening : State) → length (left_by_ids 8 opening boundary_of_eight).settled ≡ 9
-nine opening = settles_nine ends (λ s. Unit {0}) reads (restarted opening) tt
+nine opening = settles_nine ends KeptFits reads (restarted opening) tt
 
 pub one : (opening : State) → length (left_by_numbers 8 opening boundary_of_eight).settled ≡ 1
-one opening = settles_one ends (λ s. Unit {0}) reads (restarted opening) tt
+one opening = settles_one ends KeptFits reads (restarted opening) tt
 
 pub differs : (opening : State) → left_by_ids 8 opening boundary_of_eight ≢ left_by_numbers 8 opening boundary_of_eight
 differs opening e = let h : 9 ≡ 1 = sym (nine opening) ∙ ap (λ (w : Wire State). length w.settled) e ∙ one opening in absurd (omega (arith, h))

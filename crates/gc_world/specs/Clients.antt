@@ -89,7 +89,7 @@ module _ {State : Type 0} where
 
 -- the two ends: the simulated instrument, and a client that reads replies by their grammar
 abbrev pub ends : Ends State
-ends = record { handed = handed; restarted = restarted; heard = heard; joint = false }
+ends = record { handed = handed; restarted = restarted; heard = heard; joint = true }
 
 -- the streams that the run by ids of these events leaves, from the restarted opening state, with the client's window
 abbrev pub streamed : State → List Event → Streams ById State

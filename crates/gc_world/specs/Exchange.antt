@@ -1,5 +1,7 @@
 -- No part of a promise: what the proofs ask of the two ends.
-use Rattle.std.specs.Prelude.{◌≡◌, ℕ, ◌<◌, true, Some}
+use Rattle.std.specs.Prelude.{◌≡◌, ℕ, ◌<◌, List, true, false, Option, Some, None}
+use Rattle.gc_instrument.specs.Replying.{kept_line}
+use Rattle.gc_instrument.specs.State.{KeptReply}
 use Rattle.gc_catalogue.specs.declared.call.Call.{Call}
 use Rattle.gc_client.specs.declared.window.TheConstants.{IDS}
 use Rattle.gc_world.specs.World.{Ends}
@@ -10,7 +12,11 @@ pub record IsExchange {State : Type 0} (ends : Ends State) (Good : State → Typ
   pub stays_good : (state : State) (id : ℕ) (call : Call) → Good state → id < IDS → Good (ends.handed state id call).state
   pub restart_good : (state : State) → Good state → Good (ends.restarted state)
 
--- an instrument that keeps nothing: starting twice is starting once, and each request is executed
-pub record IsSimple {State : Type 0} (ends : Ends State) : Type 0 where
+-- what the instrument keeps: the last reply, with its id. A request with that id has the kept line, and nothing changes; one with
+-- another is executed, and its reply kept. Starting twice is starting once, and leaves nothing kept
+pub record IsKeeper {State : Type 0} (ends : Ends State) (kept : State → Option KeptReply) : Type 0 where
   pub twice : (state : State) → ends.restarted (ends.restarted state) ≡ ends.restarted state
-  pub executes : (state : State) (id : ℕ) (call : Call) → (ends.handed state id call).executed ≡ true
+  pub forgets : (state : State) → kept (ends.restarted state) ≡ None
+  pub again : (state : State) (id : ℕ) (call : Call) (line : List ℕ) → kept_line (kept state) (Some id) ≡ Some line → ends.handed state id call ≡ record { state = state; reply = line; executed = false }
+  pub executes : (state : State) (id : ℕ) (call : Call) → kept_line (kept state) (Some id) ≡ None → (ends.handed state id call).executed ≡ true
+  pub keeps : (state : State) (id : ℕ) (call : Call) → kept_line (kept state) (Some id) ≡ None → kept (ends.handed state id call).state ≡ Some (record { id = id; line = (ends.handed state id call).reply })

@@ -1,6 +1,6 @@
 -- When the report of a list of events is faithful. It has four parts; each stands here first in a sentence, then in symbols.
 -- The report's lists are counted from 0, and request m is the one at place m of `sent`. This project's own.
-use Rattle.std.specs.Prelude.{◌≡◌, ℕ, ◌+◌, ◌<◌, ◌≤◌, ◌||◌, Bool, true, false, List, [], ◌∷◌, length, Some, map, nat_eq, slice_get, ⊤}
+use Rattle.std.specs.Prelude.{◌≡◌, ℕ, ◌+◌, ◌<◌, ◌≤◌, ◌||◌, Bool, true, false, List, [], ◌∷◌, length, Some, None, map, nat_eq, slice_get, ⊤}
 use Rattle.gc_catalogue.specs.declared.answer.Reading.{Reading}
 use Rattle.gc_catalogue.specs.declared.answer.Reading.TheVariants.{Value, Refused, ComFault, Unreadable}
 use Rattle.gc_catalogue.specs.declared.call.Call.{Call}
@@ -11,7 +11,7 @@ use Rattle.gc_client.specs.declared.settlement.Outcome.{Outcome}
 use Rattle.gc_client.specs.declared.settlement.Outcome.TheVariants.{Answered, Late, Lost}
 use Rattle.gc_client.specs.Settlements.{AreSettlements, ReadsAs}
 use Rattle.gc_instrument.specs.Execution.{exec}
-use Rattle.gc_instrument.specs.Replying.{IsReplied}
+use Rattle.gc_instrument.specs.Replying.{executed_line, with_kept}
 use Rattle.gc_instrument.specs.State.{State, restarted}
 use Rattle.gc_world.specs.declared.event.Event.{Event}
 use Rattle.gc_world.specs.declared.report.Made.{Made}
@@ -68,29 +68,42 @@ abbrev pub begun : {State : Type 0} → (State → State) → Bool → State →
 begun restarted false state = state
 begun restarted true state = restarted state
 
--- execution j is that of request n: the request's line is that of its call with some id from 0 to 7, entry j of `made` has
--- the number n and the line that the instrument replies to it in the state before, and the next state is the one that
--- carrying out the call leaves, restarted where `starts` has the number of executions so far
-pub record IsExecutionOf (r : Report) (before : ℕ → State) (j n : ℕ) : Type 0 where
+-- the states before each execution: the first is the restarted opening state, and the next is the one that carrying out the
+-- call of the request leaves, restarted where `starts` has the number of executions so far
+pub record AreBefore (opening : State) (r : Report) (before : ℕ → State) : Type 0 where
+  pub first : before 0 ≡ restarted opening
+  pub next :
+      (j n : ℕ) (request : Sent) → slice_get r.executed j ≡ Some n → slice_get r.sent n ≡ Some request →
+      before (j + 1) ≡ begun restarted (has_number (j + 1) r.starts) (exec (before j) request.call).state
+
+-- an entry of `made` for request n replies to execution j, which is that of request n, and no other is: the request's line is
+-- that of its call with some id from 0 to 7, and the entry's line is the reply line with that id of what carrying out the call
+-- gives in the state before, with the precision that stands after it
+pub record IsReplyOf (r : Report) (before : ℕ → State) (entry : Made) : Type 0 where
+  pub j : ℕ
+  pub executed : slice_get r.executed j ≡ Some entry.number
+  pub alone : (i : ℕ) → slice_get r.executed i ≡ Some entry.number → i ≡ j
   pub request : Sent
-  pub sent : slice_get r.sent n ≡ Some request
+  pub sent : slice_get r.sent entry.number ≡ Some request
   pub id : ℕ
   pub digit : id < IDS
   pub request_is : request.line.items ≡ request_line (Some id) request.call
-  pub entry : Made
-  pub made : slice_get r.made j ≡ Some entry
-  pub number : entry.number ≡ n
-  pub replied : IsReplied (before j) request.line.items (exec (before j) request.call).state (Some entry.line.items)
-  pub next : before (j + 1) ≡ begun restarted (has_number (j + 1) r.starts) (exec (before j) request.call).state
+  pub line_is : entry.line.items ≡ executed_line id (exec (before j) request.call)
 
--- the record of execution: `made` has an entry for each entry of `executed`, each execution is that of its request, from
--- the restarted opening state on, and the instrument is in the state after the last
+-- the record of execution: each entry of `made` is the reply of one execution, and each executed number stands in `made`
 pub record RecordsExecution (opening : State) (r : Report) : Type 0 where
-  pub entries : length r.made ≡ length r.executed
   pub before : ℕ → State
-  pub first : before 0 ≡ restarted opening
-  pub each : (j n : ℕ) → slice_get r.executed j ≡ Some n → IsExecutionOf r before j n
-  pub last : r.instrument ≡ before (length r.executed)
+  pub states : AreBefore opening r before
+  pub replies : (k : ℕ) (entry : Made) → slice_get r.made k ≡ Some entry → IsReplyOf r before entry
+  pub replied : (j n : ℕ) → slice_get r.executed j ≡ Some n → (k : ℕ) × (entry : Made) × (slice_get r.made k ≡ Some entry) × (entry.number ≡ n)
+
+-- each request acts once: the executed numbers strictly increase, and the instrument, apart from what it keeps, is in the state
+-- after the last execution
+pub record ActsOnce (opening : State) (r : Report) : Type 0 where
+  pub climbs : (i j n m : ℕ) → i < j → slice_get r.executed i ≡ Some n → slice_get r.executed j ≡ Some m → n < m
+  pub before : ℕ → State
+  pub states : AreBefore opening r before
+  pub last : with_kept None r.instrument ≡ before (length r.executed)
 
 -- a request of the report as the world speaks of it: its target, its call and its line's bytes
 abbrev pub sent_seen : Sent → World.Sent

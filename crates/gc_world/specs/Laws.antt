@@ -10,7 +10,7 @@ use Rattle.gc_instrument.specs.State.{State, IsFittingState, restarted}
 use Rattle.gc_world.specs.declared.event.Event.{Event}
 use Rattle.gc_world.specs.Clients.{ends, streams_by_ids, streams_by_numbers}
 use Rattle.gc_world.specs.Faithful.{IsValueOrRefusal}
-use Rattle.gc_world.specs.Order.{IsOrderly}
+use Rattle.gc_world.specs.Order.{IsOrderly, IsRecent, numbers}
 use Rattle.gc_world.specs.Record.{IsOneForOne, IsReplyTo, IsBooked, IsExecution}
 use Rattle.gc_world.specs.World.{Wire}
 
@@ -25,6 +25,11 @@ left_by_numbers width opening events = (streams_by_numbers width ends events (re
 -- the line keeps its order
 abbrev pub KeepsOrder : Type 0
 KeepsOrder = (width : ℕ) → width ≤ WINDOW → (opening : State) (events : List Event) → IsOrderly width (left_by_ids width opening events)
+
+-- while a reply is kept, every request under way upward has the number last executed or one of the next, as many as the window
+-- is wide: so an id tells a repeat from a new request
+abbrev pub KeepsRecent : Type 0
+KeepsRecent = (width : ℕ) → width ≤ WINDOW → (opening : State) (events : List Event) → (let w = left_by_ids width opening events in IsRecent width w.state.kept w.executed (numbers w.up))
 
 -- the run by ids and the run by numbers leave the same
 abbrev pub RunsAgree : Type 0
@@ -48,7 +53,7 @@ RepliesAreFine =
     (call : Call) (bytes : List ℕ) (reading : Reading) → IsReplyTo ends IsFittingState call bytes → IsFitting call → ReadsAs call bytes reading →
     IsValueOrRefusal reading
 
--- the replies are those to what was executed, in the state before each execution
+-- the replies are those to what was executed, in the state before each execution, and no request is executed twice
 abbrev pub RecordsExecutions : Type 0
 RecordsExecutions =
     (width : ℕ) → width ≤ WINDOW → (opening : State) (events : List Event) → IsExecution ends opening (left_by_ids width opening events)

@@ -1,5 +1,6 @@
 -- What the laws of the runs say of the order of the line: which numbers can be under way. This project's own.
-use Rattle.std.specs.Prelude.{ℕ, ◌+◌, ◌<◌, ◌≤◌, List, [], ◌∷◌, ◌++◌, length, map}
+use Rattle.std.specs.Prelude.{◌≡◌, ℕ, ◌+◌, ◌<◌, ◌≤◌, List, [], ◌∷◌, ◌++◌, length, map, Option, Some, None}
+use Rattle.gc_instrument.specs.State.{KeptReply}
 use Rattle.gc_world.specs.World.{Numbered, Wire}
 
 -- each element has it
@@ -19,6 +20,11 @@ numbers xs = map (λ x. x.number) xs
 -- the numbers under way, from the front of the downward queue to the back of the upward one
 abbrev pub under_way : {State : Type 0} → Wire State → List ℕ
 under_way w = numbers w.down ++ numbers w.up
+
+-- while a reply is kept, something was executed, and each of these numbers is the one last executed or one of so many above it
+abbrev pub IsRecent : ℕ → Option KeptReply → List ℕ → List ℕ → Type 0
+IsRecent width None executed up = Unit {0}
+IsRecent width (Some k) executed up = (earlier : List ℕ) × (last : ℕ) × (executed ≡ earlier ++ last ∷ []) × Each (λ n. (last ≤ n) × (n ≤ last + width)) up
 
 -- the order of the line, where at most this many are unaccounted for
 pub record IsOrderly {State : Type 0} (width : ℕ) (w : Wire State) : Type 0 where

@@ -1,11 +1,16 @@
 -- What the laws of the runs say of the lists of a run: how they stand to one another. This project's own.
-use Rattle.std.specs.Prelude.{◌≡◌, ℕ, ◌+◌, ◌<◌, ◌≤◌, List, length, Some, slice_get}
+use Rattle.std.specs.Prelude.{◌≡◌, ℕ, ◌+◌, ◌<◌, ◌≤◌, List, [], ◌∷◌, length, true, Some, slice_get}
 use Rattle.gc_catalogue.specs.declared.call.Call.{Call}
 use Rattle.gc_catalogue.specs.Texts.{request_line}
 use Rattle.gc_client.specs.declared.window.TheConstants.{IDS}
 use Rattle.gc_client.specs.Rule.{Settlement, Answered}
 use Rattle.gc_world.specs.Faithful.{has_number, begun}
 use Rattle.gc_world.specs.World.{Sent, Numbered, Ends, Wire}
+
+-- these numbers are at least low, and strictly increase
+abbrev pub Increasing : ℕ → List ℕ → Type 0
+Increasing low [] = Unit {0}
+Increasing low (x ∷ xs) = (low ≤ x) × Increasing (x + 1) xs
 
 -- settlement m has the target and the call of request m, and there are no more settlements than requests
 pub record IsOneForOne (sent : List Sent) (settled : List Settlement) : Type 0 where
@@ -15,12 +20,13 @@ pub record IsOneForOne (sent : List Sent) (settled : List Settlement) : Type 0 w
       (s.target ≡ r.target) × (s.call ≡ r.call)
 
 module _ {State : Type 0} (ends : Ends State) where
-  -- the instrument wrote these bytes in answer to this call
+  -- the instrument wrote these bytes when it executed this call
   pub record IsReplyTo (Good : State → Type 0) (call : Call) (bytes : List ℕ) : Type 0 where
     pub state : State
     pub good : Good state
     pub id : ℕ
     pub small : id < IDS
+    pub executed : (ends.handed state id call).executed ≡ true
     pub reply : bytes ≡ (ends.handed state id call).reply
 
   -- where settlement m is answered, its line is among those that were made for request m, in answer to that very call
@@ -29,21 +35,33 @@ module _ {State : Type 0} (ends : Ends State) where
       (bytes : List ℕ) → s.outcome ≡ Answered bytes →
       ((j : ℕ) × (slice_get made j ≡ Some (record { number = m; line = bytes }))) × IsReplyTo Good s.call bytes
 
-  -- execution j is that of request n: its line is that of its call with some id from 0 to 7, its entry is the reply in the
-  -- state before it, and this is the next state
+  -- execution j is that of request n: its line is that of its call with some id from 0 to 7, the call is executed in the state
+  -- before it, and this is the next state
   pub record IsExecuted (w : Wire State) (before : ℕ → State) (j n : ℕ) : Type 0 where
     pub request : Sent
     pub found : slice_get w.sent n ≡ Some request
     pub id : ℕ
     pub small : id < IDS
     pub line : request.line ≡ request_line (Some id) request.call
-    pub made : slice_get w.made j ≡ Some (record { number = n; line = (ends.handed (before j) id request.call).reply })
+    pub executed : (ends.handed (before j) id request.call).executed ≡ true
     pub next : before (j + 1) ≡ begun ends.restarted (has_number (j + 1) w.starts) (ends.handed (before j) id request.call).state
+    -- its reply is among those that were made
+    pub place : ℕ
+    pub made : slice_get w.made place ≡ Some (record { number = n; line = (ends.handed (before j) id request.call).reply })
+
+  -- this entry is the reply of execution j, and of no other
+  pub record IsReplyAt (w : Wire State) (before : ℕ → State) (entry : Numbered (List ℕ)) : Type 0 where
+    pub j : ℕ
+    pub executed : slice_get w.executed j ≡ Some entry.number
+    pub execution : IsExecuted w before j entry.number
+    pub line : entry.line ≡ (ends.handed (before j) execution.id execution.request.call).reply
 
   -- the replies are those to what was executed, from the restarted opening state on
   pub record IsExecution (opening : State) (w : Wire State) : Type 0 where
     pub before : ℕ → State
     pub first : before 0 ≡ ends.restarted opening
-    pub entries : length w.made ≡ length w.executed
     pub each : (j n : ℕ) → slice_get w.executed j ≡ Some n → IsExecuted w before j n
+    pub replies : (k : ℕ) (entry : Numbered (List ℕ)) → slice_get w.made k ≡ Some entry → IsReplyAt w before entry
     pub last : w.state ≡ before (length w.executed)
+    -- no request is executed twice, and they are in order
+    pub climbs : Increasing 0 w.executed

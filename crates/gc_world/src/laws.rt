@@ -1,7 +1,7 @@
 //! What is proved of the runs themselves. Each function does nothing: its contract is the law.
 
 ghost use Rattle.gc_world.specs.FirstReply.{BooksFirstReply, FirstReplyIsLate, IsNeverBoth, IsOneOrOther, NoSecondReply};
-ghost use Rattle.gc_world.specs.Laws.{KeepsOrder, RunsAgree, SettlesInOrder, BooksItsOwn, RepliesAreFine, RecordsExecutions};
+ghost use Rattle.gc_world.specs.Laws.{KeepsOrder, KeepsRecent, RunsAgree, SettlesInOrder, BooksItsOwn, RepliesAreFine, RecordsExecutions};
 ghost use Rattle.gc_world.specs.Pieces.{UpwardAdds, DownwardAdds, UpwardEnds, DownwardEnds};
 ghost use Rattle.gc_world.specs.Width.{EightDiffers, EightSettlesNine, NumbersSettleOne};
 
@@ -10,6 +10,12 @@ ghost use Rattle.gc_world.specs.Width.{EightDiffers, EightSettlesNine, NumbersSe
 /// unaccounted for.
 pub fn line_keeps_order()
     ensures { KeepsOrder }
+{}
+
+/// While a reply is kept, every request under way upward has the number last executed or one of the next, as many as the
+/// window is wide. So a request with the kept id is the one last executed, come again.
+pub fn kept_reply_is_recent()
+    ensures { KeepsRecent }
 {}
 
 /// The client that knows ids does what a client would do if every reply carried its request's number.
@@ -28,7 +34,7 @@ pub fn answers_are_booked()
     ensures fine { RepliesAreFine }
 {}
 
-/// The replies are those of the instrument to what it executed.
+/// The replies are those of the instrument to what it executed, and it executes each request at most once, in order.
 pub fn executions_are_recorded()
     ensures { RecordsExecutions }
 {}

@@ -2,7 +2,7 @@
 
 ghost use Rattle.std.specs.Prelude.{◌≡◌, length, IfOk, IsOk};
 ghost use Rattle.gc_lines.specs.Assembler.{StandsFor};
-ghost use Rattle.gc_world.specs.Faithful.{Faithful};
+ghost use Rattle.gc_world.specs.Faithful.{ActsOnce, Faithful};
 ghost use Rattle.gc_world.specs.Clients.{played, streamed};
 ghost use Rattle.gc_world.specs.Memory.{TakeNone};
 ghost use Rattle.gc_world.specs.Streams.{up_lines, down_lines, gone_of};
@@ -28,6 +28,9 @@ use std::alloc::{AllocError, Global};
 /// a repeat stands directly behind its original, and either end restarts only while no byte is under way: that is what the
 /// events are. An event that isn't possible changes nothing and is counted.
 ///
+/// Each request acts once: the instrument executes each at most once, in order, whatever the line repeats. To a repeat it sends
+/// the reply that it keeps, which is made and not executed. A restart of the client restarts the instrument too.
+///
 /// Either end stands behind an assembler and gets the lines that come out of it. Each of the two in the report stands for
 /// the bytes of the front line of its direction that have gone: so it is at the start where none have.
 ///
@@ -44,6 +47,7 @@ pub fn play<W: Window>(
     ensures up { IfOk result (λ done. StandsFor done.0.up (gone_of (streamed instrument events.now).up_gone (up_lines (played instrument events.now).wire))) }
     ensures down { IfOk result (λ done. StandsFor done.0.down (gone_of (streamed instrument events.now).down_gone (down_lines (played instrument events.now).wire))) }
     ensures faithful { IfOk result (λ done. Faithful instrument events.now done.0) }
+    ensures once { IfOk result (λ done. ActsOnce instrument done.0) }
     ensures spare { TakeNone instrument events.now → IsOk result }
     ensures few { IfOk result (λ done. IsNoLongerThan (length events.now) done.0) }
 {

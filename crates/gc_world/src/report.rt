@@ -33,7 +33,7 @@ pub struct Report {
     pub sent: Entries<Sent>,
     /// The numbers of the requests that the instrument executed, in the order of execution.
     pub executed: Entries<usize>,
-    /// The replies that it made, in order.
+    /// The replies that it made, in order; where a request came again, the kept one once more.
     pub made: Entries<Made>,
     /// The ends of requests, in order.
     pub settled: Entries<Settlement>,

@@ -1,6 +1,6 @@
 //! The stage: what the events so far leave, and what the next one does.
 
-ghost use Rattle.std.specs.Prelude.{◌≡◌, ◌↔◌, ◌+◌, ◌<◌, ◌≤◌, ◌^◌, ℕ, [], OnOk, IsOk, IsTrue, length};
+ghost use Rattle.std.specs.Prelude.{◌≡◌, ◌↔◌, ◌+◌, ◌<◌, ◌≤◌, ◌^◌, ◌∷◌, ◌++◌, ℕ, [], OnOk, IsOk, IsTrue, length};
 ghost use Rattle.gc_client.specs.Rule.{ById};
 ghost use Rattle.gc_instrument.specs.State.{State, IsFittingState, restarted};
 ghost use Rattle.gc_world.specs.declared.event.Event.{Event};
@@ -137,8 +137,10 @@ impl<W: Window> Stage<W> {
         let Lent::Line(request) = frame else {
             return Ok(());
         };
+        let kept = self.report.instrument.kept_id();
         if self.report.instrument.reply_onto(request, &mut made.line) {
-            self.report.executed.push(number)?;
+            let id = self.report.instrument.kept_id();
+            note_execution(&mut self.report.executed, number, kept, id)?;
             self.down.push(self.report.made.len())?;
             self.report.made.push(made)?;
         }
@@ -345,7 +347,10 @@ impl<W: Window> Stage<W> {
             self.report.idle_events += 1;
             return Ok(());
         }
-        self.report.settled.append_from(&mut self.client.restart())
+        self.report.settled.append_from(&mut self.client.restart())?;
+        self.report.starts.push(self.report.executed.len())?;
+        self.report.instrument.restart();
+        Ok(())
     }
 
     fn restart_instrument(&mut self) -> Result<(), AllocError>
@@ -368,6 +373,23 @@ impl<W: Window> Stage<W> {
     {
         self.up.is_empty() && self.down.is_empty()
     }
+}
+
+// Notes that a request was executed, where another id is kept than before: a repeat leaves the kept id, and what is executed has
+// another one.
+fn note_execution(
+    executed: &mut Entries<usize>,
+    number: usize,
+    before: Option<u8>,
+    after: Option<u8>,
+) -> Result<(), AllocError>
+    ensures new { OnOk result ((before ≡ after → ⊥) → executed.new ≡ executed.old ++ number ∷ []) }
+    ensures same { OnOk result (before ≡ after → executed.new ≡ executed.old) }
+{
+    if before != after {
+        executed.push(number)?;
+    }
+    Ok(())
 }
 
 // Whether so many bytes complete a line of which some remain.

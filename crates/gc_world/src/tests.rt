@@ -242,8 +242,68 @@ fn repeat_that_acts(rt: HostRuntime) -> Result<(), Fail> {
         &rt,
         rt.alloc(),
         &events,
-        "0 1 answered %R1P,0,0:0 / 1 2 answered %R1P,0,1:0,0 / sent 2 executed 3 made 3 settled 2 refused 0 idle 0; 0 wait, next 2",
+        "0 1 answered %R1P,0,0:0 / 1 2 answered %R1P,0,1:0,1 / sent 2 executed 2 made 3 settled 2 refused 0 idle 0; 0 wait, next 2",
     )?;
+    Ok(())
+}
+
+// Two equal requests are two executions, and the repeats of each are none.
+#[test]
+fn repeats_by_id(rt: HostRuntime) -> Result<(), Fail> {
+    let change_face = Call::ChangeFace {
+        pos_mode: 0,
+        atr_mode: 0,
+        dummy: false,
+    };
+    let events = [
+        Send(1, change_face, 9),
+        Send(2, change_face, 9),
+        Send(3, Call::GetFace, 9),
+        UpRepeat(0),
+        UpRepeat(2),
+        UpBytes(200),
+        DownBytes(200),
+    ];
+    expect(
+        &rt,
+        rt.alloc(),
+        &events,
+        "0 1 answered %R1P,0,0:0 / 1 2 answered %R1P,0,1:0 / 2 3 answered %R1P,0,2:0,0 / sent 3 executed 3 made 5 settled 3 refused 0 idle 0; 0 wait, next 3",
+    )?;
+    let (report, _) = play(rt.alloc(), Instrument::simulator(), Slots::new(), &events)?;
+    assert_eq!(rt; report.instrument.kept_id(), Some(2));
+    assert_eq!(rt; report.executed.as_slice(), [0, 1, 2].as_slice());
+    Ok(())
+}
+
+// A restart of the client restarts the instrument too, so that the first request behind it, with id 0, is executed.
+#[test]
+fn restart_of_both_ends(rt: HostRuntime) -> Result<(), Fail> {
+    let change_face = Call::ChangeFace {
+        pos_mode: 0,
+        atr_mode: 0,
+        dummy: false,
+    };
+    let events = [
+        Send(1, change_face, 9),
+        UpDeliver,
+        DownDeliver,
+        RestartClient,
+        Send(1, change_face, 9),
+        Send(2, Call::GetFace, 9),
+        UpDeliver,
+        UpDeliver,
+        DownDeliver,
+        DownDeliver,
+    ];
+    expect(
+        &rt,
+        rt.alloc(),
+        &events,
+        "0 1 answered %R1P,0,0:0 / 1 1 answered %R1P,0,0:0 / 2 2 answered %R1P,0,1:0,1 / sent 3 executed 3 made 3 settled 3 refused 0 idle 0; 0 wait, next 2",
+    )?;
+    let (report, _) = play(rt.alloc(), Instrument::simulator(), Slots::new(), &events)?;
+    assert_eq!(rt; report.starts.as_slice(), [1].as_slice());
     Ok(())
 }
 

@@ -1,5 +1,5 @@
 //! What the instrument replies to a line: nothing where it is no request, 3081 or 3080 where it names
-//! no call, and else what carrying out the call gave.
+//! no call, the kept reply where it carries the kept id, and else what carrying out the call gave.
 
 ghost use Rattle.std.specs.Prelude.{◌≡◌, ◌<◌, ◌≤◌, ◌+◌, ℕ, Some, length};
 ghost use Rattle.std.specs.Option.{option_map, ForSome};
@@ -8,12 +8,12 @@ ghost use Rattle.gc_lines.specs.Answering.{AppendsAnswer};
 ghost use Rattle.gc_lines.specs.Requests.{request_seen};
 ghost use Rattle.gc_catalogue.specs.Calls.{IsFitting};
 ghost use Rattle.gc_catalogue.specs.Texts.{request_line};
-ghost use Rattle.gc_instrument.specs.Replying.{IsReplied, IsExchanged, AppendsReply, com_code};
+ghost use Rattle.gc_instrument.specs.Replying.{IsReplied, IsExchanged, AppendsReply, AppendsCall, AppendsExecuted, com_code};
 
 use super::Instrument;
 use arrayvec::ArrayVec;
 use gc_catalogue::{Answer, Call, CallFault, decode_call_into, encode_answer_onto};
-use gc_lines::{Line, Request, push_reply, read_request};
+use gc_lines::{Line, Request, append, push_reply, read_request};
 
 /// The communication code for a procedure that isn't in the catalogue.
 const UNKNOWN_PROCEDURE: u16 = 3081;
@@ -29,7 +29,11 @@ impl Instrument {
     /// The call is carried out, and its reply has the request's id, or 0, and doubles with the
     /// precision that stands after the call. A procedure that isn't in the catalogue is answered
     /// with the communication code 3081, and parameters that don't read with 3080; then nothing
-    /// changes, as with a line that is no request. A request that is repeated is carried out again.
+    /// changes, as with a line that is no request.
+    ///
+    /// The id and the reply of the last request that carried an id and was carried out are kept. A
+    /// request that names a call and carries that id is a repeat of it: it gets the kept line, and
+    /// nothing is carried out. A request without an id never is one, and leaves what is kept.
     #[tactic(auto, using(crate::proofs::Answering::replied_alone, crate::proofs::Answering::exchanged_alone))]
     pub fn on_line(&mut self, line: &Line) -> Option<Line>
         ensures replied { IsReplied self.old line.now.items self.new (option_map (λ r. r.items) result) }
@@ -72,16 +76,46 @@ impl Instrument {
         ensures replies { AppendsReply self.old (request_seen request.now) self.new out.old.items out.new.items }
         ensures bound { length out.new.items ≤ length out.old.items + 512 }
     {
-        let id = request.id.unwrap_or(0);
         let mut call = Call::NullProc;
         match decode_call_into(request, &mut call) {
-            Ok(()) => {
-                let mut answer = Answer::Nothing;
-                let rc = self.carry_out(&call, &mut answer);
-                encode_answer_onto(out, id, rc, &answer, self.settings.precision);
-            }
-            Err(fault) => push_reply(out, com_code(fault), id, 0),
+            Ok(()) => self.answer_call(request.id, &call, out),
+            Err(fault) => push_reply(out, com_code(fault), request.id.unwrap_or(0), 0),
         }
+    }
+
+    // Appends the reply to a call: the kept one to a repeat, and else a new one, which is kept.
+    #[inline]
+    fn answer_call<const N: usize>(
+        &mut self,
+        id: Option<u8>,
+        call: &Call,
+        out: &mut ArrayVec<u8, N>,
+    )
+        requires id { ForSome id (λ id. id < 8) }
+        requires room { array_vec_len out.old + 512 ≤ N }
+        ensures replies { AppendsCall self.old id call.now self.new out.old.items out.new.items }
+        ensures bound { length out.new.items ≤ length out.old.items + 512 }
+    {
+        if let Some(line) = self.kept.line_of(id) {
+            append(out, line);
+            return;
+        }
+        let start = out.len();
+        self.carry_out_onto(id.unwrap_or(0), call, out);
+        self.kept.keep(id, &out[start..]);
+    }
+
+    // Carries out a call, and appends its reply.
+    #[inline]
+    fn carry_out_onto<const N: usize>(&mut self, id: u8, call: &Call, out: &mut ArrayVec<u8, N>)
+        requires id { id < 8 }
+        requires room { array_vec_len out.old + 512 ≤ N }
+        ensures replies { AppendsExecuted self.old id call.now self.new out.old.items out.new.items }
+        ensures bound { length out.new.items ≤ length out.old.items + 512 }
+    {
+        let mut answer = Answer::Nothing;
+        let rc = self.carry_out(call, &mut answer);
+        encode_answer_onto(out, id, rc, &answer, self.settings.precision);
     }
 }
 

@@ -1,4 +1,4 @@
-use Rattle.std.proofs.Common.{◌≡◌, ℕ, Some, sym, subst}
+use Rattle.std.proofs.Common.{◌≡◌, ℕ, Some, refl, sym, subst}
 use Rattle.std.specs.Prelude.{slice_get}
 use Rattle.gc_client.specs.Rule.{ById, Settlement}
 use Rattle.gc_instrument.specs.State.{State, IsFittingState, restarted}
@@ -6,7 +6,7 @@ use Rattle.gc_world.specs.Clients.{ends}
 use Rattle.gc_world.specs.Record.{IsBooked}
 use Rattle.gc_world.specs.World.{World}
 use Rattle.gc_world.proofs.Flow.{level_at}
-use Rattle.gc_world.proofs.Handing.{exchange, simple, fine}
+use Rattle.gc_world.proofs.Handing.{exchange, kept_of, keeper, fine}
 use Rattle.gc_world.proofs.Runs.{booked_at}
 use Rattle.gc_world.proofs.laws.answers_are_booked.Goals as goal
 
@@ -14,7 +14,7 @@ pub returns-clause-own : goal.returns-clause-own
 returns-clause-own c = λ width narrow opening good events.
     let at = level_at width narrow ends IsFittingState exchange (restarted opening) good events in
     subst (λ (w : World ById State). (m : ℕ) (s : Settlement) → slice_get w.wire.settled m ≡ Some s → IsBooked ends IsFittingState w.wire.made m s) (sym at.ids)
-    (booked_at width narrow ends IsFittingState exchange simple at.steps opening good)
+    (booked_at width narrow ends IsFittingState exchange kept_of keeper refl at.steps opening good)
 
 pub returns-clause-fine : goal.returns-clause-fine
 returns-clause-fine c = fine

@@ -1,15 +1,15 @@
-use Rattle.std.proofs.Common.{sym, subst}
+use Rattle.std.proofs.Common.{refl, sym, subst}
 use Rattle.gc_client.specs.Rule.{ById}
 use Rattle.gc_instrument.specs.State.{State, restarted}
 use Rattle.gc_world.specs.Clients.{ends}
 use Rattle.gc_world.specs.Record.{IsExecution}
 use Rattle.gc_world.specs.World.{World}
 use Rattle.gc_world.proofs.Flow.{level_at}
-use Rattle.gc_world.proofs.Handing.{reads, simple}
+use Rattle.gc_world.proofs.Handing.{KeptFits, reads, kept_of, keeper}
 use Rattle.gc_world.proofs.Runs.{execution_at}
 use Rattle.gc_world.proofs.laws.executions_are_recorded.Goals as goal
 
 pub returns : goal.returns
 returns c = λ width narrow opening events.
-    let at = level_at width narrow ends (λ s. Unit {0}) reads (restarted opening) tt events in
-    subst (λ (w : World ById State). IsExecution ends opening w.wire) (sym at.ids) (execution_at width narrow ends (λ s. Unit {0}) reads simple at.steps opening tt)
+    let at = level_at width narrow ends KeptFits reads (restarted opening) tt events in
+    subst (λ (w : World ById State). IsExecution ends opening w.wire) (sym at.ids) (execution_at width narrow ends KeptFits reads kept_of keeper refl at.steps opening tt)

@@ -5,7 +5,7 @@ use Rattle.gc_instrument.specs.State.{State}
 use Rattle.gc_world.specs.Clients.{streamed}
 use Rattle.gc_world.specs.Stages.{AreStreamsOf}
 use Rattle.gc_world.specs.Streams.{Streams}
-use Rattle.gc_world.proofs.Faithfulness.{faithful, no_longer_than}
+use Rattle.gc_world.proofs.Faithfulness.{faithful, once, no_longer_than}
 use Rattle.gc_world.proofs.Places.{get_at}
 use Rattle.gc_world.proofs.Sparing.{not_both}
 use Rattle.gc_world.proofs.Turns.{played_more, counts_at}
@@ -31,6 +31,14 @@ returns-clause-faithful g c =
     let at_end =
     subst (λ es. AreStreamsOf s.report s.up s.down s.up_gone s.down_gone s.client (streamed c.args.instrument es)) (take_all c.loop-event.event-index events c.loop-event-test.false) c.loop-event.invariant.shows in
     faithful c.args.instrument events s.report s.up s.down s.client c.new-stage.ensures.fits at_end.lines
+
+pub returns-clause-once : goal.returns-clause-once
+returns-clause-once g c =
+    let s = c.loop-event.stage in
+    let events = c.args.events.now in
+    let at_end =
+    subst (λ es. AreStreamsOf s.report s.up s.down s.up_gone s.down_gone s.client (streamed c.args.instrument es)) (take_all c.loop-event.event-index events c.loop-event-test.false) c.loop-event.invariant.shows in
+    once c.args.instrument events s.report s.up s.down s.client c.new-stage.ensures.fits at_end.lines
 
 pub returns-clause-few : goal.returns-clause-few
 returns-clause-few g c =

@@ -11,7 +11,7 @@ returns-in-Ok-clause-replied g c =
 pub returns-in-Ok-clause-exchanged : goal.returns-in-Ok-clause-exchanged
 returns-in-Ok-clause-exchanged g c id call small fits own =
     let made = c.reply_to.ensures.replies in
-    (made.text, line_exchanged _ _ _ _ (request_seen c.in-Ok.request) id call made.text refl c.in-Ok.ensures.found small fits own made.answers made.says, made.appended)
+    (made.text, line_exchanged _ _ _ _ (request_seen c.in-Ok.request) id call made.text refl c.in-Ok.ensures.found small fits own made.answers made.plain made.says, made.appended)
 
 pub returns-in-Err-clause-replied : goal.returns-in-Err-clause-replied
 returns-in-Err-clause-replied g c = (silence_replied _ _ _ c.in-Err.field-0 request_seen refl c.in-Err.ensures.only, refl)

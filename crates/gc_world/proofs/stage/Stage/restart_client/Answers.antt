@@ -1,4 +1,4 @@
-use Rattle.std.proofs.lemmas.Result.{on_ok_weaker}
+use Rattle.std.proofs.Common.{[], ◌∷◌, ◌++◌, ◌∙◌, ap}
 use Rattle.gc_world.proofs.Shown.{is_busy, streams_busy_client, streams_restart_client}
 use Rattle.gc_world.proofs.stage.Stage.restart_client.Goals as goal
 
@@ -11,6 +11,5 @@ pub returns-clause-follows : goal.returns-clause-follows
 returns-clause-follows g c =
     let s = c.args.self.now in
     let quiet = c.is_quiet.ensures.0 c.if-not-is_quiet.false in
-    on_ok_weaker c.append_from.result
-    (λ appended v h. streams_restart_client s.report s.up s.down s.up_gone s.down_gone s.client v h c.restart.result.items c.append_from.new.self c.restart.new.self quiet.0 quiet.1 c.restart.ensures.settled c.restart.ensures.client appended)
-    c.append_from.ensures.appended
+    λ v h. streams_restart_client s.report s.up s.down s.up_gone s.down_gone s.client v h c.restart.result.items c.append_from.new.self c.restart.new.self c.push.new.self c.restart-2.new.self quiet.0 quiet.1 c.restart.ensures.settled c.restart.ensures.client c.in_ok-append_from.ensures.appended
+    (c.in_ok-push.ensures ∙ ap (λ n. s.report.starts ++ n ∷ []) c.len.ensures) c.restart-2.ensures.state

@@ -1,7 +1,7 @@
-use Rattle.std.proofs.Common.{◌≡◌, [], ◌∷◌, ◌++◌, None, Some, cond, refl, ◌∙◌, ap}
+use Rattle.std.proofs.Common.{◌≡◌, [], ◌∷◌, ◌++◌, None, Some, cond, refl, sym, ◌∙◌, ap}
 use Rattle.gc_world.specs.declared.report.Made.{Made}
 use Rattle.gc_world.proofs.Pieces.{came_out}
-use Rattle.gc_world.proofs.Showing.{in_sent, exchanges_any, up_answered}
+use Rattle.gc_world.proofs.Showing.{Notes, in_sent, exchanges_any, up_answered}
 use Rattle.gc_world.proofs.Shown.{up_front_line, streams_up_deliver}
 use Rattle.gc_world.proofs.stage.Stage.up_deliver.Goals as goal
 
@@ -26,8 +26,8 @@ feed_rest-frame-requires-clause-stands g c =
     let s = c.args.self.now in
     (up_front_line s.report s.up s.down s.up_gone s.down_gone s.client c.requires.shown.0 c.requires.shown.1 c.in-Some.number c.take_front.new.self c.at.result.now c.as_slice-line.result.now c.in-Some.ensures c.at.ensures c.as_slice-line.ensures.value).stands
 
-pub returns-in_ok-push-3-clause-follows : goal.returns-in_ok-push-3-clause-follows
-returns-in_ok-push-3-clause-follows g c =
+pub returns-in_ok-push-2-clause-follows : goal.returns-in_ok-push-2-clause-follows
+returns-in_ok-push-2-clause-follows g c =
     let s = c.args.self.now in
     let made = c.reply_onto.new.out in
     let line = c.as_slice-line in
@@ -35,9 +35,14 @@ returns-in_ok-push-3-clause-follows g c =
     let out : request ≡ line.result.now = came_out c.feed_rest-frame.result c.in-Line.request line.result.now c.in-Line.is c.feed_rest-frame.ensures.line in
     let entry : Made = record { number = c.in-Some.number; line = made } in
     let exchanged = exchanges_any s.report.instrument request c.at.result.now.line.items c.reply_onto.new.self c.new.result.items made.items c.reply_onto.result (out ∙ line.ensures.value) c.new.ensures c.reply_onto.ensures.exchanged in
-    λ v h. streams_up_deliver s.report s.up s.down s.up_gone s.down_gone s.client v h c.in-Some.number c.take_front.new.self c.push-then-reply_onto.new.self c.at.result.now entry c.push.new.self c.push-then-reply_onto-2.new.self c.reply_onto.new.self
+    let before = c.kept_id-kept.ensures in
+    let after = c.kept_id-id.ensures in
+    let executed = c.in_ok-note_execution.ensures in
+    let notes : Notes s.report.instrument c.reply_onto.new.self c.in-Some.number s.report.executed c.note_execution.new.executed =
+    record { new_is = λ other. executed.new (λ e. other (sym before ∙ e ∙ after)); same_is = λ e. executed.same (before ∙ e ∙ sym after) } in
+    λ v h. streams_up_deliver s.report s.up s.down s.up_gone s.down_gone s.client v h c.in-Some.number c.take_front.new.self c.push.new.self c.at.result.now entry c.note_execution.new.executed c.push-then-reply_onto.new.self c.reply_onto.new.self
     (cond c.reply_onto.result (Some made.items) None) c.feed_rest-frame.new.assembler c.in-Some.ensures c.at.ensures exchanged (ap (λ b. cond b (Some made.items) None) c.if-reply_onto.true) refl
-    c.in_ok-push.ensures c.in_ok-push-3.ensures (c.in_ok-push-2.ensures ∙ ap (λ n. s.down ++ n ∷ []) c.len.ensures) c.feed_rest-frame.ensures.start
+    notes c.in_ok-push-2.ensures (c.in_ok-push.ensures ∙ ap (λ n. s.down ++ n ∷ []) c.len.ensures) c.feed_rest-frame.ensures.start
 
 pub returns-else-reply_onto-clause-follows : goal.returns-else-reply_onto-clause-follows
 returns-else-reply_onto-clause-follows g c =

@@ -1,0 +1,156 @@
+-- What is kept, and what becomes of it.
+use Rattle.std.proofs.Common.{◌≡◌, ℤ, pos, ◌||◌, Bool, true, false, cond, ℕ, List, Option, Some, None, refl, sym, ap, ◌∙◌, subst, eqb, ◌+◌, ◌-◌, ◌≤◌, [], ◌∷◌, ◌++◌, length, take, drop, arith, length-append}
+use Rattle.std.specs.Prelude.{int_lt, unsigned_abs, unwrap_or}
+use Rattle.std.proofs.lemmas.List.{take_all}
+use Rattle.gc_lines.specs.Lines.{IsPlain}
+use Rattle.gc_lines.specs.Replies.{ReplyFields, IsReply}
+use Rattle.std.specs.Ordering.{int_eq}
+use Rattle.std.specs.Option.{option_map}
+use Rattle.gc_values.specs.declared.decimal.Decimal.{Decimal}
+use Rattle.gc_catalogue.specs.declared.answer.Answer.{Answer}
+use Rattle.gc_catalogue.specs.declared.answer.Answer.TheVariants.{Nothing, Measured, MeasuredMode}
+use Rattle.gc_catalogue.specs.declared.call.Call.{Call}
+use Rattle.gc_catalogue.specs.declared.call.Call.TheVariants.{SetPrecision, SetDate, DoMeasure, SimpleMea, MeasDistance, FineAdjust}
+use Rattle.gc_instrument.specs.Execution.{Executed, exec, done, refused, set_if, told, commanded, searched, adjusted, measured, unmeasured, is_precision, is_date}
+use Rattle.gc_instrument.specs.Laws.{ExecutesApart}
+use Rattle.gc_instrument.specs.Replying.{AppendsCall, AppendsExecuted, AnswersCall, repeats, executes, IsAnswered, executed_line, kept_after, kept_line, with_kept, executed_with}
+use Rattle.gc_instrument.specs.Seen.{IsPlainKept}
+use Rattle.gc_instrument.specs.State.{State, KeptReply, IsFittingState, IsFittingKept, kept_in}
+use Rattle.gc_instrument.specs.Targets.{first_within}
+use Rattle.gc_instrument.specs.declared.target.Target.{Target}
+
+pub id_kept : (id : Option ℕ) (line : List ℕ) → id ≡ option_map (λ (k : KeptReply). k.id) (kept_in id line)
+id_kept None line = refl
+id_kept (Some id) line = refl
+
+-- no id is asked for, none is kept, and the two are the same or not
+pub none_asked : (kept : Option KeptReply) (id : Option ℕ) → id ≡ None → None ≡ kept_line kept id
+none_asked None id e = refl
+none_asked (Some k) None e = refl
+none_asked (Some k) (Some n) e = let never : ⊥ = cc in absurd never
+
+pub none_kept : (id asked : Option ℕ) (line : List ℕ) → id ≡ None → None ≡ kept_line (kept_in id line) asked
+none_kept None asked line e = refl
+none_kept (Some n) asked line e = let never : ⊥ = cc in absurd never
+
+by_test : (b : Bool) (o p : Option (List ℕ)) (c : Bool) → b ≡ c → cond c o p ≡ cond b o p
+by_test b o p c e = ap (λ x. cond x o p) (sym e)
+
+pub same_kept : (id asked : Option ℕ) (k n : ℕ) (line : List ℕ) → id ≡ Some k → asked ≡ Some n → eqb k n ≡ true → Some line ≡ kept_line (kept_in id line) asked
+same_kept id asked k n line e f same =
+    subst (λ o. Some line ≡ kept_line (kept_in o line) asked) (sym e) (subst (λ o. Some line ≡ kept_line (Some (record { id = k; line = line })) o) (sym f) (by_test (eqb k n) (Some line) None true same))
+
+pub other_kept : (id asked : Option ℕ) (k n : ℕ) (line : List ℕ) → id ≡ Some k → asked ≡ Some n → eqb k n ≡ false → None ≡ kept_line (kept_in id line) asked
+other_kept id asked k n line e f other =
+    subst (λ o. None ≡ kept_line (kept_in o line) asked) (sym e) (subst (λ o. None ≡ kept_line (Some (record { id = k; line = line })) o) (sym f) (by_test (eqb k n) (Some line) None false other))
+
+-- What is kept doesn't count for a call.
+
+set_apart : (b : Bool) (s t : State) (kept : Option KeptReply) → set_if b (with_kept kept s) (with_kept kept t) ≡ executed_with kept (set_if b s t)
+set_apart true s t kept = refl
+set_apart false s t kept = refl
+
+told_apart : (s : State) (kept : Option KeptReply) (answer_with : Decimal → Answer) (d : Option Decimal) → told (with_kept kept s) answer_with d ≡ executed_with kept (told s answer_with d)
+told_apart s kept answer_with None = refl
+told_apart s kept answer_with (Some d) = refl
+
+abbrev rows : State → Bool → Bool → Bool → Executed
+rows t a b c = cond a (done t Nothing) (cond b (done (measured t) Nothing) (cond c (done (unmeasured t) Nothing) (refused t 2)))
+
+commanded_apart : (s : State) (kept : Option KeptReply) (command : ℤ) → commanded (with_kept kept s) command ≡ executed_with kept (commanded s command)
+commanded_apart s kept command = by_tests (int_eq command (pos 0)) (int_eq command (pos 1)) (int_eq command (pos 3)) where
+  by_tests : (a b c : Bool) → rows (with_kept kept s) a b c ≡ executed_with kept (rows s a b c)
+  by_tests true b c = refl
+  by_tests false true c = refl
+  by_tests false false true = refl
+  by_tests false false false = refl
+
+adjusted_apart : (s : State) (kept : Option KeptReply) (t : Option Target) → adjusted (with_kept kept s) t ≡ executed_with kept (adjusted s t)
+adjusted_apart s kept None = refl
+adjusted_apart s kept (Some t) = refl
+
+searched_apart : (s : State) (kept : Option KeptReply) (area_hz area_v : Decimal) → searched (with_kept kept s) area_hz area_v ≡ executed_with kept (searched s area_hz area_v)
+searched_apart s kept area_hz area_v = by_test (int_lt area_hz.digits (pos 0) || int_lt area_v.digits (pos 0)) where
+  by_test : (b : Bool) → cond b (refused (with_kept kept s) 2) (adjusted (with_kept kept s) (first_within s.pointing area_hz area_v s.scene)) ≡ executed_with kept (cond b (refused s 2) (adjusted s (first_within s.pointing area_hz area_v s.scene)))
+  by_test true = refl
+  by_test false = adjusted_apart s kept (first_within s.pointing area_hz area_v s.scene)
+
+-- a new row needs nothing here
+pub executes_apart : ExecutesApart
+unfolding exec
+executes_apart s kept (SetPrecision n) = set_apart (is_precision n) s (record s { precision = unsigned_abs n }) kept
+executes_apart s kept (SetDate d) = set_apart (is_date d) s (record s { date = d }) kept
+executes_apart s kept (DoMeasure command mode) = commanded_apart s kept command
+executes_apart s kept (SimpleMea wait mode) = told_apart s kept (λ d. Measured s.pointing.hz s.pointing.v d) s.distance
+executes_apart s kept (MeasDistance mode) = told_apart (measured s) kept (λ d. MeasuredMode s.pointing.hz s.pointing.v d mode) (measured s).distance
+executes_apart s kept (FineAdjust area_hz area_v dummy) = searched_apart s kept area_hz area_v
+executes_apart s kept call = refl
+
+-- What is kept of an execution.
+
+kept_stays : (s : State) (call : Call) → (exec s call).state.kept ≡ s.kept
+kept_stays s call = ap (λ (x : Executed). x.state.kept) (executes_apart s s.kept call)
+
+drop-append : (old text : List ℕ) → drop (length old) (old ++ text) ≡ text
+drop-append [] text = refl
+drop-append (b ∷ old) text = drop-append old text
+
+-- what stands behind what stood there
+behind_it : (old new text : List ℕ) (start : ℕ) → new ≡ old ++ text → start ≡ length old → take (length new - start) (drop start new) ≡ text
+behind_it old new text start is first =
+    let whole : drop start new ≡ text = ap (λ n. drop n new) first ∙ ap (drop (length old)) is ∙ drop-append old text in
+    let size : length new ≡ length old + length text = ap length is ∙ length-append old text in
+    let enough : length new - start ≡ length text = omega (arith, size, first) in
+    ap (take (length new - start)) whole ∙ ap (λ n. take n text) enough ∙ take_all (length text) text (omega arith)
+
+pub behind : (old new all text : List ℕ) (start : ℕ) → all ≡ new → new ≡ old ++ text → start ≡ length old → take (length all - start) (drop start all) ≡ text
+behind old new all text start same is first = ap (λ xs. take (length xs - start) (drop start xs)) same ∙ behind_it old new text start is first
+
+number_is : (id : Option ℕ) (n number : ℕ) → id ≡ Some n → number ≡ unwrap_or id 0 → number ≡ n
+number_is id n number e same = same ∙ ap (λ o. unwrap_or o 0) e
+
+pub fits_kept : (s : State) (kept : Option KeptReply) → IsFittingState s → IsFittingKept kept → IsFittingState (with_kept kept s)
+fits_kept s kept h k = record { precision = h.precision; serial = h.serial; name = h.name; date = h.date; kept = k }
+
+-- an instrument that keeps it is one
+pub sound_keeping : (s : State) (id : Option ℕ) (kept : Option KeptReply) (number : ℕ) (line : List ℕ) (fields : ReplyFields) → IsFittingState s → IsPlainKept s.kept → kept ≡ kept_after s.kept id line → number ≡ unwrap_or id 0
+    → IsReply line fields → fields.id ≡ Some number → IsPlain line → IsFittingState (with_kept kept s) × IsPlainKept kept
+sound_keeping s None kept number line fields h plain is same reply own one =
+    (fits_kept s kept h (subst IsFittingKept (sym is) h.kept), subst IsPlainKept (sym is) plain)
+sound_keeping s (Some n) kept number line fields h plain is same reply own one = (
+  fits_kept s kept h (subst IsFittingKept (sym is) (record { fields = fields; is_reply = reply; same_id = own ∙ ap Some same })),
+  subst IsPlainKept (sym is) one,
+)
+
+-- a call that was carried out, and its reply kept
+pub kept_anew : (before after : State) (id : Option ℕ) (number : ℕ) (call : Call) (old new line : List ℕ) (kept : Option KeptReply) → number ≡ unwrap_or id 0 → kept_line before.kept id ≡ None
+    → (h : AppendsExecuted before number call after old new) → line ≡ h.text → kept ≡ kept_after after.kept id line → AppendsCall before id call (with_kept kept after) old new
+kept_anew before after id number call old new line kept same none h line_is kept_is =
+    let state : after ≡ (exec before call).state = h.state in
+    let stays : after.kept ≡ before.kept = ap (λ (s : State). s.kept) state ∙ kept_stays before call in
+    let all : kept ≡ kept_after before.kept id h.text = kept_is ∙ ap (λ k. kept_after k id line) stays ∙ ap (kept_after before.kept id) line_is in
+    record {
+      text = h.text;
+      appended = h.appended;
+      plain = h.plain;
+      answers = executes none (ap (λ k. with_kept k after) all ∙ ap (with_kept (kept_after before.kept id h.text)) state) (h.line ∙ ap (λ n. executed_line n (exec before call)) same);
+      says = λ new_id. subst (λ n. IsAnswered before n call h.text) same h.says;
+    }
+
+-- a repeat
+pub kept_again : (before : State) (id : Option ℕ) (call : Call) (old new line : List ℕ) → kept_line before.kept id ≡ Some line → IsPlainKept before.kept → new ≡ old ++ line → AppendsCall before id call before old new
+kept_again before id call old new line is plain appended = record {
+  text = line;
+  appended = appended;
+  plain = of_kept before.kept id line is plain;
+  answers = repeats is refl;
+  says = λ none. let wrong : ◌≡◌ {A = Option (List ℕ)} (Some line) None = sym is ∙ none in let never : ⊥ = cc in absurd never;
+} where
+  of_test : (b : Bool) (own line : List ℕ) → cond b (Some own) None ≡ Some line → IsPlain own → IsPlain line
+  of_test true own line is plain = let same : own ≡ line = cc in subst IsPlain same plain
+  of_test false own line is plain = let never : ⊥ = cc in absurd never
+
+  of_kept : (kept : Option KeptReply) (id : Option ℕ) (line : List ℕ) → kept_line kept id ≡ Some line → IsPlainKept kept → IsPlain line
+  of_kept None id line is plain = let never : ⊥ = cc in absurd never
+  of_kept (Some k) None line is plain = let never : ⊥ = cc in absurd never
+  of_kept (Some k) (Some n) line is plain = of_test (eqb k.id n) k.line line is plain

@@ -1,0 +1,83 @@
+//! What an instrument keeps of the last request that carried an id and was executed.
+
+ghost use Rattle.std.specs.Prelude.{◌≡◌, ◌≤◌, None, length};
+ghost use Rattle.std.specs.Option.{option_map};
+ghost use Rattle.gc_instrument.specs.Replying.{kept_line, kept_after};
+
+use gc_lines::{Line, append};
+use std::marker::Model;
+
+/// The id of a request and the line of its reply, or nothing. It is written in place.
+#[derive(Debug, Drop)]
+pub struct Kept {
+    id: Option<u8>,
+    line: Line,
+}
+
+impl Model for Kept {
+    ghost use Rattle.std.specs.Prelude.{Option};
+    ghost use Rattle.gc_instrument.specs.State.{KeptReply, kept_in};
+
+    ghost Value = { Option KeptReply };
+
+    ghost view = { λ k. kept_in k.id k.line.items };
+}
+
+impl Kept {
+    /// Nothing.
+    pub fn nothing() -> Kept
+        ensures { result ≡ None }
+    {
+        Kept {
+            id: None,
+            line: Line::new(),
+        }
+    }
+
+    /// The id of what is kept.
+    #[tactic(auto, using(crate::proofs::Keeping::id_kept))]
+    pub fn id(&self) -> Option<u8>
+        ensures { result ≡ option_map (λ k. k.id) self.now }
+    {
+        self.id
+    }
+
+    /// Nothing is kept any longer.
+    pub fn forget(&mut self)
+        ensures { self.new ≡ None }
+    {
+        self.id = None;
+    }
+
+    /// The line that is kept, where it is that of this id.
+    #[tactic(auto, using(crate::proofs::Keeping::none_asked, crate::proofs::Keeping::none_kept, crate::proofs::Keeping::same_kept, crate::proofs::Keeping::other_kept))]
+    #[inline]
+    pub fn line_of(&self, id: Option<u8>) -> Option<&Line>
+        ensures { option_map (λ r. r.now.items) result ≡ kept_line self.now id }
+    {
+        let Some(asked) = id else {
+            return None;
+        };
+        let Some(kept) = self.id else {
+            return None;
+        };
+        if kept == asked {
+            Some(&self.line)
+        } else {
+            None
+        }
+    }
+
+    /// Keeps the id of a request and the line of its reply, where it carried an id.
+    #[inline]
+    pub fn keep(&mut self, id: Option<u8>, line: &[u8])
+        requires { length line.now ≤ 512 }
+        ensures { self.new ≡ kept_after self.old id line.now }
+    {
+        if id.is_some() {
+            self.id = id;
+            self.line.clear();
+            append(&mut self.line, line);
+        }
+    }
+}

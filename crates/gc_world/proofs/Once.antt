@@ -1,0 +1,380 @@
+-- The instrument that keeps its last reply executes each request at most once, in order.
+use Rattle.std.proofs.Common.{◌≡◌, ℕ, zero, suc, ◌+◌, ◌-◌, ◌%◌, ◌<◌, ◌≤◌, inl, inr, Bool, true, false, List, [], ◌∷◌, ◌++◌, length, map, take, drop, Option, Some, None, cond, refl, sym, ◌∙◌, ap, subst, arith, ltb, eqb}
+use Rattle.std.proofs.lemmas.List.{length_push}
+use Rattle.std.proofs.lemmas.Bool.{eqb-true, eqb-false, cases_eq}
+use Rattle.gc_catalogue.specs.declared.call.Call.{Call}
+use Rattle.gc_catalogue.specs.Texts.{request_line}
+use Rattle.gc_client.specs.declared.pending.Pending.{Pending}
+use Rattle.gc_client.specs.Rule.{Sending, pending_of}
+use Rattle.gc_instrument.specs.Replying.{Handed, kept_line}
+use Rattle.gc_instrument.specs.State.{KeptReply}
+use Rattle.gc_world.specs.Clients.{ByNumber, number_send, number_reply, by_numbers, numbers_open}
+use Rattle.gc_world.specs.Exchange.{IsExchange, IsKeeper}
+use Rattle.gc_world.specs.Order.{Each, Rising, IsRecent, numbers}
+use Rattle.gc_world.specs.Record.{Increasing}
+use Rattle.gc_world.specs.World.{Request, Sent, Numbered, Ends, Step, World, Wire, without, doubled, replied, started, on_wire, requested, with_settled, run}
+use Rattle.gc_world.proofs.Booked.{Has, has_more, has_push}
+use Rattle.gc_world.proofs.Execution.{digits}
+use Rattle.gc_world.proofs.Options.{some_is}
+use Rattle.gc_world.proofs.Places.{get_push}
+use Rattle.gc_world.proofs.Replay.{IsOf, of_more, Replays, replays_more, replays_push, replays_started, no_number}
+use Rattle.gc_world.proofs.Rows.{each_append, each_more, each_number, each_without, each_doubled}
+use Rattle.gc_world.proofs.Sound.{IsGoing, Sound, keeps, sound_open, length_expired}
+use Rattle.gc_world.proofs.Stable.{IsStable, stable_all}
+
+increasing_push : (low n : ℕ) (xs : List ℕ) → low ≤ n → Each (λ x. x < n) xs → Increasing low xs → Increasing low (xs ++ n ∷ [])
+increasing_push low n [] le b h = (le, tt)
+increasing_push low n (x ∷ xs) le b h = (h.0, increasing_push (x + 1) n xs (omega (arith, b.0)) b.1 h.1)
+
+-- no number under way upward is below the one in front
+rising_each : (low : ℕ) (xs : List (Numbered Request)) → Rising low (numbers xs) → Each (λ x. low ≤ x.number + 1) xs
+rising_each low [] h = tt
+rising_each low (x ∷ xs) h = (h.0, each_more (λ y. x.number + 1 ≤ y.number + 1) (λ y. low ≤ y.number + 1) (λ y k. omega (arith, k, h.0)) xs (rising_each (x.number + 1) xs h.1))
+
+rising_tail : (low n : ℕ) (xs ys : List ℕ) → Rising low (xs ++ n ∷ ys) → (low ≤ n + 1) × Rising (n + 1) ys
+rising_tail low n [] ys h = h
+rising_tail low n (x ∷ xs) ys h = let r = rising_tail (x + 1) n xs ys h.1 in (omega (arith, h.0, r.0), r.1)
+
+-- the number last executed is one less than top; what is under way upward against what is kept
+abbrev Above : Option KeptReply → ℕ → ℕ → ℕ → List (Numbered Request) → Type 0
+Above None since count top up = Each (λ x. top ≤ x.number) up
+Above (Some k) since count top up = (since < top) × (k.id ≡ (top - 1 - since) % 8) × (count ≤ top) × Each (λ x. top ≤ x.number + 1) up
+
+above_none : (since count top : ℕ) (up : List (Numbered Request)) (kept : Option KeptReply) → up ≡ [] → kept ≡ None → Above kept since count top up
+above_none since count top up kept e none = subst (λ k. Above k since count top up) (sym none) (subst (λ q. Each (λ x. top ≤ x.number) q) (sym e) tt)
+
+above_push : (kept : Option KeptReply) (since count top : ℕ) (up : List (Numbered Request)) (x : Numbered Request) → top ≤ x.number → Above kept since count top up → Above kept since count top (up ++ x ∷ [])
+above_push None since count top up x le h = each_append _ up (x ∷ []) h (le, tt)
+above_push (Some k) since count top up x le h = (h.0, h.1, h.2, each_append _ up (x ∷ []) h.3 (omega arith, tt))
+
+above_without : (kept : Option KeptReply) (since count top k : ℕ) (up : List (Numbered Request)) → Above kept since count top up → Above kept since count top (without k up)
+above_without None since count top k up h = each_without _ k up h
+above_without (Some q) since count top k up h = (h.0, h.1, h.2, each_without _ k up h.3)
+
+above_doubled : (kept : Option KeptReply) (since count top k : ℕ) (up : List (Numbered Request)) → Above kept since count top up → Above kept since count top (doubled k up)
+above_doubled None since count top k up h = each_doubled _ k up h
+above_doubled (Some q) since count top k up h = (h.0, h.1, h.2, each_doubled _ k up h.3)
+
+above_tail : (kept : Option KeptReply) (since count top : ℕ) (x : Numbered Request) (up : List (Numbered Request)) → Above kept since count top (x ∷ up) → Above kept since count top up
+above_tail None since count top x up h = h.1
+above_tail (Some q) since count top x up h = (h.0, h.1, h.2, h.3.1)
+
+above_count : (kept : Option KeptReply) (since count count' top : ℕ) (up : List (Numbered Request)) → count' ≤ top → Above kept since count top up → Above kept since count' top up
+above_count None since count count' top up le h = h
+above_count (Some q) since count count' top up le h = (h.0, h.1, le, h.3)
+
+chosen : (b : Bool) (l line : List ℕ) → (cond b (Some l) None ≡ Some line) → b ≡ true
+chosen true l line e = refl
+chosen false l line e = cc
+
+not_chosen : (b : Bool) (l : List ℕ) → (cond b (Some l) None ≡ None) → b ≡ false
+not_chosen true l e = cc
+not_chosen false l e = refl
+
+-- a request that is not known again is above all that were executed
+is_new : (kept : Option KeptReply) (since count top : ℕ) (x : Numbered Request) (up : List (Numbered Request)) → kept_line kept (Some ((x.number - since) % 8)) ≡ None → Above kept since count top (x ∷ up) → top ≤ x.number
+is_new None since count top x up e h = h.0
+is_new (Some k) since count top x up e h =
+    let ne = eqb-false _ _ (not_chosen (eqb k.id ((x.number - since) % 8)) k.line e) in
+    elim (cases_eq (x.number + 1) top) [
+      | inl same ↦ absurd (ne (omega (arith, h.1, same)))
+      | inr other ↦ omega (arith, h.3.0, other)
+    ]
+
+-- one that is known again is the last that was executed
+is_last : (width : ℕ) (kept : Option KeptReply) (since count top total : ℕ) (x : Numbered Request) (up : List (Numbered Request)) (line : List ℕ) → width ≤ 7 → kept_line kept (Some ((x.number - since) % 8)) ≡ Some line → since ≤ x.number → x.number < total → total ≤ count + width → Above kept since count top (x ∷ up) → x.number + 1 ≡ top
+is_last width None since count top total x up line narrow e h1 h2 h3 h = cc
+is_last width (Some k) since count top total x up line narrow e h1 h2 h3 h =
+    let same = eqb-true _ _ (chosen (eqb k.id ((x.number - since) % 8)) k.line line e) in
+    omega (arith, same, h.0, h.1, h.2, h.3.0)
+
+-- what is kept is the reply to the last request that was executed
+abbrev Held : Option KeptReply → ℕ → List (Numbered (List ℕ)) → Type 0
+Held None top replies = Unit {0}
+Held (Some k) top replies = Has (record { number = top - 1; line = k.line }) replies
+
+held_none : (top : ℕ) (replies : List (Numbered (List ℕ))) (kept : Option KeptReply) → kept ≡ None → Held kept top replies
+held_none top replies kept none = subst (λ k. Held k top replies) (sym none) tt
+
+-- the kept line is the reply to that request
+held_line : (kept : Option KeptReply) (id n top : ℕ) (line : List ℕ) (replies : List (Numbered (List ℕ))) → kept_line kept (Some id) ≡ Some line → n + 1 ≡ top → Held kept top replies → Has (record { number = n; line = line }) replies
+held_line None id n top line replies e t h = cc
+held_line (Some k) id n top line replies e t h =
+    let b = chosen (eqb k.id id) k.line line e in
+    let e' : Some k.line ≡ Some line = subst (λ v. cond v (Some k.line) None ≡ Some line) b e in
+    let l : k.line ≡ line = some_is k.line line e' in
+    let m : top - 1 ≡ n = omega arith in
+    subst (λ i. Has (record { number = i; line = line }) replies) m (subst (λ (q : List ℕ). Has (record { number = top - 1; line = q }) replies) l h)
+
+-- the number last executed, while its reply is kept
+abbrev IsLast : Option KeptReply → ℕ → List ℕ → Type 0
+IsLast None top executed = Unit {0}
+IsLast (Some k) top executed = (earlier : List ℕ) × (executed ≡ earlier ++ (top - 1) ∷ [])
+
+last_none : (top : ℕ) (executed : List ℕ) (kept : Option KeptReply) → kept ≡ None → IsLast kept top executed
+last_none top executed kept none = subst (λ k. IsLast k top executed) (sym none) tt
+
+recent_row : (width since count top total : ℕ) (k : KeptReply) (executed earlier : List ℕ) (up : List (Numbered Request)) → executed ≡ earlier ++ (top - 1) ∷ [] → since < top → count ≤ top → total ≤ count + width → Each (λ x. top ≤ x.number + 1) up → Each (IsGoing since total) up → IsRecent width (Some k) executed (numbers up)
+recent_row width since count top total k executed earlier up is some counted few above going =
+    (earlier, top - 1, is, each_number (λ n. (top - 1 ≤ n) × (n ≤ top - 1 + width)) up (both up above going))
+  where
+    both : (up : List (Numbered Request)) → Each (λ x. top ≤ x.number + 1) up → Each (IsGoing since total) up → Each (λ x. (top - 1 ≤ x.number) × (x.number ≤ top - 1 + width)) up
+    both [] a g = tt
+    both (x ∷ xs) a g = ((omega (arith, a.0), omega (arith, g.0.sent, some, counted, few)), both xs a.1 g.1)
+
+recent_of : (width since count top total : ℕ) (kept : Option KeptReply) (executed : List ℕ) (up : List (Numbered Request)) → Above kept since count top up → IsLast kept top executed → total ≤ count + width → Each (IsGoing since total) up → IsRecent width kept executed (numbers up)
+recent_of width since count top total None executed up above last few going = tt
+recent_of width since count top total (Some k) executed up above last few going = recent_row width since count top total k executed last.0 up last.1 above.0 above.2 few above.3 going
+
+module _ {State : Type 0} (width : ℕ) (narrow : width ≤ 7) (ends : Ends State) (Good : State → Type 0) (ex : IsExchange ends Good) (kept : State → Option KeptReply) (keeper : IsKeeper ends kept) (opening : State) where
+  -- what was executed is a run of the instrument, with these replies; each entry is one of them, and each of them is an entry
+  pub record IsTold (w : Wire State) (top : ℕ) : Type 0 where
+    pub replies : List (Numbered (List ℕ))
+    pub replays : Replays ends w.sent w.starts 0 (ends.restarted opening) w.executed replies w.state
+    pub among : Each (λ m. Has m replies) w.made
+    pub each : Each (λ m. Has m w.made) replies
+    pub begins : Each (λ x. x < length w.executed + 1) w.starts
+    pub held : Held (kept w.state) top replies
+    pub lines : Each (IsOf w.sent) w.up
+
+  pub record IsOnce (c : ByNumber) (w : Wire State) : Type 0 where
+    pub top : ℕ
+    pub climbs : Increasing 0 w.executed
+    pub below : Each (λ n. n < top) w.executed
+    pub sent : top ≤ length c.requests
+    pub made : Each (λ x. x.number < top) w.down
+    pub above : Above (kept w.state) c.since c.count top w.up
+    pub last : IsLast (kept w.state) top w.executed
+    pub told : IsTold w top
+
+  -- the line keeps its order, and each request is executed once
+  pub record Once (w : World ByNumber State) : Type 0 where
+    pub sound : Sound width ends Good w
+    pub once : IsOnce w.client w.wire
+
+  -- one more is executed
+  told_new : (w : Wire State) (x : Numbered Request) (rest : List (Numbered Request)) (top : ℕ) → w.up ≡ x ∷ rest → (hd : Handed State) → ends.handed w.state x.line.id x.line.call ≡ hd → kept_line (kept w.state) (Some x.line.id) ≡ None → IsTold w top → hd.executed ≡ true → IsTold (replied w x.number rest (record hd { executed = true })) (x.number + 1)
+  told_new w x rest top q hd is none h exe =
+      let of = subst (λ l. Each (IsOf w.sent) l) q h.lines in
+      let y : Numbered (List ℕ) = record { number = x.number; line = hd.reply } in
+      let same_call = of.0.call in
+      let m : x.number ≡ x.number + 1 - 1 = omega arith in
+      let keeps_it : kept hd.state ≡ Some (record { id = x.line.id; line = hd.reply }) =
+      subst (λ (k : Handed State). kept k.state ≡ Some (record { id = x.line.id; line = k.reply })) is (keeper.keeps w.state x.line.id x.line.call none) in
+      record {
+        replies = h.replies ++ y ∷ [];
+        replays =
+            replays_push ends w.sent w.starts 0 (length w.executed + 1) (ends.restarted opening) w.executed h.replies w.state x.number y hd.state (omega arith)
+            (no_number (length w.executed + 1) w.starts h.begins)
+            (record {
+              request = of.0.request;
+              found = of.0.found;
+              id = x.line.id;
+              small = of.0.small;
+              text = of.0.text ∙ ap (λ c. request_line (Some x.line.id) c) (sym same_call);
+              executed = ap (λ c. (ends.handed w.state x.line.id c).executed) same_call ∙ ap (λ (k : Handed State). k.executed) is ∙ exe;
+              number = refl;
+              line = sym (ap (λ (k : Handed State). k.reply) is) ∙ ap (λ c. (ends.handed w.state x.line.id c).reply) (sym same_call);
+              leads = ap (λ c. (ends.handed w.state x.line.id c).state) same_call ∙ ap (λ (k : Handed State). k.state) is;
+            })
+            h.replays;
+        among = each_append _ w.made _ (each_more (λ m. Has m h.replies) (λ m. Has m (h.replies ++ y ∷ [])) (λ m p. has_more m h.replies _ p) w.made h.among) (has_push y h.replies, tt);
+        each = each_append _ h.replies _ (each_more (λ m. Has m w.made) (λ m. Has m (w.made ++ y ∷ [])) (λ m p. has_more m w.made _ p) h.replies h.each) (has_push y w.made, tt);
+        begins = each_more (λ n. n < length w.executed + 1) (λ n. n < length (w.executed ++ x.number ∷ []) + 1) (λ n l. omega (arith, l, length_push w.executed x.number)) w.starts h.begins;
+        held = subst (λ k. Held k (x.number + 1) (h.replies ++ y ∷ [])) (sym keeps_it) (subst (λ i. Has (record { number = i; line = hd.reply }) (h.replies ++ y ∷ [])) m (has_push y h.replies));
+        lines = of.1;
+      }
+
+  once_new : (w : World ByNumber State) (x : Numbered Request) (rest : List (Numbered Request)) (hd : Handed State) → w.wire.up ≡ x ∷ rest → ends.handed w.wire.state x.line.id x.line.call ≡ hd → kept_line (kept w.wire.state) (Some x.line.id) ≡ None → hd.executed ≡ true → Sound width ends Good w → IsOnce w.client w.wire → IsOnce w.client (replied w.wire x.number rest (record hd { executed = true }))
+  once_new w x rest hd q is none exe s h =
+      let c = w.client in
+      let g = subst (λ l. Each (IsGoing c.since (length c.requests)) l) q s.going in
+      let a = subst (λ l. Above (kept w.wire.state) c.since c.count h.top l) q h.above in
+      let new = is_new (kept w.wire.state) c.since c.count h.top x rest (subst (λ i. kept_line (kept w.wire.state) (Some i) ≡ None) g.0.id none) a in
+      let order = rising_tail c.count x.number (numbers w.wire.down) (numbers rest) (subst (λ l. Rising c.count (numbers w.wire.down ++ numbers l)) q s.order) in
+      let keeps_it : kept hd.state ≡ Some (record { id = x.line.id; line = hd.reply }) =
+      subst (λ (k : Handed State). kept k.state ≡ Some (record { id = x.line.id; line = k.reply })) is (keeper.keeps w.wire.state x.line.id x.line.call none) in
+      let m : x.number ≡ x.number + 1 - 1 = omega arith in
+      record {
+        top = x.number + 1;
+        climbs = increasing_push 0 x.number w.wire.executed (omega arith) (each_more (λ n. n < h.top) (λ n. n < x.number) (λ n l. omega (arith, l, new)) w.wire.executed h.below) h.climbs;
+        below = each_append _ w.wire.executed _ (each_more (λ n. n < h.top) (λ n. n < x.number + 1) (λ n l. omega (arith, l, new)) w.wire.executed h.below) (omega arith, tt);
+        sent = omega (arith, g.0.sent);
+        made = each_append _ w.wire.down _ (each_more (λ (y : Numbered (List ℕ)). y.number < h.top) (λ y. y.number < x.number + 1) (λ y l. omega (arith, l, new)) w.wire.down h.made) (omega arith, tt);
+        above = subst (λ k. Above k c.since c.count (x.number + 1) rest) (sym keeps_it) (omega (arith, g.0.recent), g.0.id ∙ ap (λ n. (n - c.since) % 8) m, order.0, rising_each (x.number + 1) rest order.1);
+        last = subst (λ k. IsLast k (x.number + 1) (w.wire.executed ++ x.number ∷ [])) (sym keeps_it) (w.wire.executed, ap (λ n. w.wire.executed ++ n ∷ []) m);
+        told = told_new w.wire x rest h.top q hd is none h.told exe;
+      }
+
+  -- the last one comes again
+  once_again : (w : World ByNumber State) (x : Numbered Request) (rest : List (Numbered Request)) (line : List ℕ) → w.wire.up ≡ x ∷ rest → kept_line (kept w.wire.state) (Some x.line.id) ≡ Some line → Sound width ends Good w → IsOnce w.client w.wire → IsOnce w.client (replied w.wire x.number rest (record { state = w.wire.state; reply = line; executed = false }))
+  once_again w x rest line q is s h =
+      let c = w.client in
+      let r = h.told in
+      let g = subst (λ l. Each (IsGoing c.since (length c.requests)) l) q s.going in
+      let a = subst (λ l. Above (kept w.wire.state) c.since c.count h.top l) q h.above in
+      let last = is_last width (kept w.wire.state) c.since c.count h.top (length c.requests) x rest line narrow (subst (λ i. kept_line (kept w.wire.state) (Some i) ≡ Some line) g.0.id is) g.0.recent g.0.sent s.few a in
+      let y : Numbered (List ℕ) = record { number = x.number; line = line } in
+      record {
+        top = h.top;
+        climbs = h.climbs;
+        below = h.below;
+        sent = h.sent;
+        made = each_append _ w.wire.down _ h.made (omega (arith, last), tt);
+        above = above_tail (kept w.wire.state) c.since c.count h.top x rest a;
+        last = h.last;
+        told = record {
+          replies = r.replies;
+          replays = r.replays;
+          among = each_append _ w.wire.made _ r.among (held_line (kept w.wire.state) x.line.id x.number h.top line r.replies is last r.held, tt);
+          each = each_more (λ m. Has m w.wire.made) (λ m. Has m (w.wire.made ++ y ∷ [])) (λ m p. has_more m w.wire.made _ p) r.replies r.each;
+          begins = r.begins;
+          held = r.held;
+          lines = (subst (λ l. Each (IsOf w.wire.sent) l) q r.lines).1;
+        };
+      }
+
+  once_handed : (w : World ByNumber State) (x : Numbered Request) (rest : List (Numbered Request)) (hd : Handed State) (b : Bool) (o : Option (List ℕ)) → hd.executed ≡ b → w.wire.up ≡ x ∷ rest → ends.handed w.wire.state x.line.id x.line.call ≡ hd → kept_line (kept w.wire.state) (Some x.line.id) ≡ o → Sound width ends Good w → IsOnce w.client w.wire → IsOnce w.client (replied w.wire x.number rest hd)
+  once_handed w x rest hd b (Some line) e q is o s h =
+      subst (λ (k : Handed State). IsOnce w.client (replied w.wire x.number rest k)) (sym (keeper.again w.wire.state x.line.id x.line.call line o) ∙ is) (once_again w x rest line q o s h)
+  once_handed w x rest hd b None e q is o s h =
+      let exe : hd.executed ≡ true = sym (ap (λ (k : Handed State). k.executed) is) ∙ keeper.executes w.wire.state x.line.id x.line.call o in
+      subst (λ v. IsOnce w.client (replied w.wire x.number rest (record hd { executed = v }))) (sym exe) (once_new w x rest hd q is o exe s h)
+
+  once_sent : (w : World ByNumber State) (target : ℕ) (call : Call) (deadline : ℕ) (x : Sending ByNumber) → x.id < 8 → length x.client.requests ≡ length w.client.requests + 1 → x.client.since ≡ w.client.since → x.client.count ≡ w.client.count → Sound width ends Good w → IsOnce w.client w.wire → IsOnce x.client (requested w target call (Some x)).wire
+  once_sent w target call deadline x digit grows since count s h =
+      let r : Sent = record { target = target; call = call; line = request_line (Some x.id) call } in
+      let t = h.told in
+      record {
+        top = h.top;
+        climbs = h.climbs;
+        below = h.below;
+        sent = omega (arith, h.sent, grows);
+        made = h.made;
+        last = h.last;
+        above =
+            subst (λ n. Above (kept w.wire.state) n x.client.count h.top (w.wire.up ++ record { number = length w.wire.sent; line = record { id = x.id; call = call } } ∷ [])) (sym since)
+            (subst (λ n. Above (kept w.wire.state) w.client.since n h.top (w.wire.up ++ record { number = length w.wire.sent; line = record { id = x.id; call = call } } ∷ [])) (sym count)
+            (above_push (kept w.wire.state) w.client.since w.client.count h.top w.wire.up _ (omega (arith, h.sent, s.counted)) h.above));
+        told = record {
+          replies = t.replies;
+          replays = replays_more ends w.wire.sent (r ∷ []) w.wire.starts 0 (ends.restarted opening) w.wire.executed t.replies w.wire.state t.replays;
+          among = t.among;
+          each = t.each;
+          begins = t.begins;
+          held = t.held;
+          lines =
+              each_append _ w.wire.up _ (each_more _ _ (of_more w.wire.sent (r ∷ [])) w.wire.up t.lines)
+              (record { request = r; found = get_push w.wire.sent r; small = digit; call = refl; text = refl }, tt);
+        };
+      }
+
+  once_send : (w : World ByNumber State) (target : ℕ) (call : Call) (deadline : ℕ) (full : Bool) (x : Sending ByNumber) → number_send w.client target call deadline full ≡ Some x → Sound width ends Good w → IsOnce w.client w.wire → IsOnce x.client (requested w target call (Some x)).wire
+  once_send w target call deadline true x e s h = cc
+  once_send w target call deadline false x e s h =
+      let c = w.client in
+      let y : Sending ByNumber = record { id = (length c.requests - c.since) % 8; client = record { count = c.count; requests = c.requests ++ pending_of target call deadline ∷ []; since = c.since } } in
+      subst (λ z. IsOnce z.client (requested w target call (Some z)).wire) (some_is y x e) (once_sent w target call deadline y (omega arith) (length_push c.requests (pending_of target call deadline)) refl refl s h)
+
+  -- the upward queue is another one
+  told_up : (w : Wire State) (top : ℕ) (up : List (Numbered Request)) (down : List (Numbered (List ℕ))) → Each (IsOf w.sent) up → IsTold w top → IsTold (record w { up = up; down = down }) top
+  told_up w top up down u t = record { replies = t.replies; replays = t.replays; among = t.among; each = t.each; begins = t.begins; held = t.held; lines = u }
+
+  once_queues : (c : ByNumber) (w : Wire State) (up : List (Numbered Request)) (down : List (Numbered (List ℕ))) (h : IsOnce c w) → Each (λ x. x.number < h.top) down → Above (kept w.state) c.since c.count h.top up → Each (IsOf w.sent) up → IsOnce c (record w { up = up; down = down })
+  once_queues c w up down h d u l = record { top = h.top; last = h.last; climbs = h.climbs; below = h.below; sent = h.sent; made = d; above = u; told = told_up w h.top up down l h.told }
+
+  -- nothing that counts here is another one
+  told_else : (w : Wire State) (top : ℕ) (settled : _) (down : _) (refused idle : ℕ) → IsTold w top → IsTold (record w { settled = settled; down = down; refused = refused; idle = idle }) top
+  told_else w top settled down refused idle t = record { replies = t.replies; replays = t.replays; among = t.among; each = t.each; begins = t.begins; held = t.held; lines = t.lines }
+
+  once_else : (c : ByNumber) (w : Wire State) (settled : _) (refused idle : ℕ) → IsOnce c w → IsOnce c (record w { settled = settled; refused = refused; idle = idle })
+  once_else c w settled refused idle h = record { top = h.top; last = h.last; climbs = h.climbs; below = h.below; sent = h.sent; made = h.made; above = h.above; told = told_else w h.top settled w.down refused idle h.told }
+
+  once_reply : (w : World ByNumber State) (x : Numbered (List ℕ)) (rest : List (Numbered (List ℕ))) (old : Bool) → w.wire.down ≡ x ∷ rest → IsOnce w.client w.wire → IsOnce (number_reply w.client x old).client (with_settled (record w.wire { down = rest }) (number_reply w.client x old)).wire
+  once_reply w x rest true e h =
+      let m = subst (λ q. Each (λ y. y.number < h.top) q) e h.made in
+      record { top = h.top; last = h.last; climbs = h.climbs; below = h.below; sent = h.sent; made = m.1; above = h.above; told = told_else w.wire h.top _ rest w.wire.refused w.wire.idle h.told }
+  once_reply w x rest false e h =
+      let m = subst (λ q. Each (λ y. y.number < h.top) q) e h.made in
+      record { top = h.top; last = h.last; climbs = h.climbs; below = h.below; sent = h.sent; made = m.1; above = above_count (kept w.wire.state) w.client.since w.client.count (x.number + 1) h.top w.wire.up (omega (arith, m.0)) h.above; told = told_else w.wire h.top _ rest w.wire.refused w.wire.idle h.told }
+
+  -- the instrument forgets what it kept
+  once_forgotten : (c : ByNumber) (w : Wire State) (count since : ℕ) → w.up ≡ [] → IsOnce c w → IsOnce (record c { count = count; since = since }) (started ends w true)
+  once_forgotten c w count since e h =
+      let t = h.told in
+      record {
+        top = h.top;
+        climbs = h.climbs;
+        below = h.below;
+        sent = h.sent;
+        made = h.made;
+        above = above_none since count h.top w.up (kept (ends.restarted w.state)) e (keeper.forgets w.state);
+        last = last_none h.top w.executed (kept (ends.restarted w.state)) (keeper.forgets w.state);
+        told = record {
+          replies = t.replies;
+          replays = replays_started ends keeper.twice w.sent w.starts opening w.executed t.replies w.state t.replays;
+          among = t.among;
+          each = t.each;
+          begins = each_append _ w.starts _ t.begins (omega arith, tt);
+          held = held_none h.top t.replies (kept (ends.restarted w.state)) (keeper.forgets w.state);
+          lines = t.lines;
+        };
+      }
+
+  once_expired : (w : World ByNumber State) (now : ℕ) → IsOnce w.client w.wire → IsOnce ((by_numbers width).expire w.client now) w.wire
+  once_expired w now h = record { top = h.top; last = h.last; climbs = h.climbs; below = h.below; sent = omega (arith, h.sent, length_expired now w.client.count w.client.requests); made = h.made; above = h.above; told = h.told }
+
+  -- a restart of the client restarts the instrument too
+  once_restarted : (w : World ByNumber State) → ends.joint ≡ true → w.wire.up ≡ [] → IsOnce w.client w.wire → IsOnce ((by_numbers width).restart w.client).client (with_settled (started ends w.wire ends.joint) ((by_numbers width).restart w.client)).wire
+  once_restarted w joint e h =
+      let total = length w.client.requests in
+      let v = started ends w.wire true in
+      subst (λ b. IsOnce ((by_numbers width).restart w.client).client (with_settled (started ends w.wire b) ((by_numbers width).restart w.client)).wire) (sym joint)
+      (once_else (record w.client { count = total; since = total }) v _ v.refused v.idle (once_forgotten w.client w.wire total total e h))
+
+  keeps_once : ends.joint ≡ true → IsStable ends (by_numbers width) Once
+  keeps_once joint =
+      let k = keeps width ends Good ex in
+      record {
+        idles = λ w h. record { sound = k.idles w h.sound; once = once_else w.client w.wire w.wire.settled w.wire.refused (w.wire.idle + 1) h.once };
+        refuses = λ w h. record { sound = k.refuses w h.sound; once = once_else w.client w.wire w.wire.settled (w.wire.refused + 1) w.wire.idle h.once };
+        sends = λ w target call deadline x e h. record { sound = k.sends w target call deadline x e h.sound; once = once_send w target call deadline (eqb (length w.client.requests - w.client.count) width) x e h.sound h.once };
+        answers = λ w x rest q h. record {
+          sound = k.answers w x rest q h.sound;
+          once = once_handed w x rest (ends.handed w.wire.state x.line.id x.line.call) (ends.handed w.wire.state x.line.id x.line.call).executed (kept_line (kept w.wire.state) (Some x.line.id)) refl q refl refl h.sound h.once;
+        };
+        loses_up = λ w n h. record {
+          sound = k.loses_up w n h.sound;
+          once = once_queues w.client w.wire (without n w.wire.up) w.wire.down h.once h.once.made (above_without (kept w.wire.state) w.client.since w.client.count h.once.top n w.wire.up h.once.above) (each_without _ n w.wire.up h.once.told.lines);
+        };
+        repeats_up = λ w n h. record {
+          sound = k.repeats_up w n h.sound;
+          once = once_queues w.client w.wire (doubled n w.wire.up) w.wire.down h.once h.once.made (above_doubled (kept w.wire.state) w.client.since w.client.count h.once.top n w.wire.up h.once.above) (each_doubled _ n w.wire.up h.once.told.lines);
+        };
+        loses_down = λ w n h. record { sound = k.loses_down w n h.sound; once = once_queues w.client w.wire w.wire.up (without n w.wire.down) h.once (each_without _ n w.wire.down h.once.made) h.once.above h.once.told.lines };
+        repeats_down = λ w n h. record { sound = k.repeats_down w n h.sound; once = once_queues w.client w.wire w.wire.up (doubled n w.wire.down) h.once (each_doubled _ n w.wire.down h.once.made) h.once.above h.once.told.lines };
+        hears = λ w x rest q h. record { sound = k.hears w x rest q h.sound; once = once_reply w x rest (ltb x.number w.client.count) q h.once };
+        expires = λ w now h. record { sound = k.expires w now h.sound; once = once_expired w now h.once };
+        restarts = λ w u d h. record { sound = k.restarts w u d h.sound; once = once_restarted w joint u h.once };
+        starts = λ w u d h. record { sound = k.starts w u d h.sound; once = once_forgotten w.client w.wire w.client.count w.client.since u h.once };
+      }
+
+  pub once_at : ends.joint ≡ true → Good (ends.restarted opening) → (es : List Step) → Once (run ends (by_numbers width) es (numbers_open (ends.restarted opening)))
+  once_at joint good es =
+      stable_all ends (by_numbers width) Once (keeps_once joint) es (numbers_open (ends.restarted opening)) (record {
+        sound = sound_open width ends Good (ends.restarted opening) good;
+        once = record {
+          top = 0;
+          climbs = tt;
+          below = tt;
+          sent = omega arith;
+          made = tt;
+          above = above_none 0 0 0 [] (kept (ends.restarted opening)) refl (keeper.forgets opening);
+          last = last_none 0 [] (kept (ends.restarted opening)) (keeper.forgets opening);
+          told = record { replies = []; replays = refl; among = tt; each = tt; begins = tt; held = held_none 0 [] (kept (ends.restarted opening)) (keeper.forgets opening); lines = tt };
+        };
+      })
+
+  -- what is under way upward, while a reply is kept
+  pub recent : (w : World ByNumber State) → Once w → IsRecent width (kept w.wire.state) w.wire.executed (numbers w.wire.up)
+  recent w h = recent_of width w.client.since w.client.count h.once.top (length w.client.requests) (kept w.wire.state) w.wire.executed w.wire.up h.once.above h.once.last h.sound.few h.sound.going
