@@ -11,6 +11,7 @@ impl Answers for Instrument {
     ghost answers = { AnswersFrame };
 
     #[tactic(auto, using(crate::proofs::HeardFrames::answered_line, crate::proofs::HeardFrames::unanswered_line))]
+    #[inline(always)]
     fn answer(&mut self, frame: Lent<'_>, text: &mut Outgoing) -> bool {
         let Lent::Line(line) = frame else {
             return false;
