@@ -14,7 +14,8 @@ built geocom exec
 python3 recording.py "$geocom" 100000000 >"$work/recording"
 echo "$(stat -c %s "$work/recording") bytes, $(wc -l <"$work/recording") frames, the best of five runs"
 
-# Prints what a command takes on the recording: seconds on the clock, in the program, and in the system; and MB a second.
+# Prints what a command takes on the recording: seconds on the clock, in the program, and in the system; and MB a second, on
+# the clock and of processor time, which cares less what else runs.
 measure() {
     local name=$1
     shift
@@ -28,7 +29,8 @@ measure() {
     sort -n "$work/times" | head -1 | {
         read -r real user system
         rate=$(python3 -c "print(round(100 / max($real, 0.001)))")
-        echo "$name: $real s (program $user s, system $system s), $rate MB/s"
+        pure=$(python3 -c "print(round(100 / max($user + $system, 0.001)))")
+        echo "$name: $real s (program $user s, system $system s), $rate MB/s, $pure of processor time"
     }
 }
 

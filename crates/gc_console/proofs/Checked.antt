@@ -135,7 +135,7 @@ judged_frame s u Overlong v is counts = (v, is, counts, refl)
 judged_frame s u More v is counts = absurd is
 
 -- the parts of a line, one appended behind the other
-pub line_of_parts : (old a b c d digits verdict : List ℕ) → a ≡ old ++ [] ++ digits → b ≡ a ++ 32 ∷ [] → c ≡ b ++ verdict → d ≡ c ++ 10 ∷ [] → d ≡ old ++ (digits ++ 32 ∷ [] ++ verdict ++ 10 ∷ [])
+pub line_of_parts : (old a b c d digits verdict : List ℕ) → a ≡ old ++ digits → b ≡ a ++ 32 ∷ [] → c ≡ b ++ verdict → d ≡ c ++ 10 ∷ [] → d ≡ old ++ (digits ++ 32 ∷ [] ++ verdict ++ 10 ∷ [])
 line_of_parts old a b c d digits verdict first second third last =
-    let whole : d ≡ old ++ [] ++ digits ++ 32 ∷ [] ++ verdict ++ 10 ∷ [] = last ∙ ap (λ (xs : List ℕ). xs ++ 10 ∷ []) (third ∙ ap (λ (xs : List ℕ). xs ++ verdict) (second ∙ ap (λ (xs : List ℕ). xs ++ 32 ∷ []) first)) in
+    let whole : d ≡ old ++ digits ++ 32 ∷ [] ++ verdict ++ 10 ∷ [] = last ∙ ap (λ (xs : List ℕ). xs ++ 10 ∷ []) (third ∙ ap (λ (xs : List ℕ). xs ++ verdict) (second ∙ ap (λ (xs : List ℕ). xs ++ 32 ∷ []) first)) in
     whole ∙ simp append_assoc

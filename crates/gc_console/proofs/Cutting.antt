@@ -1,14 +1,36 @@
 -- Texts cut at a mark: there is one first mark.
-use Rattle.std.proofs.Common.{◌≡◌, ◌≢◌, ◌<◌, ◌+◌, ℕ, zero, suc, List, [], ◌∷◌, ◌++◌, length, take, get_or, Option, Some, None, arith, refl, ap, sym, ◌∙◌}
-use Rattle.std.proofs.Math.Numerals.{add-one}
+use Rattle.std.proofs.Common.{◌≡◌, ◌≢◌, ◌<◌, ◌+◌, ◌≤◌, ℕ, zero, suc, List, [], ◌∷◌, ◌++◌, length, take, drop, get_or, Option, Some, None, arith, refl, ap, subst, sym, ◌∙◌}
+use Rattle.std.proofs.lemmas.Bool.{eqb-true, eq-eqb}
+use Rattle.std.proofs.lemmas.List.{take_all}
+use Rattle.memchr.specs.Find.{IsFirstByte, is_byte}
 use Rattle.gc_values.specs.Digits.{AreDigits}
 use Rattle.gc_console.specs.Cuts.{Lacks, Cuts}
 
--- one more byte that isn't the mark
-pub Lacks-take_more : (mark : ℕ) (bs : List ℕ) (i : ℕ) → Lacks mark (take i bs) → i < length bs → get_or bs i 0 ≢ mark → Lacks mark (take (suc i) bs)
-Lacks-take_more mark [] i before below other = tt
-Lacks-take_more mark (b ∷ bs) zero before below other = (other, tt)
-Lacks-take_more mark (b ∷ bs) (suc i) before below other = (before.0, Lacks-take_more mark bs i before.1 (omega arith) other)
+-- no byte before place i is the mark
+lacks_before : (mark : ℕ) (bs : List ℕ) (i : ℕ) → i ≤ length bs → ((j : ℕ) → j < i → get_or bs j 0 ≢ mark) → Lacks mark (take i bs)
+lacks_before mark bs zero le none = tt
+lacks_before mark [] (suc i) le none = tt
+lacks_before mark (b ∷ bs) (suc i) le none = (none 0 (omega arith), lacks_before mark bs i (omega (arith, le)) (λ j lt. none (suc j) (omega (arith, lt))))
+
+-- the text is what stands before place i, its byte, and what stands behind it
+split_place : (mark : ℕ) (bs : List ℕ) (i : ℕ) → i < length bs → get_or bs i 0 ≡ mark → bs ≡ take i bs ++ mark ∷ drop (i + 1) bs
+split_place mark [] i lt e = absurd (omega (arith, lt))
+split_place mark (b ∷ bs) zero lt e = ap (λ x. x ∷ bs) e
+split_place mark (b ∷ bs) (suc i) lt e =
+    let next : suc i + 1 ≡ suc (i + 1) = omega arith in
+    ap (λ l. b ∷ l) (split_place mark bs i (omega (arith, lt)) e) ∙ ap (λ n. b ∷ (take i bs ++ mark ∷ drop n (b ∷ bs))) (sym next)
+
+-- the first place of a mark cuts a text
+pub first_cuts : (mark : ℕ) (bs : List ℕ) (i : ℕ) (rest : List ℕ) → IsFirstByte (is_byte mark) bs (Some i) → rest ≡ drop (i + 1) bs → Cuts mark bs (take i bs) (Some rest)
+first_cuts mark bs i rest first is = (
+  split_place mark bs i first.0.high (eqb-true (get_or bs i 0) mark first.1) ∙ ap (λ l. take i bs ++ mark ∷ l) (sym is),
+  lacks_before mark bs i (omega (arith, first.0.high)) (λ j lt e. first.0.before j (omega arith) lt (eq-eqb (get_or bs j 0) mark e)),
+)
+
+-- and where there is none, the text is whole
+pub none_cuts : (mark : ℕ) (bs : List ℕ) → IsFirstByte (is_byte mark) bs None → Cuts mark bs bs None
+none_cuts mark bs none =
+    (refl, subst (Lacks mark) (take_all (length bs) bs (omega arith)) (lacks_before mark bs (length bs) (omega arith) (λ j lt e. none j (omega arith) lt (eq-eqb (get_or bs j 0) mark e))))
 
 -- what stands before the first mark, and what stands behind it, are determined
 pub one_front : (mark : ℕ) (f g r s : List ℕ) → f ++ mark ∷ r ≡ g ++ mark ∷ s → Lacks mark f → Lacks mark g → (f ≡ g) × (r ≡ s)
@@ -44,7 +66,3 @@ cut_none mark text front (Some rest) cut lacks = absurd (has_mark mark front res
 pub digits_lack_spaces : (ds : List ℕ) → AreDigits ds → Lacks 32 ds
 digits_lack_spaces [] digits = tt
 digits_lack_spaces (d ∷ ds) digits = ((λ e. absurd (omega (arith, digits.0.0))), digits_lack_spaces ds digits.1)
-
--- the same, as a loop counts
-pub Lacks-take_next : (mark : ℕ) (bs : List ℕ) (i : ℕ) → Lacks mark (take i bs) → i < length bs → get_or bs i 0 ≢ mark → Lacks mark (take (i + 1) bs)
-Lacks-take_next mark bs i before below other = rw add-one (Lacks-take_more mark bs i before below other)

@@ -1,21 +1,21 @@
 -- One command that is asked: what its ends say.
-use Rattle.std.proofs.Common.{◌≡◌, ℕ, ◌+◌, ◌<◌, ◌≤◌, Bool, true, false, List, [], ◌∷◌, ◌++◌, length, take, drop, ltb, map, get_or, Option, Ok, Err, ◌⊎◌, inl, inr, refl, sym, ap, ◌∙◌, subst, arith}
+use Rattle.std.proofs.Common.{Result, ◌≡◌, ℕ, ◌+◌, ◌<◌, ◌≤◌, Bool, true, false, List, [], ◌∷◌, ◌++◌, length, take, drop, ltb, map, get_or, Option, Ok, Err, OnOk, ◌⊎◌, inl, inr, refl, sym, ap, ◌∙◌, subst, arith}
 use Rattle.std.specs.Io.KnownBytes.{Appends}
 use Rattle.std.proofs.lemmas.Bool.{ltb-true, ltb-false}
-use Rattle.std.proofs.lemmas.List.{take_all, take_more, drop_more, take-append-drop}
+use Rattle.std.proofs.lemmas.List.{length-map, take_all, take_more, drop_more, take-append-drop}
 use Rattle.gc_lines.specs.Answering.{Ports}
-use Rattle.gc_lines.specs.Assembler.{Kept}
+use Rattle.gc_lines.specs.Assembler.{Kept, StandsFor}
 use Rattle.gc_lines.proofs.Known.{Appends-is}
 use Rattle.gc_client.specs.declared.settlement.Settlement.{Settlement}
 use Rattle.gc_client.specs.Rule.{ById, met, restarts}
 use Rattle.gc_client.specs.Rule
 use Rattle.gc_client.specs.Settlements.{AreSettlements, settlement_seen}
-use Rattle.gc_console.specs.Asking.{asked_for, waiting_for, request_text, lost_of, Asks, AskEnds}
+use Rattle.gc_console.specs.Asking.{idle, asked_for, waiting_for, request_text, lost_of, Asks, AskEnds}
 use Rattle.gc_console.specs.declared.commands.Command.{Command}
 use Rattle.gc_console.specs.declared.fault.RunFault.{RunFault}
 use Rattle.gc_console.specs.declared.fault.RunFault.TheVariants.{Read, Write, TooManyReads, LinkClosed, Schedule, Memory, InputTooLong, Socket, Output}
 use Rattle.gc_console.specs.Drill.{lines_from}
-use Rattle.gc_console.specs.Listening.{Exchanges, ExchangeEnds, AsksOne, AskOneEnds, Told, ToldPart}
+use Rattle.gc_console.specs.Listening.{Settles, Exchanges, ExchangeEnds, AsksOne, AskOneEnds, Told, ToldPart, HearsReply}
 use Rattle.gc_console.proofs.Asked.{Course, course_more, course_up_to, course_part, course_tells, settled_is, asked_with}
 
 -- after a fault of the link the client waits
@@ -183,3 +183,12 @@ pub course_next : (commands done later : List Command) (command : Command) (plac
 course_next commands done later command place given left more left' kept kept' client to a b b' c d d' at is one =
     let one' = subst (λ n. AsksOne n command at.now (left ++ more) left' kept' to b b' d d' (Ok tt)) (sym is) one in
     course_more done command given left more left' kept kept' client to a b b' c d d' one'.1.0 at one'.1.1 one'.0 one'.1.2
+
+-- what a request that waits alone leaves behind when it is settled
+pub one_settled : (place : ℕ) (command : Command) (rest bytes left : List ℕ) (kept : Kept) (from to : ById) (settled : List Settlement) (r : Result (Unit {0}) RunFault) → from ≡ waiting_for place command
+    → HearsReply rest bytes left kept from to settled r → OnOk r ((length settled ≡ 1) × (to ≡ idle (place + 1)) × ((x : List ℕ) × StandsFor kept x))
+one_settled place command rest bytes left kept from to settled (Err e) waits h = tt
+one_settled place command rest bytes left kept from to settled (Ok x) waits h =
+    let s = subst (λ (c : ById). Settles rest bytes left kept c to settled) waits h in
+    let one = settled_is place command rest bytes left kept to settled s in
+    (sym (length-map settled settlement_seen) ∙ ap length one.0, one.1, ([], s.stands))

@@ -16,7 +16,7 @@ use Rattle.gc_client.specs.declared.settlement.Settlement.{Settlement}
 use Rattle.gc_client.specs.Rule.{ById, heard, fits, hears}
 use Rattle.gc_client.specs.Settlements.{AreSettlements}
 use Rattle.gc_console.specs.Asking.{first_reply}
-use Rattle.gc_console.specs.Listening.{lines_behind, settles_nothing, TakesFrame, IsQuiet, Settles}
+use Rattle.gc_console.specs.Listening.{lines_behind, SettlesNothing, TakesFrame, IsQuiet, Settles}
 
 abbrev lines_of : List (List ℕ) → List (List ℕ)
 lines_of pieces = filter_map line_in (map frame_of pieces)
@@ -95,17 +95,17 @@ completed_lines Cleared = refl
 completed_lines Overlong = refl
 completed_lines More = refl
 
-no_reply : (c : ById) (line : Option (List ℕ)) → settles_nothing c line → first_reply c (option_to_list line) ≡ None
+no_reply : (c : ById) (line : Option (List ℕ)) → SettlesNothing c line → first_reply c (option_to_list line) ≡ None
 no_reply c None q = refl
 no_reply c (Some line) q = rw q refl
 
 -- one more frame, whose line settles nothing
-pub passed_on : (rest piece left : List ℕ) (used : ℕ) (frame : Frame) (kept kept' : Kept) (a b c : ById) → (p : Passed rest piece left kept a b) → Takes p.now left used frame kept' → c ≡ b → settles_nothing b (line_in frame)
+pub passed_on : (rest piece left : List ℕ) (used : ℕ) (frame : Frame) (kept kept' : Kept) (a b c : ById) → (p : Passed rest piece left kept a b) → Takes p.now left used frame kept' → c ≡ b → SettlesNothing b (line_in frame)
     → Passed rest piece (drop used left) kept' a c
 passed_on rest piece left used frame kept kept' a b c p t same nothing =
     let later : List (List ℕ) = lines_behind t.now (drop used left) in
     let next : lines_behind p.now left ≡ option_to_list (line_in frame) ++ later = ap (λ fs. filter_map line_in fs) t.seen ∙ filter_map-append line_in (completed frame) (frames_behind t.now (drop used left)) ∙ ap (λ zs. zs ++ later) (completed_lines frame) in
-    let silent : settles_nothing a (line_in frame) = subst (λ (x : ById). settles_nothing x (line_in frame)) p.same nothing in
+    let silent : SettlesNothing a (line_in frame) = subst (λ (x : ById). SettlesNothing x (line_in frame)) p.same nothing in
     record {
       now = t.now;
       front = p.front ++ option_to_list (line_in frame);

@@ -24,7 +24,7 @@ one_fault r e f is other = cc
 never : {A : Type 0} (r : Result A LineFault) (x : A) (f : LineFault) → r ≡ Ok x → r ≡ Err f → ⊥
 never r x f is other = cc
 
--- the letter behind %R1 tells a request from a reply
+-- the fourth letter tells a request from a reply
 other_letter : (xs ys : List ℕ) → 81 ∷ 44 ∷ xs ≡ 80 ∷ 44 ∷ ys → ⊥
 other_letter xs ys e = let same : ◌≡◌ {A = ℕ} 81 80 = ap (λ (zs : List ℕ). slice_index zs 0) e in omega arith
 

@@ -17,12 +17,15 @@ pub record Input : Type 0 where
   pub ended : Bool
   pub failed : Bool
 
--- the text that a source gave is no list of commands, or wasn't read: why, and whether the source has failed
-abbrev pub RefusesText : List ℕ → Bool → Bool → RunFault → Type 0
-RefusesText given old new Read = (length given ≤ TEXT_LIMIT) × (new ≡ true)
-RefusesText given old new InputTooLong = (length given ≡ TEXT_LIMIT + 1) × (new ≡ old)
-RefusesText given old new (Schedule n) = (length given ≤ TEXT_LIMIT) × IsFirstFaultyCommand given n × (new ≡ old)
-RefusesText given old new Memory = (length given ≤ TEXT_LIMIT) × (new ≡ old)
+-- the text that a source gave is no list of commands, or wasn't read: why, and whether the source has failed; a line is faulty
+-- only in a text that was read to its end
+abbrev pub RefusesText : List ℕ → Input → Input → RunFault → Type 0
+RefusesText given old new Read = (length given ≤ TEXT_LIMIT) × (new.failed ≡ true)
+RefusesText given old new InputTooLong = (length given ≡ TEXT_LIMIT + 1) × (new.failed ≡ old.failed)
+RefusesText given old new (Schedule n) =
+    (length given ≤ TEXT_LIMIT) × IsFirstFaultyCommand given n × IsAtEnd new.remaining × (new.ended ≡ true) × (old.reads < new.reads)
+    × (new.failed ≡ old.failed)
+RefusesText given old new Memory = (length given ≤ TEXT_LIMIT) × (new.failed ≡ old.failed)
 RefusesText given old new _ = ⊥
 
 -- a source gave a command text, to its end
@@ -48,5 +51,5 @@ pub record AsksOver (commands : List Command) (most : ℕ) (old new : Ports) (si
 -- its commands were asked
 abbrev pub AskRuns : List ℕ → Input → Input → (most : ℕ) → Ports → Ports → (sink_old sink_new : Option (List ℕ)) → (failed_old failed_new : Bool) → Result (Unit {0}) RunFault → Type 0
 AskRuns given old new most link_old link_new sink_old sink_new failed_old failed_new result =
-    ((fault : RunFault) × (result ≡ Err fault) × RefusesText given old.failed new.failed fault × (link_new ≡ link_old) × (sink_new ≡ sink_old) × (failed_new ≡ failed_old))
+    ((fault : RunFault) × (result ≡ Err fault) × RefusesText given old new fault × (link_new ≡ link_old) × (sink_new ≡ sink_old) × (failed_new ≡ failed_old))
     ⊎ ((commands : List Command) × GivesCommands given old new commands × AsksOver commands most link_old link_new sink_old sink_new failed_old failed_new result)

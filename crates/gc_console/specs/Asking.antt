@@ -13,7 +13,7 @@ use Rattle.gc_console.specs.declared.commands.Command.{Command}
 use Rattle.gc_console.specs.declared.fault.RunFault.{RunFault}
 use Rattle.gc_console.specs.declared.fault.RunFault.TheVariants.{Read, Write, TooManyReads, LinkClosed, Output}
 
--- a command that was sent and waits; it has no deadline, so it is never given up
+-- a command that was sent and waits; its deadline is the greatest of a u64, and no moment is told, so it is never given up
 abbrev pub asked_for : Command → Pending
 asked_for command = pending_of command.target command.call 18446744073709551615
 

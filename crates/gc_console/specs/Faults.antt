@@ -2,6 +2,9 @@
 use Rattle.std.specs.Prelude.{◌≡◌, ℕ, List, ◌++◌, Option, Result, Ok, Err, codes}
 use Rattle.std.specs.Fmt.{decimal}
 use Rattle.std.specs.Io.KnownBytes.{Appends}
+use Rattle.gc_lines.specs.declared.served.Served.{Served}
+use Rattle.gc_lines.specs.declared.served.ServeFault.{ServeFault}
+use Rattle.gc_lines.specs.declared.served.ServeFault.TheVariants as serving
 use Rattle.gc_console.specs.declared.fault.RunFault.{RunFault}
 use Rattle.gc_console.specs.declared.fault.RunFault.TheVariants.{Read, Write, TooManyReads, LinkClosed, Schedule, Memory, InputTooLong, Socket, Output}
 
@@ -37,3 +40,10 @@ fault_line text = codes "geocom: " ++ text ++ codes "\n"
 abbrev pub Tells : {X E : Type 0} → (E → List ℕ) → Result X E → ℕ → Option (List ℕ) → Option (List ℕ) → Type 0
 Tells text (Ok _) status old new = (status ≡ 0) × (new ≡ old)
 Tells text (Err fault) status old new = (status ≡ 1) × Appends old new (fault_line (text fault))
+
+-- the end of serving, as the end of a run
+abbrev pub end_of_serving : Result Served ServeFault → Result (Unit {0}) RunFault
+end_of_serving (Ok _) = Ok tt
+end_of_serving (Err (serving.Read _)) = Err Read
+end_of_serving (Err (serving.Write count bytes)) = Err (Write count bytes)
+end_of_serving (Err (serving.TooManyReads _)) = Err TooManyReads

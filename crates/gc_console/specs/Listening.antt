@@ -20,14 +20,14 @@ use Rattle.gc_console.specs.declared.fault.RunFault.TheVariants.{Read, Write, To
 abbrev pub lines_behind : List ℕ → List ℕ → List (List ℕ)
 lines_behind rest bytes = filter_map line_in (frames_behind rest bytes)
 
--- the lines of a frame: one, or none
-abbrev pub settles_nothing : ById → Option (List ℕ) → Type 0
-settles_nothing client None = Unit {0}
-settles_nothing client (Some line) = fits client (heard line) ≡ false
+-- the line of a frame, if it has one, settles nothing
+abbrev pub SettlesNothing : ById → Option (List ℕ) → Type 0
+SettlesNothing client None = Unit {0}
+SettlesNothing client (Some line) = fits client (heard line) ≡ false
 
 -- a client took the line of a frame, if it has one: whether that settled a request, and what then stands
 abbrev pub TakesFrame : ById → ById → Option (List ℕ) → List Settlement → Bool → Type 0
-TakesFrame from to line settled false = (to ≡ from) × settles_nothing from line
+TakesFrame from to line settled false = (to ≡ from) × SettlesNothing from line
 TakesFrame from to None settled true = ⊥
 TakesFrame from to (Some line) settled true = (fits from (heard line) ≡ true)
     × AreSettlements settled (hears from line (heard line)).settlements × (to ≡ (hears from line (heard line)).client)
@@ -83,6 +83,7 @@ pub record ToldPart (place : ℕ) (settled : List Rule.Settlement) (old new : Op
   pub not_all : part < length (settlement_line (place + length earlier) next)
   pub took : Appends old new (lines_from place earlier ++ take part (settlement_line (place + length earlier) next))
 
+-- the lines of these settlements, from this place on, were written: all, or a part of them where the sink failed
 abbrev pub Told : ℕ → List Rule.Settlement → Option (List ℕ) → Option (List ℕ) → Bool → Bool → Result (Unit {0}) RunFault → Type 0
 Told place settled old new old_failed new_failed (Ok _) = Appends old new (lines_from place settled) × (new_failed ≡ old_failed)
 Told place settled old new old_failed new_failed (Err Output) = ToldPart place settled old new × (new_failed ≡ true)

@@ -13,23 +13,23 @@ ghost use Rattle.gc_console.specs.Listening.{Sends, Exchanges, ExchangeEnds, Ask
 use crate::client_end::ClientEnd;
 use crate::commands::{Command, read_commands};
 use crate::fault::RunFault;
-use crate::read_ahead::ReadAhead;
 use crate::settled::write_settlements;
 use crate::text::read_text;
+use crate::unheard::Unheard;
 use gc_lines::{Line, Sink, Source, write_line};
 use std::alloc::Global;
 
 // What asking keeps from one command to the next.
 #[derive(Drop)]
-struct Asking {
-    end: ClientEnd,
-    ahead: ReadAhead,
+pub(crate) struct Asking {
+    pub(crate) end: ClientEnd,
+    pub(crate) ahead: Unheard,
     // How many reads are still allowed.
-    reads: u32,
+    pub(crate) reads: u32,
 }
 
 impl Asking {
-    fn new(max_reads: u32) -> Asking
+    pub(crate) fn new(max_reads: u32) -> Asking
         ensures client { result.end.client ≡ idle 0 }
         ensures assembler { StandsFor result.end.assembler [] }
         ensures ahead { result.ahead ≡ [] }
@@ -37,13 +37,13 @@ impl Asking {
     {
         Asking {
             end: ClientEnd::new(),
-            ahead: ReadAhead::new(),
+            ahead: Unheard::new(),
             reads: max_reads,
         }
     }
 
     // Sends the command at this place, without a deadline.
-    fn send<O: Sink>(
+    pub(crate) fn send<O: Sink>(
         &mut self,
         place: usize,
         command: &Command,
@@ -134,9 +134,9 @@ impl Asking {
 /// Reads the whole command text of a source, and asks its commands over a link, in at most `max_reads` reads of it, of at
 /// most 256 bytes each.
 ///
-/// Each command is sent once the one before it is settled: request k has id k modulo 8, and the first line behind that
-/// reply that has its id settles it. Other lines are passed over. The line of each settlement goes to the sink as the
-/// reply comes.
+/// Each command is sent once the one before it is settled. Request k has id k modulo 8, and it is settled by the first reply
+/// with this id among the lines behind the one that settled request k - 1. Other lines are passed over. The line of each
+/// settlement goes to the sink as the reply comes.
 ///
 /// Before anything is sent or written, `Read` comes where the source failed, `InputTooLong` where it gave more than 65,536
 /// bytes, `Schedule` at the first line that has the form of no command, counted from 1, and `Memory` where a growth was
@@ -166,6 +166,11 @@ pub fn run_ask<S: Source, I: Source, O: Sink, K: Sink>(
 
     // At most 65,537 reads of the source were answered.
     ensures bounded { S.reads commands.new ≤ S.reads commands.old + (TEXT_LIMIT + 1) }
+
+    // After want of memory nothing was read of the link, sent or written.
+    ensures memory { result ≡ Err RunFault.Memory
+        → (I.remaining link_in.new ≡ I.remaining link_in.old) × (I.reads link_in.new ≡ I.reads link_in.old)
+        × (O.taken link_out.new ≡ O.taken link_out.old) × (K.taken sink.new ≡ K.taken sink.old) }
 {
     let commands = match read_command_text(alloc, commands) {
         Ok(commands) => commands,
@@ -187,7 +192,10 @@ pub(crate) fn read_command_text<S: Source>(
         commands.items) }
     ensures fault { IfErr result (λ fault. (given : List ℕ) × Consumes (S.remaining source.old) (S.remaining source.new) given
         × (S.reads source.new ≤ S.reads source.old + length given + end_reads (S.ended source.new))
-        × RefusesText given (S.failed source.old) (S.failed source.new) fault) }
+        × RefusesText given
+        (record { remaining = S.remaining source.old; reads = S.reads source.old; ended = S.ended source.old; failed = S.failed source.old })
+        (record { remaining = S.remaining source.new; reads = S.reads source.new; ended = S.ended source.new; failed = S.failed source.new })
+        fault) }
     ensures bounded { S.reads source.new ≤ S.reads source.old + (TEXT_LIMIT + 1) }
 {
     match read_text(alloc, source) {

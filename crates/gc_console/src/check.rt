@@ -3,8 +3,8 @@
 ghost use Rattle.std.specs.Prelude.{◌≡◌, ◌+◌, ◌≤◌, length};
 ghost use Rattle.gc_console.specs.Checking.{IsChecking};
 
-use crate::verdict::{push_number, push_verdict, verdict_of};
-use gc_lines::{Answers, Lent, Outgoing, ServeFault, Served, Sink, Source, answer_frames, append};
+use crate::verdict::{push_decimal, push_verdict, verdict_of};
+use gc_lines::{Answers, Lent, Outgoing, ServeFault, Served, Sink, Source, answer_frames};
 
 // Judges frames, and counts them. The count ends at 2^64 - 1, which a run of less than 2^32 reads of 256 bytes can't reach.
 #[derive(Drop)]
@@ -22,10 +22,10 @@ impl Answers for Judge {
             return false;
         };
         self.frames = self.frames.saturating_add(1);
-        push_number(text, b"", self.frames);
-        append(text, b" ");
+        push_decimal(text, self.frames);
+        text.push(b' ');
         push_verdict(text, verdict);
-        append(text, b"\n");
+        text.push(b'\n');
         true
     }
 }

@@ -9,7 +9,7 @@ ghost use Rattle.gc_console.specs.Asking.{idle};
 ghost use Rattle.gc_console.specs.Listening.{TakesFrame, Listens, HearsReply, ReadEnds};
 
 use crate::fault::RunFault;
-use crate::read_ahead::ReadAhead;
+use crate::unheard::Unheard;
 use arrayvec::ArrayVec;
 use gc_client::{Client, Hearing, Settlement, Slots, WINDOW};
 use gc_lines::{Assembler, Lent, Line, Source};
@@ -70,7 +70,7 @@ impl ClientEnd {
     pub(crate) fn hear_reply<I: Source>(
         &mut self,
         link: &mut I,
-        ahead: &mut ReadAhead,
+        ahead: &mut Unheard,
         reads: &mut u32,
     ) -> Result<(), RunFault>
         ensures hears { (given : List ℕ) × Consumes (I.remaining link.old) (I.remaining link.new) given

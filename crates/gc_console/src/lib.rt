@@ -10,13 +10,16 @@ mod drill;
 mod event;
 mod exec;
 mod fault;
+mod instrument_end;
 pub mod laws;
 mod line_forms;
+mod looped;
 mod program;
-mod read_ahead;
 mod schedule;
 mod settled;
+mod sockets;
 mod text;
+mod unheard;
 mod verdict;
 
 pub use ask::run_ask;
@@ -26,8 +29,10 @@ pub use drill::run_drill;
 pub use exec::run_exec;
 pub use fault::RunFault;
 pub use gc_instrument::{ServeFault, Served, serve};
+pub use looped::run_loop;
 pub use program::run_program;
 pub use schedule::{TEXT_LIMIT, read_schedule};
+pub use sockets::{MOST_CONNECTIONS, ask_tcp, loop_tcp, serve_tcp};
 
 #[cfg(test)]
 mod tests;

@@ -75,9 +75,10 @@ fn read_lines<T: LineForm + Copy>(alloc: Global, text: &[u8]) -> Result<Vec<T>, 
         }
         match T::read(line) {
             Some(item) => {
-                if items.push(item).is_err() {
+                if items.reserve(1).is_err() {
                     return Err(RunFault::Memory);
                 }
+                items.push_reserved(item);
             }
             None => return Err(RunFault::Schedule { line: number }),
         }

@@ -19,12 +19,15 @@ use crate::check::run_check;
 use crate::drill::run_drill;
 use crate::exec::run_exec;
 use crate::fault::RunFault;
+use crate::sockets::{MOST_CONNECTIONS, ask_tcp, loop_tcp, serve_tcp};
 use clap::error::ErrorKind;
-use clap::{Arg, ArgAction, Command, Error};
+use clap::{Arg, ArgAction, Command, Error, value_parser};
+use gc_instrument::Instrument;
 use gc_lines::{FromReader, ReadAhead, ServeFault, Served, Sink, Source, ToWriter};
 use std::alloc::Global;
 use std::env::Args;
 use std::io::{self, Read, Write};
+use std::net::{Net, TcpListener, TcpStream};
 use std::process::ExitCode;
 
 // What the help ends with.
@@ -32,12 +35,14 @@ const FAULTS: &str =
     "Exit status: 0 where it is done, 1 after a fault, 2 for a command line that doesn't parse.
 
 A fault is one line on standard error, `geocom: fault N`:
-  42  the input could not be read
-  43  the output could not be written: `reply R byte B` says what went out
+  42  the input, or the connection, could not be read
+  43  the output, or the connection, could not be written: `reply R byte B` says what went out
   44  as many reads were made as are allowed, and none was the end
-  51  a line of the schedule has no form: `line L` says which, counted from 1
+  45  the other end closed the connection before a request was settled
+  51  a line of the schedule, or of the commands, has no form: `line L` says which, counted from 1
   52  no memory was found
-  53  the schedule has more than 65536 bytes
+  53  the schedule, or the commands, have more than 65536 bytes
+  54  a port could not be bound or connected to, or no connection accepted
   55  the settlements, or this text, could not be written";
 
 // What the help of `exec` ends with.
@@ -85,19 +90,41 @@ Example:
 writes
   0 1 answered %R1P,0,0:0,123456";
 
+// What the help of `loop` and of `ask` ends with.
+const COMMANDS: &str =
+    "A command is a line `T RPC` or `T RPC PARAMS`, which asks target T for procedure RPC; empty lines and lines that
+begin with # are skipped. Each is sent once the one before it is settled.
+
+A settlement is the end of a request: a line with its place, its target, and `answered` or `lost`.
+
+Example:
+  printf '7 5003\\n8 2026\\n' | geocom loop
+writes
+  0 7 answered %R1P,0,0:0,123456
+  1 8 answered %R1P,0,1:0,0";
+
 // What a command line asks for.
 enum Subcommand {
     Exec,
     Check,
     Drill { totals: bool },
+    Loop,
+    Serve { port: u16, connections: u32 },
+    Ask { port: u16 },
 }
 
-/// Runs a command line, whose first word is the program's name, over an input, an output and a
+/// Runs a command line, whose first word is the program's name, over the net, an input, an output and a
 /// place for messages, and gives the exit status: 0 where it is done, 1 after a fault, which is one
 /// line on `messages`, and 2 for a command line that doesn't parse. `--help` and `--version` write
 /// to `output` and are done. It fails itself only where a text can't be written. The statuses and
 /// the fault line are this project's own.
-pub fn run_program<I: Read + Drop, O: Write + Drop, E: Write + Drop>(
+pub fn run_program<
+    R: Net<Listener = TcpListener, Stream = TcpStream>,
+    I: Read + Drop,
+    O: Write + Drop,
+    E: Write + Drop,
+>(
+    rt: &R,
     alloc: Global,
     words: io::Result<Args>,
     input: I,
@@ -126,6 +153,27 @@ pub fn run_program<I: Read + Drop, O: Write + Drop, E: Write + Drop>(
             &mut FromReader::new(input),
             &mut ToWriter::new(output),
             totals,
+            &mut messages,
+        ),
+        Ok(Subcommand::Loop) => loop_port(
+            rt,
+            alloc,
+            &mut FromReader::new(input),
+            &mut ToWriter::new(output),
+            &mut messages,
+        ),
+        Ok(Subcommand::Serve { port, connections }) => serve_port(
+            rt,
+            port,
+            connections,
+            &mut messages,
+        ),
+        Ok(Subcommand::Ask { port }) => ask_port(
+            rt,
+            alloc,
+            port,
+            &mut FromReader::new(input),
+            &mut ToWriter::new(output),
             &mut messages,
         ),
         Err(error) if error.kind() == ErrorKind::OutOfMemory => want_of_memory(&mut messages),
@@ -190,6 +238,23 @@ fn subcommand_of(alloc: Global, words: &[String]) -> Result<Subcommand, Error> {
         .about("Plays the schedule of standard input, and writes a line for each settlement")
         .after_help(EVENTS)
         .arg(totals)?;
+    let looped = Command::new(alloc, "loop")
+        .about("Asks the commands of standard input over a connection to a simulator of its own")
+        .after_help(COMMANDS);
+    let connections = Arg::new(alloc, "connections")
+        .long("connections")
+        .value_name("N")
+        .value_parser(value_parser!(u32).range(1..=1000))
+        .default_value("1")
+        .help("Serves so many connections, one after the other");
+    let serve = Command::new(alloc, "serve")
+        .about("Serves a simulator on a port of 127.0.0.1")
+        .arg(port_of(alloc))?
+        .arg(connections)?;
+    let ask = Command::new(alloc, "ask")
+        .about("Asks the commands of standard input on a port of 127.0.0.1")
+        .after_help(COMMANDS)
+        .arg(port_of(alloc))?;
     let command = Command::new(alloc, "geocom")
         .version("0.1.0")
         .about("A simulated instrument that speaks GeoCOM's ASCII protocol")
@@ -198,16 +263,116 @@ fn subcommand_of(alloc: Global, words: &[String]) -> Result<Subcommand, Error> {
         .disable_help_subcommand(true)
         .subcommand(exec)?
         .subcommand(check)?
-        .subcommand(drill)?;
+        .subcommand(drill)?
+        .subcommand(looped)?
+        .subcommand(serve)?
+        .subcommand(ask)?;
     let matches = command.try_get_matches_from(words)?;
     if matches.subcommand_matches("check").is_some() {
         return Ok(Subcommand::Check);
     }
-    match matches.subcommand_matches("drill") {
-        Some(drill) => Ok(Subcommand::Drill {
+    if let Some(drill) = matches.subcommand_matches("drill") {
+        return Ok(Subcommand::Drill {
             totals: drill.get_flag("totals"),
-        }),
-        None => Ok(Subcommand::Exec),
+        });
+    }
+    if let Some(serve) = matches.subcommand_matches("serve") {
+        return Ok(Subcommand::Serve {
+            port: serve.get_one::<u16>("port").unwrap_or(0),
+            connections: serve.get_one::<u32>("connections").unwrap_or(0),
+        });
+    }
+    if let Some(ask) = matches.subcommand_matches("ask") {
+        return Ok(Subcommand::Ask {
+            port: ask.get_one::<u16>("port").unwrap_or(0),
+        });
+    }
+    if matches.subcommand_matches("loop").is_some() {
+        return Ok(Subcommand::Loop);
+    }
+    Ok(Subcommand::Exec)
+}
+
+// A port, as a required word.
+fn port_of<'a>(alloc: Global) -> Arg<'a> {
+    Arg::new(alloc, "port")
+        .value_name("PORT")
+        .required(true)
+        .value_parser(value_parser!(u16).range(1..))
+        .help("A port of 127.0.0.1, from 1 on")
+}
+
+// Serves a port, and tells how it ended. Numbers out of their range are refused: the words were read with these ranges, but
+// no clause says so.
+fn serve_port<R: Net<Listener = TcpListener, Stream = TcpStream>, E: Write>(
+    rt: &R,
+    port: u16,
+    connections: u32,
+    messages: &mut E,
+) -> io::Result<ExitCode>
+    ensures { IfOk result (λ status. exit_status status ≤ 2) }
+{
+    if port == 0 || connections == 0 || connections > MOST_CONNECTIONS {
+        return refuse_numbers(messages);
+    }
+    let mut instrument = Instrument::simulator();
+    end_of(
+        serve_tcp(rt, port, connections, &mut instrument, u32::MAX),
+        messages,
+    )
+}
+
+// Asks over a connection to a simulator, and tells how it ended.
+fn loop_port<R: Net<Listener = TcpListener, Stream = TcpStream>, S: Source, K: Sink, E: Write>(
+    rt: &R,
+    alloc: Global,
+    source: &mut S,
+    sink: &mut K,
+    messages: &mut E,
+) -> io::Result<ExitCode>
+    ensures { IfOk result (λ status. exit_status status ≤ 1) }
+{
+    end_of(loop_tcp(rt, alloc, source, sink, u32::MAX), messages)
+}
+
+// Asks on a port, and tells how it ended.
+fn ask_port<R: Net<Listener = TcpListener, Stream = TcpStream>, S: Source, K: Sink, E: Write>(
+    rt: &R,
+    alloc: Global,
+    port: u16,
+    source: &mut S,
+    sink: &mut K,
+    messages: &mut E,
+) -> io::Result<ExitCode>
+    ensures { IfOk result (λ status. exit_status status ≤ 2) }
+{
+    if port == 0 {
+        return refuse_numbers(messages);
+    }
+    end_of(ask_tcp(rt, alloc, port, source, sink, u32::MAX), messages)
+}
+
+fn refuse_numbers<E: Write>(messages: &mut E) -> io::Result<ExitCode>
+    ensures { IfOk result (λ status. exit_status status ≡ 2) }
+{
+    writeln!(
+        messages,
+        "error: a number of the command line is out of its range"
+    )?;
+    Ok(ExitCode::from(2))
+}
+
+// Tells how a run ended: the status, and after a fault its line.
+fn end_of<E: Write>(end: Result<(), RunFault>, messages: &mut E) -> io::Result<ExitCode>
+    ensures told { IfOk result (λ status. Tells run_fault_text end (exit_status status) (E.contents messages.old) (E.contents messages.new)) }
+    ensures bound { IfOk result (λ status. exit_status status ≤ 1) }
+{
+    match end {
+        Ok(()) => Ok(ExitCode::SUCCESS),
+        Err(fault) => {
+            fault.tell(messages)?;
+            Ok(ExitCode::from(1))
+        }
     }
 }
 
@@ -294,11 +459,5 @@ fn drill<S: Source, K: Sink, E: Write>(
         × ((events : List Event) × IsSchedule given events × Appends (K.taken sink.old) (K.taken sink.new) (drill_text events totals))) }
     ensures bound { IfOk result (λ status. exit_status status ≤ 1) }
 {
-    match run_drill(alloc, source, sink, totals) {
-        Ok(()) => Ok(ExitCode::SUCCESS),
-        Err(fault) => {
-            fault.tell(messages)?;
-            Ok(ExitCode::from(1))
-        }
-    }
+    end_of(run_drill(alloc, source, sink, totals), messages)
 }

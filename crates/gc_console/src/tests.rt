@@ -5,4 +5,7 @@ mod ask;
 mod check;
 mod drill;
 mod exec;
+mod failing;
+mod looped;
 mod program;
+mod sockets;

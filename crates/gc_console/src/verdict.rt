@@ -133,13 +133,23 @@ pub(crate) fn push_verdict(text: &mut Outgoing, verdict: Verdict)
     }
 }
 
-// Appends a number in decimal behind a word, for which there is room.
+// Appends a word and a number behind it, for which there is room.
 #[inline]
-pub(crate) fn push_number<I: Integer>(text: &mut Outgoing, word: &[u8], number: I)
+fn push_number<I: Integer>(text: &mut Outgoing, word: &[u8], number: I)
     requires { length text.old.items + length word.now + 40 ≤ 8192 }
     ensures items { text.new.items ≡ text.old.items ++ word.now ++ I.text number }
     ensures bound { length text.new.items ≤ length text.old.items + length word.now + 40 }
 {
     append(text, word);
+    push_decimal(text, number);
+}
+
+// Appends a number in decimal, for which there is room.
+#[inline]
+pub(crate) fn push_decimal<I: Integer>(text: &mut Outgoing, number: I)
+    requires { length text.old.items + 40 ≤ 8192 }
+    ensures items { text.new.items ≡ text.old.items ++ I.text number }
+    ensures bound { length text.new.items ≤ length text.old.items + 40 }
+{
     append(text, Buffer::new().format(number).as_bytes());
 }

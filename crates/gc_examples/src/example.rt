@@ -5,9 +5,9 @@ use gc_probes::{PieceSink, PieceSource};
 use std::alloc::{AllocError, Global};
 use std::{fmt, fs, io};
 
-// Which engine an example goes through.
+/// Which engine an example goes through.
 #[derive(Clone, Copy)]
-enum Engine {
+pub enum Engine {
     Exec,
     Check,
     Drill,
@@ -16,9 +16,9 @@ enum Engine {
 /// The files of an example.
 #[derive(Drop)]
 pub struct Example {
-    engine: Engine,
-    input: Vec<u8>,
-    expected: Vec<u8>,
+    pub engine: Engine,
+    pub input: Vec<u8>,
+    pub expected: Vec<u8>,
 }
 
 /// How an input was cut.

@@ -36,9 +36,10 @@ pub trait Answers {
 /// into a sink: each before it looks at the next frame, or, where it gathers, those of one read together, before the next
 /// read.
 ///
-/// A rest without a line feed at the end of the input is no frame. The answerer is then in the state after all frames that
-/// were read. After a failed write it is in that after the frame whose text was on its way, since later frames weren't
-/// handed to it; where texts were gathered, later ones of that read may have been. Takes no memory.
+/// A rest without a line feed at the end of the input is no frame. Where it doesn't gather, the answerer is then in the state
+/// after all frames that were read, and after a failed write in that after the frame whose text was on its way: later frames
+/// weren't handed to it. Where it gathers, that state is one that the answerer went through; later frames of the same read
+/// may have been handed to it. Takes no memory.
 ///
 /// [`Served`] exactly where the last read was the end, 42 exactly where the source failed, 43 exactly where the sink did, and
 /// 44 exactly where all reads were answered and none was the end.

@@ -59,7 +59,7 @@ impl Assembler {
     /// Where the piece has no line feed, all of it is used and the frame is [`Lent::More`], also where it is empty. After
     /// the other three frames the assembler is at the start of a line. A line that stands whole in the piece is lent from
     /// there; one that earlier pieces began is put together in `cut`, whatever stood there, and lent from there.
-    #[inline]
+    #[inline(always)]
     pub fn next<'a>(&mut self, piece: &'a [u8], cut: &'a mut Line) -> (usize, Lent<'a>)
         ensures stands { (rest : List ℕ) × StandsFor self.old rest }
         ensures used { (result.0 ≤ length piece.now) × (0 < length piece.now → 0 < result.0) }
@@ -163,7 +163,7 @@ fn frame_in(bytes: &[u8]) -> Lent<'_>
 }
 
 // Where the first line feed is.
-#[inline]
+#[inline(always)]
 fn line_feed_at(piece: &[u8]) -> Option<usize>
     ensures at { result ≡ position is_line_feed piece.now }
     ensures within { IfSome result (λ at. at < length piece.now) }

@@ -12,6 +12,7 @@ mod frame;
 mod from_reader;
 mod header;
 pub mod laws;
+mod lengths;
 mod line;
 mod number;
 mod ports;

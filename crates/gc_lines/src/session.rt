@@ -14,10 +14,10 @@ ghost use Rattle.gc_lines.specs.declared.frame.Frame.{Frame};
 use crate::answering::{Answers, Outgoing};
 use crate::assembler::Assembler;
 use crate::frame::Lent;
+use crate::lengths::Lengths;
 use crate::line::Line;
 use crate::ports::Sink;
 use crate::writing::write_whole;
-use arrayvec::ArrayVec;
 
 // What the loop keeps from one read to the next.
 #[derive(Drop)]
@@ -27,7 +27,7 @@ pub(crate) struct Session {
     gathers: bool,
     // The texts on their way out, one behind the other, and the length of each.
     text: Outgoing,
-    lengths: ArrayVec<usize, 256>,
+    lengths: Lengths,
     // How many texts were written whole.
     pub(crate) replies: u64,
 }
@@ -36,14 +36,14 @@ impl Session {
     pub(crate) fn new(gathers: bool) -> Session
         ensures assembler { StandsFor result.assembler [] }
         ensures gathers { result.gathers ≡ gathers }
-        ensures nothing { (result.text.items ≡ []) × (result.lengths.items ≡ []) }
+        ensures nothing { (result.text.items ≡ []) × (result.lengths ≡ []) }
         ensures replies { result.replies ≡ 0 }
     {
         Session {
             assembler: Assembler::new(),
             gathers,
             text: Outgoing::new(),
-            lengths: ArrayVec::new(),
+            lengths: Lengths::new(),
             replies: 0,
         }
     }
@@ -58,10 +58,10 @@ impl Session {
         cut: &mut Line,
     ) -> Result<(), usize>
         requires count { self.old.replies + length piece.now < 2 ^ 64 }
-        requires nothing { (self.old.text.items ≡ []) × (self.old.lengths.items ≡ []) }
+        requires nothing { (self.old.text.items ≡ []) × (self.old.lengths ≡ []) }
         ensures bound { self.new.replies ≤ self.old.replies + length piece.now }
         ensures gathers { self.new.gathers ≡ self.old.gathers }
-        ensures nothing { OnOk result ((self.new.text.items ≡ []) × (self.new.lengths.items ≡ [])) }
+        ensures nothing { OnOk result ((self.new.text.items ≡ []) × (self.new.lengths ≡ [])) }
         ensures failed { FailsWith result (K.failed sink.old) (K.failed sink.new) }
         ensures ok { OnOk result ((rest : List ℕ) → StandsFor self.old.assembler rest
             → StandsFor self.new.assembler (rest_behind rest piece.now)
@@ -92,19 +92,19 @@ impl Session {
         sink: &mut K,
         frame: Lent<'_>,
     ) -> Result<(), usize>
-        requires count { self.old.replies + length self.old.lengths.items + 1 < 2 ^ 64 }
-        requires room { HasRoom self.old.text.items self.old.lengths.items self.old.gathers }
-        ensures few { self.new.replies ≤ self.old.replies + length self.old.lengths.items + 1 }
-        ensures bound { OnOk result (self.new.replies + length self.new.lengths.items ≤ self.old.replies + length self.old.lengths.items + 1) }
-        ensures room { OnOk result (HasRoom self.new.text.items self.new.lengths.items self.new.gathers) }
+        requires count { self.old.replies + length self.old.lengths + 1 < 2 ^ 64 }
+        requires room { HasRoom self.old.text.items self.old.lengths self.old.gathers }
+        ensures few { self.new.replies ≤ self.old.replies + length self.old.lengths + 1 }
+        ensures bound { OnOk result (self.new.replies + length self.new.lengths ≤ self.old.replies + length self.old.lengths + 1) }
+        ensures room { OnOk result (HasRoom self.new.text.items self.new.lengths self.new.gathers) }
         ensures same { (self.new.assembler ≡ self.old.assembler) × (self.new.gathers ≡ self.old.gathers) }
         ensures failed { FailsWith result (K.failed sink.old) (K.failed sink.new) }
         ensures ok { OnOk result ((from : A) (seen : List Frame) (old : Option (List ℕ)) (before : ℕ)
-            → Gathering A.answers from answerer.old seen old (K.taken sink.old) before self.old.replies self.old.text.items self.old.lengths.items
+            → Gathering A.answers from answerer.old seen old (K.taken sink.old) before self.old.replies self.old.text.items self.old.lengths
             → Gathering A.answers from answerer.new (seen ++ completed (lent_seen frame.entry)) old (K.taken sink.new) before
-            self.new.replies self.new.text.items self.new.lengths.items) }
+            self.new.replies self.new.text.items self.new.lengths) }
         ensures err { IfErr result (λ bytes. (from : A) (seen : List Frame) (old : Option (List ℕ)) (before : ℕ)
-            → Gathering A.answers from answerer.old seen old (K.taken sink.old) before self.old.replies self.old.text.items self.old.lengths.items
+            → Gathering A.answers from answerer.old seen old (K.taken sink.old) before self.old.replies self.old.text.items self.old.lengths
             → GathersPart A.answers from answerer.new (seen ++ completed (lent_seen frame.entry)) old (K.taken sink.new) before
             self.new.replies bytes self.old.gathers) }
     {
@@ -123,19 +123,19 @@ impl Session {
         sink: &mut K,
         frame: Lent<'_>,
     ) -> Result<(), usize>
-        requires count { self.old.replies + length self.old.lengths.items + 1 < 2 ^ 64 }
-        requires room { HasRoom self.old.text.items self.old.lengths.items self.old.gathers }
-        ensures few { self.new.replies ≤ self.old.replies + length self.old.lengths.items + 1 }
-        ensures bound { OnOk result (self.new.replies + length self.new.lengths.items ≤ self.old.replies + length self.old.lengths.items + 1) }
-        ensures room { OnOk result (HasRoom self.new.text.items self.new.lengths.items self.new.gathers) }
+        requires count { self.old.replies + length self.old.lengths + 1 < 2 ^ 64 }
+        requires room { HasRoom self.old.text.items self.old.lengths self.old.gathers }
+        ensures few { self.new.replies ≤ self.old.replies + length self.old.lengths + 1 }
+        ensures bound { OnOk result (self.new.replies + length self.new.lengths ≤ self.old.replies + length self.old.lengths + 1) }
+        ensures room { OnOk result (HasRoom self.new.text.items self.new.lengths self.new.gathers) }
         ensures same { (self.new.assembler ≡ self.old.assembler) × (self.new.gathers ≡ self.old.gathers) }
         ensures failed { FailsWith result (K.failed sink.old) (K.failed sink.new) }
         ensures ok { OnOk result ((from : A) (seen : List Frame) (old : Option (List ℕ)) (before : ℕ)
-            → Gathering A.answers from answerer.old seen old (K.taken sink.old) before self.old.replies self.old.text.items self.old.lengths.items
+            → Gathering A.answers from answerer.old seen old (K.taken sink.old) before self.old.replies self.old.text.items self.old.lengths
             → Gathering A.answers from answerer.new (seen ++ lent_seen frame.entry ∷ []) old (K.taken sink.new) before
-            self.new.replies self.new.text.items self.new.lengths.items) }
+            self.new.replies self.new.text.items self.new.lengths) }
         ensures err { IfErr result (λ bytes. (from : A) (seen : List Frame) (old : Option (List ℕ)) (before : ℕ)
-            → Gathering A.answers from answerer.old seen old (K.taken sink.old) before self.old.replies self.old.text.items self.old.lengths.items
+            → Gathering A.answers from answerer.old seen old (K.taken sink.old) before self.old.replies self.old.text.items self.old.lengths
             → GathersPart A.answers from answerer.new (seen ++ lent_seen frame.entry ∷ []) old (K.taken sink.new) before
             self.new.replies bytes self.old.gathers) }
     {
@@ -156,7 +156,7 @@ impl Session {
     // Whether the texts may wait for one more.
     #[inline]
     fn may_wait(&self) -> bool
-        ensures { result ≡ true → HasRoom self.now.text.items self.now.lengths.items self.now.gathers }
+        ensures { result ≡ true → HasRoom self.now.text.items self.now.lengths self.now.gathers }
     {
         self.gathers && self.lengths.len() < 256 && self.text.len() <= 8192 - 514
     }
@@ -164,15 +164,15 @@ impl Session {
     // Writes all texts that wait. `Err(bytes)`: the sink took these bytes of a text, and failed.
     #[inline]
     fn write_texts<K: Sink>(&mut self, sink: &mut K) -> Result<(), usize>
-        requires { self.old.replies + length self.old.lengths.items < 2 ^ 64 }
-        ensures bound { self.new.replies ≤ self.old.replies + length self.old.lengths.items }
+        requires { self.old.replies + length self.old.lengths < 2 ^ 64 }
+        ensures bound { self.new.replies ≤ self.old.replies + length self.old.lengths }
         ensures same { (self.new.assembler ≡ self.old.assembler) × (self.new.gathers ≡ self.old.gathers) }
         ensures failed { FailsWith result (K.failed sink.old) (K.failed sink.new) }
-        ensures nothing { OnOk result ((self.new.text.items ≡ []) × (self.new.lengths.items ≡ [])) }
+        ensures nothing { OnOk result ((self.new.text.items ≡ []) × (self.new.lengths ≡ [])) }
         ensures ok { OnOk result (Appends (K.taken sink.old) (K.taken sink.new) self.old.text.items
-            × (self.new.replies ≡ self.old.replies + length self.old.lengths.items)) }
+            × (self.new.replies ≡ self.old.replies + length self.old.lengths)) }
         ensures err { IfErr result (λ bytes. (n : ℕ) × TakesFront (K.taken sink.old) (K.taken sink.new) n self.old.text.items
-            × ((self.new.replies, bytes) ≡ parted self.old.replies n self.old.lengths.items)) }
+            × ((self.new.replies, bytes) ≡ parted self.old.replies n self.old.lengths)) }
     {
         match write_whole(sink, self.text.as_slice()) {
             Ok(()) => {
@@ -189,10 +189,10 @@ impl Session {
     // next did.
     #[inline(never)]
     fn count_part(&mut self, taken: usize) -> usize
-        requires { self.old.replies + length self.old.lengths.items < 2 ^ 64 }
-        ensures bound { self.new.replies ≤ self.old.replies + length self.old.lengths.items }
+        requires { self.old.replies + length self.old.lengths < 2 ^ 64 }
+        ensures bound { self.new.replies ≤ self.old.replies + length self.old.lengths }
         ensures same { (self.new.assembler ≡ self.old.assembler) × (self.new.gathers ≡ self.old.gathers) }
-        ensures parts { (self.new.replies, result) ≡ parted self.old.replies taken self.old.lengths.items }
+        ensures parts { (self.new.replies, result) ≡ parted self.old.replies taken self.old.lengths }
     {
         let (replies, bytes) = parted(self.replies, taken, self.lengths.as_slice());
         self.replies = replies;

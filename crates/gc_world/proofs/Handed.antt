@@ -31,30 +31,51 @@ none_left f gone (x ∷ xs) part e = absurd (omega (arith, part, e))
 
 -- The streams v, of which these n bytes go over; and the streams now, with this many of them left.
 module _ (v : Streams ById State) where
-  up_next : (n used : ℕ) → used ≡ remaining v.up_gone (up_lines v.world.wire) → 0 < used → used ≤ n → (up_handed v n ≡ up_handed (goes_on v event.UpDeliver) (n - used)) × ((cut (up_lines v.world.wire) (v.up_gone + n)).lines ≡ 0 → ⊥) × ((does v.world Up_deliver).wire.idle ≡ v.world.wire.idle)
-  up_next n used e some le =
-      let f : Numbered Request → List ℕ = λ x. with_end (bytes_of x.line) in
-      let front = in_front f v.up_gone v.world.wire.up (subst (λ k. 0 < k) e some) in
-      let x = front.0 in
-      let xs = front.1 in
-      let g = v.up_gone in
-      let size : used ≡ length (f x) - g = e ∙ ap (λ q. remaining g (map f q)) front.2 in
-      let long : cut (up_lines v.world.wire) (g + n) ≡ one_more (cut (map f xs) (g + n - length (f x))) =
-      ap (λ q. cut (map f q) (g + n)) front.2 ∙ cut_long (f x) (map f xs) (g + n) (omega (arith, size, some, le)) in
+  -- the bytes of a request, with its end
+  abbrev whole : Numbered Request → List ℕ
+  whole x = with_end (bytes_of x.line)
+
+  -- what a line more is
+  record IsNext (n used : ℕ) : Type 0 where
+    x : Numbered Request
+    xs : List (Numbered Request)
+    front : v.world.wire.up ≡ x ∷ xs
+    cut_is : cut (up_lines v.world.wire) (v.up_gone + n) ≡ one_more (cut (map whole xs) (n - used))
+    tail : xs ≡ (does v.world Up_deliver).wire.up
+
+  next : (n used : ℕ) → used ≡ remaining v.up_gone (up_lines v.world.wire) → 0 < used → used ≤ n → IsNext n used
+  next n used e some le =
+      let f = in_front whole v.up_gone v.world.wire.up (subst (λ k. 0 < k) e some) in
+      let size : used ≡ length (whole f.0) - v.up_gone = e ∙ ap (λ q. remaining v.up_gone (map whole q)) f.2 in
+      let left : v.up_gone + n - length (whole f.0) ≡ n - used = omega (arith, size, some, le) in
+      record {
+        x = f.0;
+        xs = f.1;
+        front = f.2;
+        cut_is = ap (λ q. cut (map whole q) (v.up_gone + n)) f.2 ∙ cut_long (whole f.0) (map whole f.1) (v.up_gone + n) (omega (arith, size, some, le)) ∙ ap (λ k. one_more (cut (map whole f.1) k)) left;
+        tail = sym (ap (λ q. (up_delivered ends v.world.wire q).up) f.2);
+      }
+
+  next_same : (n used : ℕ) → IsNext n used → up_handed v n ≡ up_handed (goes_on v event.UpDeliver) (n - used)
+  next_same n used h =
       let after = does v.world Up_deliver in
-      let tail : map f xs ≡ up_lines after.wire = sym (ap (λ q. map f (up_delivered ends v.world.wire q).up) front.2) in
-      let left : g + n - length (f x) ≡ 0 + (n - used) = omega (arith, size, some, le) in (
-        ap (λ (d : Cut). record { world = run ends (by_ids WINDOW ends) (replicate d.lines Up_deliver) v.world; up_gone = d.gone; down_gone = v.down_gone }) long
-            ∙ ap₂ (λ l k. let d = cut l k in record { world = run ends (by_ids WINDOW ends) (replicate d.lines Up_deliver) after; up_gone = d.gone; down_gone = v.down_gone }) tail left,
-        (λ z. let s : suc (cut (map f xs) (g + n - length (f x))).lines ≡ 0 = sym (ap (λ (d : Cut). d.lines) long) ∙ z in absurd (omega (arith, s))),
-        ap (λ q. (up_delivered ends v.world.wire q).idle) front.2,
-      )
+      let zero_more : n - used ≡ 0 + (n - used) = omega arith in
+      ap (λ (d : Cut). record { world = run ends (by_ids WINDOW ends) (replicate d.lines Up_deliver) v.world; up_gone = d.gone; down_gone = v.down_gone }) h.cut_is
+      ∙ ap₂ (λ (q : List (Numbered Request)) k. let d = cut (map whole q) k in record { world = run ends (by_ids WINDOW ends) (replicate d.lines Up_deliver) after; up_gone = d.gone; down_gone = v.down_gone }) h.tail zero_more
+
+  next_idle : (n used : ℕ) → IsNext n used → (does v.world Up_deliver).wire.idle ≡ v.world.wire.idle
+  next_idle n used h = ap (λ q. (up_delivered ends v.world.wire q).idle) h.front
+
+  -- a line is completed
+  next_takes : (n used : ℕ) → IsNext n used → (cut (up_lines v.world.wire) (v.up_gone + n)).lines ≡ 0 → ⊥
+  next_takes n used h z =
+      let s : suc (cut (map whole h.xs) (n - used)).lines ≡ 0 = sym (ap (λ (d : Cut). d.lines) h.cut_is) ∙ z in
+      absurd (omega (arith, s))
 
   up_ended : (n : ℕ) → IsPart v.up_gone (up_lines v.world.wire) → remaining v.up_gone (up_lines v.world.wire) ≡ 0 → up_handed v n ≡ v
   up_ended n part e =
-      let f : Numbered Request → List ℕ = λ x. with_end (bytes_of x.line) in
-      let none = none_left f v.up_gone v.world.wire.up part e in
-      ap (λ q. let d = cut (map f q) (v.up_gone + n) in record { world = run ends (by_ids WINDOW ends) (replicate d.lines Up_deliver) v.world; up_gone = d.gone; down_gone = v.down_gone }) none.0
+      let none = none_left whole v.up_gone v.world.wire.up part e in
+      ap (λ q. let d = cut (map whole q) (v.up_gone + n) in record { world = run ends (by_ids WINDOW ends) (replicate d.lines Up_deliver) v.world; up_gone = d.gone; down_gone = v.down_gone }) none.0
       ∙ ap (λ g. record { world = v.world; up_gone = g; down_gone = v.down_gone }) (sym none.1)
 
 pub record IsUpReached (r : Report) (up down : List ℕ) (ug dg : ℕ) (c : ById) (v : Streams ById State) (n left : ℕ) : Type 0 where
@@ -71,18 +92,18 @@ module _ (r : Report) (up down : List ℕ) (ug dg : ℕ) (c : ById) (v : Streams
   -- a line more
   pub up_goes_on : (r' : Report) (up' down' : List ℕ) (ug' dg' : ℕ) (c' : ById) (used : ℕ) → used ≡ remaining h.now.up_gone (up_lines h.now.world.wire) → 0 < used → used ≤ left → AreStreamsOf r' up' down' ug' dg' c' (goes_on h.now event.UpDeliver) → IsUpReached r' up' down' ug' dg' c' v n (left - used)
   up_goes_on r' up' down' ug' dg' c' used e some le shows =
-      let next = up_next h.now left used e some le in
+      let one = next h.now left used e some le in
       record {
         now = goes_on h.now event.UpDeliver;
         shows = shows;
-        same = sym next.0 ∙ h.same;
-        spare = λ t. absurd (next.1 (h.spare t));
-        idle = next.2 ∙ h.idle;
+        same = sym (next_same h.now left used one) ∙ h.same;
+        spare = λ t. absurd (next_takes h.now left used one (h.spare t));
+        idle = next_idle h.now left used one ∙ h.idle;
       }
 
   -- it takes memory
   pub up_takes : (used : ℕ) → used ≡ remaining h.now.up_gone (up_lines h.now.world.wire) → 0 < used → used ≤ left → (cut (up_lines v.world.wire) (v.up_gone + n)).lines ≡ 0 → ⊥
-  up_takes used e some le t = (up_next h.now left used e some le).1 (h.spare t)
+  up_takes used e some le t = next_takes h.now left used (next h.now left used e some le) (h.spare t)
 
   -- the last bytes complete no line
   pub up_stops : (r' : Report) (up' down' : List ℕ) (ug' dg' : ℕ) (c' : ById) → AreStreamsOf r' up' down' ug' dg' c' (up_handed h.now left) → AreStreamsOf r' up' down' ug' dg' c' (up_handed v n)

@@ -30,4 +30,5 @@ pub mod Marks
 pub mod Moments
 pub mod Sends
 pub mod Delivering
+pub mod Additive
 pub mod FirstReply

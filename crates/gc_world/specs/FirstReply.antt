@@ -3,8 +3,8 @@
 -- "First": the first of the replies to a request that is delivered. A reply that finds its request unsettled is the first,
 -- since it settles it; a further one settles nothing. "Unsettled": the request's number isn't below the count of the
 -- settlements so far. "In time": since the request was sent the client wasn't told a moment at or past its deadline.
--- "Delivered": its last byte goes over. Each reply of one event is delivered in turn: so many bytes at once leave what they
--- leave one piece behind the other.
+-- "Delivered": its last byte goes over. Where one event hands over several replies, each is delivered in turn: the law that
+-- bytes go over in turn cuts such an event into one delivery for each.
 -- The width is that of the window; `play` has the width `WINDOW`.
 use Rattle.std.specs.Prelude.{◌≡◌, ◌⊎◌, ℕ, ◌+◌, ◌-◌, ◌<◌, ◌≤◌, List, [], ◌∷◌, ◌++◌, length, map, take, drop, Some, slice_get, Contains}
 use Rattle.gc_catalogue.specs.declared.call.Call.{Call}

@@ -10,4 +10,5 @@ pub mod Faithful
 pub mod Memory
 pub mod Laws
 pub mod FirstReply
+pub mod Pieces
 pub mod Width

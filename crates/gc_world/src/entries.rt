@@ -64,7 +64,9 @@ impl<T: Drop> Entries<T> {
     pub(crate) fn push(&mut self, entry: T) -> Result<(), AllocError>
         ensures { OnOk result (self.new ≡ self.old ++ entry ∷ []) }
     {
-        self.entries.push(entry)?;
+        // A `push` that wants memory would hand the entry back, large as it is.
+        self.entries.reserve(1)?;
+        self.entries.push_reserved(entry);
         Ok(())
     }
 }
@@ -89,7 +91,7 @@ impl Entries<Settlement> {
         ensures taken { OnOk result (settlements.new.items ≡ []) }
     {
         for settlement in settlements.drain(..) {
-            self.entries.push(settlement)?;
+            self.push(settlement)?;
         }
         Ok(())
     }

@@ -9,6 +9,7 @@ ghost use Rattle.gc_lines.specs.declared.frame.Frame.{Frame};
 use gc_lines::{Assembler, Lent, Line};
 
 /// Feeds `n` more bytes of a line of which `gone` have gone, and not the last one: no line comes out.
+#[inline(never)]
 pub fn feed_some(assembler: &mut Assembler, line: &[u8], gone: usize, n: usize, cut: &mut Line)
     requires plain { IsPlain line.now }
     requires within { length line.now ≤ 512 }
@@ -26,6 +27,7 @@ pub fn feed_some(assembler: &mut Assembler, line: &[u8], gone: usize, n: usize, 
 }
 
 /// Feeds what remains of a line of which `gone` bytes have gone: the line comes out.
+#[inline]
 pub fn feed_rest<'a>(
     assembler: &mut Assembler,
     line: &[u8],

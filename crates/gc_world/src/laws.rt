@@ -2,6 +2,7 @@
 
 ghost use Rattle.gc_world.specs.FirstReply.{BooksFirstReply, FirstReplyIsLate, IsNeverBoth, IsOneOrOther, NoSecondReply};
 ghost use Rattle.gc_world.specs.Laws.{KeepsOrder, KeepsRecent, RunsAgree, SettlesInOrder, BooksItsOwn, RepliesAreFine, RecordsExecutions};
+ghost use Rattle.gc_world.specs.Pieces.{UpwardAdds, DownwardAdds, UpwardEnds, DownwardEnds};
 ghost use Rattle.gc_world.specs.Width.{EightDiffers, EightSettlesNine, NumbersSettleOne};
 
 /// In each queue the numbers never fall from front to back, no number downward passes one upward, every number under
@@ -38,15 +39,25 @@ pub fn executions_are_recorded()
     ensures { RecordsExecutions }
 {}
 
-/// When a reply is delivered to a request that isn't settled, the requests before it are settled as lost, and it is
-/// answered with that very line if no moment at or past its deadline was told since its send, and late if one was. A
-/// further reply settles nothing.
+/// When the last byte of a reply to a request that isn't settled goes over, the requests before it are settled as lost, and
+/// it is answered with that very line if no moment at or past its deadline was told since its send, and late if one was. A
+/// further reply settles nothing. Where the bytes of one event complete several replies, each is delivered in turn, by
+/// [`bytes_go_over_in_turn`].
 pub fn first_reply_is_booked()
     ensures in_time { BooksFirstReply }
     ensures late { FirstReplyIsLate }
     ensures one_or_other { IsOneOrOther }
     ensures never_both { IsNeverBoth }
     ensures first_alone { NoSecondReply }
+{}
+
+/// Bytes that go over at once leave what they leave in two deliveries, so in as many as they are cut into: each line that
+/// they complete is delivered by its own last byte. Where more are handed over than are under way, these are.
+pub fn bytes_go_over_in_turn()
+    ensures up { UpwardAdds }
+    ensures down { DownwardAdds }
+    ensures up_ends { UpwardEnds }
+    ensures down_ends { DownwardEnds }
 {}
 
 /// With a window of eight the client that knows ids no longer does what a client would do that is told the numbers: a

@@ -77,7 +77,7 @@ impl<W: Window> Stage<W> {
         ensures spare { (v : Streams ById State) → Shows self.old v → TakesNone v event.now → IsOk result }
     {
         match *event {
-            Event::Send(target, call, deadline) => self.send(target, call, deadline)?,
+            Event::Send(target, ref call, deadline) => self.send(target, call, deadline)?,
             Event::UpDeliver => self.up_deliver()?,
             Event::UpBytes(n) => self.up_bytes(n)?,
             Event::UpLose(k) => self.up_lose(k),
@@ -93,19 +93,19 @@ impl<W: Window> Stage<W> {
         Ok(())
     }
 
-    fn send(&mut self, target: u32, call: Call, deadline: u64) -> Result<(), AllocError>
+    fn send(&mut self, target: u32, call: &Call, deadline: u64) -> Result<(), AllocError>
         requires { self.old.report.refused_sends + 1 < 2 ^ 64 }
-        ensures follows { OnOk result (Follows self.old (Event.Send target call deadline) self.new) }
+        ensures follows { OnOk result (Follows self.old (Event.Send target call.now deadline) self.new) }
         ensures spare { length self.old.client.waiting ≡ WINDOW → IsOk result }
     {
         let mut sent = Sent {
             target,
-            call,
+            call: *call,
             line: Line::new(),
         };
         let Ok(()) = self
             .client
-            .send_into(target, &call, deadline, &mut sent.line)
+            .send_into(target, call, deadline, &mut sent.line)
         else {
             self.report.refused_sends += 1;
             return Ok(());
@@ -116,6 +116,7 @@ impl<W: Window> Stage<W> {
 
     // Upward.
 
+    #[inline(always)]
     fn up_deliver(&mut self) -> Result<(), AllocError>
         requires idle { self.old.report.idle_events + 1 < 2 ^ 64 }
         requires shown { IsShown self.old }
@@ -146,6 +147,7 @@ impl<W: Window> Stage<W> {
         Ok(())
     }
 
+    #[inline(never)]
     fn up_bytes(&mut self, n: usize) -> Result<(), AllocError>
         requires idle { self.old.report.idle_events + 1 < 2 ^ 64 }
         requires shown { IsShown self.old }
@@ -223,6 +225,7 @@ impl<W: Window> Stage<W> {
 
     // Downward.
 
+    #[inline(always)]
     fn down_deliver(&mut self) -> Result<(), AllocError>
         requires idle { self.old.report.idle_events + 1 < 2 ^ 64 }
         requires shown { IsShown self.old }
@@ -245,6 +248,7 @@ impl<W: Window> Stage<W> {
         Ok(())
     }
 
+    #[inline(never)]
     fn down_bytes(&mut self, n: usize) -> Result<(), AllocError>
         requires idle { self.old.report.idle_events + 1 < 2 ^ 64 }
         requires shown { IsShown self.old }

@@ -1,4 +1,4 @@
-//! The program `geocom`: it hands its words and its standard streams to `gc_console`.
+//! The program `geocom`: it hands its words, its standard streams and the net to `gc_console`.
 #![tactic(auto)]
 
 use gc_console::run_program;
@@ -7,6 +7,7 @@ use std::{env, io};
 
 fn main(rt: HostRuntime) -> io::Result<ExitCode> {
     run_program(
+        &rt,
         rt.alloc(),
         env::args(&rt),
         rt.reader(),

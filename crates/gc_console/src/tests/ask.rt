@@ -14,7 +14,15 @@ const FIRST: &[u8] = b"%R1Q,5003,0:\r\n";
 
 const BOTH: &[u8] = b"%R1Q,5003,0:\r\n%R1Q,0,1:\r\n";
 
-const ANSWERED: &[u8] = b"0 7 answered %R1P,0,0:0,123456\n";
+const THREE_BYTES: &[u8] = &[b'%', b'R', b'1'];
+
+const ANSWER: &[u8] = b"%R1P,0,0:0,123456\r\n";
+
+const ANSWERS: &[u8] = b"%R1P,0,0:0,123456\r\n%R1P,0,1:0\r\n";
+
+const LOST_FIRST: &[u8] = b"0 7 lost\n";
+
+const LOST_SECOND: &[u8] = b"0 7 answered %R1P,0,0:0,123456\n1 8 lost\n";
 
 // A link: what it gives, in how many answered reads, and what it takes, of so many bytes a write.
 #[derive(Clone, Copy)]
@@ -24,6 +32,16 @@ struct Link<'a> {
     most: usize,
     writes: u64,
     max_reads: u32,
+}
+
+// A link that fails, and what then is sent and told, and the fault.
+#[derive(Clone, Copy)]
+struct Row {
+    name: &'static str,
+    link: Link<'static>,
+    sent: &'static [u8],
+    told: &'static [u8],
+    fault: RunFault,
 }
 
 // A link that fails nowhere.
@@ -79,104 +97,110 @@ fn a_stray_then_two_answers(rt: HostRuntime) {
     );
 }
 
-#[test]
-fn a_link_ends_or_fails(rt: HostRuntime) {
-    let alloc = rt.alloc();
-    let answer = b"%R1P,0,0:0,123456\r\n";
-    let lost = b"0 7 answered %R1P,0,0:0,123456\n1 8 lost\n";
-    expect_asked(
-        &rt,
-        alloc,
-        "the link ends",
-        &sound(answer),
-        BOTH,
-        lost,
-        Err(RunFault::LinkClosed),
-    );
-    let read = Link {
-        reads: 1,
-        ..sound(answer)
-    };
-    expect_asked(
-        &rt,
-        alloc,
-        "its read fails",
-        &read,
-        BOTH,
-        lost,
-        Err(RunFault::Read),
-    );
-    let write = Link {
-        writes: 0,
-        ..sound(answer)
-    };
-    let nothing = Err(RunFault::Write {
-        replies: 0,
-        bytes: 0,
-    });
-    expect_asked(
-        &rt,
-        alloc,
-        "its write fails",
-        &write,
-        b"",
-        b"0 7 lost\n",
-        nothing,
-    );
-    let part = Link {
-        most: 3,
-        writes: 1,
-        ..sound(answer)
-    };
-    let three = Err(RunFault::Write {
-        replies: 0,
-        bytes: 3,
-    });
-    expect_asked(
-        &rt,
-        alloc,
-        "its write falls short",
-        &part,
-        b"%R1",
-        b"0 7 lost\n",
-        three,
-    );
-    let none = Link {
-        max_reads: 0,
-        ..sound(answer)
-    };
-    expect_asked(
-        &rt,
-        alloc,
-        "no reads are allowed",
-        &none,
-        FIRST,
-        b"0 7 lost\n",
-        Err(RunFault::TooManyReads),
-    );
-}
+// Each link that fails, by name: what is sent and told, and the fault.
+const FAULTS: [Row; 6] = [
+    Row {
+        name: "the link ends",
+        link: Link {
+            gives: ANSWER,
+            reads: u64::MAX,
+            most: 1000,
+            writes: u64::MAX,
+            max_reads: 9,
+        },
+        sent: BOTH,
+        told: LOST_SECOND,
+        fault: RunFault::LinkClosed,
+    },
+    Row {
+        name: "its read fails",
+        link: Link {
+            gives: ANSWER,
+            reads: 1,
+            most: 1000,
+            writes: u64::MAX,
+            max_reads: 9,
+        },
+        sent: BOTH,
+        told: LOST_SECOND,
+        fault: RunFault::Read,
+    },
+    Row {
+        name: "its write fails",
+        link: Link {
+            gives: ANSWER,
+            reads: u64::MAX,
+            most: 1000,
+            writes: 0,
+            max_reads: 9,
+        },
+        sent: b"",
+        told: LOST_FIRST,
+        fault: RunFault::Write {
+            replies: 0,
+            bytes: 0,
+        },
+    },
+    Row {
+        name: "its write falls short",
+        link: Link {
+            gives: ANSWER,
+            reads: u64::MAX,
+            most: 3,
+            writes: 1,
+            max_reads: 9,
+        },
+        sent: THREE_BYTES,
+        told: LOST_FIRST,
+        fault: RunFault::Write {
+            replies: 0,
+            bytes: 3,
+        },
+    },
+    Row {
+        name: "no reads are allowed",
+        link: Link {
+            gives: ANSWER,
+            reads: u64::MAX,
+            most: 1000,
+            writes: u64::MAX,
+            max_reads: 0,
+        },
+        sent: FIRST,
+        told: LOST_FIRST,
+        fault: RunFault::TooManyReads,
+    },
+    Row {
+        name: "a reply came before its request fails",
+        link: Link {
+            gives: ANSWERS,
+            reads: u64::MAX,
+            most: 20,
+            writes: 1,
+            max_reads: 9,
+        },
+        sent: FIRST,
+        told: LOST_SECOND,
+        fault: RunFault::Write {
+            replies: 1,
+            bytes: 0,
+        },
+    },
+];
 
 #[test]
-fn the_reply_came_before_the_request_fails(rt: HostRuntime) {
-    let second = Link {
-        most: 20,
-        writes: 1,
-        ..sound(b"%R1P,0,0:0,123456\r\n%R1P,0,1:0\r\n")
-    };
-    let fault = Err(RunFault::Write {
-        replies: 1,
-        bytes: 0,
-    });
-    let told = b"0 7 answered %R1P,0,0:0,123456\n1 8 lost\n";
-    expect_asked(
-        &rt,
-        rt.alloc(),
-        "the second write fails",
-        &second,
-        FIRST,
-        told,
-        fault,
-    );
+fn a_link_ends_or_fails(rt: HostRuntime) {
+    for row in FAULTS {
+        expect_asked(
+            &rt,
+            rt.alloc(),
+            row.name,
+            &row.link,
+            row.sent,
+            row.told,
+            Err(row.fault),
+        );
+    }
 }
 
 #[test]

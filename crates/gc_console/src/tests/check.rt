@@ -28,18 +28,13 @@ fn expect_verdicts(
 }
 
 // Each with its name, a stream and its verdicts.
-const STREAMS: [(&str, &str, &str); 8] = [
+const STREAMS: [(&str, &str, &str); 7] = [
     ("empty", "", ""),
     ("a rest without a line feed", "%R1Q,0,0:\r", ""),
     (
         "nine frames checked",
         "%R1Q,2012,0:1e14\r\n%R1Q,5003,1:\n%R1P,0,0:0,1\r\n%R1P,0,8:0\r\nhello\r\n\r\n%R1Q,1,0:\r\n%R1Q,5004,0:\"\r\n%R1Q,0,0:\r\n",
         "1 request 2012 fault 12\n2 cleared\n3 reply 0 0\n4 fault 3\n5 fault 1\n6 fault 1\n7 request 1 fault 21\n8 request 5004 fault 13\n9 request 0 ok\n",
-    ),
-    (
-        "prefixes of a request",
-        "\r\n%\r\n%R\r\n%R1\r\n%R1Q\r\n%R1Q,\r\n%R1Q,5\r\n%R1Q,50\r\n%R1Q,500\r\n%R1Q,5008\r\n%R1Q,5008,\r\n%R1Q,5008,2\r\n%R1Q,5008,2:\r\n",
-        "1 fault 1\n2 fault 1\n3 fault 1\n4 fault 1\n5 fault 1\n6 fault 2\n7 fault 4\n8 fault 4\n9 fault 4\n10 fault 4\n11 fault 3\n12 fault 4\n13 request 5008 ok\n",
     ),
     (
         "headers refused, of requests",
@@ -69,6 +64,21 @@ fn each_frame_has_its_verdict(rt: HostRuntime) {
         expect_verdicts(&rt, rt.alloc(), name, input.as_bytes(), &[], output);
         expect_verdicts(&rt, rt.alloc(), name, input.as_bytes(), &[1; 300], output);
     }
+}
+
+#[test]
+fn each_prefix_of_a_request_has_its_fault(rt: HostRuntime) -> Result<(), Fail> {
+    let alloc = rt.alloc();
+    let line = b"%R1Q,5008,2:";
+    let faults = [1, 1, 1, 1, 1, 2, 4, 4, 4, 4, 3, 4];
+    for (len, fault) in faults.iter().enumerate() {
+        let prefix = line.get(..len).unwrap_or(b"");
+        let mut input = Vec::from_slice(alloc, prefix)?;
+        input.extend_from_slice(b"\r\n")?;
+        let output = format!(in alloc; "1 fault {fault}\n")?;
+        expect_verdicts(&rt, alloc, "prefix", input.as_slice(), &[], output.as_str());
+    }
+    Ok(())
 }
 
 #[test]
@@ -106,23 +116,6 @@ const FRAMES: &[u8] = b"%R1Q,0,1:\r\nnoise\r\n%R1P,0,1:0\r\n";
 
 // Three lines of 15, 10 and 12 bytes.
 const VERDICTS: &[u8] = b"1 request 0 ok\n2 fault 1\n3 reply 0 0\n";
-
-#[test]
-fn each_read_of_a_check_fails(rt: HostRuntime) {
-    for k in 0..=FRAMES.len() {
-        let mut source = PieceSource::new(FRAMES, &[1; 600], k as u64);
-        let mut sink = PieceSink::new(rt.alloc(), 5, u64::MAX);
-        let (replies, taken) = match k {
-            0..11 => (0, 0),
-            11..18 => (1, 15),
-            18..30 => (2, 25),
-            _ => (3, 37),
-        };
-        let result = run_check(&mut source, &mut sink, u32::MAX);
-        assert_eq!(rt; result, Err(ServeFault::Read { replies }), "read {k}");
-        assert_eq!(rt; sink.taken(), &VERDICTS[..taken], "read {k}");
-    }
-}
 
 #[test]
 fn each_write_of_a_check_fails(rt: HostRuntime) {

@@ -4,6 +4,7 @@ use crate::{RunFault, run_program};
 use std::alloc::{AllocError, Global};
 use std::env::Args;
 use std::io::{self, ErrorKind, Read};
+use std::net::{Net, TcpListener, TcpStream};
 use std::process::{Abort, ExitCode};
 use std::test::Fail;
 
@@ -24,7 +25,7 @@ fn words_of(alloc: Global, texts: &[&str]) -> Result<Args, AllocError> {
 
 // Runs a command line, and expects this status, this output and these messages.
 fn expect_run(
-    rt: &impl Abort,
+    rt: &(impl Abort + Net<Listener = TcpListener, Stream = TcpStream>),
     alloc: Global,
     texts: &[&str],
     input: &[u8],
@@ -35,7 +36,7 @@ fn expect_run(
     let mut written = Vec::new(alloc);
     let mut told = Vec::new(alloc);
     let words = Ok(words_of(alloc, texts)?);
-    let result = run_program(alloc, words, input, &mut written, &mut told)?;
+    let result = run_program(rt, alloc, words, input, &mut written, &mut told)?;
     let written = str::from_utf8(written.as_slice()).expect(rt, "the output is text");
     let told = str::from_utf8(told.as_slice()).expect(rt, "the messages are text");
     assert_eq!(rt; result, ExitCode::from(status), "{texts:?}: {told}");
@@ -74,6 +75,15 @@ fn each_engine_runs_with_each_option_on_and_off(rt: HostRuntime) -> Result<(), F
         SCHEDULE,
         0,
         both,
+        "",
+    )?;
+    expect_run(
+        &rt,
+        rt.alloc(),
+        &["geocom", "loop"],
+        b"7 5003\n8 2026\n",
+        0,
+        "0 7 answered %R1P,0,0:0,123456\n1 8 answered %R1P,0,1:0,0\n",
         "",
     )?;
     expect_run(&rt, rt.alloc(), &["geocom", "drill"], b"", 0, "", "")?;
@@ -143,7 +153,7 @@ fn a_text_of_the_engines_is_refused(rt: HostRuntime) -> Result<(), Fail> {
 }
 
 // A name, a command line, its status, and a part of its output and of its messages.
-const COMMAND_LINES: [(&str, &[&str], u8, &str, &str); 8] = [
+const COMMAND_LINES: [(&str, &[&str], u8, &str, &str); 14] = [
     (
         "help",
         &["geocom", "--help"],
@@ -180,11 +190,47 @@ const COMMAND_LINES: [(&str, &[&str], u8, &str, &str); 8] = [
         "Usage: geocom <COMMAND>\n",
     ),
     (
-        "not there yet",
-        &["geocom", "loop"],
+        "not there",
+        &["geocom", "play"],
         2,
         "",
-        "error: unrecognized subcommand 'loop'\n",
+        "error: unrecognized subcommand 'play'\n",
+    ),
+    (
+        "help of loop",
+        &["geocom", "loop", "--help"],
+        0,
+        "\n  1 8 answered %R1P,0,1:0,0\n",
+        "",
+    ),
+    ("no port", &["geocom", "ask"], 2, "", "  <PORT>\n"),
+    (
+        "port 0",
+        &["geocom", "ask", "0"],
+        2,
+        "",
+        "error: invalid value '0' for '<PORT>'",
+    ),
+    (
+        "a port too great",
+        &["geocom", "serve", "65536"],
+        2,
+        "",
+        "error: invalid value '65536' for '<PORT>'",
+    ),
+    (
+        "no connections",
+        &["geocom", "serve", "4001", "--connections", "0"],
+        2,
+        "",
+        "error: invalid value '0' for '--connections <N>'",
+    ),
+    (
+        "connections too many",
+        &["geocom", "serve", "4001", "--connections", "1001"],
+        2,
+        "",
+        "error: invalid value '1001' for '--connections <N>'",
     ),
     (
         "totals twice",
@@ -209,7 +255,7 @@ fn a_command_line_is_read_or_refused(rt: HostRuntime) -> Result<(), Fail> {
         let mut written = Vec::new(alloc);
         let mut told = Vec::new(alloc);
         let words = Ok(words_of(alloc, texts)?);
-        let result = run_program(alloc, words, REQUESTS, &mut written, &mut told)?;
+        let result = run_program(&rt, alloc, words, REQUESTS, &mut written, &mut told)?;
         assert_eq!(rt; result, ExitCode::from(status), "{name}");
         let written = str::from_utf8(written.as_slice()).expect(&rt, name);
         let told = str::from_utf8(told.as_slice()).expect(&rt, name);
@@ -233,7 +279,7 @@ impl Read for Broken {
 
 // Runs a command line over this input and an output with room for five bytes, and expects status 1 and these messages.
 fn expect_fault<I: Read + Drop>(
-    rt: &impl Abort,
+    rt: &(impl Abort + Net<Listener = TcpListener, Stream = TcpStream>),
     alloc: Global,
     texts: &[&str],
     input: I,
@@ -243,7 +289,7 @@ fn expect_fault<I: Read + Drop>(
     let mut told = Vec::new(alloc);
     let words = Ok(words_of(alloc, texts)?);
     let output: &mut [u8] = &mut room;
-    let result = run_program(alloc, words, input, output, &mut told)?;
+    let result = run_program(rt, alloc, words, input, output, &mut told)?;
     let told = str::from_utf8(told.as_slice()).expect(rt, "the messages are text");
     assert_eq!(rt; told, messages, "{texts:?}");
     assert_eq!(rt; result, ExitCode::from(1), "{texts:?}");
@@ -279,7 +325,7 @@ fn an_input_or_an_output_fails(rt: HostRuntime) -> Result<(), Fail> {
 
 // Runs the program with words that could not be read, and expects this status and these messages.
 fn expect_words_refused(
-    rt: &impl Abort,
+    rt: &(impl Abort + Net<Listener = TcpListener, Stream = TcpStream>),
     alloc: Global,
     kind: ErrorKind,
     status: u8,
@@ -288,7 +334,7 @@ fn expect_words_refused(
     let mut written = Vec::new(alloc);
     let mut told = Vec::new(alloc);
     let words = Err(io::Error::from(kind));
-    let result = run_program(alloc, words, REQUESTS, &mut written, &mut told)?;
+    let result = run_program(rt, alloc, words, REQUESTS, &mut written, &mut told)?;
     let told = str::from_utf8(told.as_slice()).expect(rt, "the messages are text");
     assert_eq!(rt; told, messages);
     assert_eq!(rt; result, ExitCode::from(status), "{told}");

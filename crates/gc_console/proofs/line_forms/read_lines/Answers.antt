@@ -15,10 +15,10 @@ loop-left-preserved-then-is_skipped g c =
 
 pub loop-left-preserved : goal.loop-left-preserved
 loop-left-preserved g c =
-    let grown : c.push.new.self.items ≡ c.loop-left.items.items ++ c.in-Some-read.item ∷ [] = search rules in
+    let grown : c.push_reserved.new.self.items ≡ c.loop-left.items.items ++ c.in-Some-read.item ∷ [] = search rules in
     turn_reads g.T.LineForm.form c.args.text.now (option_copied c.loop-left.left) c.in-Some.text.now c.cut_at.result.0.now c.without_cr-line.result.now (option_copied c.cut_at.result.1) c.loop-left.number
     c.loop-left.items.items c.is_skipped.result c.loop-left.invariant (ap option_copied c.in-Some.is) c.cut_at.ensures c.without_cr-line.ensures c.is_skipped.ensures
-    c.in-Some-read.item c.push.new.self.items c.if-is_skipped.false c.in-Some-read.ensures grown
+    c.in-Some-read.item c.push_reserved.new.self.items c.if-is_skipped.false c.in-Some-read.ensures grown
 
 pub returns-in-None-clause-fault : goal.returns-in-None-clause-fault
 returns-in-None-clause-fault g c = (

@@ -10,7 +10,7 @@ invariant-loop g l = record {
   source : g.S.Source.failed l.source ≡ g.S.Source.failed l.initial.source;
   sink : g.K.Sink.failed l.sink ≡ g.K.Sink.failed l.initial.sink;
   few : l.session.replies ≤ 256 * l.counter;
-  nothing : (l.session.text.items ≡ []) × (l.session.lengths.items ≡ []);
+  nothing : (l.session.text.items ≡ []) × (l.session.lengths ≡ []);
   gathers : l.session.gathers ≡ l.fn.gathers;
   room : length l.buf ≡ 256;
 }

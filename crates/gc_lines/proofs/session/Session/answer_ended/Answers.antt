@@ -18,20 +18,20 @@ pub returns-then-may_wait-clause-ok : goal.returns-then-may_wait-clause-ok
 returns-then-may_wait-clause-ok g c from seen old before h =
     let answered = c.if-not-answer.ensures.answered in
     gathering_more _ from c.args.answerer.now _ seen _ old _ before _ _ _ answered.0 _ _ answered.1 h answered.2
-    (kept _ _ _ _ _ _ _ c.len-before.ensures.value c.len.ensures.value answered.2 c.push.ensures.items)
+    (kept _ _ _ _ _ _ _ c.len-before.ensures.value c.len.ensures.value answered.2 c.push.ensures)
 
 pub returns-in-Err-clause-err : goal.returns-in-Err-clause-err
 returns-in-Err-clause-err g c from seen old before h =
     let answered = c.if-not-answer.ensures.answered in
     let failed = c.in-Err.ensures.err in
     answered_part _ from c.args.answerer.now _ seen _ old _ _ before _ _ _ failed.0 _ _ answered.0 _ _ c.args.self.now.gathers c.requires.room.alone answered.1 h answered.2
-    (kept _ _ _ _ _ _ _ c.len-before.ensures.value c.len.ensures.value answered.2 c.push.ensures.items) failed.1 failed.2
+    (kept _ _ _ _ _ _ _ c.len-before.ensures.value c.len.ensures.value answered.2 c.push.ensures) failed.1 failed.2
 
 pub returns-clause-ok : goal.returns-clause-ok
 returns-clause-ok g c from seen old before h =
     let answered = c.if-not-answer.ensures.answered in
     let written = c.in_default.ensures.ok in
     let more = gathering_more _ from c.args.answerer.now _ seen _ old _ before _ _ _ answered.0 _ _ answered.1 h answered.2
-    (kept _ _ _ _ _ _ _ c.len-before.ensures.value c.len.ensures.value answered.2 c.push.ensures.items) in
+    (kept _ _ _ _ _ _ _ c.len-before.ensures.value c.len.ensures.value answered.2 c.push.ensures) in
     rw (c.in_default.ensures.nothing.0, c.in_default.ensures.nothing.1)
     (gathering_start _ from _ _ old _ before _ (gathering_written _ from _ _ old _ _ before _ _ _ _ more written.0 written.1))

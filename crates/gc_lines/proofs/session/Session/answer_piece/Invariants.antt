@@ -6,11 +6,11 @@ use Rattle.gc_lines.proofs.session.Session.answer_piece.Given as goal
 
 abbrev pub invariant-loop-left : goal.invariant-loop-left
 invariant-loop-left g l = record {
-  count : l.self.replies + length l.self.lengths.items + length l.left ≤ l.initial.self.replies + length l.fn.piece;
-  room : HasRoom l.self.text.items l.self.lengths.items l.self.gathers;
+  count : l.self.replies + length l.self.lengths + length l.left ≤ l.initial.self.replies + length l.fn.piece;
+  room : HasRoom l.self.text.items l.self.lengths l.self.gathers;
   gathers : l.self.gathers ≡ l.initial.self.gathers;
   failed : g.K.Sink.failed l.sink ≡ g.K.Sink.failed l.initial.sink;
-  going : (rest : List ℕ) → StandsFor l.initial.self.assembler rest → Going g.A.Answers.answers rest l.fn.piece l.left l.self.assembler l.initial.answerer l.answerer (g.K.Sink.taken l.initial.sink) (g.K.Sink.taken l.sink) l.initial.self.replies l.self.replies l.self.text.items l.self.lengths.items;
+  going : (rest : List ℕ) → StandsFor l.initial.self.assembler rest → Going g.A.Answers.answers rest l.fn.piece l.left l.self.assembler l.initial.answerer l.answerer (g.K.Sink.taken l.initial.sink) (g.K.Sink.taken l.sink) l.initial.self.replies l.self.replies l.self.text.items l.self.lengths;
 }
 
 abbrev pub decreases-loop-left : goal.decreases-loop-left

@@ -3,4 +3,4 @@ use Rattle.gc_world.proofs.entries.«Entries+Settlement».append_from.Given as g
 
 -- those that were taken so far are appended
 abbrev pub invariant-loop-settlement : goal.invariant-loop-settlement
-invariant-loop-settlement l = record { items : l.self-inside.entries.items ≡ l.fn.self ++ l.yielded }
+invariant-loop-settlement l = record { items : l.self ≡ l.fn.self ++ l.yielded }

@@ -11,15 +11,15 @@ const ROOM: usize = 256;
 
 /// The bytes of the last read that aren't used yet.
 #[derive(Drop)]
-pub(crate) struct ReadAhead {
+pub(crate) struct Unheard {
     bytes: [u8; ROOM],
     at: usize,
     end: usize,
 }
 
-impl Model for ReadAhead {
+impl Model for Unheard {
     ghost use Rattle.std.specs.Prelude.{◌≡◌, ◌≤◌, ℕ, List, length, take, drop};
-    ghost use Rattle.gc_console.specs.declared.read_ahead.TheConstants.{ROOM};
+    ghost use Rattle.gc_console.specs.declared.unheard.TheConstants.{ROOM};
 
     ghost Value = { List ℕ };
 
@@ -28,12 +28,12 @@ impl Model for ReadAhead {
     ghost invariant = { λ r. (r.at ≤ r.end) × (r.end ≤ ROOM) × (length r.bytes ≡ ROOM) };
 }
 
-impl ReadAhead {
+impl Unheard {
     // Nothing was read.
-    pub(crate) fn new() -> ReadAhead
+    pub(crate) fn new() -> Unheard
         ensures { result ≡ [] }
     {
-        ReadAhead {
+        Unheard {
             bytes: [0; ROOM],
             at: 0,
             end: 0,

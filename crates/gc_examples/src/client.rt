@@ -1,0 +1,70 @@
+//! The client's parts, once: a window on the heap, and a client that takes no memory.
+
+use crate::outcome::Outcome;
+use arrayvec::ArrayVec;
+use gc_catalogue::Call;
+use gc_client::{Client, Heard, Hearing, Outcome as End, Ring, Settlement, Slots, Window};
+use gc_lines::{Line, LineFault, append};
+use std::alloc::Global;
+
+/// A ring is made, and is an empty window.
+pub fn ring(alloc: Global) -> Outcome {
+    match Ring::new(alloc) {
+        Ok(ring) => Outcome::of_answer(ring.len() == 0),
+        Err(_) => Outcome::NoMemory,
+    }
+}
+
+/// Each method of a client with `Slots`, none of which takes memory: two requests are sent, the first is given up, and its
+/// reply is late; then the second is lost with a restart.
+pub fn client() -> Outcome {
+    let mut client = Client::new(Slots::new());
+    Outcome::of_answer(is_sent(&mut client) && is_heard(&mut client) && is_restarted(&mut client))
+}
+
+// Two requests are sent, and the first is given up at the moment 10.
+fn is_sent(client: &mut Client<Slots>) -> bool {
+    let mut second = Line::new();
+    let Ok(first) = client.send(1, Call::NullProc, 10) else {
+        return false;
+    };
+    let Ok(()) = client.send_into(2, &Call::InstrumentNo, 20, &mut second) else {
+        return false;
+    };
+    first.as_slice() == b"%R1Q,0,0:".as_slice()
+        && second.as_slice() == b"%R1Q,5003,1:".as_slice()
+        && client.next_deadline() == Some(10)
+        && client.expire(10).as_slice() == [1].as_slice()
+}
+
+// The first request's reply is late, its repeat is a stray, and a line that is no reply is unread.
+fn is_heard(client: &mut Client<Slots>) -> bool {
+    let mut reply = Line::new();
+    append(&mut reply, b"%R1P,0,0:0");
+    let Heard::Settled(late) = client.on_line(&reply) else {
+        return false;
+    };
+    let mut settled = ArrayVec::new();
+    ends(late.as_slice(), 1, Call::NullProc, End::Late)
+        && client.hear(reply.as_slice(), &mut settled) == Hearing::Stray
+        && client.hear(b"hello", &mut settled) == Hearing::Unread(LineFault::Signature)
+}
+
+// The second request is lost, and the client begins anew.
+fn is_restarted(client: &mut Client<Slots>) -> bool {
+    let waiting = (client.waiting(), client.next_id());
+    let lost = client.restart();
+    waiting == (1, 2)
+        && ends(lost.as_slice(), 2, Call::InstrumentNo, End::Lost)
+        && (client.waiting(), client.next_id()) == (0, 0)
+}
+
+// Whether these are one settlement, this one.
+fn ends(settled: &[Settlement], target: u32, call: Call, outcome: End) -> bool {
+    let wanted = Settlement {
+        target,
+        call,
+        outcome,
+    };
+    settled == [wanted].as_slice()
+}

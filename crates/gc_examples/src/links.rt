@@ -1,0 +1,61 @@
+//! Commands asked over a link of the tests, once.
+
+use crate::outcome::Outcome;
+use gc_console::{RunFault, run_ask, run_loop};
+use gc_lines::{Sink, Source};
+use gc_probes::{PieceSink, PieceSource, Pipe};
+use std::alloc::Global;
+
+/// A stray, then two answers, asked for.
+pub fn ask(alloc: Global) -> Outcome {
+    let sent = b"%R1Q,5003,0:\r\n%R1Q,0,1:\r\n";
+    let told = b"0 7 answered %R1P,0,0:0,123456\n1 8 answered %R1P,0,1:0\n";
+    let gives = b"%R1P,0,3:0\r\n%R1P,0,0:0,123456\r\n%R1P,0,1:0\r\n";
+    let mut link_in = PieceSource::new(gives, &[], u64::MAX);
+    let mut link_out = PieceSink::new(alloc, 1000, u64::MAX);
+    let mut sink = PieceSink::new(alloc, 5, u64::MAX);
+    let end = run_ask(
+        alloc,
+        &mut PieceSource::new(b"7 5003\n8 0\n", &[], u64::MAX),
+        &mut link_in,
+        &mut link_out,
+        &mut sink,
+        9,
+    );
+    match end {
+        Err(RunFault::Write { .. }) if link_out.lacks_memory() => Outcome::PortLacksMemory,
+        Ok(()) if link_out.taken() != sent.as_slice() => Outcome::Other,
+        Err(RunFault::Memory) if !link_out.taken().is_empty() => Outcome::Other,
+        _ => Outcome::of(end, &sink, told),
+    }
+}
+
+/// Three commands looped, over two pipes. After want of memory the pipes are empty: nothing was sent.
+pub fn loop_commands(alloc: Global) -> Outcome {
+    let told =
+        b"0 7 answered %R1P,0,0:0,123456\n1 8 answered %R1P,0,1:0\n2 9 answered %R1P,0,2:0,1\n";
+    let (up, down) = (Pipe::new(alloc), Pipe::new(alloc));
+    let (mut client_out, mut instrument_out) = (up.sink(1000, u64::MAX), down.sink(1000, u64::MAX));
+    let mut sink = PieceSink::new(alloc, 1000, u64::MAX);
+    let end = run_loop(
+        alloc,
+        &mut PieceSource::new(b"7 5003\n8 9028 0,0,0\n9 2026\n", &[], u64::MAX),
+        &mut down.source(u64::MAX),
+        &mut client_out,
+        &mut up.source(u64::MAX),
+        &mut instrument_out,
+        &mut sink,
+        100,
+    );
+    let has_failed = client_out.has_failed() || instrument_out.has_failed();
+    match end {
+        Err(RunFault::Write { .. }) if has_failed => Outcome::PortLacksMemory,
+        Err(RunFault::Memory) if !is_empty(&up) || !is_empty(&down) => Outcome::Other,
+        _ => Outcome::of(end, &sink, told),
+    }
+}
+
+// Whether a pipe holds no byte.
+fn is_empty(pipe: &Pipe) -> bool {
+    matches!(pipe.source(u64::MAX).read(&mut [0; 1]), Ok(0))
+}

@@ -1,0 +1,52 @@
+//! What became of an example that was played once, perhaps with too little memory.
+
+use gc_console::RunFault;
+use gc_probes::PieceSink;
+use std::fmt;
+
+/// What an example gave.
+#[derive(Clone, Copy, PartialEq, Eq)]
+pub enum Outcome {
+    /// Exactly its answer.
+    Exact,
+    /// Want of memory, and nothing was sent or written.
+    NoMemory,
+    /// The fault of a port of the tests that couldn't store what it was given.
+    PortLacksMemory,
+    /// Anything else.
+    Other,
+}
+
+impl fmt::Display for Outcome {
+    fn fmt<W: fmt::Write>(&self, f: &mut fmt::Formatter<W>) -> fmt::Result {
+        f.write_str(match self {
+            Outcome::Exact => "its answer",
+            Outcome::NoMemory => "no memory",
+            Outcome::PortLacksMemory => "a port could not store",
+            Outcome::Other => "another answer",
+        })
+    }
+}
+
+impl Outcome {
+    /// The outcome of a run that should have written this, by its end and what the sink took.
+    pub fn of(end: Result<(), RunFault>, sink: &PieceSink, expected: &[u8]) -> Outcome {
+        match end {
+            Ok(()) if sink.taken() == expected => Outcome::Exact,
+            Err(RunFault::Memory) if sink.taken().is_empty() => Outcome::NoMemory,
+            Err(RunFault::Output) if sink.lacks_memory() && expected.starts_with(sink.taken()) => {
+                Outcome::PortLacksMemory
+            }
+            _ => Outcome::Other,
+        }
+    }
+
+    /// The outcome of a call that answered, rightly or not.
+    pub fn of_answer(is_right: bool) -> Outcome {
+        if is_right {
+            Outcome::Exact
+        } else {
+            Outcome::Other
+        }
+    }
+}

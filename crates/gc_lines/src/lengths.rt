@@ -1,0 +1,63 @@
+//! The lengths of texts that wait for one another.
+
+ghost use Rattle.std.specs.Prelude.{◌≡◌, ◌<◌, [], ◌∷◌, ◌++◌, length};
+
+use std::marker::Model;
+
+// At most 256 lengths. To forget them costs nothing, which counts where one text is written after the other.
+#[derive(Drop)]
+pub(crate) struct Lengths {
+    all: [usize; 256],
+    count: usize,
+}
+
+impl Model for Lengths {
+    ghost use Rattle.std.specs.Prelude.{ℕ, ◌≤◌, List, take};
+
+    ghost Value = { List ℕ };
+
+    ghost view = { λ l. take l.count l.all };
+
+    ghost invariant = { λ l. l.count ≤ 256 };
+}
+
+impl Lengths {
+    pub(crate) fn new() -> Lengths
+        ensures { result ≡ [] }
+    {
+        Lengths {
+            all: [0; 256],
+            count: 0,
+        }
+    }
+
+    #[inline]
+    pub(crate) fn len(&self) -> usize
+        ensures { result ≡ length self.now }
+    {
+        self.count
+    }
+
+    #[inline]
+    pub(crate) fn as_slice(&self) -> &[usize]
+        ensures { result.now ≡ self.now }
+    {
+        &self.all[..self.count]
+    }
+
+    #[inline]
+    pub(crate) fn push(&mut self, bytes: usize)
+        requires { length self.old < 256 }
+        ensures { self.new ≡ self.old ++ bytes ∷ [] }
+    {
+        self.all[self.count] = bytes;
+        self.count += 1;
+    }
+
+    #[inline]
+    pub(crate) fn clear(&mut self)
+        ensures { self.new ≡ [] }
+    {
+        self.count = 0;
+    }
+}
