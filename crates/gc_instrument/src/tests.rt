@@ -228,7 +228,7 @@ fn what_is_kept(rt: HostRuntime) {
     for (request, reply, kept) in rows {
         let (told, id) = reply_and_kept(&mut instrument, request);
         let text = told.unwrap_or_default();
-        let name = core::str::from_utf8(request).unwrap_or("?");
+        let name = std::str::from_utf8(request).unwrap_or("?");
         assert_eq!(rt; text.as_slice(), reply, "{name}");
         assert_eq!(rt; id, kept, "{name}");
     }
