@@ -17,7 +17,7 @@ use Rattle.gc_catalogue.specs.declared.call.DateTime.{DateTime}
 use Rattle.gc_instrument.specs.Execution.{exec, done, refused, set_if, told, commanded, searched, adjusted, measured, unmeasured, pointed, is_precision, is_date}
 use Rattle.gc_instrument.specs.Faces.{face_number}
 pub use Rattle.gc_instrument.specs.Outcomes.{ComesOut}
-use Rattle.gc_instrument.specs.State.{State, KeptReply, IsFittingState, IsFittingKept, restarted, first_date}
+use Rattle.gc_instrument.specs.State.{State, IsFittingState, IsFittingKept, restarted, first_date}
 use Rattle.gc_instrument.specs.Targets.{first_within}
 use Rattle.gc_instrument.specs.declared.face.Face.{Face}
 use Rattle.gc_instrument.specs.declared.face.Face.TheVariants.{Normal, Turned}

@@ -1,5 +1,5 @@
 -- What is kept, and what becomes of it.
-use Rattle.std.proofs.Common.{◌≡◌, ℤ, pos, ◌||◌, Bool, true, false, cond, ℕ, List, Option, Some, None, refl, sym, ap, ◌∙◌, subst, eqb, ◌+◌, ◌-◌, ◌≤◌, [], ◌∷◌, ◌++◌, length, take, drop, arith, length-append}
+use Rattle.std.proofs.Common.{◌≡◌, ℤ, pos, ◌||◌, Bool, true, false, cond, ℕ, List, Option, Some, None, refl, sym, ap, ◌∙◌, subst, eqb, ◌+◌, ◌-◌, [], ◌∷◌, ◌++◌, length, take, drop, arith, length-append}
 use Rattle.std.specs.Prelude.{int_lt, unsigned_abs, unwrap_or}
 use Rattle.std.proofs.lemmas.List.{take_all}
 use Rattle.gc_lines.specs.Lines.{IsPlain}
@@ -13,7 +13,7 @@ use Rattle.gc_catalogue.specs.declared.call.Call.{Call}
 use Rattle.gc_catalogue.specs.declared.call.Call.TheVariants.{SetPrecision, SetDate, DoMeasure, SimpleMea, MeasDistance, FineAdjust}
 use Rattle.gc_instrument.specs.Execution.{Executed, exec, done, refused, set_if, told, commanded, searched, adjusted, measured, unmeasured, is_precision, is_date}
 use Rattle.gc_instrument.specs.Laws.{ExecutesApart}
-use Rattle.gc_instrument.specs.Replying.{AppendsCall, AppendsExecuted, AnswersCall, repeats, executes, IsAnswered, executed_line, kept_after, kept_line, with_kept, executed_with}
+use Rattle.gc_instrument.specs.Replying.{AppendsCall, AppendsExecuted, repeats, executes, IsAnswered, executed_line, kept_after, kept_line, with_kept, executed_with}
 use Rattle.gc_instrument.specs.Seen.{IsPlainKept}
 use Rattle.gc_instrument.specs.State.{State, KeptReply, IsFittingState, IsFittingKept, kept_in}
 use Rattle.gc_instrument.specs.Targets.{first_within}

@@ -6,7 +6,7 @@ use Rattle.gc_lines.specs.Requests.{RequestFields, IsRequest}
 use Rattle.gc_catalogue.specs.Calls.{IsFitting}
 use Rattle.gc_catalogue.specs.Texts.{request_line}
 use Rattle.gc_catalogue.specs.declared.call.Call.{Call}
-use Rattle.gc_instrument.specs.Execution.{Executed, exec}
+use Rattle.gc_instrument.specs.Execution.{exec}
 use Rattle.gc_instrument.specs.Hearing.{Hears, IsOutput}
 use Rattle.gc_instrument.specs.Outcomes.{ComesOut}
 use Rattle.gc_instrument.specs.Replying.{IsReplied, IsAnswered, handed, kept_line, with_kept, executed_with}

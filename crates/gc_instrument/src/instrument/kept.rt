@@ -1,26 +1,33 @@
 //! What an instrument keeps of the last request that carried an id and was executed.
 
-ghost use Rattle.std.specs.Prelude.{◌≡◌, ◌≤◌, None, length};
+ghost use Rattle.std.specs.Prelude.{◌≡◌, ◌≤◌, None, IfSome, length};
 ghost use Rattle.std.specs.Option.{option_map};
 ghost use Rattle.gc_instrument.specs.Replying.{kept_line, kept_after};
 
-use gc_lines::{Line, append};
 use std::marker::Model;
 
-/// The id of a request and the line of its reply, or nothing. It is written in place.
+// The most bytes of a line.
+const ROOM: usize = 512;
+
+/// The id of a request and the line of its reply, or nothing. It is written in place, and bytes of an earlier line that are
+/// longer than this one stay behind it: to blank them would cost each request.
 #[derive(Debug, Drop)]
 pub struct Kept {
     id: Option<u8>,
-    line: Line,
+    bytes: [u8; ROOM],
+    len: usize,
 }
 
 impl Model for Kept {
-    ghost use Rattle.std.specs.Prelude.{Option};
+    ghost use Rattle.std.specs.Prelude.{◌≤◌, Option, take};
     ghost use Rattle.gc_instrument.specs.State.{KeptReply, kept_in};
+    ghost use Rattle.gc_instrument.specs.declared.instrument.kept.TheConstants.{ROOM};
 
     ghost Value = { Option KeptReply };
 
-    ghost view = { λ k. kept_in k.id k.line.items };
+    ghost view = { λ k. kept_in k.id (take k.len k.bytes) };
+
+    ghost invariant = { λ k. k.len ≤ ROOM };
 }
 
 impl Kept {
@@ -30,7 +37,8 @@ impl Kept {
     {
         Kept {
             id: None,
-            line: Line::new(),
+            bytes: [0; ROOM],
+            len: 0,
         }
     }
 
@@ -52,8 +60,9 @@ impl Kept {
     /// The line that is kept, where it is that of this id.
     #[tactic(auto, using(crate::proofs::Keeping::none_asked, crate::proofs::Keeping::none_kept, crate::proofs::Keeping::same_kept, crate::proofs::Keeping::other_kept))]
     #[inline]
-    pub fn line_of(&self, id: Option<u8>) -> Option<&Line>
-        ensures { option_map (λ r. r.now.items) result ≡ kept_line self.now id }
+    pub fn line_of(&self, id: Option<u8>) -> Option<&[u8]>
+        ensures line { option_map (λ r. r.now) result ≡ kept_line self.now id }
+        ensures within { IfSome result (λ r. length r.now ≤ ROOM) }
     {
         let Some(asked) = id else {
             return None;
@@ -62,7 +71,7 @@ impl Kept {
             return None;
         };
         if kept == asked {
-            Some(&self.line)
+            Some(&self.bytes[..self.len])
         } else {
             None
         }
@@ -76,8 +85,8 @@ impl Kept {
     {
         if id.is_some() {
             self.id = id;
-            self.line.clear();
-            append(&mut self.line, line);
+            self.bytes[..line.len()].copy_from_slice(line);
+            self.len = line.len();
         }
     }
 }

@@ -1,7 +1,4 @@
-use Rattle.std.proofs.Common.{refl, subst}
-use Rattle.gc_lines.specs.Answering.{AnswersGiven}
-use Rattle.gc_instrument.specs.Serving.{AnswersFrame}
-use Rattle.gc_instrument.specs.State.{State}
+use Rattle.std.proofs.Common.{refl}
 use Rattle.gc_instrument.proofs.HeardFrames.{serves_frames}
 use Rattle.gc_instrument.proofs.serving.serve.Goals as goal
 

@@ -1,6 +1,6 @@
-use Rattle.std.proofs.Common.{ap, ◌∙◌, refl}
+use Rattle.std.proofs.Common.{refl}
 use Rattle.gc_lines.specs.Requests.{request_seen}
-use Rattle.gc_catalogue.proofs.CallLaws.{one_call, no_refusal}
+use Rattle.gc_catalogue.proofs.CallLaws.{no_refusal}
 use Rattle.gc_instrument.proofs.Answering.{refused_reply, request_call}
 use Rattle.gc_instrument.proofs.instrument.Instrument.reply_to.Goals as goal
 
