@@ -61,7 +61,8 @@ impl Error for WindowFull {}
 /// 3. Hand the moment after the read to `expire`, on the clock that the deadlines are of, and then each line that came,
 ///    without its CR LF, to `on_line`: so a reply that came past its deadline is late. Go on at 1.
 /// 4. Where the connection fails, or all that wait were given up and nothing comes any more, close it, open it anew and
-///    `restart`: ids begin at 0 again, so no line may be under way, and by that call the caller vouches for it.
+///    `restart`: ids begin at 0 again, so no line may be under way, and an instrument that keeps its last reply has to
+///    restart too; by that call the caller vouches for both.
 ///
 /// At `Answered` take the reading, which may be a refusal or a fault; at `Late` the instrument has dealt with the
 /// request, and nothing may rest on what it said; at `Lost` it isn't known whether it acted: look at it before a call
