@@ -1,6 +1,6 @@
 #!/usr/bin/env bash
 # Exchanges a second of `geocom loop` over one loopback connection, beside a plain C program of the same reads and writes.
-# It wants rt and cc.
+# It wants rt and cc; where libmodbus is there (Debian's libmodbus-dev), its exchanges stand beside them.
 set -eu
 cd "$(dirname "$0")"
 . ./built.sh
@@ -35,3 +35,8 @@ measure 'geocom loop' "$geocom" loop
 cp "$work/told" "$work/first"
 measure 'C program' "$work/exchanges" "$count"
 cmp "$work/told" "$work/first"
+
+if pkg-config --exists libmodbus 2>/dev/null; then
+    cc -O2 -o "$work/modbus" modbus.c $(pkg-config --cflags --libs libmodbus)
+    measure 'libmodbus' "$work/modbus" "$count"
+fi
