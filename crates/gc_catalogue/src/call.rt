@@ -73,7 +73,7 @@ pub enum Call {
     },
     /// TMC_QuickDist: measures a distance, and gives it with the angles.
     QuickDist,
-    /// BAP_SetPrismType: the type of the prisms that are measured.
+    /// BAP_SetPrismType: which type of prism the targets have.
     SetPrism(i32),
     /// BAP_GetPrismType.
     GetPrism,

@@ -151,7 +151,7 @@ precision_fits n h = (omega (arith, ints), omega (arith, ints, h))
 pub restarted_fits : (s : State) → IsFittingState s → IsFittingState (restarted s)
 restarted_fits s f = record { precision = f.precision; serial = f.serial; name = f.name; date = date_fits first_date refl; prism = (omega (arith, ints), omega (arith, ints)); kept = tt }
 
--- a new precision, a new date, and a new type of prisms
+-- a new precision, a new date, and a new prism type
 precise : (s : State) (n : ℤ) → is_precision n ≡ true → IsFittingState s → IsFittingState (record s { precision = unsigned_abs n })
 precise s n h f = record { precision = precision_few n h; serial = f.serial; name = f.name; date = f.date; prism = f.prism; kept = f.kept }
 

@@ -42,7 +42,7 @@ told s answer_with None = refused s 1285
 abbrev pub is_precision : ℤ → Bool
 is_precision n = int_le (pos 0) n && int_le n (pos 15)
 
--- numbers that a type of prisms can have: a Long that is at least 0
+-- numbers that a prism type can have: a Long that is at least 0
 abbrev pub is_prism : ℤ → Bool
 is_prism n = int_le (pos 0) n && int_le n (pos 2147483647)
 

@@ -78,8 +78,8 @@ impl Instrument {
     ghost use Rattle.gc_instrument.specs.Targets.{nowhere};
 
     /// An instrument with this serial number, name and scene, in the opening state: precision 15,
-    /// all values 0.0, the normal face, no distance, the date 1996-07-25 16:19:47, and the type of
-    /// prisms 0 (this project's own). It keeps no reply. A scene of more than 32 targets is refused.
+    /// all values 0.0, the normal face, no distance, the date 1996-07-25 16:19:47, and prism type 0
+    /// (this project's own). It keeps no reply. A scene of more than 32 targets is refused.
     pub fn new(serial: i32, name: Text, scene: &[Target]) -> Result<Instrument, SceneFull>
         ensures opening { IfOk result (λ i. i ≡ opening serial name scene.now) }
         ensures fits { IfOk result (λ i. IsFittingState i) }
@@ -180,7 +180,7 @@ impl Instrument {
         self.settings.date
     }
 
-    /// The type of prisms that was set last, at least 0.
+    /// The prism type that was set last, and 0 where none was since the instrument was made or restarted.
     pub fn prism(&self) -> i32
         ensures { result ≡ self.now.prism }
     {

@@ -220,6 +220,7 @@ impl Instrument {
 
     // Measures, and gives the angles and the distance, where there is one.
     #[tactic(auto, unfolding(crate::specs::Execution::exec))]
+    #[inline(never)]
     fn quick_distance(&mut self, answer: &mut Answer) -> u16
         requires { answer.old ≡ Nothing }
         ensures { Executes self.old QuickDist self.new result answer.new }
@@ -228,7 +229,7 @@ impl Instrument {
         self.simple_measurement(answer)
     }
 
-    // Sets the type of prisms, at least 0.
+    // Sets the prism type, at least 0.
     #[tactic(auto, unfolding(crate::specs::Execution::exec))]
     fn set_prism(&mut self, prism: i32) -> u16
         ensures { Executes self.old (SetPrism prism) self.new result Nothing }
