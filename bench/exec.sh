@@ -1,5 +1,5 @@
 #!/usr/bin/env bash
-# The time of `geocom exec` on a stream of 16 MB that mixes all 22 procedures beside that of a plain C loop, and the
+# The time of `geocom exec` on a stream of 16 MB that mixes 22 of the 25 procedures beside that of a plain C loop, and the
 # instructions that a request of each kind takes. It wants rt, python3, cc, and for the instructions valgrind.
 set -eu
 cd "$(dirname "$0")"

@@ -1,7 +1,7 @@
 #!/usr/bin/env python3
 """Request lines for the benchmarks, the same each time, with ids that go round from 0 to 7.
 
-requests.py mixed BYTES       rounds of all 22 procedures, each once, of at least that many bytes
+requests.py mixed BYTES       rounds of 22 of the 25 procedures, each once, of at least that many bytes
 requests.py only NAME COUNT   that many requests of one kind, behind two that point at a target and measure it
 requests.py names             the names that `only` takes, one a line
 """

@@ -8,7 +8,7 @@ use Rattle.gc_catalogue.specs.declared.fault.CallFault.TheVariants.{Unknown, Par
 use Rattle.gc_catalogue.specs.declared.answer.Shape.{Shape}
 use Rattle.gc_catalogue.specs.declared.answer.Shape.TheVariants as shape
 use Rattle.gc_catalogue.specs.declared.call.Call.{Call}
-use Rattle.gc_catalogue.specs.declared.call.Call.TheVariants.{NullProc, SetPrecision, GetPrecision, ComVersion, InstrumentNo, InstrumentName, SetDate, GetDate, IntTemp, CsvVersion, DoMeasure, GetStation, SetStation, GetHeight, SetHeight, GetFace, GetAngle, SimpleMea, MeasDistance, Position, ChangeFace, FineAdjust}
+use Rattle.gc_catalogue.specs.declared.call.Call.TheVariants.{NullProc, SetPrecision, GetPrecision, ComVersion, InstrumentNo, InstrumentName, SetDate, GetDate, IntTemp, CsvVersion, DoMeasure, GetStation, SetStation, GetHeight, SetHeight, GetFace, GetAngle, SimpleMea, QuickDist, SetPrism, GetPrism, MeasDistance, Position, ChangeFace, FineAdjust}
 use Rattle.gc_catalogue.specs.Structs.{date_values, station_values}
 use Rattle.gc_values.specs.Lists.{kinds_of, AreParams, AreValues, IsListFault}
 
@@ -56,6 +56,12 @@ call_fields GetFace = record { number = 2026; values = []; answer = shape.Long }
 call_fields (GetAngle mode) = record { number = 2107; values = Long mode ∷ []; answer = shape.Angles }
 -- TMC_GetSimpleMea
 call_fields (SimpleMea wait mode) = record { number = 2108; values = Long wait ∷ Long mode ∷ []; answer = shape.Measured }
+-- TMC_QuickDist
+call_fields QuickDist = record { number = 2117; values = []; answer = shape.Measured }
+-- BAP_SetPrismType
+call_fields (SetPrism prism) = record { number = 17008; values = Long prism ∷ []; answer = shape.Nothing }
+-- BAP_GetPrismType
+call_fields GetPrism = record { number = 17009; values = []; answer = shape.Long }
 -- BAP_MeasDistanceAngle
 call_fields (MeasDistance mode) = record { number = 17017; values = Long mode ∷ []; answer = shape.MeasuredMode }
 -- AUT_MakePositioning

@@ -71,7 +71,13 @@ pub enum Call {
         wait: i32,
         mode: i32,
     },
-    /// BAP_MeasDistanceAngle: measures a distance, and gives it with the angles.
+    /// TMC_QuickDist: measures a distance, and gives it with the angles.
+    QuickDist,
+    /// BAP_SetPrismType: which type of prism the targets have.
+    SetPrism(i32),
+    /// BAP_GetPrismType.
+    GetPrism,
+    /// BAP_MeasDistanceAngle: measures a distance, and gives it with the angles and the mode.
     MeasDistance {
         mode: i32,
     },

@@ -58,6 +58,9 @@ pub(crate) fn read_row<P: Parameters>(rpc: u16, params: &mut P, call: &mut Call)
                 mode: params.long(),
             }
         }
+        2117 => *call = Call::QuickDist,
+        17008 => *call = Call::SetPrism(params.long()),
+        17009 => *call = Call::GetPrism,
         17017 => {
             *call = Call::MeasDistance {
                 mode: params.long(),

@@ -121,6 +121,22 @@ impl Call {
                 to.long(*mode);
                 Shape::Measured
             },
+            // TMC_QuickDist
+            Call::QuickDist => {
+                to.number(2117, id);
+                Shape::Measured
+            },
+            // BAP_SetPrismType
+            Call::SetPrism(prism) => {
+                to.number(17008, id);
+                to.long(*prism);
+                Shape::Nothing
+            },
+            // BAP_GetPrismType
+            Call::GetPrism => {
+                to.number(17009, id);
+                Shape::Long
+            },
             // BAP_MeasDistanceAngle
             Call::MeasDistance { mode } => {
                 to.number(17017, id);

@@ -14,16 +14,16 @@ use Rattle.gc_catalogue.specs.declared.answer.Answer.TheVariants.{Nothing}
 use Rattle.gc_catalogue.specs.declared.call.Call.{Call}
 use Rattle.gc_catalogue.specs.declared.call.Call.TheVariants.{NullProc}
 use Rattle.gc_catalogue.specs.declared.call.DateTime.{DateTime}
-use Rattle.gc_instrument.specs.Execution.{exec, done, refused, set_if, told, commanded, searched, adjusted, measured, unmeasured, pointed, is_precision, is_date}
+use Rattle.gc_instrument.specs.Execution.{exec, done, refused, set_if, told, commanded, searched, adjusted, measured, unmeasured, pointed, is_precision, is_prism, is_date}
 use Rattle.gc_instrument.specs.Faces.{face_number}
 pub use Rattle.gc_instrument.specs.Outcomes.{ComesOut}
-use Rattle.gc_instrument.specs.State.{State, IsFittingState, IsFittingKept, restarted, first_date}
+use Rattle.gc_instrument.specs.State.{State, IsFittingState, IsFittingKept, opening_of, restarted, first_date}
 use Rattle.gc_instrument.specs.Targets.{first_within}
 use Rattle.gc_instrument.specs.declared.face.Face.{Face}
 use Rattle.gc_instrument.specs.declared.face.Face.TheVariants.{Normal, Turned}
 use Rattle.gc_instrument.specs.declared.target.Target.{Target}
 
-done_outcome : (s t : State) (call : Call) (a : Answer) → restarted t ≡ restarted s → (IsFittingState s → IsFittingState t) → IsAnswerOf call a → (IsFittingState s → IsFitting call → IsFittingAnswer a) → ComesOut s call (done t a)
+done_outcome : (s t : State) (call : Call) (a : Answer) → opening_of t ≡ opening_of s → (IsFittingState s → IsFittingState t) → IsAnswerOf call a → (IsFittingState s → IsFitting call → IsFittingAnswer a) → ComesOut s call (done t a)
 done_outcome s t call a same fits of_call answer_fits = record {
   same = same;
   fits = fits;
@@ -33,7 +33,7 @@ done_outcome s t call a same fits of_call answer_fits = record {
   answer_fits = answer_fits;
 }
 
-refused_outcome : (s t : State) (call : Call) (code : ℕ) → restarted t ≡ restarted s → (IsFittingState s → IsFittingState t) → 0 < code → code < 65536 → ComesOut s call (refused t code)
+refused_outcome : (s t : State) (call : Call) (code : ℕ) → opening_of t ≡ opening_of s → (IsFittingState s → IsFittingState t) → 0 < code → code < 65536 → ComesOut s call (refused t code)
 refused_outcome s t call code same fits some small = record {
   same = same;
   fits = fits;
@@ -48,20 +48,21 @@ told_outcome : (s : State) (call : Call) (a : Answer) → IsAnswerOf call a → 
 told_outcome s call a of_call answer_fits = done_outcome s s call a refl (λ f. f) of_call answer_fits
 
 -- the facts on a state stand in these parts of it
-moved : (s t : State) → s.precision ≡ t.precision → s.serial ≡ t.serial → s.name ≡ t.name → s.date ≡ t.date → s.kept ≡ t.kept → IsFittingState s → IsFittingState t
-moved s t p n l d k f = record {
+moved : (s t : State) → s.precision ≡ t.precision → s.serial ≡ t.serial → s.name ≡ t.name → s.date ≡ t.date → s.prism ≡ t.prism → s.kept ≡ t.kept → IsFittingState s → IsFittingState t
+moved s t p n l d r k f = record {
   precision = subst (λ (x : ℕ). x ≤ 15) p f.precision;
   serial = subst FitsLong n f.serial;
   name = rw (← l) f.name;
   date = subst (λ (x : DateTime). AreValues (date_values x)) d f.date;
+  prism = subst FitsLong r f.prism;
   kept = subst IsFittingKept k f.kept;
 }
 
-set_outcome : (b : Bool) (s t : State) (call : Call) → restarted t ≡ restarted s → (b ≡ true → IsFittingState s → IsFittingState t) → IsAnswerOf call Nothing → ComesOut s call (set_if b s t)
+set_outcome : (b : Bool) (s t : State) (call : Call) → opening_of t ≡ opening_of s → (b ≡ true → IsFittingState s → IsFittingState t) → IsAnswerOf call Nothing → ComesOut s call (set_if b s t)
 set_outcome true s t call same fits of_call = done_outcome s t call Nothing same (fits refl) of_call (λ _ _. tt)
 set_outcome false s t call same fits of_call = refused_outcome s s call 2 refl (λ f. f) (omega arith) (omega arith)
 
-with_outcome : (s t : State) (call : Call) (answer_with : Decimal → Answer) (d : Option Decimal) → restarted t ≡ restarted s → (IsFittingState s → IsFittingState t)
+with_outcome : (s t : State) (call : Call) (answer_with : Decimal → Answer) (d : Option Decimal) → opening_of t ≡ opening_of s → (IsFittingState s → IsFittingState t)
     → ((x : Decimal) → IsAnswerOf call (answer_with x)) → ((x : Decimal) → IsFitting call → IsFittingAnswer (answer_with x)) → ComesOut s call (told t answer_with d)
 with_outcome s t call answer_with (Some d) same fits of_call answer_fits = done_outcome s t call (answer_with d) same fits (of_call d) (λ _ c. answer_fits d c)
 with_outcome s t call answer_with None same fits of_call answer_fits = refused_outcome s t call 1285 same fits (omega arith) (omega arith)
@@ -70,12 +71,12 @@ commanded_outcome : (s : State) (call : Call) (command : ℤ) → IsAnswerOf cal
 commanded_outcome s call command of_call = by_tests (int_eq command (pos 0)) (int_eq command (pos 1)) (int_eq command (pos 3)) where
   by_tests : (a b c : Bool) → ComesOut s call (cond a (done s Nothing) (cond b (done (measured s) Nothing) (cond c (done (unmeasured s) Nothing) (refused s 2))))
   by_tests true b c = told_outcome s call Nothing of_call (λ _ _. tt)
-  by_tests false true c = done_outcome s (measured s) call Nothing refl (moved s (measured s) refl refl refl refl refl) of_call (λ _ _. tt)
-  by_tests false false true = done_outcome s (unmeasured s) call Nothing refl (moved s (unmeasured s) refl refl refl refl refl) of_call (λ _ _. tt)
+  by_tests false true c = done_outcome s (measured s) call Nothing refl (moved s (measured s) refl refl refl refl refl refl) of_call (λ _ _. tt)
+  by_tests false false true = done_outcome s (unmeasured s) call Nothing refl (moved s (unmeasured s) refl refl refl refl refl refl) of_call (λ _ _. tt)
   by_tests false false false = refused_outcome s s call 2 refl (λ f. f) (omega arith) (omega arith)
 
 adjusted_outcome : (s : State) (call : Call) (t : Option Target) → IsAnswerOf call Nothing → ComesOut s call (adjusted s t)
-adjusted_outcome s call (Some t) of_call = done_outcome s (pointed s t.hz t.v) call Nothing refl (moved s (pointed s t.hz t.v) refl refl refl refl refl) of_call (λ _ _. tt)
+adjusted_outcome s call (Some t) of_call = done_outcome s (pointed s t.hz t.v) call Nothing refl (moved s (pointed s t.hz t.v) refl refl refl refl refl refl) of_call (λ _ _. tt)
 adjusted_outcome s call None of_call = refused_outcome s s call 8710 refl (λ f. f) (omega arith) (omega arith)
 
 searched_outcome : (s : State) (call : Call) (area_hz area_v : Decimal) → IsAnswerOf call Nothing → ComesOut s call (searched s area_hz area_v)
@@ -139,22 +140,29 @@ face_fits : (f : Face) → FitsLong (face_number f)
 face_fits Normal = (omega (arith, ints), omega (arith, ints))
 face_fits Turned = (omega (arith, ints), omega (arith, ints))
 
+prism_fits : (n : ℤ) → is_prism n ≡ true → FitsLong n
+prism_fits (pos k) h = let few : k ≤ 2147483647 = at_most k 2147483647 (second (nat_le 0 k) (nat_le k 2147483647) h) in (omega (arith, ints), omega (arith, ints, few))
+prism_fits (negsuc k) h = let wrong : ⊥ = cc in absurd wrong
+
 precision_fits : (n : ℕ) → n ≤ 15 → FitsShort (pos n)
 precision_fits n h = (omega (arith, ints), omega (arith, ints, h))
 
--- the values at the start fit, where those that are handed in do
+-- the values after a restart fit, where those before it do
 pub restarted_fits : (s : State) → IsFittingState s → IsFittingState (restarted s)
-restarted_fits s f = record { precision = omega arith; serial = f.serial; name = f.name; date = date_fits first_date refl; kept = tt }
+restarted_fits s f = record { precision = f.precision; serial = f.serial; name = f.name; date = date_fits first_date refl; prism = (omega (arith, ints), omega (arith, ints)); kept = tt }
 
--- a new precision, and a new date
+-- a new precision, a new date, and a new prism type
 precise : (s : State) (n : ℤ) → is_precision n ≡ true → IsFittingState s → IsFittingState (record s { precision = unsigned_abs n })
-precise s n h f = record { precision = precision_few n h; serial = f.serial; name = f.name; date = f.date; kept = f.kept }
+precise s n h f = record { precision = precision_few n h; serial = f.serial; name = f.name; date = f.date; prism = f.prism; kept = f.kept }
 
 dated : (s : State) (d : DateTime) → is_date d ≡ true → IsFittingState s → IsFittingState (record s { date = d })
-dated s d h f = record { precision = f.precision; serial = f.serial; name = f.name; date = date_fits d h; kept = f.kept }
+dated s d h f = record { precision = f.precision; serial = f.serial; name = f.name; date = date_fits d h; prism = f.prism; kept = f.kept }
+
+prismed : (s : State) (n : ℤ) → is_prism n ≡ true → IsFittingState s → IsFittingState (record s { prism = n })
+prismed s n h f = record { precision = f.precision; serial = f.serial; name = f.name; date = f.date; prism = prism_fits n h; kept = f.kept }
 
 -- what the rows of the table are made of
-ruleset row_rules = (told_outcome, done_outcome, set_outcome, with_outcome, commanded_outcome, searched_outcome, moved, precise, dated, face_fits, precision_fits, arith)
+ruleset row_rules = (told_outcome, done_outcome, set_outcome, with_outcome, commanded_outcome, searched_outcome, moved, precise, dated, prismed, face_fits, precision_fits, arith)
 
 -- every call's execution is one; a new row is made of the same, so it needs nothing here
 pub exec_outcome : (s : State) (call : Call) → ComesOut s call (exec s call)

@@ -1,6 +1,6 @@
 -- What is kept, and what becomes of it.
 use Rattle.std.proofs.Common.{◌≡◌, ℤ, pos, ◌||◌, Bool, true, false, cond, ℕ, List, Option, Some, None, refl, sym, ap, ◌∙◌, subst, eqb, ◌+◌, ◌-◌, [], ◌∷◌, ◌++◌, length, take, drop, arith, length-append}
-use Rattle.std.specs.Prelude.{int_lt, unsigned_abs, unwrap_or}
+use Rattle.std.specs.Prelude.{int_lt, unwrap_or}
 use Rattle.std.proofs.lemmas.List.{take_all}
 use Rattle.gc_lines.specs.Lines.{IsPlain}
 use Rattle.gc_lines.specs.Replies.{ReplyFields, IsReply}
@@ -8,10 +8,10 @@ use Rattle.std.specs.Ordering.{int_eq}
 use Rattle.std.specs.Option.{option_map}
 use Rattle.gc_values.specs.declared.decimal.Decimal.{Decimal}
 use Rattle.gc_catalogue.specs.declared.answer.Answer.{Answer}
-use Rattle.gc_catalogue.specs.declared.answer.Answer.TheVariants.{Nothing, Measured, MeasuredMode}
+use Rattle.gc_catalogue.specs.declared.answer.Answer.TheVariants.{Nothing}
 use Rattle.gc_catalogue.specs.declared.call.Call.{Call}
-use Rattle.gc_catalogue.specs.declared.call.Call.TheVariants.{SetPrecision, SetDate, DoMeasure, SimpleMea, MeasDistance, FineAdjust}
-use Rattle.gc_instrument.specs.Execution.{Executed, exec, done, refused, set_if, told, commanded, searched, adjusted, measured, unmeasured, is_precision, is_date}
+use Rattle.gc_catalogue.specs.declared.call.Call.TheVariants.{NullProc}
+use Rattle.gc_instrument.specs.Execution.{Executed, exec, done, refused, set_if, told, commanded, searched, adjusted, measured, unmeasured}
 use Rattle.gc_instrument.specs.Laws.{ExecutesApart}
 use Rattle.gc_instrument.specs.Replying.{AppendsCall, AppendsExecuted, repeats, executes, IsAnswered, executed_line, kept_after, kept_line, with_kept, executed_with}
 use Rattle.gc_instrument.specs.Seen.{IsPlainKept}
@@ -44,47 +44,48 @@ pub other_kept : (id asked : Option ℕ) (k n : ℕ) (line : List ℕ) → id �
 other_kept id asked k n line e f other =
     subst (λ o. None ≡ kept_line (kept_in o line) asked) (sym e) (subst (λ o. None ≡ kept_line (Some (record { id = k; line = line })) o) (sym f) (by_test (eqb k n) (Some line) None false other))
 
--- What is kept doesn't count for a call.
+-- What is kept doesn't count for a call. Each of these begins with what came of it, from which the search knows the rest.
 
-set_apart : (b : Bool) (s t : State) (kept : Option KeptReply) → set_if b (with_kept kept s) (with_kept kept t) ≡ executed_with kept (set_if b s t)
+set_apart : (b : Bool) (s t : State) (kept : Option KeptReply) → executed_with kept (set_if b s t) ≡ set_if b (with_kept kept s) (with_kept kept t)
 set_apart true s t kept = refl
 set_apart false s t kept = refl
 
-told_apart : (s : State) (kept : Option KeptReply) (answer_with : Decimal → Answer) (d : Option Decimal) → told (with_kept kept s) answer_with d ≡ executed_with kept (told s answer_with d)
+told_apart : (s : State) (kept : Option KeptReply) (answer_with : Decimal → Answer) (d : Option Decimal) → executed_with kept (told s answer_with d) ≡ told (with_kept kept s) answer_with d
 told_apart s kept answer_with None = refl
 told_apart s kept answer_with (Some d) = refl
 
 abbrev rows : State → Bool → Bool → Bool → Executed
 rows t a b c = cond a (done t Nothing) (cond b (done (measured t) Nothing) (cond c (done (unmeasured t) Nothing) (refused t 2)))
 
-commanded_apart : (s : State) (kept : Option KeptReply) (command : ℤ) → commanded (with_kept kept s) command ≡ executed_with kept (commanded s command)
+commanded_apart : (s : State) (kept : Option KeptReply) (command : ℤ) → executed_with kept (commanded s command) ≡ commanded (with_kept kept s) command
 commanded_apart s kept command = by_tests (int_eq command (pos 0)) (int_eq command (pos 1)) (int_eq command (pos 3)) where
-  by_tests : (a b c : Bool) → rows (with_kept kept s) a b c ≡ executed_with kept (rows s a b c)
+  by_tests : (a b c : Bool) → executed_with kept (rows s a b c) ≡ rows (with_kept kept s) a b c
   by_tests true b c = refl
   by_tests false true c = refl
   by_tests false false true = refl
   by_tests false false false = refl
 
-adjusted_apart : (s : State) (kept : Option KeptReply) (t : Option Target) → adjusted (with_kept kept s) t ≡ executed_with kept (adjusted s t)
+adjusted_apart : (s : State) (kept : Option KeptReply) (t : Option Target) → executed_with kept (adjusted s t) ≡ adjusted (with_kept kept s) t
 adjusted_apart s kept None = refl
 adjusted_apart s kept (Some t) = refl
 
-searched_apart : (s : State) (kept : Option KeptReply) (area_hz area_v : Decimal) → searched (with_kept kept s) area_hz area_v ≡ executed_with kept (searched s area_hz area_v)
+searched_apart : (s : State) (kept : Option KeptReply) (area_hz area_v : Decimal) → executed_with kept (searched s area_hz area_v) ≡ searched (with_kept kept s) area_hz area_v
 searched_apart s kept area_hz area_v = by_test (int_lt area_hz.digits (pos 0) || int_lt area_v.digits (pos 0)) where
-  by_test : (b : Bool) → cond b (refused (with_kept kept s) 2) (adjusted (with_kept kept s) (first_within s.pointing area_hz area_v s.scene)) ≡ executed_with kept (cond b (refused s 2) (adjusted s (first_within s.pointing area_hz area_v s.scene)))
+  by_test : (b : Bool) → executed_with kept (cond b (refused s 2) (adjusted s (first_within s.pointing area_hz area_v s.scene))) ≡ cond b (refused (with_kept kept s) 2) (adjusted (with_kept kept s) (first_within s.pointing area_hz area_v s.scene))
   by_test true = refl
   by_test false = adjusted_apart s kept (first_within s.pointing area_hz area_v s.scene)
 
--- a new row needs nothing here
-pub executes_apart : ExecutesApart
+-- what the rows of the table are made of
+ruleset apart_rules = (set_apart, told_apart, commanded_apart, searched_apart)
+
+by_rows : (s : State) (kept : Option KeptReply) (call : Call) → executed_with kept (exec s call) ≡ exec (with_kept kept s) call
 unfolding exec
-executes_apart s kept (SetPrecision n) = set_apart (is_precision n) s (record s { precision = unsigned_abs n }) kept
-executes_apart s kept (SetDate d) = set_apart (is_date d) s (record s { date = d }) kept
-executes_apart s kept (DoMeasure command mode) = commanded_apart s kept command
-executes_apart s kept (SimpleMea wait mode) = told_apart s kept (λ d. Measured s.pointing.hz s.pointing.v d) s.distance
-executes_apart s kept (MeasDistance mode) = told_apart (measured s) kept (λ d. MeasuredMode s.pointing.hz s.pointing.v d mode) (measured s).distance
-executes_apart s kept (FineAdjust area_hz area_v dummy) = searched_apart s kept area_hz area_v
-executes_apart s kept call = refl
+by_rows s kept NullProc = refl
+by_rows s kept call = search apart_rules
+
+-- a new row is made of the same, so it needs nothing here
+pub executes_apart : ExecutesApart
+executes_apart s kept call = sym (by_rows s kept call)
 
 -- What is kept of an execution.
 
@@ -110,7 +111,7 @@ number_is : (id : Option ℕ) (n number : ℕ) → id ≡ Some n → number ≡ 
 number_is id n number e same = same ∙ ap (λ o. unwrap_or o 0) e
 
 pub fits_kept : (s : State) (kept : Option KeptReply) → IsFittingState s → IsFittingKept kept → IsFittingState (with_kept kept s)
-fits_kept s kept h k = record { precision = h.precision; serial = h.serial; name = h.name; date = h.date; kept = k }
+fits_kept s kept h k = record { precision = h.precision; serial = h.serial; name = h.name; date = h.date; prism = h.prism; kept = k }
 
 -- an instrument that keeps it is one
 pub sound_keeping : (s : State) (id : Option ℕ) (kept : Option KeptReply) (number : ℕ) (line : List ℕ) (fields : ReplyFields) → IsFittingState s → IsPlainKept s.kept → kept ≡ kept_after s.kept id line → number ≡ unwrap_or id 0

@@ -42,6 +42,10 @@ told s answer_with None = refused s 1285
 abbrev pub is_precision : ℤ → Bool
 is_precision n = int_le (pos 0) n && int_le n (pos 15)
 
+-- numbers that a prism type can have: a Long that is at least 0
+abbrev pub is_prism : ℤ → Bool
+is_prism n = int_le (pos 0) n && int_le n (pos 2147483647)
+
 -- a date and time that the clock takes; lengths of months aren't looked at
 abbrev pub is_date : DateTime → Bool
 is_date d =
@@ -102,6 +106,9 @@ exec s (call.SetHeight h) = done (record s { height = h }) answer.Nothing
 exec s call.GetFace = done s (answer.Long (face_number s.face))
 exec s (call.GetAngle mode) = done s (answer.Angles s.pointing.hz s.pointing.v)
 exec s (call.SimpleMea wait mode) = told s (λ d. answer.Measured s.pointing.hz s.pointing.v d) s.distance
+exec s call.QuickDist = told (measured s) (λ d. answer.Measured s.pointing.hz s.pointing.v d) (measured s).distance
+exec s (call.SetPrism n) = set_if (is_prism n) s (record s { prism = n })
+exec s call.GetPrism = done s (answer.Long s.prism)
 exec s (call.MeasDistance mode) =
     told (measured s) (λ d. answer.MeasuredMode s.pointing.hz s.pointing.v d mode) (measured s).distance
 exec s (call.Position hz v pos_mode atr_mode dummy) = done (pointed s hz v) answer.Nothing

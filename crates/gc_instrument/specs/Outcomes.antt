@@ -5,12 +5,12 @@ use Rattle.gc_catalogue.specs.Calls.{IsFitting}
 use Rattle.gc_catalogue.specs.declared.answer.Answer.TheVariants.{Nothing}
 use Rattle.gc_catalogue.specs.declared.call.Call.{Call}
 use Rattle.gc_instrument.specs.Execution.{Executed}
-use Rattle.gc_instrument.specs.State.{State, IsFittingState, restarted}
+use Rattle.gc_instrument.specs.State.{State, IsFittingState, opening_of}
 
 -- what came of carrying the call out in the state
 pub record ComesOut (s : State) (call : Call) (x : Executed) : Type 0 where
   -- the serial number, the name and the scene stay
-  pub same : restarted x.state ≡ restarted s
+  pub same : opening_of x.state ≡ opening_of s
   -- the state's values still lie in their types
   pub fits : IsFittingState s → IsFittingState x.state
   pub code : x.rc < 65536

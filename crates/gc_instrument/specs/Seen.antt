@@ -17,6 +17,7 @@ state_of i = record {
   pointing = i.settings.pointing;
   distance = i.settings.distance;
   date = i.settings.date;
+  prism = i.settings.prism;
   kept = i.kept;
 }
 

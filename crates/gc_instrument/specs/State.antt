@@ -36,6 +36,7 @@ pub record State : Type 0 where
   pub pointing : Pointing
   pub distance : Option Decimal
   pub date : DateTime
+  pub prism : ℤ
   pub kept : Option KeptReply
 
 -- a kept line is a reply with the id of its request
@@ -54,6 +55,7 @@ pub record IsFittingState (s : State) : Type 0 where
   pub serial : FitsLong s.serial
   pub name : IsText s.name
   pub date : AreValues (date_values s.date)
+  pub prism : FitsLong s.prism
   pub kept : IsFittingKept s.kept
 
 -- a station of zeros
@@ -81,12 +83,17 @@ opening number letters targets = record {
   pointing = ahead;
   distance = None;
   date = first_date;
+  prism = pos 0;
   kept = None;
 }
 
--- the state after a restart: that of the start, with the same serial number, name and scene. Nothing is kept
+-- the opening state of this very instrument, whatever its calls have set
+abbrev pub opening_of : State → State
+opening_of s = opening s.serial s.name s.scene
+
+-- the state after a restart: the opening state of the instrument, but with the precision that stood. Nothing is kept
 abbrev pub restarted : State → State
-restarted s = opening s.serial s.name s.scene
+restarted s = record (opening_of s) { precision = s.precision }
 
 -- the three targets of the simulator
 abbrev pub simulator_scene : List Target

@@ -21,6 +21,9 @@ use std::error::Error;
 use std::fmt;
 use std::marker::Model;
 
+/// The precision of a new instrument.
+const OPENING_PRECISION: u8 = 15;
+
 /// A scene has more than 32 targets.
 #[derive(Clone, Copy, Debug, PartialEq, Eq)]
 pub struct SceneFull;
@@ -75,8 +78,8 @@ impl Instrument {
     ghost use Rattle.gc_instrument.specs.Targets.{nowhere};
 
     /// An instrument with this serial number, name and scene, in the opening state: precision 15,
-    /// all values 0.0, the normal face, no distance, and the date 1996-07-25 16:19:47 (this
-    /// project's own). It keeps no reply. A scene of more than 32 targets is refused.
+    /// all values 0.0, the normal face, no distance, the date 1996-07-25 16:19:47, and prism type 0
+    /// (this project's own). It keeps no reply. A scene of more than 32 targets is refused.
     pub fn new(serial: i32, name: Text, scene: &[Target]) -> Result<Instrument, SceneFull>
         ensures opening { IfOk result (λ i. i ≡ opening serial name scene.now) }
         ensures fits { IfOk result (λ i. IsFittingState i) }
@@ -92,18 +95,18 @@ impl Instrument {
             serial,
             name,
             scene: targets,
-            settings: Settings::opening(),
+            settings: Settings::opening(OPENING_PRECISION),
             kept: Kept::nothing(),
         })
     }
 
-    /// Brings back the opening state, and forgets the reply that was kept. The serial number, the name
-    /// and the scene stay.
+    /// Brings back the opening state, but leaves the precision as it is, and forgets the reply that was
+    /// kept. The serial number, the name and the scene stay.
     pub fn restart(&mut self)
         ensures state { self.new ≡ restarted self.old }
         ensures fits { IsFittingState self.new }
     {
-        self.settings = Settings::opening();
+        self.settings = Settings::opening(self.settings.precision);
         self.kept.forget();
     }
 
@@ -175,5 +178,12 @@ impl Instrument {
         ensures { result ≡ self.now.date }
     {
         self.settings.date
+    }
+
+    /// The prism type that was set last, and 0 where none was since the instrument was made or restarted.
+    pub fn prism(&self) -> i32
+        ensures { result ≡ self.now.prism }
+    {
+        self.settings.prism
     }
 }

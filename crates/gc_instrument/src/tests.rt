@@ -114,6 +114,19 @@ fn measuring(rt: HostRuntime) {
             (b"%R1Q,9037,3:-0.1,0.1,0", b"%R1P,0,3:2"),
         ],
     );
+    expect_replies(
+        &rt,
+        "prism and quick distance",
+        &[
+            (b"%R1Q,17009,0:", b"%R1P,0,0:0,0"),
+            (b"%R1Q,17008,1:3", b"%R1P,0,1:0"),
+            (b"%R1Q,17009,2:", b"%R1P,0,2:0,3"),
+            (b"%R1Q,17008,3:-1", b"%R1P,0,3:2"),
+            (b"%R1Q,2117,4:", b"%R1P,0,4:1285"),
+            (b"%R1Q,9027,5:4.0,1.5,0,0,0", b"%R1P,0,5:0"),
+            (b"%R1Q,2117,6:", b"%R1P,0,6:0,4.0,1.5,48.5"),
+        ],
+    );
 }
 
 #[test]
@@ -172,14 +185,23 @@ fn restart(rt: HostRuntime) {
         0
     );
     assert_eq!(rt; instrument.execute(&Call::SetPrecision(3)).0, 0);
+    assert_eq!(rt; instrument.execute(&Call::SetPrism(7)).0, 0);
     assert_eq!(rt;
-        (instrument.height(), instrument.precision()),
-        (Decimal::literal(17, 1), 3)
+        (
+            instrument.height(),
+            instrument.precision(),
+            instrument.prism()
+        ),
+        (Decimal::literal(17, 1), 3, 7)
     );
     instrument.restart();
     assert_eq!(rt;
-        (instrument.height(), instrument.precision()),
-        (Decimal::zero(), 15)
+        (
+            instrument.height(),
+            instrument.precision(),
+            instrument.prism()
+        ),
+        (Decimal::zero(), 3, 0)
     );
     assert_eq!(rt;
         instrument.execute(&Call::InstrumentNo),

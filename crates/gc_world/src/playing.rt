@@ -15,8 +15,8 @@ use gc_client::{Client, Window};
 use gc_instrument::Instrument;
 use std::alloc::{AllocError, Global};
 
-/// Plays the events in order, from a restarted instrument and a new client over this window, and hands back what they led
-/// to, and the client as the last event leaves it.
+/// Plays the events in order, from the instrument, restarted first, and a new client over this window, and hands back what
+/// they led to, and the client as the last event leaves it. A restart leaves the instrument's precision as it is.
 ///
 /// The report is that of the world's run by ids, and it is faithful: the settlements stand one for one and in order for
 /// the requests sent; each answer that the client booked is a line that the instrument made on executing that very

@@ -4,8 +4,8 @@ use crate::event::Event;
 use crate::playing::play;
 use crate::report::Report;
 use Event::{
-    DownBytes, DownDeliver, DownLose, DownRepeat, Expire, RestartClient, Send, UpBytes, UpDeliver,
-    UpLose, UpRepeat,
+    DownBytes, DownDeliver, DownLose, DownRepeat, Expire, RestartClient, RestartInstrument, Send,
+    UpBytes, UpDeliver, UpLose, UpRepeat,
 };
 use gc_catalogue::Call;
 use gc_client::{Outcome, Pending, Ring, Slots, Window};
@@ -304,6 +304,34 @@ fn restart_of_both_ends(rt: HostRuntime) -> Result<(), Fail> {
     )?;
     let (report, _) = play(rt.alloc(), Instrument::simulator(), Slots::new(), &events)?;
     assert_eq!(rt; report.starts.as_slice(), [1].as_slice());
+    Ok(())
+}
+
+// A restart leaves the precision: the one that was set, and before the first event that of the given instrument.
+#[test]
+fn precision_that_lasts(rt: HostRuntime) -> Result<(), Fail> {
+    let events = [
+        Send(1, Call::SetPrecision(3), 9),
+        UpDeliver,
+        DownDeliver,
+        RestartInstrument,
+        Send(2, Call::GetPrecision, 9),
+        UpDeliver,
+        DownDeliver,
+    ];
+    expect(
+        &rt,
+        rt.alloc(),
+        &events,
+        "0 1 answered %R1P,0,0:0 / 1 2 answered %R1P,0,1:0,3 / sent 2 executed 2 made 2 settled 2 refused 0 idle 0; 0 wait, next 2",
+    )?;
+    let mut given = Instrument::simulator();
+    assert_eq!(rt; given.execute(&Call::SetPrecision(4)).0, 0);
+    let (report, _) = play(rt.alloc(), given, Slots::new(), &events[4..])?;
+    assert_eq!(rt;
+        tell(rt.alloc(), &report)?.as_str(),
+        "0 2 answered %R1P,0,0:0,4 / sent 1 executed 1 made 1 settled 1 refused 0 idle 0"
+    );
     Ok(())
 }
 

@@ -25,7 +25,7 @@ fn expect_output(
 
 // For each procedure: its number, right parameters, these with one too few and of another kind where it has some, and the
 // reply to the right ones.
-const PROCEDURES: [(&str, &str, &[&str], &str); 22] = [
+const PROCEDURES: [(&str, &str, &[&str], &str); 25] = [
     ("0", "", &["0"], "0"),
     ("107", "3", &["", "3,3", "x"], "0"),
     ("108", "", &["0"], "0,15"),
@@ -58,6 +58,9 @@ const PROCEDURES: [(&str, &str, &[&str], &str); 22] = [
     ("2026", "", &["0"], "0,0"),
     ("2107", "1", &["", "1,1", "1.5"], "0,0.0,0.0"),
     ("2108", "5000,1", &["5000", "5000,1,1", "5000,x"], "1285"),
+    ("2117", "", &["0"], "1285"),
+    ("17008", "3", &["", "3,3", "3.0"], "0"),
+    ("17009", "", &["0"], "0,0"),
     ("17017", "2", &["", "2,2", "'02'"], "1285"),
     (
         "9027",

@@ -21,7 +21,7 @@ const NO_DISTANCE: u16 = 1285;
 const NO_TARGET: u16 = 8710;
 
 impl Instrument {
-    ghost use Rattle.gc_catalogue.specs.declared.call.Call.TheVariants.{SetPrecision, SetDate, SetStation, SetHeight, GetAngle, SimpleMea, MeasDistance};
+    ghost use Rattle.gc_catalogue.specs.declared.call.Call.TheVariants.{SetPrecision, SetDate, SetStation, SetHeight, GetAngle, SimpleMea, QuickDist, SetPrism, MeasDistance};
     ghost use Rattle.gc_catalogue.specs.declared.answer.Answer.TheVariants.{Nothing, Name, Place, Angles, Measured, MeasuredMode};
 
     /// Carries out a call, and gives the return code and the answer, which is `Answer::Nothing`
@@ -84,6 +84,12 @@ impl Instrument {
             }
             Call::GetAngle { .. } => self.angles(answer),
             Call::SimpleMea { .. } => self.simple_measurement(answer),
+            Call::QuickDist => self.quick_distance(answer),
+            Call::SetPrism(prism) => self.set_prism(*prism),
+            Call::GetPrism => {
+                *answer = Answer::Long(self.settings.prism);
+                0
+            }
             Call::MeasDistance { mode } => self.measured_distance(*mode, answer),
             Call::Position { hz, v, .. } => self.position(hz, v),
             Call::ChangeFace { .. } => self.change_face(),
@@ -213,6 +219,29 @@ impl Instrument {
     }
 
     // Measures, and gives the angles and the distance, where there is one.
+    #[tactic(auto, unfolding(crate::specs::Execution::exec))]
+    #[inline(never)]
+    fn quick_distance(&mut self, answer: &mut Answer) -> u16
+        requires { answer.old ≡ Nothing }
+        ensures { Executes self.old QuickDist self.new result answer.new }
+    {
+        self.measure();
+        self.simple_measurement(answer)
+    }
+
+    // Sets the prism type, at least 0.
+    #[tactic(auto, unfolding(crate::specs::Execution::exec))]
+    fn set_prism(&mut self, prism: i32) -> u16
+        ensures { Executes self.old (SetPrism prism) self.new result Nothing }
+    {
+        if prism < 0 {
+            return INVALID_PARAMETER;
+        }
+        self.settings.prism = prism;
+        0
+    }
+
+    // Measures, and gives the angles, the distance and the mode, where there is a distance.
     #[tactic(auto, unfolding(crate::specs::Execution::exec))]
     #[inline(never)]
     fn measured_distance(&mut self, mode: i32, answer: &mut Answer) -> u16

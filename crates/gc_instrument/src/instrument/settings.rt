@@ -1,4 +1,4 @@
-//! What calls set in an instrument, and what a restart forgets.
+//! What calls set in an instrument, and what a restart makes of it.
 
 use crate::face::Face;
 use crate::pointing::Pointing;
@@ -15,29 +15,31 @@ pub struct Settings {
     pub pointing: Pointing,
     pub distance: Option<Decimal>,
     pub date: DateTime,
+    pub prism: i32,
 }
 
 impl Settings {
-    ghost use Rattle.std.specs.Prelude.{◌≡◌, None};
+    ghost use Rattle.std.specs.Prelude.{◌≡◌, None, pos};
     ghost use Rattle.gc_values.specs.Decimals.{zero};
     ghost use Rattle.gc_instrument.specs.State.{origin, ahead, first_date};
     ghost use Rattle.gc_instrument.specs.declared.face.Face.TheVariants.{Normal};
 
-    /// The settings at the start.
-    pub fn opening() -> Settings
+    /// The settings at the start, with this precision.
+    pub fn opening(precision: u8) -> Settings
         ensures { result ≡ record {
-          precision = 15;
+          precision = precision;
           station = origin;
           height = zero;
           face = Normal;
           pointing = ahead;
           distance = None;
           date = first_date;
+          prism = pos 0;
         } }
     {
         let zero = Decimal::zero();
         Settings {
-            precision: 15,
+            precision,
             station: Station {
                 e0: zero,
                 n0: zero,
@@ -56,6 +58,7 @@ impl Settings {
                 minute: 19,
                 second: 47,
             },
+            prism: 0,
         }
     }
 }
