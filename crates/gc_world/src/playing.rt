@@ -15,8 +15,8 @@ use gc_client::{Client, Window};
 use gc_instrument::Instrument;
 use std::alloc::{AllocError, Global};
 
-/// Plays the events in order, from the instrument, restarted first, and a new client over this window, and hands back what
-/// they led to, and the client as the last event leaves it. A restart leaves the instrument's precision as it is.
+/// Plays the events in order, from a restarted instrument and a new client over this window, and hands back what they led
+/// to, and the client as the last event leaves it.
 ///
 /// The report is that of the world's run by ids, and it is faithful: the settlements stand one for one and in order for
 /// the requests sent; each answer that the client booked is a line that the instrument made on executing that very
@@ -29,7 +29,8 @@ use std::alloc::{AllocError, Global};
 /// events are. An event that isn't possible changes nothing and is counted.
 ///
 /// Each request acts once: the instrument executes each at most once, in order, whatever the line repeats. To a repeat it sends
-/// the reply that it keeps, which is made and not executed. A restart of the client restarts the instrument too.
+/// the reply that it keeps, which is made and not executed. A restart of the client restarts the instrument too. Every restart
+/// leaves the instrument's precision as it is, also the one before the first event.
 ///
 /// Either end stands behind an assembler and gets the lines that come out of it. Each of the two in the report stands for
 /// the bytes of the front line of its direction that have gone: so it is at the start where none have.
