@@ -6,7 +6,7 @@ ghost use Rattle.gc_lines.specs.Replies.{reply_seen};
 ghost use Rattle.gc_lines.specs.Readers.{reply_at};
 ghost use Rattle.gc_catalogue.specs.Calls.{IsFitting};
 ghost use Rattle.gc_catalogue.specs.Texts.{request_line};
-ghost use Rattle.gc_client.specs.Rule.{Windowed, fresh, sends, heard, hears, id_settled, deadlines, IsEarliest, expires, expiring, restarts};
+ghost use Rattle.gc_client.specs.Rule.{fresh, sends, heard, hears, id_settled, deadlines, IsEarliest, expires, expiring, restarts};
 ghost use Rattle.gc_client.specs.Places.{place_heard};
 ghost use Rattle.gc_client.specs.Settlements.{AreSettlements};
 ghost use Rattle.gc_client.specs.Hearing.{HearsAs, HearsInto, settlements_in};
