@@ -97,7 +97,8 @@ impl<W: Window> Client<W> {
         Client::with_width(window, WINDOW as u8)
     }
 
-    /// Makes a client as `new` does that lets so many requests wait: one where the instrument buffers one request.
+    /// Makes a client as `new` does, but one that lets so many requests wait. One is wise where the instrument buffers one
+    /// request, and seven where it takes them all.
     pub fn with_width(mut window: W, width: u8) -> Client<W>
         requires least { 1 ≤ width }
         requires most { width ≤ WINDOW }
