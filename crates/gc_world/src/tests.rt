@@ -52,14 +52,9 @@ fn told<W: Window>(alloc: Global, window: W, events: &[Event]) -> Result<String,
     tell_both(alloc, &report, &client)
 }
 
-// The same with this width.
-fn told_width<W: Window>(
-    alloc: Global,
-    window: W,
-    width: u8,
-    events: &[Event],
-) -> Result<String, AllocError> {
-    let (report, client) = play_width(alloc, Instrument::simulator(), window, width, events)?;
+// The same with one request at a time.
+fn told_one<W: Window>(alloc: Global, window: W, events: &[Event]) -> Result<String, AllocError> {
+    let (report, client) = play_width(alloc, Instrument::simulator(), window, 1, events)?;
     tell_both(alloc, &report, &client)
 }
 
@@ -454,9 +449,9 @@ fn width_one(rt: HostRuntime) -> Result<(), Fail> {
     ];
     let want =
         "0 1 answered %R1P,0,0:0 / sent 2 executed 1 made 1 settled 1 refused 1 idle 0; 1 wait, next 2";
-    let with_places = told_width(rt.alloc(), Slots::new(), 1, &events)?;
+    let with_places = told_one(rt.alloc(), Slots::new(), &events)?;
     assert_eq!(rt; with_places.as_str(), want);
-    let with_ring = told_width(rt.alloc(), Ring::new(rt.alloc())?, 1, &events)?;
+    let with_ring = told_one(rt.alloc(), Ring::new(rt.alloc())?, &events)?;
     assert_eq!(rt; with_ring.as_str(), want, "over a ring");
 
     // A restart of the client keeps its width.
@@ -467,7 +462,7 @@ fn width_one(rt: HostRuntime) -> Result<(), Fail> {
         Send(2, Call::NullProc, 9),
         Send(3, Call::NullProc, 9),
     ];
-    let restarted = told_width(rt.alloc(), Slots::new(), 1, &events)?;
+    let restarted = told_one(rt.alloc(), Slots::new(), &events)?;
     assert_eq!(rt;
         restarted.as_str(),
         "0 1 lost / sent 2 executed 0 made 0 settled 1 refused 1 idle 0; 1 wait, next 1"
