@@ -1,5 +1,5 @@
 -- No part of a promise: what the functions inside asking say of the bytes that a link gives.
-use Rattle.std.specs.Prelude.{◌≡◌, ℕ, ◌+◌, ◌<◌, ◌⊎◌, Bool, true, false, List, [], ◌∷◌, ◌++◌, length, Option, Some, None, Result, Ok, Err, take, drop, map}
+use Rattle.std.specs.Prelude.{◌≡◌, ℕ, ◌<◌, ◌⊎◌, Bool, true, false, List, [], ◌∷◌, ◌++◌, length, Option, Some, None, Result, Ok, Err, take, drop, map}
 use Rattle.std.specs.List.{filter_map}
 use Rattle.std.specs.Io.KnownBytes.{Appends}
 use Rattle.gc_lines.specs.Answering.{Ports}
@@ -8,7 +8,6 @@ use Rattle.gc_lines.specs.Frames.{line_in, rest_behind}
 use Rattle.gc_lines.specs.Passing.{frames_behind}
 use Rattle.gc_client.specs.declared.settlement.Settlement.{Settlement}
 use Rattle.gc_client.specs.Rule.{ById, heard, fits, hears}
-use Rattle.gc_client.specs.Rule
 use Rattle.gc_client.specs.Settlements.{AreSettlements, settlement_seen}
 use Rattle.gc_texts.specs.Settlements.{lines_from, ToldPart}
 use Rattle.gc_ask.specs.Asking.{first_reply, waiting_for, request_text, lost_of}

@@ -1,10 +1,10 @@
 -- A frame has one verdict, and a stream one list of their lines.
-use Rattle.std.proofs.Common.{◌≡◌, ℕ, List, [], ◌∷◌, ◌++◌, Result, Ok, Err, drop, slice_index, arith, refl, sym, ap, ◌∙◌, subst, codes}
+use Rattle.std.proofs.Common.{◌≡◌, ℕ, List, [], ◌∷◌, Result, Ok, Err, drop, slice_index, arith, refl, sym, ap, ◌∙◌, subst}
 use Rattle.gc_lines.specs.Faults.{fault_number}
 use Rattle.gc_lines.specs.Frames.{frames}
 use Rattle.gc_lines.specs.Readers.{request_at, reply_at}
-use Rattle.gc_lines.specs.Replies.{ReplyFields, IsReply, FirstBadOfReply, reply_signature}
-use Rattle.gc_lines.specs.Requests.{RequestFields, IsRequest, FirstBadOfRequest, request_signature}
+use Rattle.gc_lines.specs.Replies.{ReplyFields, IsReply}
+use Rattle.gc_lines.specs.Requests.{RequestFields, IsRequest}
 use Rattle.gc_lines.specs.declared.fault.LineFault.{LineFault}
 use Rattle.gc_lines.specs.declared.frame.Frame.{Frame}
 use Rattle.gc_lines.specs.declared.frame.Frame.TheVariants.{Line, Cleared, Overlong, More}
@@ -13,7 +13,7 @@ use Rattle.gc_lines.proofs.Replies.{reply_one, reply_again, reply_bad}
 use Rattle.gc_catalogue.proofs.CallLaws.{one_refusal, no_refusal}
 use Rattle.gc_catalogue.specs.declared.fault.CallFault.{CallFault}
 use Rattle.gc_console.specs.Laws.{OneVerdict}
-use Rattle.gc_console.specs.Verdicts.{IsRequestVerdict, reads, refuses, BeginsAsReply, IsLineVerdict, request, reply, no_reply, no_request, IsVerdict, AreVerdicts, AreLinesOf, AreVerdictLines, lines_from, refusal_number}
+use Rattle.gc_console.specs.Verdicts.{IsRequestVerdict, reads, refuses, BeginsAsReply, IsLineVerdict, request, reply, no_reply, no_request, IsVerdict, AreVerdicts, AreVerdictLines, lines_from, refusal_number}
 use Rattle.gc_console.specs.declared.verdict.Verdict.{Verdict}
 use Rattle.gc_console.specs.declared.verdict.Verdict.TheVariants as verdict
 

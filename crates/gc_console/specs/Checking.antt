@@ -4,7 +4,7 @@ use Rattle.std.specs.Io.KnownBytes.{Appends, Consumes}
 use Rattle.gc_lines.specs.Answering.{Ports, HasEnded, all_of}
 use Rattle.gc_lines.specs.Frames.{frames}
 use Rattle.gc_lines.specs.declared.frame.Frame.{Frame}
-use Rattle.gc_lines.specs.declared.frame.Frame.TheVariants.{Line, Cleared, Overlong, More}
+use Rattle.gc_lines.specs.declared.frame.Frame.TheVariants.{More}
 use Rattle.gc_lines.specs.declared.served.Served.{Served}
 use Rattle.gc_lines.specs.declared.served.ServeFault.{ServeFault}
 use Rattle.gc_lines.specs.declared.served.ServeFault.TheVariants.{Read, Write, TooManyReads}

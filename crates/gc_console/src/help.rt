@@ -53,7 +53,8 @@ pub(crate) const EVENTS: &str =
   expire M              the moment M is reached: requests whose deadline it is are given up
   restart client, restart instrument
 
-A settlement is the end of a request: a line with its place, its target, and `answered`, `late` or `lost`.
+A send is refused while as many requests wait as the width says. A settlement is the end of a request: a line with its place,
+its target, and `answered`, `late` or `lost`.
 
 Example:
   printf 'send 1 10 5003\\nup deliver\\ndown deliver\\n' | geocom drill

@@ -1,5 +1,4 @@
 use Rattle.std.proofs.Common.{refl, arith}
-use Rattle.gc_lines.specs.Answering.{Ports}
 use Rattle.gc_console.proofs.Checked.{checked, few_reads}
 use Rattle.gc_console.proofs.check.run_check.Goals as goal
 

@@ -1,4 +1,4 @@
-use Rattle.std.proofs.Common.{◌≡◌, ◌≢◌, List, ℕ, ap, refl}
+use Rattle.std.proofs.Common.{◌≢◌, List, ℕ, ap, refl}
 use Rattle.gc_lines.specs.Replies.{FirstBadOfReply}
 use Rattle.gc_lines.specs.declared.fault.LineFault.{LineFault}
 use Rattle.gc_lines.specs.declared.fault.LineFault.TheVariants as fault

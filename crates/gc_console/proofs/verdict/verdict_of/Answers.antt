@@ -1,4 +1,3 @@
-use Rattle.std.proofs.Common.{rules}
 use Rattle.gc_console.proofs.verdict.verdict_of.Goals as goal
 
 pub returns-in-Line : goal.returns-in-Line
