@@ -51,5 +51,5 @@ pub settles : (c : ById) (line : List ℕ) (fields : ReplyFields) (k : ℕ) → 
 settles c line fields k reads fit = ap (λ r. hears c line (id_in r)) reads ∙ hears_at c line fields.id k fit
 
 -- those that are left are no more than there were
-pub fewer : {A : Type 0} (k : ℕ) (ws : List A) (p : A) (left : List A) → drop k ws ≡ p ∷ left → length ws ≤ 7 → length left ≤ 7
-fewer k ws p left next few = let same = ap length next in omega (arith, same, length-drop k ws)
+pub fewer : {A : Type 0} (width k : ℕ) (ws : List A) (p : A) (left : List A) → drop k ws ≡ p ∷ left → length ws ≤ width → length left ≤ width
+fewer width k ws p left next few = let same = ap length next in omega (arith, same, length-drop k ws)

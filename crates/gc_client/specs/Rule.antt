@@ -6,7 +6,7 @@ use Rattle.gc_lines.specs.declared.fault.LineFault.{LineFault}
 use Rattle.gc_lines.specs.Replies.{ReplyFields}
 use Rattle.gc_lines.specs.Readers.{reply_at}
 use Rattle.gc_catalogue.specs.declared.call.Call.{Call}
-use Rattle.gc_client.specs.declared.window.TheConstants.{IDS}
+use Rattle.gc_client.specs.declared.window.TheConstants.{WINDOW, IDS}
 use Rattle.gc_client.specs.declared.pending.Pending.{Pending}
 
 -- how a request ended: a reply line met it, which is its bytes; one met it after it was given up; or none will
@@ -26,6 +26,11 @@ pub record ById : Type 0 where
   pub next : ℕ
   pub waiting : List Pending
 
+-- a client as its caller sees it: how many requests it lets wait, which never changes, and what it knows by ids
+pub record Windowed : Type 0 where
+  pub width : ℕ
+  pub ids : ById
+
 -- a send that was not refused: the id that its request line was written with, and the client behind it
 pub record Sending (Client : Type 0) : Type 0 where
   pub id : ℕ
@@ -39,6 +44,10 @@ pub record Settled (Client : Type 0) : Type 0 where
 -- a client at its start
 abbrev pub fresh : ById
 fresh = record { next = 0; waiting = [] }
+
+-- a window may be this wide: it lets one request wait at least, and at most one fewer than there are ids
+abbrev pub IsWidth : ℕ → Type 0
+IsWidth width = (1 ≤ width) × (width ≤ WINDOW)
 
 -- Pendings.
 

@@ -1,6 +1,6 @@
 //! The client: all that happens to the next id and to the requests that wait is the client's rule, this project's own.
 
-ghost use Rattle.std.specs.Prelude.{◌≡◌, ℕ, ◌+◌, ◌<◌, ◌≤◌, ◌↔◌, true, List, [], ◌∷◌, ◌++◌, length, Option, Some, None, Ok, Err, IfSome, IfOk, IfErr, OnOk, IsErr, MatchResult};
+ghost use Rattle.std.specs.Prelude.{◌≡◌, ℕ, ◌+◌, ◌<◌, ◌≤◌, ◌↔◌, true, List, [], ◌∷◌, ◌++◌, length, Option, Some, None, Ok, Err, IfSome, IfOk, IfErr, OnOk, IsOk, IsErr, MatchResult};
 ghost use Rattle.gc_lines.specs.Lines.{IsPlain};
 ghost use Rattle.gc_lines.specs.Replies.{reply_seen};
 ghost use Rattle.gc_lines.specs.Readers.{reply_at};
@@ -25,7 +25,7 @@ use std::error::Error;
 use std::fmt;
 use std::marker::Model;
 
-/// Seven requests wait, so no further one was sent.
+/// As many requests wait as the client's window is wide, so no further one was sent.
 #[derive(Clone, Copy, Debug, PartialEq, Eq)]
 pub struct WindowFull;
 
@@ -41,10 +41,10 @@ impl WindowFull {
 impl fmt::Display for WindowFull {
     ghost use Rattle.std.specs.Prelude.{Some, codes};
 
-    ghost output = { λ full. Some (codes "seven requests wait") };
+    ghost output = { λ full. Some (codes "as many requests wait as the window is wide") };
 
     fn fmt<W: fmt::Write>(&self, f: &mut fmt::Formatter<W>) -> fmt::Result {
-        f.write_str("seven requests wait")
+        f.write_str("as many requests wait as the window is wide")
     }
 }
 
@@ -53,10 +53,12 @@ impl Error for WindowFull {}
 /// A client over any window: it settles each request once, in the order of sending, on a connection that keeps its
 /// lines in order, however many of them it loses, delays or repeats in place.
 ///
+/// Its width is how many requests it lets wait, from one to seven; it is chosen once, and no call changes it.
+///
 /// The caller has a clock and a connection, and no call takes memory, also where it refuses a send or knows no request
 /// for a line:
 ///
-/// 1. `send` each request, and write its line, with CR LF, on the connection, while fewer than seven wait.
+/// 1. `send` each request, and write its line, with CR LF, on the connection, while fewer wait than the width.
 /// 2. Read, waiting until [`next_deadline`](Client::next_deadline) at most.
 /// 3. Hand the moment after the read to `expire`, on the clock that the deadlines are of, and then each line that came,
 ///    without its CR LF, to `on_line`: so a reply that came past its deadline is late. Go on at 1.
@@ -70,43 +72,94 @@ impl Error for WindowFull {}
 #[derive(Drop)]
 pub struct Client<W: Window> {
     window: W,
+    width: u8,
     next: u8,
 }
 
 impl<W: Window> Model for Client<W> {
     ghost use Rattle.std.specs.Prelude.{◌<◌, ◌≤◌, length};
-    ghost use Rattle.gc_client.specs.declared.window.TheConstants.{WINDOW, IDS};
-    ghost use Rattle.gc_client.specs.Rule.{ById};
+    ghost use Rattle.gc_client.specs.declared.window.TheConstants.{IDS};
+    ghost use Rattle.gc_client.specs.Rule.{Windowed, IsWidth};
 
-    ghost Value = { ById };
+    ghost Value = { Windowed };
 
-    ghost view = { λ c. record { next = c.next; waiting = W.pendings c.window } };
+    ghost view = { λ c. record { width = c.width; ids = record { next = c.next; waiting = W.pendings c.window } } };
 
-    ghost invariant = { λ c. (c.next < IDS) × (length (W.pendings c.window) ≤ WINDOW) };
+    ghost invariant = { λ c. (c.next < IDS) × (length (W.pendings c.window) ≤ c.width) × IsWidth c.width };
 }
 
 impl<W: Window> Client<W> {
-    /// Makes a client that has sent nothing, over this window, which it clears. The first id is 0.
-    pub fn new(mut window: W) -> Client<W>
-        ensures { result ≡ fresh }
+    /// Makes a client that has sent nothing, over this window, which it clears. The first id is 0, and seven requests can
+    /// wait.
+    pub fn new(window: W) -> Client<W>
+        ensures { result ≡ record { width = WINDOW; ids = fresh } }
+    {
+        Client::with_width(window, WINDOW as u8)
+    }
+
+    /// Makes a client as `new` does, but one that lets so many requests wait. One is wise where the instrument buffers one
+    /// request, and seven where it takes them all.
+    pub fn with_width(mut window: W, width: u8) -> Client<W>
+        requires least { 1 ≤ width }
+        requires most { width ≤ WINDOW }
+        ensures { result ≡ record { width = width; ids = fresh } }
     {
         window.clear();
-        Client { window, next: 0 }
+        Client::resume(window, width, 0)
+    }
+
+    /// Goes on from what another client left: its width, the id that comes next, and the requests that wait in this window.
+    pub fn resume(window: W, width: u8, next: u8) -> Client<W>
+        requires least { 1 ≤ width }
+        requires most { width ≤ WINDOW }
+        requires digit { next < IDS }
+        requires room { length (W.pendings window) ≤ width }
+        ensures { result ≡ record { width = width; ids = record { next = next; waiting = W.pendings window } } }
+    {
+        Client {
+            window,
+            width,
+            next,
+        }
+    }
+
+    /// Takes the client apart: the window with the requests that wait, the width, and the id that would come next.
+    /// `resume` makes it again of these.
+    pub fn into_parts(self) -> (W, u8, u8)
+        ensures waiting { W.pendings result.0 ≡ self.ids.waiting }
+        ensures width { result.1 ≡ self.width }
+        ensures next { result.2 ≡ self.ids.next }
+        ensures least { 1 ≤ result.1 }
+        ensures most { result.1 ≤ WINDOW }
+        ensures digit { result.2 < IDS }
+        ensures room { length (W.pendings result.0) ≤ result.1 }
+    {
+        (self.window, self.width, self.next)
     }
 
     // Getters.
 
+    /// How many requests it lets wait.
+    pub fn width(&self) -> u8
+        ensures width { result ≡ self.now.width }
+        ensures least { 1 ≤ result }
+        ensures most { result ≤ WINDOW }
+    {
+        self.width
+    }
+
     /// How many requests are not settled.
     pub fn waiting(&self) -> usize
-        ensures waiting { result ≡ length self.now.waiting }
-        ensures within { result ≤ WINDOW }
+        ensures waiting { result ≡ length self.now.ids.waiting }
+        ensures within { result ≤ self.now.width }
+        ensures most { result ≤ WINDOW }
     {
         self.window.len()
     }
 
     /// The id that the next request will have.
     pub fn next_id(&self) -> u8
-        ensures next { result ≡ self.now.next }
+        ensures next { result ≡ self.now.ids.next }
         ensures digit { result < IDS }
     {
         self.next
@@ -114,7 +167,7 @@ impl<W: Window> Client<W> {
 
     /// The earliest deadline of the requests that wait and aren't given up: how long to wait for a line.
     pub fn next_deadline(&self) -> Option<u64>
-        ensures { IsEarliest (deadlines self.now.waiting) result }
+        ensures { IsEarliest (deadlines self.now.ids.waiting) result }
     {
         let mut earliest = None;
         for k in 0..self.window.len() {
@@ -134,10 +187,10 @@ impl<W: Window> Client<W> {
     /// it is late where it was given up, and else answered. A reply that no request waits for is a stray, also where it
     /// has no id; a line that is no reply is unread. After both the client is unchanged.
     pub fn on_line(&mut self, line: &Line) -> Heard
-        ensures heard { HearsAs self.old line.now.items result self.new }
+        ensures heard { HearsAs self.old.ids line.now.items result self.new.ids }
         ensures settled { AreSettlements (settlements_in result)
-            (hears self.old line.now.items (heard line.now.items)).settlements }
-        ensures client { self.new ≡ (hears self.old line.now.items (heard line.now.items)).client }
+            (hears self.old.ids line.now.items (heard line.now.items)).settlements }
+        ensures client { self.new ≡ record self.old { ids = (hears self.old.ids line.now.items (heard line.now.items)).client } }
     {
         let mut settled = ArrayVec::new();
         match self.hear(line.as_slice(), &mut settled) {
@@ -153,10 +206,11 @@ impl<W: Window> Client<W> {
     /// Its places are written over, so one list that is kept for all lines costs least.
     /// More than 512 bytes are no line, so they are unread, by `LineFault::TooLong`.
     pub fn hear(&mut self, line: &[u8], settled: &mut ArrayVec<Settlement, WINDOW>) -> Hearing
-        ensures heard { length line.now ≤ 512 → HearsInto self.old line.now result settled.new.items self.new }
+        ensures heard { length line.now ≤ 512 → HearsInto self.old.ids line.now result settled.new.items self.new.ids }
         ensures settled { length line.now ≤ 512
-            → AreSettlements settled.new.items (hears self.old line.now (heard line.now)).settlements }
-        ensures client { length line.now ≤ 512 → self.new ≡ (hears self.old line.now (heard line.now)).client }
+            → AreSettlements settled.new.items (hears self.old.ids line.now (heard line.now)).settlements }
+        ensures client { length line.now ≤ 512
+            → self.new ≡ record self.old { ids = (hears self.old.ids line.now (heard line.now)).client } }
         ensures overlong { 512 < length line.now
             → (result ≡ Unread TooLong) × (settled.new.items ≡ []) × (self.new ≡ self.old) }
     {
@@ -178,9 +232,9 @@ impl<W: Window> Client<W> {
     /// A request that was given up goes on waiting, and a reply that comes for it settles it as late. The moment may
     /// lie before an earlier one; nothing is taken back then.
     pub fn expire(&mut self, now: u64) -> ArrayVec<u32, WINDOW>
-        ensures targets { result.items ≡ expiring now self.old.waiting }
-        ensures client { self.new ≡ expires self.old now }
-        ensures waiting { length self.new.waiting ≡ length self.old.waiting }
+        ensures targets { result.items ≡ expiring now self.old.ids.waiting }
+        ensures client { self.new ≡ record self.old { ids = expires self.old.ids now } }
+        ensures waiting { length self.new.ids.waiting ≡ length self.old.ids.waiting }
     {
         let mut targets = ArrayVec::new();
         for k in 0..self.window.len() {
@@ -198,13 +252,16 @@ impl<W: Window> Client<W> {
     /// Sends a request to be answered before the deadline, and gives its line, without CR LF. The target comes back with
     /// the settlement.
     ///
-    /// It is refused exactly where seven requests wait, those that were given up included, and then changes nothing.
+    /// It is refused exactly where as many requests wait as the window is wide, those that were given up included, and
+    /// then changes nothing.
     pub fn send(&mut self, target: u32, call: Call, deadline: u64) -> Result<Line, WindowFull>
-        ensures rule { let ruled = sends WINDOW self.old target call deadline in MatchResult result
-            (λ line. (ruled ≡ Some (record { id = self.old.next; client = self.new }))
-            × (line.items ≡ request_line (Some self.old.next) call))
+        ensures rule { let ruled = sends self.old.width self.old.ids target call deadline in MatchResult result
+            (λ line. (ruled ≡ Some (record { id = self.old.ids.next; client = self.new.ids }))
+            × (line.items ≡ request_line (Some self.old.ids.next) call))
             (λ _. (ruled ≡ None) × (self.new ≡ self.old)) }
-        ensures full { IsErr result ↔ (length self.old.waiting ≡ WINDOW) }
+        ensures full { IsErr result ↔ (length self.old.ids.waiting ≡ self.old.width) }
+        ensures first { self.old.ids.waiting ≡ [] → IsOk result }
+        ensures width { self.new.width ≡ self.old.width }
         ensures plain { IfOk result (λ line. IsPlain line.items) }
         ensures fitting { OnOk result (IsFitting call) }
     {
@@ -223,15 +280,17 @@ impl<W: Window> Client<W> {
         deadline: u64,
         line: &mut Line,
     ) -> Result<(), WindowFull>
-        ensures rule { let ruled = sends WINDOW self.old target call.now deadline in MatchResult result
-            (λ _. (ruled ≡ Some (record { id = self.old.next; client = self.new }))
-            × (line.new.items ≡ request_line (Some self.old.next) call.now))
+        ensures rule { let ruled = sends self.old.width self.old.ids target call.now deadline in MatchResult result
+            (λ _. (ruled ≡ Some (record { id = self.old.ids.next; client = self.new.ids }))
+            × (line.new.items ≡ request_line (Some self.old.ids.next) call.now))
             (λ _. (ruled ≡ None) × (self.new ≡ self.old) × (line.new.items ≡ line.old.items)) }
-        ensures full { IsErr result ↔ (length self.old.waiting ≡ WINDOW) }
+        ensures full { IsErr result ↔ (length self.old.ids.waiting ≡ self.old.width) }
+        ensures first { self.old.ids.waiting ≡ [] → IsOk result }
+        ensures width { self.new.width ≡ self.old.width }
         ensures plain { OnOk result (IsPlain line.new.items) }
         ensures fitting { OnOk result (IsFitting call.now) }
     {
-        if self.window.len() == WINDOW {
+        if self.window.len() == usize::from(self.width) {
             return Err(WindowFull);
         }
         line.clear();
@@ -246,14 +305,14 @@ impl<W: Window> Client<W> {
         Ok(())
     }
 
-    /// Settles all that wait as lost, in order, and begins anew at id 0.
+    /// Settles all that wait as lost, in order, and begins anew at id 0, with the same width.
     ///
     /// The caller vouches that no line is under way in either direction, and that the instrument restarts too: one that
     /// still kept the reply to its last request would take a new request with that id for a repeat, and not act on it. An
     /// operator closes the connection, switches the instrument off and on, and opens the connection anew.
     pub fn restart(&mut self) -> ArrayVec<Settlement, WINDOW>
-        ensures settled { AreSettlements result.items (restarts self.old).settlements }
-        ensures client { self.new ≡ (restarts self.old).client }
+        ensures settled { AreSettlements result.items (restarts self.old.ids).settlements }
+        ensures client { self.new ≡ record self.old { ids = (restarts self.old.ids).client } }
     {
         let mut settled = ArrayVec::new();
         let count = self.window.len();
@@ -267,15 +326,15 @@ impl<W: Window> Client<W> {
     #[inline]
     fn aim<'a>(&self, line: &'a [u8]) -> Result<(usize, Reply<'a>), Hearing>
         ensures reads { IfOk result (λ aim. reply_at line.now ≡ Ok (reply_seen aim.1)) }
-        ensures place { IfOk result (λ aim. place_heard self.now.next (length self.now.waiting) aim.1.id ≡ Some aim.0) }
-        ensures waits { IfOk result (λ aim. aim.0 < length self.now.waiting) }
+        ensures place { IfOk result (λ aim. place_heard self.now.ids.next (length self.now.ids.waiting) aim.1.id ≡ Some aim.0) }
+        ensures waits { IfOk result (λ aim. aim.0 < length self.now.ids.waiting) }
         ensures narrow { IfOk result (λ aim. aim.0 < WINDOW) }
         ensures short { IfOk result (λ _. length line.now ≤ 512) }
-        ensures none { IfErr result (λ hearing. length line.now ≤ 512 → HearsInto self.now line.now hearing [] self.now) }
+        ensures none { IfErr result (λ hearing. length line.now ≤ 512 → HearsInto self.now.ids line.now hearing [] self.now.ids) }
         ensures settled { IfErr result (λ _. length line.now ≤ 512
-            → (hears self.now line.now (heard line.now)).settlements ≡ []) }
+            → (hears self.now.ids line.now (heard line.now)).settlements ≡ []) }
         ensures client { IfErr result (λ _. length line.now ≤ 512
-            → (hears self.now line.now (heard line.now)).client ≡ self.now) }
+            → (hears self.now.ids line.now (heard line.now)).client ≡ self.now.ids) }
         ensures overlong { 512 < length line.now → result ≡ Err (Unread TooLong) }
     {
         if line.len() > 512 {
@@ -302,10 +361,10 @@ impl<W: Window> Client<W> {
     )
         requires reads { reply_at line.now ≡ Ok (reply_seen reply.now) }
         requires short { length line.now ≤ 512 }
-        requires waits { k < length self.old.waiting }
+        requires waits { k < length self.old.ids.waiting }
         requires narrow { k < WINDOW }
-        ensures settled { AreSettlements settled.new.items (id_settled self.old line.now k true).settlements }
-        ensures client { self.new ≡ (id_settled self.old line.now k true).client }
+        ensures settled { AreSettlements settled.new.items (id_settled self.old.ids line.now k true).settlements }
+        ensures client { self.new ≡ record self.old { ids = (id_settled self.old.ids line.now k true).client } }
     {
         make_places(settled, k + 1);
         lose(&mut self.window, k, settled);

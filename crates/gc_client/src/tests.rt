@@ -93,11 +93,10 @@ fn follow<W: Window>(
     rt: &impl Abort,
     alloc: Global,
     name: &str,
-    window: W,
+    mut client: Client<W>,
     call: Call,
     steps: &[(Step, &str)],
 ) -> Result<(), AllocError> {
-    let mut client = Client::new(window);
     for (step, want) in steps {
         let got = told(alloc, &mut client, call, *step)?;
         assert_eq!(rt; got.as_str(), *want, "{name}");
@@ -113,8 +112,8 @@ fn follow_both(
     call: Call,
     steps: &[(Step, &str)],
 ) -> Result<(), AllocError> {
-    follow(rt, alloc, name, Ring::new(alloc)?, call, steps)?;
-    follow(rt, alloc, name, Slots::new(), call, steps)
+    follow(rt, alloc, name, Client::new(Ring::new(alloc)?), call, steps)?;
+    follow(rt, alloc, name, Client::new(Slots::new()), call, steps)
 }
 
 #[test]
@@ -151,7 +150,7 @@ fn seven_waiting(rt: HostRuntime) -> Result<(), Fail> {
         (Send(7, 9), "%R1Q,0,6:; 7 wait, next 7"),
         (
             Send(8, 9),
-            "refused 31, seven requests wait; 7 wait, next 7",
+            "refused 31, as many requests wait as the window is wide; 7 wait, next 7",
         ),
         (
             Hear("%R1P,0,2:0"),
@@ -160,6 +159,67 @@ fn seven_waiting(rt: HostRuntime) -> Result<(), Fail> {
         (Send(9, 9), "%R1Q,0,7:; 5 wait, next 0"),
     ];
     follow_both(&rt, rt.alloc(), "seven waiting", Call::NullProc, &steps)?;
+    Ok(())
+}
+
+// A narrower window refuses at its own width, and keeps it through a restart.
+#[test]
+fn two_waiting(rt: HostRuntime) -> Result<(), Fail> {
+    let full = "refused 31, as many requests wait as the window is wide; 2 wait, next 2";
+    let steps = [
+        (Send(1, 9), "%R1Q,0,0:; 1 wait, next 1"),
+        (Send(2, 9), "%R1Q,0,1:; 2 wait, next 2"),
+        (Send(3, 9), full),
+        (Restart, "1 lost, 2 lost, ; 0 wait, next 0"),
+        (Send(4, 9), "%R1Q,0,0:; 1 wait, next 1"),
+        (Send(5, 9), "%R1Q,0,1:; 2 wait, next 2"),
+        (Send(6, 9), full),
+        (
+            Hear("%R1P,0,1:0"),
+            "4 lost, 5 Value(Nothing) %R1P,0,1:0, ; 0 wait, next 2",
+        ),
+    ];
+    let ring = Client::with_width(Ring::new(rt.alloc())?, 2);
+    follow(&rt, rt.alloc(), "two waiting", ring, Call::NullProc, &steps)?;
+    let slots = Client::with_width(Slots::new(), 2);
+    follow(
+        &rt,
+        rt.alloc(),
+        "two waiting",
+        slots,
+        Call::NullProc,
+        &steps,
+    )?;
+    Ok(())
+}
+
+// A client that is made again of another's parts goes on as that one would have.
+#[test]
+fn taken_apart_and_resumed(rt: HostRuntime) -> Result<(), Fail> {
+    let mut first = Client::with_width(Slots::new(), 1);
+    assert!(rt; first.send(1, Call::NullProc, 9).is_ok());
+    let (window, width, next) = first.into_parts();
+    assert_eq!(rt; (width, next), (1, 1));
+    let resumed = Client::resume(window, width, next);
+    assert_eq!(rt; resumed.width(), 1);
+    let steps = [
+        (
+            Send(2, 9),
+            "refused 31, as many requests wait as the window is wide; 1 wait, next 1",
+        ),
+        (
+            Hear("%R1P,0,0:0"),
+            "1 Value(Nothing) %R1P,0,0:0, ; 0 wait, next 1",
+        ),
+    ];
+    follow(
+        &rt,
+        rt.alloc(),
+        "taken apart and resumed",
+        resumed,
+        Call::NullProc,
+        &steps,
+    )?;
     Ok(())
 }
 

@@ -5,7 +5,7 @@ ghost use Rattle.gc_client.specs.Rule.{given_up_at};
 
 use crate::pending::Pending;
 
-/// How many requests can wait: the width of the window.
+/// How many requests can wait at most: the width of the widest window.
 pub const WINDOW: usize = 7;
 
 /// How many ids there are: one digit from 0 on, one more than can wait.

@@ -4,12 +4,13 @@
 mod check;
 mod drill;
 mod exec;
+mod help;
 pub mod laws;
 mod program;
 mod verdict;
 
 pub use check::run_check;
-pub use drill::run_drill;
+pub use drill::{run_drill, run_drill_width};
 pub use exec::run_exec;
 pub use gc_ask::{MOST_CONNECTIONS, ask_tcp, loop_tcp, run_ask, run_loop, serve_tcp};
 pub use gc_instrument::{ServeFault, Served, serve};

@@ -10,7 +10,7 @@ loop-k-preserved g c =
     let now = c.args.now in
     let k = c.loop-k.k in
     let p = c.get-p.result in
-    let ws = c.args.self.now.waiting in
+    let ws = c.args.self.now.ids.waiting in
     let before = c.loop-k.invariant in
     elim c.if-p-now.branch [
       | then-p-now+then-not-p w ↦
@@ -20,6 +20,7 @@ loop-k-preserved g c =
             told = ap (λ t. t.items) w.targets-is ∙ w.push.ensures.items ∙ due_told now k ws _ p before.done c.get-p.ensures _ before.told due;
             count = let len = ap (λ t. length t.items) w.targets-is in omega (arith, len, w.push.ensures.len, before.count);
             next = ap (λ s. s.next) w.self-inside-is ∙ before.next;
+            width = ap (λ s. s.width) w.self-inside-is ∙ before.width;
           }
       | else-p-now w ↦
           let kept : is_expiring now p ≡ false = elim w.else-p-now.branch [
@@ -31,5 +32,6 @@ loop-k-preserved g c =
             told = ap (λ t. t.items) w.targets-is ∙ not_due_told now k ws _ p before.done c.get-p.ensures _ before.told kept;
             count = let len = ap (λ t. length t.items) w.targets-is in omega (arith, len, before.count);
             next = ap (λ s. s.next) w.self-inside-is ∙ before.next;
+            width = ap (λ s. s.width) w.self-inside-is ∙ before.width;
           }
     ]

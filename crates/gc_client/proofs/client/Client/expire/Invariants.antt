@@ -8,8 +8,9 @@ abbrev pub invariant-loop-k : goal.invariant-loop-k
 invariant-loop-k g l =
     let pendings = g.W.Window.pendings in
     record {
-      done : pendings l.self-inside.window ≡ partly l.now l.k l.fn.self.waiting;
-      told : l.targets.items ≡ expiring l.now (take l.k l.fn.self.waiting);
+      done : pendings l.self-inside.window ≡ partly l.now l.k l.fn.self.ids.waiting;
+      told : l.targets.items ≡ expiring l.now (take l.k l.fn.self.ids.waiting);
       count : length l.targets.items ≤ l.k;
-      next : l.self-inside.next ≡ l.fn.self.next;
+      next : l.self-inside.next ≡ l.fn.self.ids.next;
+      width : l.self-inside.width ≡ l.fn.self.width;
     }

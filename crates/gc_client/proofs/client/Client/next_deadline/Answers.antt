@@ -8,10 +8,10 @@ use Rattle.gc_client.proofs.client.Client.next_deadline.Goals.{then-not-pending,
 
 pub loop-k-preserved : goal.loop-k-preserved
 loop-k-preserved g c =
-    let ws = c.args.self.now.waiting in
+    let ws = c.args.self.now.ids.waiting in
     let k = c.loop-k.k in
     let p = c.get-pending.result in
-    let here : slice_get ws k ≡ Some p = ap (λ d. slice_get d.waiting k) (sym c.self.view_is) ∙ c.get-pending.ensures in
+    let here : slice_get ws k ≡ Some p = ap (λ d. slice_get d.ids.waiting k) (sym c.self.view_is) ∙ c.get-pending.ensures in
     elim c.if-not-pending.branch [
       | then-not-pending w ↦ subst (λ o. IsEarliest (deadlines (take (k + 1) ws)) o) (sym w.earliest-is) (subst (λ ds. IsEarliest ds (Some w.earlier.result)) (sym (one_more_deadline k ws p here w.if-not-pending.true)) (w.earlier.ensures (deadlines (take k ws)) c.loop-k.invariant))
       | else-not-pending w ↦ subst (λ o. IsEarliest (deadlines (take (k + 1) ws)) o) (sym w.earliest-is) (subst (λ ds. IsEarliest ds c.loop-k.earliest) (sym (same_deadlines k ws p here w.if-not-pending.false)) c.loop-k.invariant)
@@ -19,6 +19,6 @@ loop-k-preserved g c =
 
 pub returns : goal.returns
 returns g c =
-    let ws = c.args.self.now.waiting in
-    let n = ap (λ d. length d.waiting) c.self.view_is in
+    let ws = c.args.self.now.ids.waiting in
+    let n = ap (λ d. length d.ids.waiting) c.self.view_is in
     subst (λ ds. IsEarliest (deadlines ds) c.loop-k.earliest) (take_all c.loop-k.k ws (omega (arith, n, c.len-k-end.ensures.len, c.loop-k-test.false))) c.loop-k.invariant

@@ -4,4 +4,4 @@ use Rattle.gc_client.proofs.client.Client.next_deadline.Given as goal
 
 -- the earliest of the first k
 abbrev pub invariant-loop-k : goal.invariant-loop-k
-invariant-loop-k g l = IsEarliest (deadlines (take l.k l.self.waiting)) l.earliest
+invariant-loop-k g l = IsEarliest (deadlines (take l.k l.self.ids.waiting)) l.earliest
