@@ -1,0 +1,12 @@
+//! A station: commands sent over a link with deadlines, cycle after cycle, and each request's end written down.
+#![tactic(auto)]
+
+mod book;
+mod command;
+mod link;
+mod plan;
+
+pub use book::{Book, Stamp};
+pub use command::Command;
+pub use link::{Came, Link, Moment};
+pub use plan::Plan;
