@@ -1,2 +1,4 @@
 pub mod Acts
 pub mod Records
+pub mod Deciding
+pub mod Progressing

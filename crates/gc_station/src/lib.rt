@@ -5,8 +5,11 @@ mod book;
 mod command;
 mod link;
 mod plan;
+mod progress;
+mod progressing;
 
 pub use book::{Book, Stamp};
 pub use command::Command;
 pub use link::{Came, Link, Moment};
 pub use plan::Plan;
+pub use progress::{Cause, Order, Phase, Progress};
