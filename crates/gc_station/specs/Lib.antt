@@ -2,3 +2,5 @@ pub mod Acts
 pub mod Records
 pub mod Deciding
 pub mod Progressing
+pub mod Standing
+pub mod Tallies
