@@ -45,15 +45,15 @@ order_done plan p = if nat_eq p.left 0 then Close Done else if is_due plan p the
 abbrev pub order_sent : Plan → Progress → ℕ → Bool → Order
 order_sent plan p waiting hopeless = if nat_eq waiting 0 then order_done plan p else order_waiting plan p hopeless
 
--- a command of the cycle is to be sent
-abbrev pub order_unsent : Plan → Progress → ℕ → Bool → Order
-order_unsent plan p waiting hopeless = if nat_lt waiting (width_of plan) then Send else order_waiting plan p hopeless
+-- a request is to be sent, as soon as the window has room
+abbrev pub order_room : Plan → Progress → ℕ → Bool → Order → Order
+order_room plan p waiting hopeless order = if nat_lt waiting (width_of plan) then order else order_waiting plan p hopeless
 
 -- requests go out where none waits but commands
 abbrev pub order_ready : Plan → Progress → ℕ → Bool → Order
 order_ready plan p waiting hopeless =
     if p.probe then order_waiting plan p hopeless
-    else if nat_lt 0 p.unsent then order_unsent plan p waiting hopeless
+    else if nat_lt 0 p.unsent then order_room plan p waiting hopeless Send
     else order_sent plan p waiting hopeless
 
 -- with turns left, and a moment that was told after all that was done
@@ -62,7 +62,7 @@ order_told plan phase.Down p waiting hopeless = Open
 order_told plan phase.Resting p waiting hopeless = Read
 order_told plan phase.Clearing p waiting hopeless = Clear
 order_told plan phase.Draining p waiting hopeless = Read
-order_told plan phase.Probing p waiting hopeless = Probe
+order_told plan phase.Probing p waiting hopeless = order_room plan p waiting hopeless Probe
 order_told plan phase.Ready p waiting hopeless = order_ready plan p waiting hopeless
 order_told plan (phase.Closing cause) p waiting hopeless = Close cause
 order_told plan (phase.Over cause) p waiting hopeless = Stop cause

@@ -4,3 +4,4 @@ pub mod Deciding
 pub mod Progressing
 pub mod Standing
 pub mod Tallies
+pub mod Stations

@@ -1,7 +1,7 @@
 //! Progress: how far a station is, and what it does next. All decisions are made here, by looking at nothing else.
 
 ghost use Rattle.std.specs.Prelude.{◌≡◌};
-ghost use Rattle.gc_station.specs.Deciding.{width_of, is_up, is_quiet, is_due, order_of, order_on, order_ready, order_done, order_waiting};
+ghost use Rattle.gc_station.specs.Deciding.{width_of, is_up, is_quiet, is_due, order_of, order_on, order_ready, order_room, order_done, order_waiting};
 ghost use Rattle.gc_station.specs.Progressing.{at_start};
 
 use crate::link::Moment;
@@ -193,7 +193,7 @@ impl Progress {
             Phase::Resting => Order::Read,
             Phase::Clearing => Order::Clear,
             Phase::Draining => Order::Read,
-            Phase::Probing => Order::Probe,
+            Phase::Probing => self.order_room(plan, waiting, hopeless, Order::Probe),
             Phase::Ready => self.order_ready(plan, waiting, hopeless),
             Phase::Closing(cause) => Order::Close(cause),
             Phase::Over(cause) => Order::Stop(cause),
@@ -207,13 +207,20 @@ impl Progress {
             return self.order_waiting(plan, hopeless);
         }
         if self.unsent > 0 {
-            if waiting < usize::from(width(plan)) {
-                Order::Send
-            } else {
-                self.order_waiting(plan, hopeless)
-            }
+            self.order_room(plan, waiting, hopeless, Order::Send)
         } else if waiting == 0 {
             self.order_done(plan)
+        } else {
+            self.order_waiting(plan, hopeless)
+        }
+    }
+
+    // A request is to be sent, as soon as the window has room.
+    fn order_room(&self, plan: &Plan, waiting: usize, hopeless: bool, order: Order) -> Order
+        ensures { result ≡ order_room plan.now self.now waiting hopeless order }
+    {
+        if waiting < usize::from(width(plan)) {
+            order
         } else {
             self.order_waiting(plan, hopeless)
         }
