@@ -1,2 +1,3 @@
+mod Hearing
 mod Orders
 mod Records
