@@ -11,13 +11,15 @@ use Rattle.gc_lines.specs.declared.frame.Frame.{Frame}
 use Rattle.gc_lines.specs.declared.frame.Frame.TheVariants.{Line, Cleared, Overlong, More}
 use Rattle.gc_lines.proofs.Passing.{Takes}
 use Rattle.gc_client.specs.Rule.{ById, Settlement, hears, heard}
+use Rattle.gc_station.specs.Acts.{Act, Gave, Tells}
+use Rattle.gc_station.specs.declared.link.Moment.{Moment}
 use Rattle.gc_station.specs.declared.command.Command.{Command}
 use Rattle.gc_station.specs.declared.plan.Plan.{Plan}
 use Rattle.gc_station.specs.declared.progress.Progress.{Progress}
 use Rattle.gc_station.specs.declared.station.Station.{Station}
 use Rattle.gc_station.specs.Records.{Record, records_from, texts_of, WritesPart, WritesAll}
-use Rattle.gc_station.specs.Standing.{Standing, place_next, line_came, lines_came, lines_behind, with_rest, with_client, with_settled, piece_came}
-use Rattle.gc_station.specs.Stations.{Stands, Follows}
+use Rattle.gc_station.specs.Standing.{Standing, place_next, line_came, lines_came, lines_behind, with_rest, with_client, with_settled, piece_came, piece_at, Obeys, moved}
+use Rattle.gc_station.specs.Stations.{Stands, Follows, read_order}
 use Rattle.gc_station.specs.Tallies.{none_yet, tallied}
 use Rattle.gc_station.proofs.Records.{tallied-append}
 
@@ -139,12 +141,12 @@ pub record Between (old mid : Station) (ids : ById) : Type 0 where
   pub tally : mid.tally ≡ old.tally
 
 -- settlements were written down, and the station went on with these ids
-pub settles : {X E : Type 0} (plan : Plan) (commands : List Command) (text : Record → List ℕ) (old mid new : Station) (s : Standing) (ids : ById) (xs ys : List Settlement) (utc cycle place : ℕ) (start taken taken' : Option (List ℕ)) (result : Result X E)
+pub settles_ok : (plan : Plan) (commands : List Command) (text : Record → List ℕ) (old mid new : Station) (s : Standing) (ids : ById) (xs ys : List Settlement) (utc cycle place : ℕ) (start taken' : Option (List ℕ))
     → Stands plan old s → Between old mid ids → utc ≡ old.progress.moment.utc → cycle ≡ plan.cycles - old.progress.left → place ≡ place_next commands old.progress - length old.client.ids.waiting → xs ≡ ys
-    → WritesAll text (s.records ++ (if mid.progress.probe then [] else records_from utc cycle place xs)) start taken' result
-    → OnOk result (new ≡ record mid { tally = tallied mid.tally (if mid.progress.probe then [] else records_from utc cycle place xs) })
-    → Follows plan text new start taken' (with_client ids (with_settled plan commands ys s)) result
-settles plan commands text old mid new s ids xs ys utc cycle place start taken taken' (Ok x) stands between eu ey el ex wrote is =
+    → Appends start taken' (texts_of text (s.records ++ (if mid.progress.probe then [] else records_from utc cycle place xs)))
+    → new ≡ record mid { tally = tallied mid.tally (if mid.progress.probe then [] else records_from utc cycle place xs) }
+    → Stands plan new (with_client ids (with_settled plan commands ys s)) × Appends start taken' (texts_of text (with_settled plan commands ys s).records)
+settles_ok plan commands text old mid new s ids xs ys utc cycle place start taken' stands between eu ey el ex wrote is =
     let added : List Record = if mid.progress.probe then [] else records_from utc cycle place xs in
     let same = records_same plan commands old.progress s.progress old.client.ids s.client utc cycle place xs ys stands.progress stands.ids eu ey el ex in
     let probe : added ≡ (if old.progress.probe then [] else records_from utc cycle place xs) = ap (λ (p : Progress). if p.probe then [] else records_from utc cycle place xs) between.progress in
@@ -158,7 +160,30 @@ settles plan commands text old mid new s ids xs ys utc cycle place start taken t
       },
       subst (λ (rs : List Record). Appends start taken' (texts_of text (s.records ++ rs))) records wrote,
     )
-settles plan commands text old mid new s ids xs ys utc cycle place start taken taken' (Err e) stands between eu ey el ex wrote is =
+
+-- they were written down, or the book failed
+pub settles : {X E : Type 0} (plan : Plan) (commands : List Command) (text : Record → List ℕ) (old mid new : Station) (s : Standing) (ids : ById) (xs ys : List Settlement) (utc cycle place : ℕ) (start taken' : Option (List ℕ)) (result : Result X E)
+    → Stands plan old s → Between old mid ids → utc ≡ old.progress.moment.utc → cycle ≡ plan.cycles - old.progress.left → place ≡ place_next commands old.progress - length old.client.ids.waiting → xs ≡ ys
+    → WritesAll text (s.records ++ (if mid.progress.probe then [] else records_from utc cycle place xs)) start taken' result
+    → OnOk result (new ≡ record mid { tally = tallied mid.tally (if mid.progress.probe then [] else records_from utc cycle place xs) })
+    → Follows plan text new start taken' (with_client ids (with_settled plan commands ys s)) result
+settles plan commands text old mid new s ids xs ys utc cycle place start taken' (Ok x) stands between eu ey el ex wrote is =
+    settles_ok plan commands text old mid new s ids xs ys utc cycle place start taken' stands between eu ey el ex wrote is
+settles plan commands text old mid new s ids xs ys utc cycle place start taken' (Err e) stands between eu ey el ex wrote is =
     let same = records_same plan commands old.progress s.progress old.client.ids s.client utc cycle place xs ys stands.progress stands.ids eu ey el ex in
     let probe = ap (λ (p : Progress). if p.probe then [] else records_from utc cycle place xs) between.progress in
     subst (λ (rs : List Record). WritesPart text (s.records ++ rs) start taken') (probe ∙ same) wrote
+
+-- the book failed at a piece
+pub gave_part : (plan : Plan) (commands : List Command) (text : Record → List ℕ) (rested : Bool) (bytes : List ℕ) (m : Moment) (s : Standing) (start taken' : Option (List ℕ))
+    → WritesPart text (piece_at plan commands rested bytes m s).records start taken'
+    → Obeys commands s (read_order rested) (Gave bytes m) × WritesPart text (moved plan commands (read_order rested) s (Gave bytes m)).records start taken'
+gave_part plan commands text true bytes m s start taken' w = (tt, w)
+gave_part plan commands text false bytes m s start taken' w = (tt, w)
+
+-- acts, and then more
+pub tells_more : (a b c : Option (List Act)) (xs ys : List Act) → Tells a b xs → Tells b c ys → Tells a c (xs ++ ys)
+tells_more None b c xs ys p q = tt
+tells_more (Some a) None c xs ys p q = absurd p
+tells_more (Some a) (Some b) None xs ys p q = absurd q
+tells_more (Some a) (Some b) (Some c) xs ys p q = q ∙ ap (λ zs. zs ++ ys) p ∙ append_assoc a xs ys

@@ -11,7 +11,7 @@ returns-clause-hears g c s start stands so =
     let seen = ap (λ ids. hears ids line (heard line)) stands.ids in
     let client = c.hear.ensures.client short in
     rw c.in-Line.is (settles c.args.plan.now c.args.commands.now g.B.Book.text c.args.self.now _ c.write.new.self s x.client _ x.settlements
-    c.stamp-first.result.utc c.stamp-first.result.cycle c.stamp-first.result.place start (g.B.Book.taken c.args.book.now) (g.B.Book.taken c.write.new.book) c.write.result
+    c.stamp-first.result.utc c.stamp-first.result.cycle c.stamp-first.result.place start (g.B.Book.taken c.write.new.book) c.write.result
     stands
     (record { ids_are = ap (λ w. w.ids) client ∙ ap (λ y. y.client) seen; width = ap (λ w. w.width) client; assembler = refl; progress = refl; tally = refl })
     c.stamp-first.ensures.utc c.stamp-first.ensures.cycle c.stamp-first.ensures.place
