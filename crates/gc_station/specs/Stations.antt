@@ -13,6 +13,7 @@ use Rattle.gc_station.specs.Acts.{Act, Closed, Tells}
 use Rattle.gc_station.specs.Deciding.{width_of}
 use Rattle.gc_station.specs.Progressing.{failing}
 use Rattle.gc_station.specs.Records.{Record, texts_of, WritesPart}
+use Rattle.gc_station.specs.Runs.{closing}
 use Rattle.gc_station.specs.Standing.{Standing, Obeys, moved}
 use Rattle.gc_station.specs.Tallies.{none_yet, tallied}
 
@@ -46,11 +47,6 @@ HasRoom plan p waiting _ = Unit {0}
 abbrev pub Follows : {X E : Type 0} → Plan → (Record → List ℕ) → Station → Option (List ℕ) → Option (List ℕ) → Standing → Result X E → Type 0
 Follows plan text station start taken s (Ok _) = Stands plan station s × Appends start taken (texts_of text s.records)
 Follows plan text station start taken s (Err _) = WritesPart text s.records start taken
-
--- what closes the connection where the book failed at an act's records
-abbrev pub closing : Act → List Act
-closing Closed = []
-closing _ = Closed ∷ []
 
 -- a link told one act of this order, and a book failed as it took what that writes down
 pub record Breaks (plan : Plan) (commands : List Command) (order : Order) (text : Record → List ℕ) (acts acts' : Option (List Act)) (taken taken' : Option (List ℕ)) (station : Station) : Type 0 where
