@@ -1,12 +1,12 @@
 //! The client: all that happens to the next id and to the requests that wait is the client's rule, this project's own.
 
-ghost use Rattle.std.specs.Prelude.{◌≡◌, ℕ, ◌+◌, ◌<◌, ◌≤◌, ◌↔◌, true, List, [], ◌∷◌, ◌++◌, length, Option, Some, None, Ok, Err, IfSome, IfOk, IfErr, OnOk, IsErr, MatchResult};
+ghost use Rattle.std.specs.Prelude.{◌≡◌, ℕ, ◌+◌, ◌<◌, ◌≤◌, ◌↔◌, true, List, [], ◌∷◌, ◌++◌, length, Option, Some, None, Ok, Err, IfSome, IfOk, IfErr, OnOk, IsOk, IsErr, MatchResult};
 ghost use Rattle.gc_lines.specs.Lines.{IsPlain};
 ghost use Rattle.gc_lines.specs.Replies.{reply_seen};
 ghost use Rattle.gc_lines.specs.Readers.{reply_at};
 ghost use Rattle.gc_catalogue.specs.Calls.{IsFitting};
 ghost use Rattle.gc_catalogue.specs.Texts.{request_line};
-ghost use Rattle.gc_client.specs.Rule.{Windowed, fresh, sends, heard, hears, id_settled, deadlines, IsEarliest, expires, expiring, restarts};
+ghost use Rattle.gc_client.specs.Rule.{fresh, sends, heard, hears, id_settled, deadlines, IsEarliest, expires, expiring, restarts};
 ghost use Rattle.gc_client.specs.Places.{place_heard};
 ghost use Rattle.gc_client.specs.Settlements.{AreSettlements};
 ghost use Rattle.gc_client.specs.Hearing.{HearsAs, HearsInto, settlements_in};
@@ -97,7 +97,8 @@ impl<W: Window> Client<W> {
         Client::with_width(window, WINDOW as u8)
     }
 
-    /// Makes a client as `new` does that lets so many requests wait: one where the instrument buffers one request.
+    /// Makes a client as `new` does, but one that lets so many requests wait. One is wise where the instrument buffers one
+    /// request, and seven where it takes them all.
     pub fn with_width(mut window: W, width: u8) -> Client<W>
         requires least { 1 ≤ width }
         requires most { width ≤ WINDOW }
@@ -259,6 +260,7 @@ impl<W: Window> Client<W> {
             × (line.items ≡ request_line (Some self.old.ids.next) call))
             (λ _. (ruled ≡ None) × (self.new ≡ self.old)) }
         ensures full { IsErr result ↔ (length self.old.ids.waiting ≡ self.old.width) }
+        ensures first { self.old.ids.waiting ≡ [] → IsOk result }
         ensures width { self.new.width ≡ self.old.width }
         ensures plain { IfOk result (λ line. IsPlain line.items) }
         ensures fitting { OnOk result (IsFitting call) }
@@ -283,6 +285,7 @@ impl<W: Window> Client<W> {
             × (line.new.items ≡ request_line (Some self.old.ids.next) call.now))
             (λ _. (ruled ≡ None) × (self.new ≡ self.old) × (line.new.items ≡ line.old.items)) }
         ensures full { IsErr result ↔ (length self.old.ids.waiting ≡ self.old.width) }
+        ensures first { self.old.ids.waiting ≡ [] → IsOk result }
         ensures width { self.new.width ≡ self.old.width }
         ensures plain { OnOk result (IsPlain line.new.items) }
         ensures fitting { OnOk result (IsFitting call.now) }

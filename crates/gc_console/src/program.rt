@@ -9,105 +9,34 @@ ghost use Rattle.gc_lines.specs.declared.served.ServeFault.{ServeFault};
 ghost use Rattle.gc_instrument.specs.State.{State, simulator_opening};
 ghost use Rattle.gc_instrument.specs.Serving.{IsServing};
 ghost use Rattle.gc_world.specs.declared.event.Event.{Event};
-ghost use Rattle.gc_console.specs.declared.fault.RunFault.{RunFault};
-ghost use Rattle.gc_console.specs.Faults.{run_fault_text, fault_line, Tells};
-ghost use Rattle.gc_console.specs.Schedule.{IsSchedule};
+ghost use Rattle.gc_texts.specs.declared.fault.RunFault.{RunFault};
+ghost use Rattle.gc_texts.specs.Faults.{run_fault_text, fault_line, Tells};
+ghost use Rattle.gc_texts.specs.Schedule.{IsSchedule};
 ghost use Rattle.gc_console.specs.Checking.{IsChecking};
 ghost use Rattle.gc_console.specs.Drill.{drill_text, Drills, source_failed, sink_failed};
 
 use crate::check::run_check;
-use crate::drill::run_drill;
+use crate::drill::run_drill_width;
 use crate::exec::run_exec;
-use crate::fault::RunFault;
-use crate::sockets::{MOST_CONNECTIONS, ask_tcp, loop_tcp, serve_tcp};
+use crate::help::{COMMANDS, EVENTS, FAULTS, REQUESTS, VERDICTS};
 use clap::error::ErrorKind;
 use clap::{Arg, ArgAction, Command, Error, value_parser};
+use gc_ask::{MOST_CONNECTIONS, ask_tcp, loop_tcp, serve_tcp};
+use gc_client::WINDOW;
 use gc_instrument::Instrument;
 use gc_lines::{FromReader, ReadAhead, ServeFault, Served, Sink, Source, ToWriter};
+use gc_texts::RunFault;
 use std::alloc::Global;
 use std::env::Args;
 use std::io::{self, Read, Write};
 use std::net::{Net, TcpListener, TcpStream};
 use std::process::ExitCode;
 
-// What the help ends with.
-const FAULTS: &str =
-    "Exit status: 0 where it is done, 1 after a fault, 2 for a command line that doesn't parse.
-
-A fault is one line on standard error, `geocom: fault N`:
-  42  the input, or the connection, could not be read
-  43  the output, or the connection, could not be written: `reply R byte B` says what went out
-  44  as many reads were made as are allowed, and none was the end
-  45  the other end closed the connection before a request was settled
-  51  a line of the schedule, or of the commands, has no form: `line L` says which, counted from 1
-  52  no memory was found
-  53  the schedule, or the commands, have more than 65536 bytes
-  54  a port could not be bound or connected to, or no connection accepted
-  55  the settlements, or this text, could not be written";
-
-// What the help of `exec` ends with.
-const REQUESTS: &str =
-    "Each request is a line that ends in CR LF, and so is each reply. Other lines get none.
-
-Example:
-  printf '%%R1Q,5003,2:\\r\\n' | geocom exec
-writes
-  %R1P,0,2:0,123456";
-
-// What the help of `check` ends with.
-const VERDICTS: &str =
-    "What stands before a line feed is a frame. Each gets a line, its number and what it is:
-  N request RPC ok         a request that reads
-  N request RPC fault F    a request of no known procedure (21), or whose parameters don't read (11 to 15)
-  N reply RC_COM RC        a reply
-  N fault F                a line that is neither: F is its first bad field, 1 to 5
-  N cleared                a line feed without a CR before it: an instrument drops what came
-  N overlong               more than 512 bytes
-Bytes behind the last line feed get none.
-
-Example:
-  printf '%%R1Q,5003,2:\\r\\n%%R1P,0,2:0,123456\\r\\nnoise\\r\\n' | geocom check
-writes
-  1 request 5003 ok
-  2 reply 0 0
-  3 fault 1";
-
-// What the help of `drill` ends with.
-const EVENTS: &str =
-    "A schedule has an event a line; empty lines and lines that begin with # are skipped:
-  send T D RPC PARAMS   asks target T, with the deadline D, for procedure RPC with parameters or none
-  up deliver            the first request on the line reaches the instrument
-  up lose K             the request behind K others on the line is lost
-  up repeat K           the request behind K others on the line is there twice
-  down deliver, down lose K, down repeat K   the same of the replies
-  expire M              the moment M is reached: requests whose deadline it is are given up
-  restart client, restart instrument
-
-A settlement is the end of a request: a line with its place, its target, and `answered`, `late` or `lost`.
-
-Example:
-  printf 'send 1 10 5003\\nup deliver\\ndown deliver\\n' | geocom drill
-writes
-  0 1 answered %R1P,0,0:0,123456";
-
-// What the help of `loop` and of `ask` ends with.
-const COMMANDS: &str =
-    "A command is a line `T RPC` or `T RPC PARAMS`, which asks target T for procedure RPC; empty lines and lines that
-begin with # are skipped. Each is sent once the one before it is settled.
-
-A settlement is the end of a request: a line with its place, its target, and `answered` or `lost`.
-
-Example:
-  printf '7 5003\\n8 2026\\n' | geocom loop
-writes
-  0 7 answered %R1P,0,0:0,123456
-  1 8 answered %R1P,0,1:0,0";
-
 // What a command line asks for.
 enum Subcommand {
     Exec,
     Check,
-    Drill { totals: bool },
+    Drill { totals: bool, width: u8 },
     Loop,
     Serve { port: u16, connections: u32 },
     Ask { port: u16 },
@@ -138,50 +67,62 @@ pub fn run_program<
         Err(error) => return refuse_words(&error, &mut messages),
     };
     match subcommand_of(alloc, words.as_slice()) {
-        Ok(Subcommand::Exec) => exec(
-            &mut FromReader::new(ReadAhead::new(input)),
-            &mut ToWriter::new(output),
-            &mut messages,
-        ),
-        Ok(Subcommand::Check) => check(
-            &mut FromReader::new(ReadAhead::new(input)),
-            &mut ToWriter::new(output),
-            &mut messages,
-        ),
-        Ok(Subcommand::Drill { totals }) => drill(
-            alloc,
-            &mut FromReader::new(input),
-            &mut ToWriter::new(output),
-            totals,
-            &mut messages,
-        ),
-        Ok(Subcommand::Loop) => loop_port(
-            rt,
-            alloc,
-            &mut FromReader::new(input),
-            &mut ToWriter::new(output),
-            &mut messages,
-        ),
-        Ok(Subcommand::Serve { port, connections }) => serve_port(
-            rt,
-            port,
-            connections,
-            &mut messages,
-        ),
-        Ok(Subcommand::Ask { port }) => ask_port(
-            rt,
-            alloc,
-            port,
-            &mut FromReader::new(input),
-            &mut ToWriter::new(output),
-            &mut messages,
-        ),
+        Ok(subcommand) => run_subcommand(rt, alloc, subcommand, input, output, &mut messages),
         Err(error) if error.kind() == ErrorKind::OutOfMemory => want_of_memory(&mut messages),
         Err(error) if error.use_stderr() => {
             write!(messages, "{error}")?;
             Ok(ExitCode::from(2))
         }
         Err(text) => show(&text, &mut output, &mut messages),
+    }
+}
+
+// Runs the engine of a subcommand over the input and the output, and tells how it ended.
+fn run_subcommand<
+    R: Net<Listener = TcpListener, Stream = TcpStream>,
+    I: Read + Drop,
+    O: Write + Drop,
+    E: Write,
+>(
+    rt: &R,
+    alloc: Global,
+    subcommand: Subcommand,
+    input: I,
+    output: O,
+    messages: &mut E,
+) -> io::Result<ExitCode>
+    ensures { IfOk result (λ status. exit_status status ≤ 2) }
+{
+    let mut sink = ToWriter::new(output);
+    match subcommand {
+        Subcommand::Exec => exec(
+            &mut FromReader::new(ReadAhead::new(input)),
+            &mut sink,
+            messages,
+        ),
+        Subcommand::Check => check(
+            &mut FromReader::new(ReadAhead::new(input)),
+            &mut sink,
+            messages,
+        ),
+        Subcommand::Drill { totals, width } => drill_within(
+            alloc,
+            &mut FromReader::new(input),
+            &mut sink,
+            totals,
+            width,
+            messages,
+        ),
+        Subcommand::Loop => loop_port(rt, alloc, &mut FromReader::new(input), &mut sink, messages),
+        Subcommand::Serve { port, connections } => serve_port(rt, port, connections, messages),
+        Subcommand::Ask { port } => ask_port(
+            rt,
+            alloc,
+            port,
+            &mut FromReader::new(input),
+            &mut sink,
+            messages,
+        ),
     }
 }
 
@@ -230,14 +171,6 @@ fn subcommand_of(alloc: Global, words: &[String]) -> Result<Subcommand, Error> {
     let check = Command::new(alloc, "check")
         .about("Says of each frame of standard input what it is, or what is wrong with it")
         .after_help(VERDICTS);
-    let totals = Arg::new(alloc, "totals")
-        .long("totals")
-        .action(ArgAction::SetTrue)
-        .help("Writes a line of totals behind the settlements");
-    let drill = Command::new(alloc, "drill")
-        .about("Plays the schedule of standard input, and writes a line for each settlement")
-        .after_help(EVENTS)
-        .arg(totals)?;
     let looped = Command::new(alloc, "loop")
         .about("Asks the commands of standard input over a connection to a simulator of its own")
         .after_help(COMMANDS);
@@ -263,7 +196,7 @@ fn subcommand_of(alloc: Global, words: &[String]) -> Result<Subcommand, Error> {
         .disable_help_subcommand(true)
         .subcommand(exec)?
         .subcommand(check)?
-        .subcommand(drill)?
+        .subcommand(drill_of(alloc)?)?
         .subcommand(looped)?
         .subcommand(serve)?
         .subcommand(ask)?;
@@ -274,6 +207,7 @@ fn subcommand_of(alloc: Global, words: &[String]) -> Result<Subcommand, Error> {
     if let Some(drill) = matches.subcommand_matches("drill") {
         return Ok(Subcommand::Drill {
             totals: drill.get_flag("totals"),
+            width: drill.get_one::<u8>("width").unwrap_or(0),
         });
     }
     if let Some(serve) = matches.subcommand_matches("serve") {
@@ -291,6 +225,26 @@ fn subcommand_of(alloc: Global, words: &[String]) -> Result<Subcommand, Error> {
         return Ok(Subcommand::Loop);
     }
     Ok(Subcommand::Exec)
+}
+
+// The subcommand that plays a schedule.
+fn drill_of<'a>(alloc: Global) -> Result<Command<'a>, Error> {
+    let totals = Arg::new(alloc, "totals")
+        .long("totals")
+        .action(ArgAction::SetTrue)
+        .help("Writes a line of totals behind the settlements");
+    let width = Arg::new(alloc, "width")
+        .long("width")
+        .value_name("W")
+        .value_parser(value_parser!(u8).range(1..=7))
+        .default_value("7")
+        .help("Lets so many requests wait: a send beyond them is refused");
+    let drill = Command::new(alloc, "drill")
+        .about("Plays the schedule of standard input, and writes a line for each settlement")
+        .after_help(EVENTS)
+        .arg(totals)?
+        .arg(width)?;
+    Ok(drill)
 }
 
 // A port, as a required word.
@@ -439,25 +393,50 @@ fn tell_end<E: Write>(end: Result<Served, ServeFault>, messages: &mut E) -> io::
     }
 }
 
+// Plays a schedule, and tells how it ended. A width out of its range is refused: the words were read with this range, but no
+// clause says so.
+fn drill_within<S: Source, K: Sink, E: Write>(
+    alloc: Global,
+    source: &mut S,
+    sink: &mut K,
+    totals: bool,
+    width: u8,
+    messages: &mut E,
+) -> io::Result<ExitCode>
+    ensures { IfOk result (λ status. exit_status status ≤ 2) }
+{
+    if width == 0 || usize::from(width) > WINDOW {
+        return refuse_numbers(messages);
+    }
+    drill(alloc, source, sink, totals, width, messages)
+}
+
 // Plays a schedule, and tells how it ended.
 fn drill<S: Source, K: Sink, E: Write>(
     alloc: Global,
     source: &mut S,
     sink: &mut K,
     totals: bool,
+    width: u8,
     messages: &mut E,
 ) -> io::Result<ExitCode>
+    requires least { 1 ≤ width }
+    requires most { width ≤ WINDOW }
+
     // What became of the schedule, and that the messages and the status tell it.
     ensures told { IfOk result (λ status. (end : Result (Unit {0}) RunFault)
-        × ((given : List ℕ) × Consumes (S.remaining source.old) (S.remaining source.new) given × Drills given totals (K.taken sink.old) (K.taken sink.new) end)
+        × ((given : List ℕ) × Consumes (S.remaining source.old) (S.remaining source.new) given × Drills width given totals (K.taken sink.old) (K.taken sink.new) end)
         × (S.failed source.new ≡ source_failed end (S.failed source.old))
         × (K.failed sink.new ≡ sink_failed end (K.failed sink.old))
         × Tells run_fault_text end (exit_status status) (E.contents messages.old) (E.contents messages.new)) }
 
     // Status 0 only where the sink took the output of the text's events.
     ensures done { IfOk result (λ status. exit_status status ≡ 0 → (given : List ℕ) × Consumes (S.remaining source.old) (S.remaining source.new) given
-        × ((events : List Event) × IsSchedule given events × Appends (K.taken sink.old) (K.taken sink.new) (drill_text events totals))) }
+        × ((events : List Event) × IsSchedule given events × Appends (K.taken sink.old) (K.taken sink.new) (drill_text width events totals))) }
     ensures bound { IfOk result (λ status. exit_status status ≤ 1) }
 {
-    end_of(run_drill(alloc, source, sink, totals), messages)
+    end_of(
+        run_drill_width(alloc, source, sink, totals, width),
+        messages,
+    )
 }

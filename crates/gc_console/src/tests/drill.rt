@@ -1,11 +1,9 @@
-//! The text of a schedule, and the faults of a drill.
+//! What a drill writes, and its faults.
 
-use crate::{RunFault, read_schedule, run_drill};
+use crate::{RunFault, run_drill, run_drill_width};
 use gc_probes::{PieceSink, PieceSource};
-use gc_world::Event;
 use std::alloc::Global;
 use std::process::Abort;
-use std::test::Fail;
 
 // A schedule, and what is written of it with totals.
 const LATE_REPLY: &[u8] =
@@ -34,21 +32,6 @@ fn a_text_is_faulty_or_too_long(rt: HostRuntime) {
     expect_end(&rt, alloc, b"down bytes 1\ndown bytes\n", faulty);
     expect_end(&rt, alloc, &[b'\n'; 65536], Ok(()));
     expect_end(&rt, alloc, &[b'\n'; 65537], Err(RunFault::InputTooLong));
-}
-
-#[test]
-fn a_schedule_is_read(rt: HostRuntime) -> Result<(), Fail> {
-    let text =
-        b"# four events\n\nup repeat 3\r\nexpire 18446744073709551615\nup bytes 10\ndown bytes 4294967295";
-    let events = read_schedule(rt.alloc(), text)?;
-    let wanted = [
-        Event::UpRepeat(3),
-        Event::Expire(u64::MAX),
-        Event::UpBytes(10),
-        Event::DownBytes(4294967295),
-    ];
-    assert_eq!(rt; events.as_slice(), wanted.as_slice());
-    Ok(())
 }
 
 #[test]
@@ -107,5 +90,18 @@ fn no_bytes_under_way(rt: HostRuntime) {
         rt.alloc(),
         b"up bytes 0\ndown bytes 5\n",
         b"sent 0 executed 0 made 0 settled 0 refused 0 idle 2\n",
+    );
+}
+
+#[test]
+fn width_one(rt: HostRuntime) {
+    let schedule = b"send 1 9 0\nsend 2 9 0\nup deliver\ndown deliver\nsend 3 9 0\n";
+    let mut source = PieceSource::new(schedule, &[1, 7, 30], u64::MAX);
+    let mut sink = PieceSink::new(rt.alloc(), 5, u64::MAX);
+    let result = run_drill_width(rt.alloc(), &mut source, &mut sink, true, 1);
+    assert_eq!(rt; result, Ok(()));
+    assert_eq!(rt;
+        sink.taken(),
+        b"0 1 answered %R1P,0,0:0\nsent 2 executed 1 made 1 settled 1 refused 1 idle 0\n".as_slice()
     );
 }
