@@ -2,7 +2,7 @@
 #![tactic(auto)]
 
 mod book;
-mod command;
+mod cause;
 mod link;
 mod plan;
 mod progress;
@@ -13,8 +13,8 @@ mod tally;
 mod writing;
 
 pub use book::{Book, Stamp};
-pub use command::Command;
 pub use link::{Came, Link, Moment};
 pub use plan::Plan;
-pub use progress::{Cause, Order, Phase, Progress};
+pub use cause::Cause;
+pub use run::run_station;
 pub use tally::Tally;
