@@ -13,8 +13,11 @@ mod tally;
 mod writing;
 
 pub use book::{Book, Stamp};
+pub use cause::Cause;
 pub use link::{Came, Link, Moment};
 pub use plan::Plan;
-pub use cause::Cause;
 pub use run::run_station;
 pub use tally::Tally;
+
+#[cfg(test)]
+mod tests;
