@@ -1,5 +1,5 @@
 -- Each act takes a turn, so a run ends.
-use Rattle.std.proofs.Common.{◌≡◌, ℕ, zero, suc, ◌+◌, ◌*◌, ◌-◌, ◌<◌, ◌≤◌, ◌∷◌, Bool, true, false, List, [], length, drop, if◌then◌else◌, nat_lt, nat_eq, refl, sym, ap, ◌∙◌, subst, arith}
+use Rattle.std.proofs.Common.{◌≡◌, ℕ, zero, suc, ◌+◌, ◌*◌, ◌-◌, ◌<◌, ◌≤◌, ◌||◌, ◌∷◌, Bool, true, false, List, [], length, drop, if◌then◌else◌, nat_lt, nat_eq, refl, sym, ap, ◌∙◌, subst, arith}
 use Rattle.gc_lines.specs.Frames.{rest_behind}
 use Rattle.gc_texts.specs.declared.commands.Command.{Command}
 use Rattle.gc_catalogue.specs.declared.call.Call.TheVariants.{NullProc}
@@ -117,7 +117,7 @@ moved_steady plan commands Send s act =
     put_steady commands (λ (x : Standing). with_progress sent (asks_first plan (drop (place_next commands x.progress) commands) x)) s act (sent_steady commands plan (drop (place_next commands s.progress) commands) s)
 moved_steady plan commands Read s act = read_steady plan commands false s act
 moved_steady plan commands Rest s act = read_steady plan commands true s act
-moved_steady plan commands (Close cause) s act = closed_steady commands cause s.progress
+moved_steady plan commands (Close cause) s act = let c = closed_steady commands cause s.progress in record { turns = c.turns; unsent = c.unsent }
 moved_steady plan commands (Stop cause) s act = steady commands s.progress _ refl refl
 
 -- what is left to be done: the turns, and a connection that is to be closed
@@ -142,11 +142,11 @@ closed_down : (cause : Cause) (p : Progress) → is_up (closed cause p).phase �
 closed_down cause.Done p = refl
 closed_down cause.Clock p = refl
 closed_down cause.Turns p = refl
-closed_down cause.Silence p = again_down (is_finished p) (nat_lt 0 p.tries) cause.Silence
-closed_down cause.Read p = again_down (is_finished p) (nat_lt 0 p.tries) cause.Read
-closed_down cause.End p = again_down (is_finished p) (nat_lt 0 p.tries) cause.End
-closed_down (cause.Write n m) p = again_down (is_finished p) (nat_lt 0 p.tries) (cause.Write n m)
-closed_down cause.Open p = again_down (is_finished p) (nat_lt 0 p.tries) cause.Open
+closed_down cause.Silence p = again_down (is_finished p) (p.early || nat_lt 0 p.tries) cause.Silence
+closed_down cause.Read p = again_down (is_finished p) (p.early || nat_lt 0 p.tries) cause.Read
+closed_down cause.End p = again_down (is_finished p) (p.early || nat_lt 0 p.tries) cause.End
+closed_down (cause.Write n m) p = again_down (is_finished p) (p.early || nat_lt 0 p.tries) (cause.Write n m)
+closed_down cause.Open p = again_down (is_finished p) (p.early || nat_lt 0 p.tries) cause.Open
 
 -- once all turns are used up, an act closes the connection
 up_closes : (plan : Plan) (commands : List Command) (s t : Standing) (up : Bool) (act : Act) → Obeys commands t (order_up up) act

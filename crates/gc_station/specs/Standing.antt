@@ -8,7 +8,7 @@ use Rattle.gc_lines.specs.Passing.{frames_behind}
 use Rattle.gc_catalogue.specs.declared.call.Call.{Call}
 use Rattle.gc_catalogue.specs.declared.call.Call.TheVariants.{NullProc}
 use Rattle.gc_catalogue.specs.Texts.{request_line}
-use Rattle.gc_client.specs.Rule.{ById, Settlement, Sending, Outcome, Answered, Late, Lost, fresh, sends, hears, heard, expires, restarts, deadlines}
+use Rattle.gc_client.specs.Rule.{ById, Settlement, Sending, Outcome, Answered, Late, Lost, fresh, sends, hears, heard, expires, expiring, restarts, deadlines}
 use Rattle.gc_texts.specs.declared.commands.Command.{Command}
 use Rattle.gc_station.specs.declared.link.Moment.{Moment}
 use Rattle.gc_station.specs.declared.plan.Plan.{Plan}
@@ -21,7 +21,7 @@ use Rattle.gc_station.specs.declared.progress.Order.TheVariants.{Tell, Begin, Op
 use Rattle.gc_station.specs.declared.progress.Progress.{Progress}
 use Rattle.gc_station.specs.Acts.{Act, Told, Untold, Put, Cut, Gave, Silent, Ended, Broke, Closed, Opened, Unopened}
 use Rattle.gc_station.specs.Deciding.{width_of, order_of}
-use Rattle.gc_station.specs.Progressing.{later, at_start, turned, told, begun, failing, opened, again, cleared, probed, sent, gave, silent, closed}
+use Rattle.gc_station.specs.Progressing.{later, at_start, turned, told, begun, failing, opened, again, cleared, probed, sent, gave, silent, waiting_on, reckoned_early, closed}
 use Rattle.gc_station.specs.Records.{Record, records_from}
 
 -- where a station stands: how far it is, the bytes since the last line feed, the client, and the records so far
@@ -170,7 +170,8 @@ came false plan commands piece s = s
 
 -- how far a station is once it heard a piece
 abbrev pub reckoned : Plan → Bool → ℕ → Standing → Standing
-reckoned plan rested before s = with_progress (gave plan rested before (length s.client.waiting)) s
+reckoned plan rested before s =
+    with_progress (λ p. reckoned_early plan (length s.client.waiting) (gave plan rested before (length s.client.waiting) p)) s
 
 -- a piece came, and then it was this moment: it gives up what has reached its deadline, and then hears
 abbrev pub piece_at : Plan → List Command → Bool → List ℕ → Moment → Standing → Standing
@@ -180,7 +181,8 @@ piece_at plan commands rested piece m s =
 -- what was read
 abbrev pub after_read : Plan → List Command → Bool → Standing → Act → Standing
 after_read plan commands rested s (Gave bytes m) = piece_at plan commands rested bytes m s
-after_read plan commands rested s (Silent m) = with_moment m (with_progress (silent plan rested m) s)
+after_read plan commands rested s (Silent m) =
+    with_moment m (with_progress (λ p. waiting_on (not (is_nil (expiring m.elapsed s.client.waiting))) m (silent plan rested m p)) s)
 after_read plan commands rested s Ended = with_progress (failing cause.End) s
 after_read plan commands rested s Broke = with_progress (failing cause.Read) s
 after_read plan commands rested s _ = with_progress (failing cause.Clock) s
@@ -204,7 +206,7 @@ after_open s _ = with_progress (again cause.Open) s
 abbrev pub after_close : Plan → List Command → Cause → Standing → Standing
 after_close plan commands cause s =
     let x = restarts s.client in
-    with_progress (closed cause) (with_rest [] (with_client x.client (with_settled plan commands x.settlements s)))
+    with_progress (λ p. reckoned_early plan 0 (closed cause p)) (with_rest [] (with_client x.client (with_settled plan commands x.settlements s)))
 
 -- what an act of this order does, apart from the turn
 abbrev pub moved : Plan → List Command → Order → Standing → Act → Standing

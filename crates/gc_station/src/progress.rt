@@ -134,7 +134,7 @@ impl Progress {
     }
 
     // Whether the next cycle may begin.
-    fn is_due(&self, plan: &Plan) -> bool
+    pub(crate) fn is_due(&self, plan: &Plan) -> bool
         ensures { result ≡ is_due plan.now self.now }
     {
         if self.left == plan.cycles {

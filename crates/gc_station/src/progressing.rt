@@ -1,7 +1,7 @@
 //! What each act does to how far a station is.
 
 ghost use Rattle.std.specs.Prelude.{◌≡◌};
-ghost use Rattle.gc_station.specs.Progressing.{later, turned, told, begun, failing, opened, again, is_finished, phase_again, quieted, cleared, probed, sent, gave, silent, closed};
+ghost use Rattle.gc_station.specs.Progressing.{later, turned, told, begun, failing, opened, again, is_finished, phase_again, quieted, cleared, probed, sent, gave, silent, waiting_on, reckoned_early, closed};
 
 use crate::cause::Cause;
 use crate::link::Moment;
@@ -46,18 +46,16 @@ impl Progress {
     {
         self.moment = moment;
         self.since = moment.elapsed;
+        self.began = self.began.min(moment.elapsed);
         self.stale = false;
     }
 
     pub(crate) fn begin(&mut self, plan: &Plan, count: usize, moment: Moment)
         ensures { self.new ≡ begun plan.now count moment self.old }
     {
-        self.began = if self.early {
-            later(self.began, plan.every)
-        } else {
-            moment.elapsed
-        };
+        let due = later(self.began, plan.every);
         self.tell(moment);
+        self.began = if self.early { due } else { moment.elapsed };
         self.early = false;
         self.left = self.left.saturating_sub(1);
         self.unsent = count;
@@ -92,7 +90,7 @@ impl Progress {
     {
         if self.is_finished() {
             Phase::Over(Cause::Done)
-        } else if self.tries > 0 {
+        } else if self.early || self.tries > 0 {
             Phase::Resting
         } else {
             Phase::Over(cause)
@@ -105,7 +103,9 @@ impl Progress {
         self.phase = self.phase_again(cause);
         self.probe = false;
         self.stale = true;
-        self.tries = self.tries.saturating_sub(1);
+        if !self.early {
+            self.tries = self.tries.saturating_sub(1);
+        }
     }
 
     pub(crate) fn clear(&mut self)
@@ -133,12 +133,12 @@ impl Progress {
     pub(crate) fn give(&mut self, plan: &Plan, rested: bool, before: usize, after: usize)
         ensures { self.new ≡ gave plan.now rested before after self.old }
     {
+        if after < before && !self.probe {
+            self.tries = plan.retries;
+        }
         self.probe = self.probe && after != 0;
         if rested {
             self.early = true;
-        }
-        if after < before {
-            self.tries = plan.retries;
         }
     }
 
@@ -146,6 +146,8 @@ impl Progress {
         ensures { self.new ≡ silent plan.now rested moment self.old }
     {
         self.moment = moment;
+        self.since = self.since.min(moment.elapsed);
+        self.began = self.began.min(moment.elapsed);
         self.stale = false;
         if rested {
             self.early = true;
@@ -153,6 +155,20 @@ impl Progress {
         if self.is_quiet(plan) {
             self.phase = self.phase.quieted(plan);
         }
+    }
+
+    pub(crate) fn wait_on(&mut self, gave_up: bool, moment: Moment)
+        ensures { self.new ≡ waiting_on gave_up moment self.old }
+    {
+        if gave_up {
+            self.since = moment.elapsed;
+        }
+    }
+
+    pub(crate) fn reckon_early(&mut self, plan: &Plan, waiting: usize)
+        ensures { self.new ≡ reckoned_early plan.now waiting self.old }
+    {
+        self.early = self.early || (waiting == 0 && self.unsent == 0 && !self.is_due(plan));
     }
 
     pub(crate) fn close(&mut self, cause: Cause)

@@ -353,6 +353,7 @@ impl Station {
         }
         let after = self.client.waiting();
         self.progress.give(plan, rested, before, after);
+        self.progress.reckon_early(plan, after);
         Ok(())
     }
 
@@ -386,8 +387,9 @@ impl Station {
                 Ok(())
             }
             Came::Silence(moment) => {
+                let given_up = self.client.expire(moment.elapsed);
                 self.progress.be_silent(plan, rested, moment);
-                self.client.expire(moment.elapsed);
+                self.progress.wait_on(!given_up.is_empty(), moment);
                 Ok(())
             }
             Came::End => {
@@ -425,6 +427,7 @@ impl Station {
         }
         self.assembler = Assembler::new();
         self.progress.close(cause);
+        self.progress.reckon_early(plan, 0);
         Ok(())
     }
 
