@@ -1,3 +1,6 @@
+mod Each
+mod Facts
+mod Fine
 mod Going
 mod Hearing
 mod Orders

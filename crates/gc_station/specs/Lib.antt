@@ -7,4 +7,5 @@ pub mod Standing
 pub mod Tallies
 pub mod Runs
 pub mod EachOnce
+pub mod Reasons
 pub mod Stations
