@@ -1,3 +1,4 @@
+mod Closings
 mod Each
 mod Facts
 mod Fine

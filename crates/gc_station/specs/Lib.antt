@@ -8,4 +8,5 @@ pub mod Tallies
 pub mod Runs
 pub mod EachOnce
 pub mod Reasons
+pub mod Closing
 pub mod Stations
