@@ -1,5 +1,5 @@
 -- A connection is closed only for a cause.
-use Rattle.std.proofs.Common.{◌≡◌, ℕ, ◌⊎◌, inl, inr, Bool, true, false, List, [], ◌∷◌, ◌++◌, length, drop, if◌then◌else◌, nat_lt, refl, sym, ap, ◌∙◌, subst}
+use Rattle.std.proofs.Common.{◌≡◌, ℕ, ◌⊎◌, inl, inr, Bool, true, false, List, [], ◌∷◌, ◌++◌, length, drop, if◌then◌else◌, nat_lt, refl, sym, ap, ◌∙◌, subst, ◌||◌, min}
 use Rattle.gc_catalogue.specs.declared.call.Call.TheVariants.{NullProc}
 use Rattle.gc_texts.specs.declared.commands.Command.{Command}
 use Rattle.gc_station.specs.declared.plan.Plan.{Plan}
@@ -77,7 +77,7 @@ open_shown s Ended c o e = absurd o
 open_shown s Broke c o e = absurd o
 open_shown s Closed c o e = absurd o
 open_shown s Opened c o e = cc
-open_shown s Unopened c o e = again_shown (is_finished s.progress) (nat_lt 0 s.progress.tries) cause.Open c e
+open_shown s Unopened c o e = again_shown (is_finished s.progress) (s.progress.early || nat_lt 0 s.progress.tries) cause.Open c e
 
 settled_phase : (b : Bool) (c : Cause) → (if b then Probing else Ready) ≡ Closing c → ⊥
 settled_phase true c e = cc
@@ -100,7 +100,7 @@ read_shown plan commands rested s Untold c o e = failed s cause.Clock c Untold r
 read_shown plan commands rested s (Put bytes) c o e = absurd o
 read_shown plan commands rested s (Cut bytes n) c o e = absurd o
 read_shown plan commands rested s (Gave bytes m) c o e = inr (sym (ap (λ p. p.phase) (came_progress (is_heard s.progress.phase) plan commands bytes (with_moment m (with_progress (told m) s)))) ∙ e)
-read_shown plan commands rested s (Silent m) c o e = inr (quiet_shown plan s.progress.phase (is_quiet plan (record s.progress { moment = m; stale = false; early = if rested then true else s.progress.early })) c e)
+read_shown plan commands rested s (Silent m) c o e = inr (quiet_shown plan s.progress.phase (is_quiet plan (record s.progress { moment = m; since = min s.progress.since m.elapsed; stale = false })) c e)
 read_shown plan commands rested s Ended c o e = failed s cause.End c Ended refl e
 read_shown plan commands rested s Broke c o e = failed s cause.Read c Broke refl e
 read_shown plan commands rested s Closed c o e = absurd o

@@ -1,5 +1,5 @@
 -- Every run keeps the records and the requests that wait to be the commands that were sent.
-use Rattle.std.proofs.Common.{◌≡◌, ℕ, zero, suc, ◌+◌, ◌-◌, ◌%◌, ◌<◌, ◌≤◌, ◌&&◌, ◌⊎◌, inl, inr, Bool, true, false, not, List, [], ◌∷◌, ◌++◌, length, take, drop, map, Option, Some, None, if◌then◌else◌, nat_eq, nat_lt, refl, sym, ap, ◌∙◌, subst, arith, append-nil, length-append}
+use Rattle.std.proofs.Common.{◌≡◌, ℕ, zero, suc, ◌+◌, ◌-◌, ◌%◌, ◌<◌, ◌≤◌, ◌&&◌, ◌⊎◌, inl, inr, Bool, true, false, not, List, [], ◌∷◌, ◌++◌, length, take, drop, map, Option, Some, None, if◌then◌else◌, nat_eq, nat_lt, refl, sym, ap, ◌∙◌, subst, arith, append-nil, length-append, ◌||◌, min}
 use Rattle.std.proofs.lemmas.Bool.{eqb-true}
 use Rattle.std.proofs.lemmas.Bool.Decides.{nat_tests}
 use Rattle.std.proofs.lemmas.List.{length-map, length-drop, nil_from_length}
@@ -8,7 +8,7 @@ use Rattle.gc_catalogue.specs.declared.call.Call.{Call}
 use Rattle.gc_catalogue.specs.declared.call.Call.TheVariants.{NullProc}
 use Rattle.gc_client.specs.declared.window.TheConstants.{IDS}
 use Rattle.gc_client.specs.declared.pending.Pending.{Pending}
-use Rattle.gc_client.specs.Rule.{ById, expires, expired, fresh, heard, hears, restarts, pending_of, id_send, sends}
+use Rattle.gc_client.specs.Rule.{ById, expires, expired, fresh, heard, hears, restarts, pending_of, id_send, sends, expiring}
 use Rattle.gc_client.specs.OneForOne.{of_pending}
 use Rattle.gc_texts.specs.declared.commands.Command.{Command}
 use Rattle.gc_station.specs.declared.plan.Plan.{Plan}
@@ -22,11 +22,11 @@ use Rattle.gc_station.specs.declared.progress.Order.TheVariants as order
 use Rattle.gc_station.specs.declared.progress.Progress.{Progress}
 use Rattle.gc_station.specs.Acts.{Act, Told, Untold, Put, Cut, Gave, Silent, Ended, Broke, Closed, Opened, Unopened}
 use Rattle.gc_station.specs.Deciding.{width_of, is_up, is_quiet}
-use Rattle.gc_station.specs.Progressing.{later, turned, told, begun, failing, opened, again, phase_again, is_finished, cleared, probed, sent, gave, quieted, silent, closed}
+use Rattle.gc_station.specs.Progressing.{later, turned, told, begun, failing, opened, again, phase_again, is_finished, cleared, probed, sent, gave, quieted, silent, closed, waiting_on, reckoned_early}
 use Rattle.gc_station.specs.EachOnce.{EachOnce, IsEachOnce, requests, sent_by, of_command, of_record, all_cycles}
 use Rattle.gc_station.specs.Reasons.{IsFor}
 use Rattle.gc_station.specs.Runs.{stood}
-use Rattle.gc_station.specs.Standing.{Standing, opening, order_at, place_next, with_progress, with_moment, with_rest, line_came, lines_came, lines_behind, piece_came, came, is_heard, is_hopeless, client_sent, asks, asks_first, after_tell, after_put, after_open, after_read, after_close, piece_at, reckoned, Obeys, moved, after, after_all, Runs}
+use Rattle.gc_station.specs.Standing.{Standing, opening, order_at, place_next, with_progress, with_moment, with_rest, line_came, lines_came, lines_behind, piece_came, came, is_heard, is_hopeless, client_sent, asks, asks_first, after_tell, after_put, after_open, after_read, after_close, piece_at, reckoned, Obeys, moved, after, after_all, Runs, with_client, with_settled, is_nil}
 use Rattle.gc_station.proofs.Each.{EachIs, each_moment, each_settled, each_nothing, each_probe, each_lost, each_heard, each_sent, heard_fewer, sent_whole, sent_none}
 use Rattle.gc_station.proofs.Facts.{order_for}
 
@@ -124,7 +124,7 @@ fine_fail plan commands s why not_done fine =
 fine_told : (plan : Plan) (commands : List Command) (s : Standing) (m : Moment) → Fine plan commands s → Fine plan commands (with_moment m (with_progress (told m) s))
 fine_told plan commands s m fine =
     let p = s.progress in
-    fine_moment plan commands (with_progress (told m) s) m (fine_at plan commands s p.phase false m m.elapsed p.began p.early p.tries p.turns s.rest fine (λ e. e) fine.finished)
+    fine_moment plan commands (with_progress (told m) s) m (fine_at plan commands s p.phase false m m.elapsed (min p.began m.elapsed) p.early p.tries p.turns s.rest fine (λ e. e) fine.finished)
 
 -- a cycle begins
 fine_begun : (plan : Plan) (commands : List Command) (s : Standing) (m : Moment) → Fine plan commands s → s.progress.phase ≡ Ready → s.progress.unsent ≡ 0 → s.client.waiting ≡ [] → 0 < s.progress.left
@@ -171,7 +171,7 @@ fine_again plan commands s why other fine nothing =
       begun = fine.begun;
       within = λ e. let n : length s.client.waiting ≡ 0 = ap length nothing in omega (arith, n);
       idle = λ e. (refl, nothing);
-      finished = again_done why p (is_finished p) (nat_lt 0 p.tries) other refl;
+      finished = again_done why p (is_finished p) (p.early || nat_lt 0 p.tries) other refl;
       each = each_nothing false (plan.cycles - p.left) (place_next commands p) s.client.waiting s.records _ nothing (each_settled p.probe (plan.cycles - p.left) (place_next commands p) s.client.waiting s.records _ nothing fine.each);
     }
 
@@ -198,15 +198,28 @@ over plan commands s why fine done =
     let p = s.progress in
     fine_at plan commands (lost_at plan commands s) (Over why) p.stale p.moment p.since p.began p.early p.tries p.turns [] (fine_lost plan commands s fine) (λ e. refl) done
 
+-- apart from whether it was done early
+abbrev shut : Plan → List Command → Cause → Standing → Standing
+shut plan commands why s =
+    let x = restarts s.client in
+    with_progress (closed why) (with_rest [] (with_client x.client (with_settled plan commands x.settlements s)))
+
+fine_shut : (plan : Plan) (commands : List Command) (s : Standing) (why : Cause) → Fine plan commands s → (why ≡ cause.Done → (s.progress.left ≡ 0) × (s.progress.unsent ≡ 0)) → Fine plan commands (shut plan commands why s)
+fine_shut plan commands s cause.Done fine done = over plan commands s cause.Done fine (λ e. done refl)
+fine_shut plan commands s cause.Clock fine done = over plan commands s cause.Clock fine (λ e. cc)
+fine_shut plan commands s cause.Turns fine done = over plan commands s cause.Turns fine (λ e. cc)
+fine_shut plan commands s cause.Silence fine done = fine_again plan commands (lost_at plan commands s) cause.Silence refl (fine_lost plan commands s fine) refl
+fine_shut plan commands s cause.Read fine done = fine_again plan commands (lost_at plan commands s) cause.Read refl (fine_lost plan commands s fine) refl
+fine_shut plan commands s cause.End fine done = fine_again plan commands (lost_at plan commands s) cause.End refl (fine_lost plan commands s fine) refl
+fine_shut plan commands s (cause.Write n m) fine done = fine_again plan commands (lost_at plan commands s) (cause.Write n m) refl (fine_lost plan commands s fine) refl
+fine_shut plan commands s cause.Open fine done = fine_again plan commands (lost_at plan commands s) cause.Open refl (fine_lost plan commands s fine) refl
+
 fine_close : (plan : Plan) (commands : List Command) (s : Standing) (why : Cause) → Fine plan commands s → (why ≡ cause.Done → (s.progress.left ≡ 0) × (s.progress.unsent ≡ 0)) → Fine plan commands (after_close plan commands why s)
-fine_close plan commands s cause.Done fine done = over plan commands s cause.Done fine (λ e. done refl)
-fine_close plan commands s cause.Clock fine done = over plan commands s cause.Clock fine (λ e. cc)
-fine_close plan commands s cause.Turns fine done = over plan commands s cause.Turns fine (λ e. cc)
-fine_close plan commands s cause.Silence fine done = fine_again plan commands (lost_at plan commands s) cause.Silence refl (fine_lost plan commands s fine) refl
-fine_close plan commands s cause.Read fine done = fine_again plan commands (lost_at plan commands s) cause.Read refl (fine_lost plan commands s fine) refl
-fine_close plan commands s cause.End fine done = fine_again plan commands (lost_at plan commands s) cause.End refl (fine_lost plan commands s fine) refl
-fine_close plan commands s (cause.Write n m) fine done = fine_again plan commands (lost_at plan commands s) (cause.Write n m) refl (fine_lost plan commands s fine) refl
-fine_close plan commands s cause.Open fine done = fine_again plan commands (lost_at plan commands s) cause.Open refl (fine_lost plan commands s fine) refl
+fine_close plan commands s why fine done =
+    let x = shut plan commands why s in
+    let p = x.progress in
+    let so = fine_shut plan commands s why fine done in
+    fine_at plan commands x p.phase p.stale p.moment p.since p.began (reckoned_early plan 0 p).early p.tries p.turns x.rest so (λ e. e) so.finished
 
 never_idle : (phase : Phase) → phase ≡ Ready → is_idle phase ≡ true → ⊥
 never_idle phase is e = let other : is_idle phase ≡ false = ap is_idle is in cc
@@ -296,7 +309,8 @@ fine_gave : (plan : Plan) (commands : List Command) (s : Standing) (rested : Boo
 fine_gave plan commands s rested bytes m fine =
     let mid : Standing = with_moment m (with_progress (told m) s) in
     let x : Standing = came (is_heard s.progress.phase) plan commands bytes mid in
-    reckon plan commands x (if rested then true else x.progress.early) (if nat_lt (length x.client.waiting) (length s.client.waiting) then plan.retries else x.progress.tries) x.progress.probe (nat_eq (length x.client.waiting) 0) refl refl
+    let p : Progress = gave plan rested (length s.client.waiting) (length x.client.waiting) x.progress in
+    reckon plan commands x (reckoned_early plan (length x.client.waiting) p).early p.tries x.progress.probe (nat_eq (length x.client.waiting) 0) refl refl
     (fine_came plan commands mid (is_heard s.progress.phase) bytes (fine_told plan commands s m fine) refl)
 
 quiet_idle : (plan : Plan) (phase : Phase) (b : Bool) → is_idle (if b then quieted plan phase else phase) ≡ true → is_idle phase ≡ true
@@ -333,13 +347,13 @@ quiet_done plan (Closing why) false e = e
 quiet_done plan (Over why) true e = e
 quiet_done plan (Over why) false e = e
 
-fine_silent : (plan : Plan) (commands : List Command) (s : Standing) (rested : Bool) (m : Moment) → Fine plan commands s → Fine plan commands (with_moment m (with_progress (silent plan rested m) s))
-fine_silent plan commands s rested m fine =
+fine_silent : (plan : Plan) (commands : List Command) (s : Standing) (rested gave_up : Bool) (m : Moment) → Fine plan commands s → Fine plan commands (with_moment m (with_progress (λ p. waiting_on gave_up m (silent plan rested m p)) s))
+fine_silent plan commands s rested gave_up m fine =
     let p = s.progress in
-    let q : Progress = record p { moment = m; stale = false; early = if rested then true else p.early } in
+    let q : Progress = record p { moment = m; since = min p.since m.elapsed; stale = false } in
     let phase : Phase = if is_quiet plan q then quieted plan p.phase else p.phase in
-    fine_moment plan commands (with_progress (silent plan rested m) s) m
-    (fine_at plan commands s phase false m p.since p.began (if rested then true else p.early) p.tries p.turns s.rest fine
+    fine_moment plan commands (with_progress (λ p. waiting_on gave_up m (silent plan rested m p)) s) m
+    (fine_at plan commands s phase false m (if gave_up then m.elapsed else min p.since m.elapsed) (min p.began m.elapsed) (if rested then true else p.early) p.tries p.turns s.rest fine
     (quiet_idle plan p.phase (is_quiet plan q)) (λ e. fine.finished (quiet_done plan p.phase (is_quiet plan q) e)))
 
 fine_read : (plan : Plan) (commands : List Command) (rested : Bool) (s : Standing) (act : Act) → Fine plan commands s → Fine plan commands (after_read plan commands rested s act)
@@ -348,7 +362,7 @@ fine_read plan commands rested s Untold fine = fine_fail plan commands s cause.C
 fine_read plan commands rested s (Put bytes) fine = fine_fail plan commands s cause.Clock refl fine
 fine_read plan commands rested s (Cut bytes n) fine = fine_fail plan commands s cause.Clock refl fine
 fine_read plan commands rested s (Gave bytes m) fine = fine_gave plan commands s rested bytes m fine
-fine_read plan commands rested s (Silent m) fine = fine_silent plan commands s rested m fine
+fine_read plan commands rested s (Silent m) fine = fine_silent plan commands s rested (not (is_nil (expiring m.elapsed s.client.waiting))) m fine
 fine_read plan commands rested s Ended fine = fine_fail plan commands s cause.End refl fine
 fine_read plan commands rested s Broke fine = fine_fail plan commands s cause.Read refl fine
 fine_read plan commands rested s Closed fine = fine_fail plan commands s cause.Clock refl fine
