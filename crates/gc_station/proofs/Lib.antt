@@ -1,0 +1,10 @@
+mod Closings
+mod Each
+mod EachRun
+mod Facts
+mod Fine
+mod Going
+mod Hearing
+mod Orders
+mod Records
+mod Turns

@@ -1,0 +1,12 @@
+pub mod Acts
+pub mod Causes
+pub mod Records
+pub mod Deciding
+pub mod Progressing
+pub mod Standing
+pub mod Tallies
+pub mod Runs
+pub mod EachOnce
+pub mod Reasons
+pub mod Closing
+pub mod Stations

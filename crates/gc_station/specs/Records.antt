@@ -1,0 +1,48 @@
+-- Records: what a station writes of each request that ended, this project's own.
+use Rattle.std.specs.Prelude.{◌≡◌, ℕ, ◌+◌, ◌<◌, List, [], ◌∷◌, ◌++◌, length, take, Option, Result, Ok, Err}
+use Rattle.std.specs.List.{flat_map}
+use Rattle.std.specs.Io.KnownBytes.{Appends}
+use Rattle.gc_client.specs.Rule
+use Rattle.gc_client.specs.Settlements.{settlement_seen}
+use Rattle.gc_client.specs.declared.settlement.Settlement.{Settlement}
+use Rattle.gc_station.specs.declared.book.Stamp.{Stamp}
+
+-- the end of a request: when it was told, of which cycle and place it was, and how it ended
+pub record Record : Type 0 where
+  pub utc : ℕ
+  pub cycle : ℕ
+  pub place : ℕ
+  pub settlement : Rule.Settlement
+
+-- a record as the rule speaks of it
+abbrev pub record_seen : Stamp → Settlement → Record
+record_seen stamp settlement = record { utc = stamp.utc; cycle = stamp.cycle; place = stamp.place; settlement = settlement_seen settlement }
+
+-- settlements at one moment of one cycle, the first of them at this place
+abbrev pub records_from : ℕ → ℕ → ℕ → List Rule.Settlement → List Record
+records_from utc cycle place [] = []
+records_from utc cycle place (s ∷ later) = record { utc = utc; cycle = cycle; place = place; settlement = s } ∷ records_from utc cycle (place + 1) later
+
+-- a text was written whole, or a first part of it, which isn't all
+abbrev pub Writes : {X E : Type 0} → Option (List ℕ) → Option (List ℕ) → List ℕ → Result X E → Type 0
+Writes old new text (Ok _) = Appends old new text
+Writes old new text (Err _) = (part : ℕ) × (part < length text) × Appends old new (take part text)
+
+-- the texts of records
+abbrev pub texts_of : (Record → List ℕ) → List Record → List ℕ
+texts_of text records = flat_map text records
+
+-- the records but one and those behind it were written whole, and of that one a first part, which isn't all
+pub record WritesPart (text : Record → List ℕ) (records : List Record) (old new : Option (List ℕ)) : Type 0 where
+  pub earlier : List Record
+  pub next : Record
+  pub later : List Record
+  pub order : records ≡ earlier ++ next ∷ later
+  pub part : ℕ
+  pub not_all : part < length (text next)
+  pub took : Appends old new (texts_of text earlier ++ take part (text next))
+
+-- records were written whole, or in part where the book failed
+abbrev pub WritesAll : {X E : Type 0} → (Record → List ℕ) → List Record → Option (List ℕ) → Option (List ℕ) → Result X E → Type 0
+WritesAll text records old new (Ok _) = Appends old new (texts_of text records)
+WritesAll text records old new (Err _) = WritesPart text records old new

@@ -1,0 +1,24 @@
+//! A station: commands sent over a link with deadlines, cycle after cycle, and each request's end written down.
+#![tactic(auto)]
+
+mod book;
+mod cause;
+pub mod laws;
+mod link;
+mod plan;
+mod progress;
+mod progressing;
+mod run;
+mod station;
+mod tally;
+mod writing;
+
+pub use book::{Book, Stamp};
+pub use cause::Cause;
+pub use link::{Came, Link, Moment};
+pub use plan::Plan;
+pub use run::run_station;
+pub use tally::Tally;
+
+#[cfg(test)]
+mod tests;

@@ -1,0 +1,20 @@
+//! The plan: how a station measures, and when it gives up.
+
+/// What an operator chooses. Times are in milliseconds.
+#[derive(Clone, Copy, Debug, PartialEq, Eq)]
+pub struct Plan {
+    /// How many requests may wait at a time: 1 to 7. Below and above, the nearest of these.
+    pub width: u8,
+    /// How long a request waits before it is given up.
+    pub deadline: u64,
+    /// How far apart the cycles begin. 0: each begins when the one before it is done.
+    pub every: u64,
+    /// How many cycles are measured.
+    pub cycles: u32,
+    /// How long nothing may come before the line counts as quiet.
+    pub quiet: u64,
+    /// How many times in a row it connects anew without a reply that settles a request.
+    pub retries: u32,
+    /// Whether a null procedure has to be answered on each new connection before commands go out.
+    pub settle: bool,
+}
