@@ -1,3 +1,4 @@
+mod Answers
 mod Closings
 mod Each
 mod EachRun

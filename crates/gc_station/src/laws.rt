@@ -1,9 +1,11 @@
 //! Laws of a station's runs, whatever its link tells.
 
 ghost use Rattle.std.specs.Prelude.{ℕ, List, [], ◌∷◌, ◌++◌};
+ghost use Rattle.std.specs.List.{AllByRecursion};
 ghost use Rattle.gc_texts.specs.declared.commands.Command.{Command};
 ghost use Rattle.gc_station.specs.declared.plan.Plan.{Plan};
 ghost use Rattle.gc_station.specs.Acts.{Act, Closed};
+ghost use Rattle.gc_station.specs.Answers.{IsTrueRecord};
 ghost use Rattle.gc_station.specs.Closing.{IsReasoned, ClosesForACause};
 ghost use Rattle.gc_station.specs.EachOnce.{EachOnce};
 ghost use Rattle.gc_station.specs.Runs.{stood};
@@ -27,4 +29,12 @@ pub fn each_act_is_due()
 pub fn closes_for_a_cause()
     ensures { (plan : Plan) (commands : List Command) (turns : ℕ) (earlier later : List Act)
         → Runs plan commands (opening plan turns) (earlier ++ Closed ∷ later) → ClosesForACause plan commands turns earlier }
+{}
+
+/// Each record of an answer is of a line that came on the connection on which its request had gone out, behind that
+/// request, and before a moment at or past its deadline was told: no close stands between them. So a line that came after
+/// a close is never booked for a request from before it, nor the other way round.
+pub fn answers_come_in_time()
+    ensures { (plan : Plan) (commands : List Command) (turns : ℕ) (acts : List Act)
+        → Runs plan commands (opening plan turns) acts → AllByRecursion (IsTrueRecord plan commands turns acts) (stood plan commands turns acts).records }
 {}
