@@ -8,4 +8,5 @@ mod Going
 mod Hearing
 mod Orders
 mod Records
+mod Stops
 mod Turns
