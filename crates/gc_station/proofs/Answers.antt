@@ -1,12 +1,12 @@
 -- Each answer that is booked came on the connection of its request, behind it and in time.
-use Rattle.std.proofs.Common.{◌≡◌, ℕ, zero, suc, ◌+◌, ◌-◌, ◌<◌, ◌≤◌, ◌||◌, Bool, true, false, List, [], ◌∷◌, ◌++◌, length, drop, map, Option, Some, None, if◌then◌else◌, nat_le, nat_lt, nat_eq, refl, sym, ap, ◌∙◌, subst, arith, append_assoc, append-nil}
+use Rattle.std.proofs.Common.{◌≡◌, ℕ, zero, suc, ◌+◌, ◌-◌, ◌<◌, ◌||◌, Bool, true, false, List, [], ◌∷◌, ◌++◌, length, drop, map, Option, Some, None, if◌then◌else◌, nat_le, nat_lt, nat_eq, refl, sym, ap, ◌∙◌, subst, arith, append_assoc, append-nil}
 use Rattle.std.specs.List.{AllByRecursion}
 use Rattle.std.proofs.lemmas.Bool.Decides.{nat_tests}
 use Rattle.gc_lines.specs.Frames.{rest_behind}
 use Rattle.gc_catalogue.specs.declared.call.Call.{Call}
 use Rattle.gc_catalogue.specs.declared.call.Call.TheVariants.{NullProc}
 use Rattle.gc_client.specs.declared.pending.Pending.{Pending}
-use Rattle.gc_client.specs.Rule.{ById, Settlement, Answered, Late, Lost, expired, lost, met, settle, heard, hears, id_settled, id_send, sends, place_in, pending_of}
+use Rattle.gc_client.specs.Rule.{ById, Settlement, Answered, Late, expired, lost, met, settle, heard, hears, id_settled, id_send, place_in, pending_of}
 use Rattle.gc_texts.specs.declared.commands.Command.{Command}
 use Rattle.gc_station.specs.declared.plan.Plan.{Plan}
 use Rattle.gc_station.specs.declared.cause.Cause.{Cause}
@@ -17,11 +17,11 @@ use Rattle.gc_station.specs.declared.progress.Progress.{Progress}
 use Rattle.gc_station.specs.Acts.{Act, Told, Untold, Put, Cut, Gave, Silent, Ended, Broke, Closed, Opened, Unopened}
 use Rattle.gc_station.specs.Answers.{IsBefore, deadline_behind, IsAnsweredIn, IsTrueRecord}
 use Rattle.gc_station.specs.Deciding.{width_of}
-use Rattle.gc_station.specs.Progressing.{later, turned, told, begun, cleared, probed, sent}
+use Rattle.gc_station.specs.Progressing.{turned, told, begun, cleared, probed, sent}
 use Rattle.gc_station.specs.Records.{Record, records_from}
 use Rattle.gc_station.specs.Runs.{stood}
-use Rattle.gc_station.specs.Standing.{Standing, opening, order_at, place_next, request_text, first_text, with_progress, with_moment, with_rest, line_came, lines_came, lines_behind, piece_came, came, is_heard, client_sent, asks, asks_first, after_tell, after_put, after_open, after_read, after_close, Puts, IsTelling, IsOpening, IsReading, Obeys, moved, after, after_all, Runs}
-use Rattle.gc_station.proofs.Going.{after_all-append, turn_obeys}
+use Rattle.gc_station.specs.Standing.{Standing, opening, order_at, place_next, request_text, first_text, with_progress, with_moment, with_rest, line_came, lines_came, lines_behind, came, is_heard, client_sent, asks, asks_first, after_tell, after_put, after_open, after_read, after_close, Puts, IsTelling, IsOpening, IsReading, Obeys, moved, Runs}
+use Rattle.gc_station.proofs.Going.{after_all-append}
 
 -- all of a list, of some that are mapped, joined, or dropped from
 all_append : {A : Type 0} (P : A → Type 0) (xs ys : List A) → AllByRecursion P xs → AllByRecursion P ys → AllByRecursion P (xs ++ ys)
@@ -117,8 +117,8 @@ at_moment plan commands turns acts m p w given =
     let both = not_expired p.given_up (nat_le p.deadline m) given in
     let s = w both.0 in
     (record { before = s.before; request = s.request; between = s.between; order = s.order; put = s.put; deadline = s.deadline; waits = s.waits }, below p.deadline both.1) where
-  below : (d : ℕ) → nat_le d m ≡ false → m < d
-  below d e = grind (arith, nat_tests, e)
+      below : (d : ℕ) → nat_le d m ≡ false → m < d
+      below d e = grind (arith, nat_tests, e)
 
 moment_told : (plan : Plan) (commands : List Command) (turns : ℕ) (acts : List Act) (act : Act) (m : ℕ) (s t : Standing) → ((d : ℕ) → m < d → IsBefore d act) → t.client.waiting ≡ map (expired m) s.client.waiting → t.records ≡ s.records
     → Honest plan commands turns acts s → Honest plan commands turns (acts ++ act ∷ []) t
@@ -203,9 +203,9 @@ hear_all plan commands turns acts piece m front (line ∷ others) x split h =
     let p = x.progress in
     let written = written_all (IsMet P line) R p.probe p.moment.utc (plan.cycles - p.left) (place_next commands p - length x.client.waiting) (hears x.client line (heard line)).settlements
     (λ (r : Record) met_by l e.
-        let it = met_by l e in
-        let at = it.1.1 it.1.2 in
-        answered plan commands turns acts piece m front others line l it.1.0 r.settlement.call split it.0 it.1.3 at.0 at.1)
+    let it = met_by l e in
+    let at = it.1.1 it.1.2 in
+    answered plan commands turns acts piece m front others line l it.1.0 r.settlement.call split it.0 it.1.3 at.0 at.1)
     met_all.0 in
     hear_all plan commands turns acts piece m (front ++ line ∷ []) others (line_came plan commands x line) (append_assoc front (line ∷ []) others ∙ split)
     (record { waiting = met_all.1; records = all_append R x.records _ h.records written })
@@ -226,8 +226,10 @@ piece_honest plan commands turns acts piece m b h = by_test b where
     waiting = all_map (Waits plan commands turns acts) (WaitsAt plan commands turns acts m.elapsed) (expired m.elapsed) (stood plan commands turns acts).client.waiting (λ p w. at_moment plan commands turns acts m.elapsed p w) h.waiting;
     records = more_true plan commands turns acts (Gave piece m) (stood plan commands turns acts).records h.records;
   }
+
   rested : HonestAt plan commands turns acts piece m (with_rest (rest_behind (stood plan commands turns acts).rest piece) (with_moment m (with_progress (told m) (with_progress turned (stood plan commands turns acts)))))
   rested = record { waiting = mid.waiting; records = mid.records }
+
   by_test : (b : Bool) → Honest plan commands turns (acts ++ Gave piece m ∷ []) (came b plan commands piece (with_moment m (with_progress (told m) (with_progress turned (stood plan commands turns acts)))))
   by_test true = behind_piece plan commands turns acts piece m _ (hear_all plan commands turns acts piece m [] (lines_behind (stood plan commands turns acts).rest piece) _ refl rested)
   by_test false = behind_piece plan commands turns acts piece m _ mid

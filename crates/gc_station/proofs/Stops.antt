@@ -15,9 +15,9 @@ use Rattle.gc_station.specs.Acts.{Act, Told, Untold, Put, Cut, Gave, Silent, End
 use Rattle.gc_station.specs.Deciding.{is_up, is_quiet, order_in}
 use Rattle.gc_station.specs.Progressing.{turned, told, begun, failing, quieted, is_finished, closed, cleared, probed, sent}
 use Rattle.gc_station.specs.Closing.{Shows, Ends, StopsForACause}
-use Rattle.gc_station.specs.Reasons.{IsFor, IsAtItsEnd}
+use Rattle.gc_station.specs.Reasons.{IsFor}
 use Rattle.gc_station.specs.Runs.{stood}
-use Rattle.gc_station.specs.Standing.{Standing, opening, order_at, place_next, with_progress, with_moment, is_heard, is_hopeless, asks, asks_first, after_tell, after_put, after_open, after_read, Puts, IsTelling, IsOpening, IsReading, Obeys, moved, after, after_all, Runs}
+use Rattle.gc_station.specs.Standing.{Standing, opening, order_at, place_next, with_progress, with_moment, is_heard, is_hopeless, asks, asks_first, after_tell, after_put, after_open, after_read, Puts, IsTelling, IsOpening, IsReading, Obeys, moved, after, Runs}
 use Rattle.gc_station.proofs.Closings.{runs_split, last_of, obeys_turned}
 use Rattle.gc_station.proofs.Facts.{order_for}
 use Rattle.gc_station.proofs.Going.{after_all-append}
@@ -162,6 +162,7 @@ stopped_for plan commands turns acts why runs stop = by_needs needs.1 where
   needs : IsFor plan (stood plan commands turns acts).progress (length (stood plan commands turns acts).client.waiting) (is_hopeless (stood plan commands turns acts).client) (order.Stop why)
   needs = subst (λ (next : Order). IsFor plan (stood plan commands turns acts).progress (length (stood plan commands turns acts).client.waiting) (is_hopeless (stood plan commands turns acts).client) next) stop
       (order_for plan (stood plan commands turns acts).progress (length (stood plan commands turns acts).client.waiting) (is_hopeless (stood plan commands turns acts).client))
+
   by_last : (stood plan commands turns acts).progress.phase ≡ Over why → ((acts ≡ []) ⊎ ((earlier : List Act) × (last : Act) × (acts ≡ earlier ++ last ∷ [])))
       → (earlier : List Act) × (last : Act) × (acts ≡ earlier ++ last ∷ []) × Ends plan (stood plan commands turns earlier) why last
   by_last phase (inl none) = let down : Down ≡ Over why = sym (ap (λ (xs : List Act). (stood plan commands turns xs).progress.phase) none) ∙ phase in cc
@@ -172,6 +173,7 @@ stopped_for plan commands turns acts why runs stop = by_needs needs.1 where
       let behind : (after plan commands (stood plan commands turns earlier) last).progress.phase ≡ Over why =
       sym (ap (λ (x : Standing). x.progress.phase) (after_all-append plan commands (opening plan turns) earlier (last ∷ []))) ∙ sym (ap (λ (xs : List Act). (stood plan commands turns xs).progress.phase) some.2) ∙ phase in
       (earlier, last, some.2, after_ends plan commands (stood plan commands turns earlier) last why split.1 behind)
+
   by_needs : (((stood plan commands turns acts).progress.phase ≡ Over why) ⊎ ((why ≡ cause.Turns) × ((stood plan commands turns acts).progress.turns ≡ 0))) → StopsForACause plan commands turns acts why
   by_needs (inl phase) = inr (by_last phase (last_of acts))
   by_needs (inr none) = inl none
