@@ -1,14 +1,3 @@
-mod Cutting
-mod Forms
-mod LineEnds
-mod TextLines
 mod Shown
-mod OneSchedule
 mod Checked
 mod OneVerdict
-mod FirstReplies
-mod Asked
-mod Exchanging
-mod Telling
-mod CommandForms
-mod ById

@@ -1,13 +1,4 @@
-pub mod Cuts
-pub mod LineForms
-pub mod Schedule
-pub mod Commands
-pub mod Texts
 pub mod Drill
-pub mod Asking
-pub mod AskRuns
-pub mod Listening
-pub mod Faults
 pub mod Verdicts
 pub mod Checking
 pub mod Laws

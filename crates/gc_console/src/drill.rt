@@ -2,17 +2,14 @@
 
 ghost use Rattle.std.specs.Prelude.{◌≡◌, ◌+◌, ◌<◌, ◌≤◌, ℕ, List, length, true, IfOk};
 ghost use Rattle.std.specs.Io.KnownBytes.{Consumes, IsAtEnd};
-ghost use Rattle.gc_console.specs.Texts.{end_reads};
-ghost use Rattle.gc_console.specs.declared.schedule.TheConstants.{TEXT_LIMIT};
+ghost use Rattle.gc_texts.specs.Texts.{end_reads};
+ghost use Rattle.gc_texts.specs.declared.text.TheConstants.{TEXT_LIMIT};
 ghost use Rattle.gc_console.specs.Drill.{drill_text, Drills, is_read_whole, source_failed, sink_failed};
 
-use crate::fault::RunFault;
-use crate::schedule::read_schedule;
-use crate::settled::text_of;
-use crate::text::read_text;
 use gc_client::Slots;
 use gc_instrument::Instrument;
 use gc_lines::{Sink, Source, write_whole};
+use gc_texts::{RunFault, read_schedule, read_text, text_of};
 use gc_world::{Event, play};
 use std::alloc::{AllocError, Global};
 

@@ -9,21 +9,21 @@ ghost use Rattle.gc_lines.specs.declared.served.ServeFault.{ServeFault};
 ghost use Rattle.gc_instrument.specs.State.{State, simulator_opening};
 ghost use Rattle.gc_instrument.specs.Serving.{IsServing};
 ghost use Rattle.gc_world.specs.declared.event.Event.{Event};
-ghost use Rattle.gc_console.specs.declared.fault.RunFault.{RunFault};
-ghost use Rattle.gc_console.specs.Faults.{run_fault_text, fault_line, Tells};
-ghost use Rattle.gc_console.specs.Schedule.{IsSchedule};
+ghost use Rattle.gc_texts.specs.declared.fault.RunFault.{RunFault};
+ghost use Rattle.gc_texts.specs.Faults.{run_fault_text, fault_line, Tells};
+ghost use Rattle.gc_texts.specs.Schedule.{IsSchedule};
 ghost use Rattle.gc_console.specs.Checking.{IsChecking};
 ghost use Rattle.gc_console.specs.Drill.{drill_text, Drills, source_failed, sink_failed};
 
 use crate::check::run_check;
 use crate::drill::run_drill;
 use crate::exec::run_exec;
-use crate::fault::RunFault;
-use crate::sockets::{MOST_CONNECTIONS, ask_tcp, loop_tcp, serve_tcp};
 use clap::error::ErrorKind;
 use clap::{Arg, ArgAction, Command, Error, value_parser};
+use gc_ask::{MOST_CONNECTIONS, ask_tcp, loop_tcp, serve_tcp};
 use gc_instrument::Instrument;
 use gc_lines::{FromReader, ReadAhead, ServeFault, Served, Sink, Source, ToWriter};
+use gc_texts::RunFault;
 use std::alloc::Global;
 use std::env::Args;
 use std::io::{self, Read, Write};
@@ -138,50 +138,61 @@ pub fn run_program<
         Err(error) => return refuse_words(&error, &mut messages),
     };
     match subcommand_of(alloc, words.as_slice()) {
-        Ok(Subcommand::Exec) => exec(
-            &mut FromReader::new(ReadAhead::new(input)),
-            &mut ToWriter::new(output),
-            &mut messages,
-        ),
-        Ok(Subcommand::Check) => check(
-            &mut FromReader::new(ReadAhead::new(input)),
-            &mut ToWriter::new(output),
-            &mut messages,
-        ),
-        Ok(Subcommand::Drill { totals }) => drill(
-            alloc,
-            &mut FromReader::new(input),
-            &mut ToWriter::new(output),
-            totals,
-            &mut messages,
-        ),
-        Ok(Subcommand::Loop) => loop_port(
-            rt,
-            alloc,
-            &mut FromReader::new(input),
-            &mut ToWriter::new(output),
-            &mut messages,
-        ),
-        Ok(Subcommand::Serve { port, connections }) => serve_port(
-            rt,
-            port,
-            connections,
-            &mut messages,
-        ),
-        Ok(Subcommand::Ask { port }) => ask_port(
-            rt,
-            alloc,
-            port,
-            &mut FromReader::new(input),
-            &mut ToWriter::new(output),
-            &mut messages,
-        ),
+        Ok(subcommand) => run_subcommand(rt, alloc, subcommand, input, output, &mut messages),
         Err(error) if error.kind() == ErrorKind::OutOfMemory => want_of_memory(&mut messages),
         Err(error) if error.use_stderr() => {
             write!(messages, "{error}")?;
             Ok(ExitCode::from(2))
         }
         Err(text) => show(&text, &mut output, &mut messages),
+    }
+}
+
+// Runs the engine of a subcommand over the input and the output, and tells how it ended.
+fn run_subcommand<
+    R: Net<Listener = TcpListener, Stream = TcpStream>,
+    I: Read + Drop,
+    O: Write + Drop,
+    E: Write,
+>(
+    rt: &R,
+    alloc: Global,
+    subcommand: Subcommand,
+    input: I,
+    output: O,
+    messages: &mut E,
+) -> io::Result<ExitCode>
+    ensures { IfOk result (λ status. exit_status status ≤ 2) }
+{
+    let mut sink = ToWriter::new(output);
+    match subcommand {
+        Subcommand::Exec => exec(
+            &mut FromReader::new(ReadAhead::new(input)),
+            &mut sink,
+            messages,
+        ),
+        Subcommand::Check => check(
+            &mut FromReader::new(ReadAhead::new(input)),
+            &mut sink,
+            messages,
+        ),
+        Subcommand::Drill { totals } => drill(
+            alloc,
+            &mut FromReader::new(input),
+            &mut sink,
+            totals,
+            messages,
+        ),
+        Subcommand::Loop => loop_port(rt, alloc, &mut FromReader::new(input), &mut sink, messages),
+        Subcommand::Serve { port, connections } => serve_port(rt, port, connections, messages),
+        Subcommand::Ask { port } => ask_port(
+            rt,
+            alloc,
+            port,
+            &mut FromReader::new(input),
+            &mut sink,
+            messages,
+        ),
     }
 }
 

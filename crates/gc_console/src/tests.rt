@@ -1,11 +1,8 @@
 //! What no clause says: outside values, the faults of ports, the printed lines, and what a command line means. The worked
 //! schedules and streams are files of `examples/`, and `gc_examples` plays them.
 
-mod ask;
 mod check;
 mod drill;
 mod exec;
 mod failing;
-mod looped;
 mod program;
-mod sockets;

@@ -1,11 +1,9 @@
-//! The text of a schedule, and the faults of a drill.
+//! What a drill writes, and its faults.
 
-use crate::{RunFault, read_schedule, run_drill};
+use crate::{RunFault, run_drill};
 use gc_probes::{PieceSink, PieceSource};
-use gc_world::Event;
 use std::alloc::Global;
 use std::process::Abort;
-use std::test::Fail;
 
 // A schedule, and what is written of it with totals.
 const LATE_REPLY: &[u8] =
@@ -34,21 +32,6 @@ fn a_text_is_faulty_or_too_long(rt: HostRuntime) {
     expect_end(&rt, alloc, b"down bytes 1\ndown bytes\n", faulty);
     expect_end(&rt, alloc, &[b'\n'; 65536], Ok(()));
     expect_end(&rt, alloc, &[b'\n'; 65537], Err(RunFault::InputTooLong));
-}
-
-#[test]
-fn a_schedule_is_read(rt: HostRuntime) -> Result<(), Fail> {
-    let text =
-        b"# four events\n\nup repeat 3\r\nexpire 18446744073709551615\nup bytes 10\ndown bytes 4294967295";
-    let events = read_schedule(rt.alloc(), text)?;
-    let wanted = [
-        Event::UpRepeat(3),
-        Event::Expire(u64::MAX),
-        Event::UpBytes(10),
-        Event::DownBytes(4294967295),
-    ];
-    assert_eq!(rt; events.as_slice(), wanted.as_slice());
-    Ok(())
 }
 
 #[test]

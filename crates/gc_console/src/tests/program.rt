@@ -1,6 +1,6 @@
 //! What a command line means: the statuses, the printed texts and each option, on and off.
 
-use crate::{RunFault, run_program};
+use crate::run_program;
 use std::alloc::{AllocError, Global};
 use std::env::Args;
 use std::io::{self, ErrorKind, Read};
@@ -86,6 +86,19 @@ fn each_engine_runs_with_each_option_on_and_off(rt: HostRuntime) -> Result<(), F
         "0 7 answered %R1P,0,0:0,123456\n1 8 answered %R1P,0,1:0,0\n",
         "",
     )?;
+    expect_run(
+        &rt,
+        rt.alloc(),
+        &["geocom", "--version"],
+        b"",
+        0,
+        "geocom 0.1.0\n",
+        "",
+    )
+}
+
+#[test]
+fn an_input_is_empty_or_is_checked(rt: HostRuntime) -> Result<(), Fail> {
     expect_run(&rt, rt.alloc(), &["geocom", "drill"], b"", 0, "", "")?;
     expect_run(&rt, rt.alloc(), &["geocom", "exec"], b"", 0, "", "")?;
     expect_run(&rt, rt.alloc(), &["geocom", "check"], b"", 0, "", "")?;
@@ -96,15 +109,6 @@ fn each_engine_runs_with_each_option_on_and_off(rt: HostRuntime) -> Result<(), F
         REQUESTS,
         0,
         "1 request 0 ok\n2 request 5003 ok\n",
-        "",
-    )?;
-    expect_run(
-        &rt,
-        rt.alloc(),
-        &["geocom", "--version"],
-        b"",
-        0,
-        "geocom 0.1.0\n",
         "",
     )
 }
@@ -353,35 +357,4 @@ fn the_words_find_no_memory_or_are_no_text(rt: HostRuntime) -> Result<(), Fail> 
         "geocom: fault 52\n",
     )?;
     expect_words_refused(&rt, rt.alloc(), ErrorKind::InvalidData, 2, no_text)
-}
-
-#[test]
-fn each_fault_is_told(rt: HostRuntime) -> Result<(), Fail> {
-    let written = RunFault::Write {
-        replies: 7,
-        bytes: 21,
-    };
-    let rows = [
-        (RunFault::Read, 42, "fault 42"),
-        (written, 43, "fault 43 reply 7 byte 21"),
-        (RunFault::TooManyReads, 44, "fault 44"),
-        (RunFault::LinkClosed, 45, "fault 45"),
-        (RunFault::Schedule { line: 3 }, 51, "fault 51 line 3"),
-        (RunFault::Memory, 52, "fault 52"),
-        (RunFault::InputTooLong, 53, "fault 53"),
-        (RunFault::Socket, 54, "fault 54"),
-        (RunFault::Output, 55, "fault 55"),
-    ];
-    for (fault, number, text) in rows {
-        let alloc = rt.alloc();
-        let mut told = Vec::new(alloc);
-        fault.tell(&mut told)?;
-        let told = str::from_utf8(told.as_slice()).expect(&rt, text);
-        let line = format!(in alloc; "geocom: {text}\n")?;
-        let shown = format!(in alloc; "{fault}")?;
-        assert_eq!(rt; told, line.as_str());
-        assert_eq!(rt; shown.as_str(), text);
-        assert_eq!(rt; fault.number(), number, "{text}");
-    }
-    Ok(())
 }

@@ -1,0 +1,253 @@
+-- What was asked so far, command after command.
+use Rattle.std.proofs.Common.{◌≡◌, ℕ, ◌+◌, ◌<◌, Bool, true, ltb, List, [], ◌∷◌, ◌++◌, length, take, map, Option, Some, None, ◌⊎◌, inl, inr, refl, sym, ap, ◌∙◌, subst, arith, append_assoc, append-nil, length-append}
+use Rattle.std.specs.Io.KnownBytes.{Appends}
+use Rattle.std.proofs.lemmas.Bool.{ltb-true}
+use Rattle.gc_lines.specs.Answering.{all_of}
+use Rattle.gc_lines.specs.Assembler.{Kept, StandsFor}
+use Rattle.gc_lines.specs.Frames.{lines, rest_of, rest_behind}
+use Rattle.gc_lines.proofs.Cutting.{rest-append}
+use Rattle.gc_lines.proofs.InOrder.{all_of-append}
+use Rattle.gc_lines.proofs.Known.{Appends-append, Appends-nil, Appends-is}
+use Rattle.gc_client.specs.declared.settlement.Settlement
+use Rattle.gc_client.specs.Rule.{ById, Settlement, heard, fits, hears, met, place_in}
+use Rattle.gc_client.specs.Settlements.{settlement_seen}
+use Rattle.gc_ask.specs.Asking.{asked_for, idle, waiting_for, Reply, first_reply, settled_by, asked_from, asked, request_text, request_texts, lost_of, AsksAll, AsksUpTo, AsksPart, TellsPart}
+use Rattle.gc_texts.specs.declared.commands.Command.{Command}
+use Rattle.gc_texts.specs.Settlements.{settlement_line, settlement_lines, lines_from, ToldPart}
+use Rattle.gc_ask.specs.Listening.{lines_behind, Settles}
+use Rattle.gc_texts.proofs.SettlementLines.{lines_one}
+use Rattle.gc_ask.proofs.FirstReplies.{lines_behind-append, first_reply-at}
+
+-- One request that waits.
+
+one_waits : (n p : ℕ) (b : Bool) → b ≡ ltb p 1 → b ≡ true → p ≡ 0
+one_waits n p b is e = omega (arith, ltb-true p 1 (sym is ∙ e))
+
+-- the reply with its id settles it alone, and nothing waits any more
+pub hears_one : (k : ℕ) (c : Command) (line : List ℕ) → fits (waiting_for k c) (heard line) ≡ true
+    → ((hears (waiting_for k c) line (heard line)).settlements ≡ met (asked_for c) line ∷ []) × ((hears (waiting_for k c) line (heard line)).client ≡ idle (k + 1))
+hears_one k c line fit = by_id (heard line) fit where
+  by_id : (o : Option ℕ) → fits (waiting_for k c) o ≡ true → ((hears (waiting_for k c) line o).settlements ≡ met (asked_for c) line ∷ []) × ((hears (waiting_for k c) line o).client ≡ idle (k + 1))
+  by_id None e = (cc)
+  by_id (Some id) e =
+      let first : place_in (waiting_for k c) id ≡ 0 = one_waits 0 _ _ refl e in
+      rw first (refl, refl)
+
+-- Requests and settlements in order.
+
+texts_one : (k : ℕ) (done : List Command) (c : Command) → request_texts k (done ++ c ∷ []) ≡ request_texts k done ++ request_text (k + length done) c ∷ []
+texts_one k [] c = ap (λ n. request_text n c ∷ []) (omega arith)
+texts_one k (x ∷ done) c =
+    let place : k + 1 + length done ≡ k + length (x ∷ done) = omega arith in
+    ap (λ ts. request_text k x ∷ ts) (texts_one (k + 1) done c ∙ ap (λ n. request_texts (k + 1) done ++ request_text n c ∷ []) place)
+
+pub all_texts_one : (done : List Command) (c : Command) → all_of (request_texts 0 (done ++ c ∷ [])) ≡ all_of (request_texts 0 done) ++ request_text (length done) c
+all_texts_one done c =
+    let place : 0 + length done ≡ length done = omega arith in
+    ap all_of (texts_one 0 done c ∙ ap (λ n. request_texts 0 done ++ request_text n c ∷ []) place) ∙ all_of-append (request_texts 0 done) (request_text (length done) c ∷ [])
+    ∙ ap (λ t. all_of (request_texts 0 done) ++ t) (append-nil (request_text (length done) c))
+
+lines_last : (settled : List Settlement) (k : ℕ) (next : Settlement) → length settled ≡ k → settlement_lines (settled ++ next ∷ []) ≡ settlement_lines settled ++ lines_from k (next ∷ [])
+lines_last settled k next is =
+    let place : 0 + length settled ≡ k = omega (arith, is) in
+    lines_one 0 settled next ∙ ap (λ n. settlement_lines settled ++ settlement_line n next) place ∙ ap (λ t. settlement_lines settled ++ t) (sym (append-nil (settlement_line k next)))
+
+length_one : {A : Type 0} (xs : List A) (x : A) → length (xs ++ x ∷ []) ≡ length xs + 1
+length_one xs x = length-append xs (x ∷ [])
+
+-- The bytes that came.
+
+more_came : (given left more now : List ℕ) (looked : List (List ℕ)) → lines given ≡ looked ++ lines_behind now left → rest_of given ≡ rest_behind now left
+    → (lines (given ++ more) ≡ looked ++ lines_behind now (left ++ more)) × (rest_of (given ++ more) ≡ rest_behind now (left ++ more))
+more_came given left more now looked seen rests = (
+  lines_behind-append [] given more ∙ ap (λ r. lines given ++ lines_behind r more) rests ∙ ap (λ zs. zs ++ lines_behind (rest_behind now left) more) seen
+      ∙ append_assoc looked (lines_behind now left) (lines_behind (rest_behind now left) more) ∙ ap (λ zs. looked ++ zs) (sym (lines_behind-append now left more)),
+  rest-append [] given more ∙ ap (λ r. rest_behind r more) rests ∙ sym (rest-append now left more),
+)
+
+-- these commands were asked and settled, of the bytes that were given; those that are left aren't looked at
+pub record Course (done : List Command) (given left : List ℕ) (kept : Kept) (client : ById) (link_old link_new sink_old sink_new : Option (List ℕ)) : Type 0 where
+  pub now : List ℕ
+  pub looked : List (List ℕ)
+  pub settled : List Settlement
+  pub stands : StandsFor kept now
+  pub seen : lines given ≡ looked ++ lines_behind now left
+  pub rests : rest_of given ≡ rest_behind now left
+  pub count : length settled ≡ length done
+  pub asks : (more : List Command) (later : List (List ℕ)) → asked_from 0 (done ++ more) (looked ++ later) ≡ settled ++ asked_from (length done) more later
+  pub client_is : client ≡ idle (length done)
+  pub link : Appends link_old link_new (all_of (request_texts 0 done))
+  pub sink : Appends sink_old sink_new (settlement_lines settled)
+
+pub course_start : (kept : Kept) (client : ById) (link sink : Option (List ℕ)) → StandsFor kept [] → client ≡ idle 0 → Course [] [] [] kept client link link sink sink
+course_start kept client link sink s is = record {
+  now = [];
+  looked = [];
+  settled = [];
+  stands = s;
+  seen = refl;
+  rests = refl;
+  count = refl;
+  asks = λ more later. refl;
+  client_is = is;
+  link = Appends-nil link;
+  sink = Appends-nil sink;
+}
+
+-- what is asked of all that came, where no further command is
+asked_so : (done : List Command) (given left : List ℕ) (kept : Kept) (client : ById) (a b c d : Option (List ℕ)) (more : List ℕ) (at : Course done given left kept client a b c d) → asked done (given ++ more) ≡ at.settled
+asked_so done given left kept client a b c d more at =
+    let came = lines_behind at.now (left ++ more) in
+    ap (λ xs. asked_from 0 xs (lines (given ++ more))) (sym (append-nil done)) ∙ ap (asked_from 0 (done ++ [])) (more_came given left more at.now at.looked at.seen at.rests).0
+    ∙ at.asks [] came ∙ append-nil at.settled
+
+-- what is asked of it, where one more command was sent
+asked_on : (done : List Command) (given left : List ℕ) (kept : Kept) (client : ById) (a b c d : Option (List ℕ)) (more : List ℕ) (at : Course done given left kept client a b c d) (command : Command) (later : List Command) (r : Option Reply)
+    → first_reply (waiting_for (length done) command) (lines_behind at.now (left ++ more)) ≡ r
+    → asked (done ++ command ∷ later) (given ++ more) ≡ at.settled ++ settled_by (waiting_for (length done) command) (asked_from (length done + 1) later) r
+asked_on done given left kept client a b c d more at command later r is =
+    let came = lines_behind at.now (left ++ more) in
+    ap (asked_from 0 (done ++ command ∷ later)) (more_came given left more at.now at.looked at.seen at.rests).0
+    ∙ at.asks (command ∷ later) came ∙ ap (λ x. at.settled ++ settled_by (waiting_for (length done) command) (asked_from (length done + 1) later) x) is
+
+first_is : (rest bytes left : List ℕ) (kept : Kept) (from to : ById) (settled : List Settlement.Settlement) (s : Settles rest bytes left kept from to settled)
+    → first_reply from (lines_behind rest bytes) ≡ Some (record { line = s.line; later = lines_behind [] left })
+first_is rest bytes left kept from to settled s = ap (first_reply from) s.seen ∙ first_reply-at from s.front s.line (lines_behind [] left) s.none s.fits
+
+-- what was settled, as the rule speaks of it
+pub settled_is : (k : ℕ) (command : Command) (rest bytes left : List ℕ) (kept : Kept) (to : ById) (settled : List Settlement.Settlement) (s : Settles rest bytes left kept (waiting_for k command) to settled)
+    → (map settlement_seen settled ≡ met (asked_for command) s.line ∷ []) × (to ≡ idle (k + 1))
+settled_is k command rest bytes left kept to settled s =
+    let one = hears_one k command s.line s.fits in
+    (s.settles.seen ∙ one.0, s.client ∙ one.1)
+
+-- what is asked where one more command was sent, and a line settles it
+pub asked_with : (done : List Command) (given left : List ℕ) (kept : Kept) (client : ById) (a b c d : Option (List ℕ)) (more : List ℕ) (at : Course done given left kept client a b c d) (command : Command)
+    (left' : List ℕ) (kept' : Kept) (to : ById) (settled : List Settlement.Settlement) (s : Settles at.now (left ++ more) left' kept' (waiting_for (length done) command) to settled)
+    → asked (done ++ command ∷ []) (given ++ more) ≡ at.settled ++ met (asked_for command) s.line ∷ []
+asked_with done given left kept client a b c d more at command left' kept' to settled s =
+    let found = first_is at.now (left ++ more) left' kept' (waiting_for (length done) command) to settled s in
+    asked_on done given left kept client a b c d more at command [] (Some (record { line = s.line; later = lines_behind [] left' })) found
+    ∙ ap (λ zs. at.settled ++ (zs ++ [])) (hears_one (length done) command s.line s.fits).0
+
+-- one more command was asked and settled
+pub course_more : (done : List Command) (command : Command) (given left more left' : List ℕ) (kept kept' : Kept) (client to : ById) (a b b' c d d' : Option (List ℕ)) (settled : List Settlement.Settlement)
+    → (at : Course done given left kept client a b c d) → Settles at.now (left ++ more) left' kept' (waiting_for (length done) command) to settled
+    → Appends b b' (request_text (length done) command) → Appends d d' (lines_from (length done) (map settlement_seen settled))
+    → Course (done ++ command ∷ []) (given ++ more) left' kept' to a b' c d'
+course_more done command given left more left' kept kept' client to a b b' c d d' settled at s sent told =
+    let k = length done in
+    let is = settled_is k command _ _ _ _ _ _ s in
+    let next = met (asked_for command) s.line in
+    let front : List (List ℕ) = s.front ++ s.line ∷ [] in
+    let came = more_came given left more at.now at.looked at.seen at.rests in
+    let place : k + 1 ≡ length (done ++ command ∷ []) = sym (length_one done command) in
+    record {
+      now = [];
+      looked = at.looked ++ front;
+      settled = at.settled ++ next ∷ [];
+      stands = s.stands;
+      seen = came.0 ∙ ap (λ zs. at.looked ++ zs) (s.seen ∙ sym (append_assoc s.front (s.line ∷ []) (lines_behind [] left'))) ∙ sym (append_assoc at.looked front (lines_behind [] left'));
+      rests = came.1 ∙ s.rests;
+      count = length_one at.settled next ∙ ap (λ n. n + 1) at.count ∙ place;
+      asks = λ others later.
+          let found : first_reply (waiting_for k command) (front ++ later) ≡ Some (record { line = s.line; later = later }) =
+          ap (first_reply (waiting_for k command)) (append_assoc s.front (s.line ∷ []) later) ∙ first_reply-at (waiting_for k command) s.front s.line later s.none s.fits in
+          ap (λ xs. asked_from 0 xs ((at.looked ++ front) ++ later)) (append_assoc done (command ∷ []) others)
+          ∙ ap (asked_from 0 (done ++ command ∷ others)) (append_assoc at.looked front later)
+          ∙ at.asks (command ∷ others) (front ++ later)
+          ∙ ap (λ x. at.settled ++ settled_by (waiting_for k command) (asked_from (k + 1) others) x) found
+          ∙ ap (λ zs. at.settled ++ (zs ++ asked_from (k + 1) others later)) (hears_one k command s.line s.fits).0
+          ∙ ap (λ n. at.settled ++ next ∷ asked_from n others later) place
+          ∙ sym (append_assoc at.settled (next ∷ []) (asked_from (length (done ++ command ∷ [])) others later));
+      client_is = is.1 ∙ ap idle place;
+      link = Appends-is _ _ _ _ (sym (all_texts_one done command)) (Appends-append _ _ _ _ _ at.link sent);
+      sink = Appends-is _ _ _ _ (ap (λ zs. settlement_lines at.settled ++ lines_from k zs) is.0 ∙ sym (lines_last at.settled k next at.count)) (Appends-append _ _ _ _ _ at.sink told);
+    }
+
+-- Ends.
+
+-- all were asked
+pub course_all : (commands : List Command) (given left : List ℕ) (kept : Kept) (client : ById) (a b c d : Option (List ℕ)) → Course commands given left kept client a b c d → AsksAll commands given a b c d
+course_all commands given left kept client a b c d at =
+    let all : asked commands given ≡ at.settled = ap (asked commands) (sym (append-nil given)) ∙ asked_so commands given left kept client a b c d [] at in
+    record {
+      settled = ap length all ∙ at.count;
+      sent = at.link;
+      told = Appends-is _ _ _ _ (ap settlement_lines (sym all)) at.sink;
+    }
+
+-- the next one was sent, and what came doesn't settle it
+pub course_up_to : (commands done later : List Command) (command : Command) (given left more : List ℕ) (kept : Kept) (client : ById) (a b b' c d d' : Option (List ℕ))
+    → (at : Course done given left kept client a b c d) → commands ≡ done ++ command ∷ later
+    → first_reply (waiting_for (length done) command) (lines_behind at.now (left ++ more)) ≡ None
+    → Appends b b' (request_text (length done) command) → Appends d d' (lines_from (length done) (lost_of command ∷ []))
+    → AsksUpTo commands (given ++ more) a b' c d'
+course_up_to commands done later command given left more kept client a b b' c d d' at order none sent told =
+    let so : asked commands (given ++ more) ≡ at.settled = ap (λ xs. asked xs (given ++ more)) order ∙ asked_on done given left kept client a b c d more at command later None none ∙ append-nil at.settled in
+    record {
+      earlier = done;
+      command = command;
+      later = later;
+      order = order;
+      settled = ap length so ∙ at.count;
+      sent = Appends-is _ _ _ _ (sym (all_texts_one done command)) (Appends-append _ _ _ _ _ at.link sent);
+      told = Appends-is _ _ _ _ (sym (lines_last at.settled (length done) (lost_of command) at.count) ∙ ap (λ zs. settlement_lines (zs ++ lost_of command ∷ [])) (sym so)) (Appends-append _ _ _ _ _ at.sink told);
+    }
+
+-- the next one was sent in part
+pub course_part : (commands done later : List Command) (command : Command) (given left more : List ℕ) (kept : Kept) (client : ById) (a b b' c d d' : Option (List ℕ)) (count bytes : ℕ)
+    → Course done given left kept client a b c d → commands ≡ done ++ command ∷ later
+    → count ≡ length done → bytes < length (request_text (length done) command)
+    → Appends b b' (take bytes (request_text (length done) command)) → Appends d d' (lines_from (length done) (lost_of command ∷ []))
+    → AsksPart commands (given ++ more) a b' c d' count bytes
+course_part commands done later command given left more kept client a b b' c d d' count bytes at order is short sent told =
+    let so : asked done (given ++ more) ≡ at.settled = asked_so done given left kept client a b c d more at in
+    record {
+      earlier = done;
+      command = command;
+      later = later;
+      order = order;
+      count_is = is;
+      settled = ap length so ∙ at.count;
+      not_all = subst (λ n. bytes < length (request_text n command)) (sym is) short;
+      sent = Appends-is _ _ _ _ (ap (λ n. all_of (request_texts 0 done) ++ take bytes (request_text n command)) (sym is)) (Appends-append _ _ _ _ _ at.link sent);
+      told = Appends-is _ _ _ _ (sym (lines_last at.settled (length done) (lost_of command) at.count) ∙ ap (λ zs. settlement_lines (zs ++ lost_of command ∷ [])) (sym so)) (Appends-append _ _ _ _ _ at.sink told);
+    }
+
+-- the sink failed, as it took the next settlement
+pub course_tells : (commands done later : List Command) (command : Command) (given left more : List ℕ) (kept : Kept) (client : ById) (a b b' c d d' : Option (List ℕ)) (bytes : ℕ) (next : Settlement)
+    → (at : Course done given left kept client a b c d) → commands ≡ done ++ command ∷ later
+    → (asked (done ++ command ∷ []) (given ++ more) ≡ at.settled ++ next ∷ []) ⊎ (next ≡ lost_of command)
+    → Appends b b' (take bytes (request_text (length done) command)) → ToldPart (length done) (next ∷ []) d d'
+    → TellsPart commands (given ++ more) a b' c d'
+course_tells commands done later command given left more kept client a b b' c d d' bytes next at order is sent told =
+    let so : asked done (given ++ more) ≡ at.settled = asked_so done given left kept client a b c d more at in
+    let alone = alone_in told.earlier told.later told.next next told.order in
+    let same : length done + length told.earlier ≡ length done = ap (λ (xs : List Settlement). length done + length xs) alone.0 ∙ omega arith in
+    record {
+      earlier = done;
+      command = command;
+      later = later;
+      order = order;
+      settled = ap length so ∙ at.count;
+      bytes = bytes;
+      sent = Appends-append _ _ _ _ _ at.link sent;
+      next = next;
+      next_is = either is so;
+      part = told.part;
+      not_all = subst (λ (t : List ℕ). told.part < length t) (the_line same alone.1) told.not_all;
+      told = Appends-is _ _ _ _ (ap (λ zs. settlement_lines zs ++ take told.part (settlement_line (length done) next)) (sym so))
+          (Appends-append _ _ _ _ _ at.sink (Appends-is _ _ _ _ (ap (λ (xs : List Settlement). lines_from (length done) xs ++ take told.part (settlement_line (length done + length told.earlier) told.next)) alone.0 ∙ ap (take told.part) (the_line same alone.1)) told.took));
+    } where
+      alone_in : (xs ys : List Settlement) (x y : Settlement) → y ∷ [] ≡ xs ++ x ∷ ys → (xs ≡ []) × (x ≡ y)
+      alone_in [] ys x y e = (refl, cc)
+      alone_in (z ∷ []) ys x y e = absurd (omega (arith, ap length e))
+      alone_in (z ∷ w ∷ zs) ys x y e = absurd (omega (arith, ap length e))
+
+      the_line : {j k : ℕ} {x y : Settlement} → j ≡ k → x ≡ y → settlement_line j x ≡ settlement_line k y
+      the_line e f = cc
+
+      either : (asked (done ++ command ∷ []) (given ++ more) ≡ at.settled ++ next ∷ []) ⊎ (next ≡ lost_of command) → asked done (given ++ more) ≡ at.settled → (asked (done ++ command ∷ []) (given ++ more) ≡ asked done (given ++ more) ++ next ∷ []) ⊎ (next ≡ lost_of command)
+      either (inl e) so = inl (e ∙ ap (λ zs. zs ++ next ∷ []) (sym so))
+      either (inr e) so = inr e

@@ -1,0 +1,53 @@
+-- A request that waits alone is settled by its id.
+use Rattle.std.proofs.Common.{◌≡◌, ℕ, ◌+◌, ◌-◌, ◌%◌, ◌<◌, true, false, cond, List, [], ◌∷◌, ◌++◌, Option, Some, None, IfSome, refl, ap, ◌∙◌, subst, arith}
+use Rattle.gc_client.specs.Ids.{IsWindow, Waits}
+use Rattle.gc_client.specs.Rule.{heard, fits, Settlement}
+use Rattle.gc_client.proofs.Digits.{fits_where_it_waits, heard_by_grammar}
+use Rattle.gc_ask.specs.Asking.{waiting_for, first_reply, settled_by, asked_from}
+use Rattle.gc_ask.specs.Laws.{HasNoReply, AsksById}
+use Rattle.gc_texts.specs.declared.commands.Command.{Command}
+use Rattle.gc_ask.proofs.Asked.{hears_one}
+use Rattle.gc_ask.proofs.FirstReplies.{first_reply-at}
+
+one_window : (k : ℕ) (c : Command) → IsWindow (waiting_for k c)
+one_window k c = record { digit = omega arith; few = omega arith }
+
+its_id : (k : ℕ) → ((k + 1) % 8 + 8 - 1 + 0) % 8 ≡ k % 8
+its_id k = omega arith
+
+-- an id that is heard is a digit below 8
+heard_digit : (line : List ℕ) (id : ℕ) → heard line ≡ Some id → id < 8
+heard_digit line id e =
+    let reply = (heard_by_grammar line).only id e in
+    subst (λ o. IfSome o (λ n. n < 8)) reply.2 reply.1.is_id
+
+-- the reply with its id fits
+fits_its : (k : ℕ) (c : Command) (line : List ℕ) → heard line ≡ Some (k % 8) → fits (waiting_for k c) (heard line) ≡ true
+fits_its k c line e =
+    ap (fits (waiting_for k c)) e ∙ (fits_where_it_waits (waiting_for k c) (k % 8) (one_window k c) (heard_digit line (k % 8) e)).1 (0, omega arith, its_id k)
+
+-- and no other
+fits_only : (k : ℕ) (c : Command) (line : List ℕ) → fits (waiting_for k c) (heard line) ≡ true → heard line ≡ Some (k % 8)
+fits_only k c line fit = by_id (heard line) refl fit where
+  the_id : (id : ℕ) → heard line ≡ Some id → Waits (waiting_for k c) id → id ≡ k % 8
+  the_id id e (place, below, same) = omega (arith, below, same)
+
+  by_id : (o : Option ℕ) → heard line ≡ o → fits (waiting_for k c) o ≡ true → o ≡ Some (k % 8)
+  by_id None e f = (cc)
+  by_id (Some id) e f = ap Some (the_id id e ((fits_where_it_waits (waiting_for k c) id (one_window k c) (heard_digit line id e)).0 f))
+
+no_reply : (k : ℕ) (c : Command) (came : List (List ℕ)) → HasNoReply k came → first_reply (waiting_for k c) came ≡ None
+no_reply k c [] none = refl
+no_reply k c (line ∷ later) none = elim (fits (waiting_for k c) (heard line)) as (λ v. fits (waiting_for k c) (heard line) ≡ v → cond v (Some (record { line = line; later = later })) (first_reply (waiting_for k c) later) ≡ None) [
+  | true ↦ λ e. absurd (none.0 (fits_only k c line e))
+  | false ↦ λ e. no_reply k c later none.1
+] refl
+
+pub asks_by_id : (k : ℕ) (command : Command) (later : List Command) → AsksById k command later
+asks_by_id k command later = record {
+  settled = λ front line rest none its.
+      let fit = fits_its k command line its in
+      ap (settled_by (waiting_for k command) (asked_from (k + 1) later)) (first_reply-at (waiting_for k command) front line rest (no_reply k command front none) fit)
+      ∙ ap (λ (zs : List Settlement). zs ++ asked_from (k + 1) later rest) (hears_one k command line fit).0;
+  unsettled = λ came none. ap (settled_by (waiting_for k command) (asked_from (k + 1) later)) (no_reply k command came none);
+}

@@ -1,0 +1,213 @@
+-- The first line that settles a request, over the bytes that a link gives piece by piece.
+use Rattle.std.proofs.Common.{◌≡◌, ℕ, ◌+◌, true, false, cond, List, [], ◌∷◌, ◌++◌, take, drop, map, Option, Some, None, refl, sym, ap, ◌∙◌, subst, append_assoc, append-nil}
+use Rattle.std.specs.List.{position, filter_map}
+use Rattle.std.specs.Option.{option_to_list}
+use Rattle.std.specs.Io.KnownBytes.{Consumes, Keeps}
+use Rattle.std.proofs.lemmas.List.{map-append}
+use Rattle.std.proofs.lemmas.List.Elements.{filter_map-append}
+use Rattle.gc_lines.specs.Assembler.{Kept, StandsFor}
+use Rattle.gc_lines.specs.Frames.{is_line_feed, frame_of, line_in, pieces_behind, rest_behind}
+use Rattle.gc_lines.specs.Passing.{completed, frames_behind}
+use Rattle.gc_lines.specs.declared.frame.Frame.{Frame}
+use Rattle.gc_lines.specs.declared.frame.Frame.TheVariants.{Line, Cleared, Overlong, More}
+use Rattle.gc_lines.proofs.Cutting.{cut_some, pieces-append, rest-append}
+use Rattle.gc_lines.proofs.Passing.{Takes}
+use Rattle.gc_client.specs.declared.settlement.Settlement.{Settlement}
+use Rattle.gc_client.specs.Rule.{ById, heard, fits, hears}
+use Rattle.gc_client.specs.Settlements.{AreSettlements}
+use Rattle.gc_ask.specs.Asking.{first_reply}
+use Rattle.gc_ask.specs.Listening.{lines_behind, SettlesNothing, TakesFrame, IsQuiet, Settles}
+
+abbrev lines_of : List (List ℕ) → List (List ℕ)
+lines_of pieces = filter_map line_in (map frame_of pieces)
+
+lines_of-append : (xs ys : List (List ℕ)) → lines_of (xs ++ ys) ≡ lines_of xs ++ lines_of ys
+lines_of-append xs ys = ap (λ fs. filter_map line_in fs) (map-append frame_of xs ys) ∙ filter_map-append line_in (map frame_of xs) (map frame_of ys)
+
+-- one piece after another
+pub lines_behind-append : (rest xs ys : List ℕ) → lines_behind rest (xs ++ ys) ≡ lines_behind rest xs ++ lines_behind (rest_behind rest xs) ys
+lines_behind-append rest xs ys = ap lines_of (pieces-append rest xs ys) ∙ lines_of-append (pieces_behind rest xs) (pieces_behind (rest_behind rest xs) ys)
+
+pub first_reply-none : (c : ById) (xs ys : List (List ℕ)) → first_reply c xs ≡ None → first_reply c (xs ++ ys) ≡ first_reply c ys
+first_reply-none c [] ys e = refl
+first_reply-none c (x ∷ xs) ys e = (elim (fits c (heard x)) as (λ v. cond v (Some (record { line = x; later = xs })) (first_reply c xs) ≡ None → cond v (Some (record { line = x; later = xs ++ ys })) (first_reply c (xs ++ ys)) ≡ first_reply c ys) [
+  | true ↦ λ f. (cc)
+  | false ↦ λ f. first_reply-none c xs ys f
+]) e
+
+pub first_reply-at : (c : ById) (front : List (List ℕ)) (line : List ℕ) (later : List (List ℕ)) → first_reply c front ≡ None → fits c (heard line) ≡ true → first_reply c (front ++ line ∷ later) ≡ Some (record { line = line; later = later })
+first_reply-at c front line later none fit = first_reply-none c front (line ∷ later) none ∙ rw fit refl
+
+-- Quiet pieces.
+
+pub quiet_start : (rest : List ℕ) (kept : Kept) (c : ById) → StandsFor kept rest → IsQuiet rest [] kept c c
+quiet_start rest kept c s = record { none = refl; stands = s; same = refl }
+
+pub quiet_then : (rest xs ys : List ℕ) (kept kept' : Kept) (a b c : ById) → IsQuiet rest xs kept a b → IsQuiet (rest_behind rest xs) ys kept' b c → IsQuiet rest (xs ++ ys) kept' a c
+quiet_then rest xs ys kept kept' a b c q r = record {
+  none = ap (first_reply a) (lines_behind-append rest xs ys) ∙ first_reply-none a (lines_behind rest xs) (lines_behind (rest_behind rest xs) ys) q.none
+      ∙ ap (λ x. first_reply x (lines_behind (rest_behind rest xs) ys)) (sym q.same) ∙ r.none;
+  stands = subst (λ (zs : List ℕ). StandsFor kept' zs) (sym (rest-append rest xs ys)) r.stands;
+  same = r.same ∙ q.same;
+}
+
+pub settles_then : (rest xs ys left : List ℕ) (kept kept' : Kept) (a b c : ById) (settled : List Settlement) → IsQuiet rest xs kept a b → Settles (rest_behind rest xs) ys left kept' b c settled → Settles rest (xs ++ ys) left kept' a c settled
+settles_then rest xs ys left kept kept' a b c settled q s =
+    let front : List (List ℕ) = lines_behind rest xs in
+    let at : Settles (rest_behind rest xs) ys left kept' a c settled = subst (λ (x : ById). Settles (rest_behind rest xs) ys left kept' x c settled) q.same s in
+    record {
+      front = front ++ at.front;
+      line = at.line;
+      seen = lines_behind-append rest xs ys ∙ ap (λ zs. front ++ zs) at.seen ∙ sym (append_assoc front at.front (at.line ∷ lines_behind [] left));
+      rests = rest-append rest xs ys ∙ at.rests;
+      none = first_reply-none a front at.front q.none ∙ at.none;
+      fits = at.fits;
+      stands = at.stands;
+      settles = at.settles;
+      client = at.client;
+    }
+
+-- A piece on the way.
+
+-- of the lines of a piece behind rest none yet settled a request; left is what is left of the piece
+pub record Passed (rest piece left : List ℕ) (kept : Kept) (from to : ById) : Type 0 where
+  pub now : List ℕ
+  pub front : List (List ℕ)
+  pub stands : StandsFor kept now
+  pub seen : lines_behind rest piece ≡ front ++ lines_behind now left
+  pub rests : rest_behind rest piece ≡ rest_behind now left
+  pub none : first_reply from front ≡ None
+  pub same : to ≡ from
+
+pub passed_start : (rest piece : List ℕ) (kept : Kept) (c : ById) → StandsFor kept rest → Passed rest piece piece kept c c
+passed_start rest piece kept c s = record { now = rest; front = []; stands = s; seen = refl; rests = refl; none = refl; same = refl }
+
+pub passed_end : (rest piece : List ℕ) (kept : Kept) (a b : ById) → Passed rest piece [] kept a b → IsQuiet rest piece kept a b
+passed_end rest piece kept a b p = record {
+  none = ap (first_reply a) (p.seen ∙ append-nil p.front) ∙ p.none;
+  stands = subst (λ (zs : List ℕ). StandsFor kept zs) (sym p.rests) p.stands;
+  same = p.same;
+}
+
+completed_lines : (f : Frame) → filter_map line_in (completed f) ≡ option_to_list (line_in f)
+completed_lines (Line line) = refl
+completed_lines Cleared = refl
+completed_lines Overlong = refl
+completed_lines More = refl
+
+no_reply : (c : ById) (line : Option (List ℕ)) → SettlesNothing c line → first_reply c (option_to_list line) ≡ None
+no_reply c None q = refl
+no_reply c (Some line) q = rw q refl
+
+-- one more frame, whose line settles nothing
+pub passed_on : (rest piece left : List ℕ) (used : ℕ) (frame : Frame) (kept kept' : Kept) (a b c : ById) → (p : Passed rest piece left kept a b) → Takes p.now left used frame kept' → c ≡ b → SettlesNothing b (line_in frame)
+    → Passed rest piece (drop used left) kept' a c
+passed_on rest piece left used frame kept kept' a b c p t same nothing =
+    let later : List (List ℕ) = lines_behind t.now (drop used left) in
+    let next : lines_behind p.now left ≡ option_to_list (line_in frame) ++ later = ap (λ fs. filter_map line_in fs) t.seen ∙ filter_map-append line_in (completed frame) (frames_behind t.now (drop used left)) ∙ ap (λ zs. zs ++ later) (completed_lines frame) in
+    let silent : SettlesNothing a (line_in frame) = subst (λ (x : ById). SettlesNothing x (line_in frame)) p.same nothing in
+    record {
+      now = t.now;
+      front = p.front ++ option_to_list (line_in frame);
+      stands = t.stands;
+      seen = p.seen ∙ ap (λ zs. p.front ++ zs) next ∙ sym (append_assoc p.front (option_to_list (line_in frame)) later);
+      rests = p.rests ∙ t.rests;
+      none = first_reply-none a p.front (option_to_list (line_in frame)) p.none ∙ no_reply a (line_in frame) silent;
+      same = same ∙ p.same;
+    }
+
+-- the frame of a line feed
+record TakesLine (rest left : List ℕ) (used : ℕ) (line : List ℕ) (kept : Kept) : Type 0 where
+  seen : lines_behind rest left ≡ line ∷ lines_behind [] (drop used left)
+  rests : rest_behind rest left ≡ rest_behind [] (drop used left)
+  stands : StandsFor kept []
+
+first_line : (f : Frame) (line : List ℕ) (fs : List Frame) → line_in f ≡ Some line → filter_map line_in (f ∷ fs) ≡ line ∷ filter_map line_in fs
+first_line f line fs e = filter_map-append line_in (f ∷ []) fs ∙ ap (λ zs. zs ++ filter_map line_in fs) (alone (line_in f) e) where
+  alone : (o : Option (List ℕ)) → o ≡ Some line → filter_map (λ (x : Frame). o) (f ∷ []) ≡ line ∷ []
+  alone None e = (cc)
+  alone (Some x) e = ap (λ (l : List ℕ). l ∷ []) (cc)
+
+takes_line : (rest left : List ℕ) (used : ℕ) (frame : Frame) (line : List ℕ) (kept : Kept) → line_in frame ≡ Some line
+    → (position is_line_feed left ≡ None → frame ≡ More)
+    → ((at : ℕ) → position is_line_feed left ≡ Some at → (used ≡ at + 1) × (frame ≡ frame_of (rest ++ take at left)) × StandsFor kept [])
+    → TakesLine rest left used line kept
+takes_line rest left used frame line kept is more whole = elim (position is_line_feed left) as (λ v. position is_line_feed left ≡ v → TakesLine rest left used line kept) [
+  | None ↦ λ e. absurd (no_line (line_in frame) (ap line_in (more e)) is)
+  | Some at ↦ λ e.
+      let w = whole at e in
+      let cut = cut_some rest left at e in
+      let its : line_in (frame_of (rest ++ take at left)) ≡ Some line = ap line_in (sym w.1) ∙ is in
+      record {
+        seen = ap lines_of cut.0 ∙ first_line (frame_of (rest ++ take at left)) line (map frame_of (pieces_behind [] (drop (at + 1) left))) its ∙ ap (λ n. line ∷ lines_behind [] (drop n left)) (sym w.0);
+        rests = cut.1 ∙ ap (λ n. rest_behind [] (drop n left)) (sym w.0);
+        stands = w.2;
+      }
+] refl where
+  no_line : (o : Option (List ℕ)) → o ≡ None → o ≡ Some line → ⊥
+  no_line o e f = (cc)
+
+-- one more frame, whose line settles a request
+pub passed_settles : (rest piece left : List ℕ) (used : ℕ) (frame : Frame) (line : List ℕ) (kept kept' : Kept) (a b c : ById) (settled : List Settlement) → (p : Passed rest piece left kept a b) → line_in frame ≡ Some line
+    → (position is_line_feed left ≡ None → frame ≡ More)
+    → ((at : ℕ) → position is_line_feed left ≡ Some at → (used ≡ at + 1) × (frame ≡ frame_of (p.now ++ take at left)) × StandsFor kept' [])
+    → fits b (heard line) ≡ true → AreSettlements settled (hears b line (heard line)).settlements → c ≡ (hears b line (heard line)).client
+    → Settles rest piece (drop used left) kept' a c settled
+passed_settles rest piece left used frame line kept kept' a b c settled p is more whole fit settles client =
+    let t = takes_line p.now left used frame line kept' is more whole in
+    record {
+      front = p.front;
+      line = line;
+      seen = p.seen ∙ ap (λ zs. p.front ++ zs) t.seen;
+      rests = p.rests ∙ t.rests;
+      none = p.none;
+      fits = subst (λ (x : ById). fits x (heard line) ≡ true) p.same fit;
+      stands = t.stands;
+      settles = subst (λ (x : ById). AreSettlements settled (hears x line (heard line)).settlements) p.same settles;
+      client = subst (λ (x : ById). c ≡ (hears x line (heard line)).client) p.same client;
+    }
+
+-- what taking a frame says where it settled a request
+pub taken_line : (a b : ById) (o : Option (List ℕ)) (settled : List Settlement) → TakesFrame a b o settled true
+    → (line : List ℕ) × (o ≡ Some line) × (fits a (heard line) ≡ true) × AreSettlements settled (hears a line (heard line)).settlements × (b ≡ (hears a line (heard line)).client)
+taken_line a b None settled t = absurd t
+taken_line a b (Some line) settled t = (line, refl, t.0, t.1, t.2)
+
+-- Reading on.
+
+-- since a start, these bytes were given; those that were heard settle nothing, and the others are ahead
+pub record Reading (rest start given ahead : List ℕ) (kept : Kept) (from to : ById) : Type 0 where
+  pub heard_so : List ℕ
+  pub order : start ++ given ≡ heard_so ++ ahead
+  pub quiet : IsQuiet rest heard_so kept from to
+
+pub reading_start : (rest start : List ℕ) (kept : Kept) (c : ById) → StandsFor kept rest → Reading rest start [] start kept c c
+reading_start rest start kept c s = record { heard_so = []; order = append-nil start; quiet = quiet_start rest kept c s }
+
+-- all that was ahead is quiet, and a piece more was read
+pub reading_more : (rest start given ahead piece : List ℕ) (kept kept' : Kept) (a b c : ById) → (r : Reading rest start given ahead kept a b) → IsQuiet (rest_behind rest r.heard_so) ahead kept' b c
+    → Reading rest start (given ++ piece) piece kept' a c
+reading_more rest start given ahead piece kept kept' a b c r q = record {
+  heard_so = r.heard_so ++ ahead;
+  order = sym (append_assoc start given piece) ∙ ap (λ zs. zs ++ piece) r.order;
+  quiet = quiet_then rest r.heard_so ahead kept kept' a b c r.quiet q;
+}
+
+pub reading_quiet : (rest start given ahead : List ℕ) (kept kept' : Kept) (a b c : ById) → (r : Reading rest start given ahead kept a b) → IsQuiet (rest_behind rest r.heard_so) ahead kept' b c
+    → (first_reply a (lines_behind rest (start ++ given)) ≡ None) × (c ≡ a)
+reading_quiet rest start given ahead kept kept' a b c r q =
+    let all = quiet_then rest r.heard_so ahead kept kept' a b c r.quiet q in
+    (ap (λ zs. first_reply a (lines_behind rest zs)) r.order ∙ all.none, all.same)
+
+pub reading_settles : (rest start given ahead left : List ℕ) (kept kept' : Kept) (a b c : ById) (settled : List Settlement) → (r : Reading rest start given ahead kept a b) → Settles (rest_behind rest r.heard_so) ahead left kept' b c settled
+    → Settles rest (start ++ given) left kept' a c settled
+reading_settles rest start given ahead left kept kept' a b c settled r s =
+    subst (λ (zs : List ℕ). Settles rest zs left kept' a c settled) (sym r.order) (settles_then rest r.heard_so ahead left kept kept' a b c settled r.quiet s)
+
+-- Nothing more was given.
+
+pub Consumes-keeps : (a b c : Option (List ℕ)) (xs : List ℕ) → Consumes a b xs → Keeps b c → Consumes a c xs
+Consumes-keeps None b c xs h k = tt
+Consumes-keeps (Some a) None c xs h k = absurd h
+Consumes-keeps (Some a) (Some b) None xs h k = absurd k
+Consumes-keeps (Some a) (Some b) (Some c) xs h k = h ∙ ap (λ zs. xs ++ zs) (sym k)

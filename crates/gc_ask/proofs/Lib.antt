@@ -1,0 +1,4 @@
+mod FirstReplies
+mod Asked
+mod Exchanging
+mod ById

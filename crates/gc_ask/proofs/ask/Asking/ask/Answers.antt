@@ -1,0 +1,61 @@
+use Rattle.std.proofs.Common.{◌++◌, length, sym, ap, arith}
+use Rattle.std.proofs.lemmas.List.{length-map}
+use Rattle.gc_client.specs.Settlements.{settlement_seen}
+use Rattle.gc_ask.proofs.Asked.{settled_is}
+use Rattle.gc_ask.proofs.Exchanging.{still_waits, lost_alone, asks_lost, asks_untold}
+use Rattle.gc_ask.proofs.ask.Asking.ask.Goals as goal
+
+pub write_settlements-requires : goal.write_settlements-requires
+write_settlements-requires g c =
+    let stands = c.requires.stands in
+    let ex = c.in-Ok.ensures.exchanges.3 stands.0 stands.1 in
+    let one = (settled_is _ _ _ _ _ _ _ _ ex.1).0 in
+    omega (arith, c.ranges.place.fits, sym (length-map c.exchange.new.self.end.settled.items settlement_seen), ap length one, ap length c.as_slice.ensures.value)
+
+pub write_settlements-requires-in-Err : goal.write_settlements-requires-in-Err
+write_settlements-requires-in-Err g c =
+    let stands = c.requires.stands in
+    let ex = c.in-Err.ensures.exchanges in
+    let end = c.exchange.new.self.end in
+    let waits = still_waits c.args.place c.args.command.now stands.0 (c.args.self.now.ahead ++ ex.0) c.exchange.new.self.ahead end.assembler end.client end.settled.items
+    (g.O.Sink.taken c.args.link_out.now) (g.O.Sink.taken c.exchange.new.link_out) c.in-Err.fault (ex.3 stands.0 stands.1) in
+    let one = lost_alone c.args.place c.args.command.now end.client c.restart-lost.result.items waits c.restart-lost.ensures.settled in
+    omega (arith, c.ranges.place.fits, sym (length-map c.restart-lost.result.items settlement_seen), ap length one, ap length c.as_slice-in-Err.ensures.value)
+
+pub returns-in-Ok-write_settlements-clause-asks : goal.returns-in-Ok-write_settlements-clause-asks
+returns-in-Ok-write_settlements-clause-asks g c =
+    let ex = c.in-Err.ensures.exchanges in
+    let end = c.exchange.new.self.end in
+    let link = c.args.link_in.now in
+    let out = c.args.link_out.now in
+    let link' = c.exchange.new.link_in in
+    let out' = c.exchange.new.link_out in (
+      ex.0,
+      ex.1,
+      ex.2,
+      λ rest s.
+          asks_lost c.args.place c.args.command.now rest (c.args.self.now.ahead ++ ex.0) c.exchange.new.self.ahead end.assembler end.assembler end.client c.restart-lost.new.self end.settled.items
+          c.restart-lost.result.items c.as_slice-in-Err.result.now
+          (g.O.Sink.taken out) (g.O.Sink.taken out') (g.K.Sink.taken c.args.sink.now) (g.K.Sink.taken c.write_settlements-in-Err.new.sink)
+          c.in-Err.fault
+          (record { remaining = g.I.Source.remaining link; reads = g.I.Source.reads link; ended = g.I.Source.ended link; source_failed = g.I.Source.failed link; taken = g.O.Sink.taken out; sink_failed = g.O.Sink.failed out })
+          (record { remaining = g.I.Source.remaining link'; reads = g.I.Source.reads link'; ended = g.I.Source.ended link'; source_failed = g.I.Source.failed link'; taken = g.O.Sink.taken out'; sink_failed = g.O.Sink.failed out' })
+          c.args.self.now.reads c.exchange.new.self.reads
+          (ex.3 rest s) c.in-Err.ensures.ends c.restart-lost.ensures.settled c.as_slice-in-Err.ensures.value c.in-Ok-write_settlements.ensures.0,
+    )
+
+pub returns-in-Err-write_settlements-clause-asks : goal.returns-in-Err-write_settlements-clause-asks
+returns-in-Err-write_settlements-clause-asks g c =
+    let ex = c.in-Err.ensures.exchanges in
+    let end = c.exchange.new.self.end in (
+      ex.0,
+      ex.1,
+      ex.2,
+      λ rest s.
+          asks_untold c.args.place c.args.command.now rest (c.args.self.now.ahead ++ ex.0) c.exchange.new.self.ahead end.assembler end.assembler end.client c.restart-lost.new.self end.settled.items
+          c.restart-lost.result.items c.as_slice-in-Err.result.now
+          (g.O.Sink.taken c.args.link_out.now) (g.O.Sink.taken c.exchange.new.link_out) (g.K.Sink.taken c.args.sink.now) (g.K.Sink.taken c.write_settlements-in-Err.new.sink)
+          (g.K.Sink.failed c.args.sink.now) (g.K.Sink.failed c.write_settlements-in-Err.new.sink)
+          c.in-Err.fault c.in-Err-write_settlements.output
+          (ex.3 rest s) c.restart-lost.ensures.settled c.as_slice-in-Err.ensures.value c.in-Err-write_settlements.ensures,
+    )

@@ -1,0 +1,70 @@
+use Rattle.std.proofs.Common.{◌≡◌, ℕ, List, [], ◌++◌, sym, ap, ◌∙◌, subst, arith, length-append, append-nil, not, Ok}
+use Rattle.std.specs.Io.KnownBytes.{Consumes}
+use Rattle.gc_lines.proofs.Known.{Consumes-append}
+use Rattle.gc_ask.proofs.FirstReplies.{Consumes-keeps, reading_more, reading_quiet, reading_settles}
+use Rattle.gc_ask.proofs.client_end.ClientEnd.hear_reply.Goals as goal
+
+pub returns-in-Some-clause-hears : goal.returns-in-Some-clause-hears
+returns-in-Some-clause-hears g c =
+    let h = c.loop-used.invariant.heard in (
+      h.0,
+      h.1,
+      h.2,
+      λ rest s.
+          let r = h.3 rest s in
+          rw (c.advance.ensures) (reading_settles rest _ _ _ _ _ _ _ _ _ _ r (rw (c.left.ensures) at (c.in-Some.ensures.listens _ r.quiet.stands))),
+    )
+
+pub returns-then-reads-eq0-clause-hears : goal.returns-then-reads-eq0-clause-hears
+returns-then-reads-eq0-clause-hears g c =
+    let h = c.loop-used.invariant.heard in (
+      h.0,
+      h.1,
+      h.2,
+      λ rest s.
+          let r = h.3 rest s in
+          reading_quiet rest _ _ _ _ _ _ _ _ r (rw (c.left.ensures) at (c.in_default.ensures.listens _ r.quiet.stands)),
+    )
+
+pub returns-in_default-read-clause-hears : goal.returns-in_default-read-clause-hears
+returns-in_default-read-clause-hears g c =
+    let h = c.loop-used.invariant.heard in (
+      h.0,
+      Consumes-keeps _ _ _ _ h.1 c.in_default-read.ensures.bytes.0,
+      omega (arith, h.2, c.in_default-read.ensures.bytes.1),
+      λ rest s.
+          let r = h.3 rest s in
+          reading_quiet rest _ _ _ _ _ _ _ _ r (rw (c.left.ensures) at (c.in_default.ensures.listens _ r.quiet.stands)),
+    )
+
+pub returns-then-not-more-clause-hears : goal.returns-then-not-more-clause-hears
+returns-then-not-more-clause-hears g c =
+    let h = c.loop-used.invariant.heard in
+    let ended : c.read.new.self ≡ [] = c.in-Ok.ensures.end (ap Ok c.if-not-more.true) in
+    let gave = subst (λ (xs : List ℕ). Consumes (g.I.Source.remaining c.args.link.now) (g.I.Source.remaining c.read.new.source) xs) (append-nil h.0) (Consumes-append _ _ _ h.0 [] h.1 (rw ended at c.in-Ok.ensures.bytes.0)) in (
+      h.0,
+      gave,
+      omega (arith, h.2, c.in-Ok.ensures.bytes.1),
+      λ rest s.
+          let r = h.3 rest s in
+          reading_quiet rest _ _ _ _ _ _ _ _ r (rw (c.left.ensures) at (c.in_default.ensures.listens _ r.quiet.stands)),
+    )
+
+pub loop-used-preserved : goal.loop-used-preserved
+loop-used-preserved g c =
+    let h = c.loop-used.invariant.heard in
+    record {
+      heard = (
+        h.0 ++ c.read.new.self,
+        Consumes-append _ _ _ h.0 c.read.new.self h.1 c.in-Ok.ensures.bytes.0,
+        omega (arith, h.2, length-append h.0 c.read.new.self, c.in-Ok.ensures.few, c.in-Ok.ensures.bytes.1, c.loop-used.invariant.grows),
+        λ rest s.
+            let r = h.3 rest s in
+            reading_more rest _ _ _ _ _ _ _ _ _ r (rw (c.left.ensures) at (c.in_default.ensures.listens _ r.quiet.stands)),
+      );
+      reads = omega (arith, c.loop-used.invariant.reads, c.in-Ok.ensures.bytes.1, c.if-reads-eq0.false);
+      grows = omega (arith, c.loop-used.invariant.grows, c.in-Ok.ensures.bytes.1);
+      going = λ _. c.in-Ok.ensures.bytes.2 ∙ ap not c.if-not-more.false;
+      same = λ e. absurd (omega (arith, e, c.in-Ok.ensures.bytes.1, c.loop-used.invariant.grows));
+      failed = c.in-Ok.ensures.bytes.4 ∙ sym c.in-Ok.ensures.bytes.3 ∙ c.loop-used.invariant.failed;
+    }

@@ -1,0 +1,13 @@
+use Rattle.std.proofs.Common.{◌≤◌, ◌-◌, List, ℕ, length, drop}
+use Rattle.gc_lines.specs.Assembler.{StandsFor}
+use Rattle.gc_ask.proofs.FirstReplies.{Passed}
+use Rattle.gc_ask.proofs.client_end.ClientEnd.listen.Given as goal
+
+abbrev pub invariant-loop-at : goal.invariant-loop-at
+invariant-loop-at l = record {
+  within : l.at ≤ length l.piece;
+  passed : (rest : List ℕ) → StandsFor l.initial.self.assembler rest → Passed rest l.piece (drop l.at l.piece) l.self.assembler l.initial.self.client l.self.client;
+}
+
+abbrev pub decreases-loop-at : goal.decreases-loop-at
+decreases-loop-at l = length l.piece - l.at

@@ -1,0 +1,129 @@
+-- Requests that are asked one at a time, each once the one before it is settled: this project's own. Request lines are the manual's.
+use Rattle.std.specs.Prelude.{◌≡◌, ℕ, ◌+◌, ◌%◌, ◌<◌, ◌⊎◌, Bool, true, false, List, [], ◌∷◌, ◌++◌, length, take, Option, Some, None, Result, Ok, Err, if◌then◌else◌}
+use Rattle.std.specs.Io.KnownBytes.{Appends}
+use Rattle.gc_lines.specs.Answering.{Ports, all_of}
+use Rattle.gc_lines.specs.Frames.{lines}
+use Rattle.gc_lines.specs.Lines.{with_end}
+use Rattle.gc_catalogue.specs.Texts.{request_line}
+use Rattle.gc_client.specs.declared.window.TheConstants.{IDS}
+use Rattle.gc_client.specs.declared.pending.Pending.{Pending}
+use Rattle.gc_client.specs.Rule.{ById, Settlement, pending_of, lost, heard, fits, hears}
+use Rattle.gc_texts.specs.Settlements.{settlement_line, settlement_lines}
+use Rattle.gc_texts.specs.declared.commands.Command.{Command}
+use Rattle.gc_texts.specs.declared.fault.RunFault.{RunFault}
+use Rattle.gc_texts.specs.declared.fault.RunFault.TheVariants.{Read, Write, TooManyReads, LinkClosed, Output}
+
+-- a command that was sent and waits; its deadline is the greatest of a u64, and no moment is told, so it is never given up
+abbrev pub asked_for : Command → Pending
+asked_for command = pending_of command.target command.call 18446744073709551615
+
+-- the client before request k is sent, and while it waits: its id is k modulo 8
+abbrev pub idle : ℕ → ById
+idle k = record { next = k % IDS; waiting = [] }
+
+abbrev pub waiting_for : ℕ → Command → ById
+waiting_for k command = record { next = (k + 1) % IDS; waiting = asked_for command ∷ [] }
+
+-- a line that settles a request, and the lines behind it
+pub record Reply : Type 0 where
+  pub line : List ℕ
+  pub later : List (List ℕ)
+
+-- the first line that is a reply with the id of a request that waits
+abbrev pub first_reply : ById → List (List ℕ) → Option Reply
+first_reply client [] = None
+first_reply client (line ∷ later) = if fits client (heard line) then Some (record { line = line; later = later }) else first_reply client later
+
+-- what a client settles by its first reply, and behind it what is settled by the lines behind that one
+abbrev pub settled_by : ById → (List (List ℕ) → List Settlement) → Option Reply → List Settlement
+settled_by client rest None = []
+settled_by client rest (Some reply) = (hears client reply.line (heard reply.line)).settlements ++ rest reply.later
+
+-- the settlements of these commands, the first of which is request k, by the client's rule over the lines that come
+abbrev pub asked_from : ℕ → List Command → List (List ℕ) → List Settlement
+asked_from k [] came = []
+asked_from k (command ∷ later) came = settled_by (waiting_for k command) (asked_from (k + 1) later) (first_reply (waiting_for k command) came)
+
+-- the settlements of commands over all that a link gives, as far as it settles them
+abbrev pub asked : List Command → List ℕ → List Settlement
+asked commands stream = asked_from 0 commands (lines stream)
+
+-- request k as it is written, with its CR LF
+abbrev pub request_text : ℕ → Command → List ℕ
+request_text k command = with_end (request_line (Some (k % IDS)) command.call)
+
+-- requests as they are written, from request k on
+abbrev pub request_texts : ℕ → List Command → List (List ℕ)
+request_texts k [] = []
+request_texts k (command ∷ later) = request_text k command ∷ request_texts (k + 1) later
+
+-- a command that is settled without a reply
+abbrev pub lost_of : Command → Settlement
+lost_of command = lost (asked_for command)
+
+-- each command was sent, and settled
+pub record AsksAll (commands : List Command) (given : List ℕ) (link_old link_new sink_old sink_new : Option (List ℕ)) : Type 0 where
+  pub settled : length (asked commands given) ≡ length commands
+  pub sent : Appends link_old link_new (all_of (request_texts 0 commands))
+  pub told : Appends sink_old sink_new (settlement_lines (asked commands given))
+
+-- what came settles the commands before one, which was sent, and is lost; those behind it weren't sent
+pub record AsksUpTo (commands : List Command) (given : List ℕ) (link_old link_new sink_old sink_new : Option (List ℕ)) : Type 0 where
+  pub earlier : List Command
+  pub command : Command
+  pub later : List Command
+  pub order : commands ≡ earlier ++ command ∷ later
+  pub settled : length (asked commands given) ≡ length earlier
+  pub sent : Appends link_old link_new (all_of (request_texts 0 (earlier ++ command ∷ [])))
+  pub told : Appends sink_old sink_new (settlement_lines (asked commands given ++ lost_of command ∷ []))
+
+-- the commands before one are settled, of that one the first bytes were sent, and it is lost, also where its reply came already
+pub record AsksPart (commands : List Command) (given : List ℕ) (link_old link_new sink_old sink_new : Option (List ℕ)) (count bytes : ℕ) : Type 0 where
+  pub earlier : List Command
+  pub command : Command
+  pub later : List Command
+  pub order : commands ≡ earlier ++ command ∷ later
+  pub count_is : count ≡ length earlier
+  pub settled : length (asked earlier given) ≡ length earlier
+  pub not_all : bytes < length (request_text count command)
+  pub sent : Appends link_old link_new (all_of (request_texts 0 earlier) ++ take bytes (request_text count command))
+  pub told : Appends sink_old sink_new (settlement_lines (asked earlier given ++ lost_of command ∷ []))
+
+-- the next settlement of a command: by what came, or as lost
+abbrev pub IsNext : List Command → Command → List ℕ → Settlement → Type 0
+IsNext earlier command given next = (asked (earlier ++ command ∷ []) given ≡ asked earlier given ++ next ∷ []) ⊎ (next ≡ lost_of command)
+
+-- the sink took the settlements of the commands before one, and of the next one the first bytes; the commands behind it weren't sent
+pub record TellsPart (commands : List Command) (given : List ℕ) (link_old link_new sink_old sink_new : Option (List ℕ)) : Type 0 where
+  pub earlier : List Command
+  pub command : Command
+  pub later : List Command
+  pub order : commands ≡ earlier ++ command ∷ later
+  pub settled : length (asked earlier given) ≡ length earlier
+  pub bytes : ℕ
+  pub sent : Appends link_old link_new (all_of (request_texts 0 earlier) ++ take bytes (request_text (length earlier) command))
+  pub next : Settlement
+  pub next_is : IsNext earlier command given next
+  pub part : ℕ
+  pub not_all : part < length (settlement_line (length earlier) next)
+  pub told : Appends sink_old sink_new (settlement_lines (asked earlier given) ++ take part (settlement_line (length earlier) next))
+
+-- what was asked, of what the link gave, with this end
+abbrev pub Asks : List Command → List ℕ → Option (List ℕ) → Option (List ℕ) → Option (List ℕ) → Option (List ℕ) → Result (Unit {0}) RunFault → Type 0
+Asks commands given link_old link_new sink_old sink_new (Ok _) = AsksAll commands given link_old link_new sink_old sink_new
+Asks commands given link_old link_new sink_old sink_new (Err Read) = AsksUpTo commands given link_old link_new sink_old sink_new
+Asks commands given link_old link_new sink_old sink_new (Err LinkClosed) = AsksUpTo commands given link_old link_new sink_old sink_new
+Asks commands given link_old link_new sink_old sink_new (Err TooManyReads) = AsksUpTo commands given link_old link_new sink_old sink_new
+Asks commands given link_old link_new sink_old sink_new (Err (Write count bytes)) = AsksPart commands given link_old link_new sink_old sink_new count bytes
+Asks commands given link_old link_new sink_old sink_new (Err Output) = TellsPart commands given link_old link_new sink_old sink_new
+Asks commands given link_old link_new sink_old sink_new (Err _) = ⊥
+
+-- why asking ended, and what the link's ports and the sink then are
+abbrev pub AskEnds : Ports → Ports → Bool → Bool → Result (Unit {0}) RunFault → Type 0
+AskEnds old new sink_old sink_new (Ok _) = (old.reads < new.reads → new.ended ≡ false) × (new.source_failed ≡ old.source_failed) × (new.sink_failed ≡ old.sink_failed) × (sink_new ≡ sink_old)
+AskEnds old new sink_old sink_new (Err Read) = (old.reads < new.reads → new.ended ≡ false) × (new.source_failed ≡ true) × (new.sink_failed ≡ old.sink_failed) × (sink_new ≡ sink_old)
+AskEnds old new sink_old sink_new (Err (Write _ _)) = (old.reads < new.reads → new.ended ≡ false) × (new.source_failed ≡ old.source_failed) × (new.sink_failed ≡ true) × (sink_new ≡ sink_old)
+AskEnds old new sink_old sink_new (Err TooManyReads) = (old.reads < new.reads → new.ended ≡ false) × (new.source_failed ≡ old.source_failed) × (new.sink_failed ≡ old.sink_failed) × (sink_new ≡ sink_old)
+AskEnds old new sink_old sink_new (Err LinkClosed) = (old.reads < new.reads) × (new.ended ≡ true) × (new.source_failed ≡ old.source_failed) × (new.sink_failed ≡ old.sink_failed) × (sink_new ≡ sink_old)
+AskEnds old new sink_old sink_new (Err Output) = sink_new ≡ true
+AskEnds old new sink_old sink_new (Err _) = ⊥

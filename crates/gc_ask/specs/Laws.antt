@@ -1,0 +1,18 @@
+-- Laws of what is asked: this project's own.
+use Rattle.std.specs.Prelude.{◌≡◌, ℕ, ◌+◌, ◌%◌, List, [], ◌∷◌, ◌++◌, Some}
+use Rattle.gc_client.specs.declared.window.TheConstants.{IDS}
+use Rattle.gc_client.specs.Rule.{heard, met}
+use Rattle.gc_ask.specs.Asking.{asked_for, asked_from}
+use Rattle.gc_texts.specs.declared.commands.Command.{Command}
+
+-- no line of these is a reply with the id of request k
+abbrev pub HasNoReply : ℕ → List (List ℕ) → Type 0
+HasNoReply k [] = Unit {0}
+HasNoReply k (line ∷ later) = (heard line ≡ Some (k % IDS) → ⊥) × HasNoReply k later
+
+-- request k is settled by the first line that is a reply with its id, which is k modulo 8, and those behind it by the lines behind that
+-- one; where no line is, neither it nor any behind it is settled
+pub record AsksById (k : ℕ) (command : Command) (later : List Command) : Type 0 where
+  pub settled : (front : List (List ℕ)) (line : List ℕ) (rest : List (List ℕ)) → HasNoReply k front → heard line ≡ Some (k % IDS)
+      → asked_from k (command ∷ later) (front ++ line ∷ rest) ≡ met (asked_for command) line ∷ asked_from (k + 1) later rest
+  pub unsettled : (came : List (List ℕ)) → HasNoReply k came → asked_from k (command ∷ later) came ≡ []

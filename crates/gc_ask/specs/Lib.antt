@@ -1,0 +1,4 @@
+pub mod Asking
+pub mod AskRuns
+pub mod Listening
+pub mod Laws

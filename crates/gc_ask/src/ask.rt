@@ -1,0 +1,234 @@
+//! Asking: each command of a text is sent over a link, once the one before it is settled, and each settlement is told.
+
+ghost use Rattle.std.specs.Prelude.{◌≡◌, ◌+◌, ◌*◌, ◌-◌, ◌<◌, ◌≤◌, ◌++◌, [], ℕ, List, length, Err, IfOk, IfErr};
+ghost use Rattle.std.specs.Io.KnownBytes.{Consumes};
+ghost use Rattle.gc_lines.specs.Assembler.{StandsFor};
+ghost use Rattle.gc_ask.specs.AskRuns.{AskRuns, GivesCommands, RefusesText};
+ghost use Rattle.gc_texts.specs.declared.text.TheConstants.{TEXT_LIMIT};
+ghost use Rattle.gc_texts.specs.Texts.{end_reads};
+ghost use Rattle.gc_ask.specs.Asking.{Asks, AskEnds, idle, waiting_for};
+ghost use Rattle.gc_texts.specs.declared.fault.RunFault.{RunFault};
+ghost use Rattle.gc_ask.specs.Listening.{Sends, Exchanges, ExchangeEnds, AsksOne, AskOneEnds};
+
+use crate::client_end::ClientEnd;
+use crate::unheard::Unheard;
+use gc_lines::{Line, Sink, Source, write_line};
+use gc_texts::{Command, RunFault, read_commands, read_text, write_settlements};
+use std::alloc::Global;
+
+// What asking keeps from one command to the next.
+#[derive(Drop)]
+pub(crate) struct Asking {
+    pub(crate) end: ClientEnd,
+    pub(crate) ahead: Unheard,
+    // How many reads are still allowed.
+    pub(crate) reads: u32,
+}
+
+impl Asking {
+    pub(crate) fn new(max_reads: u32) -> Asking
+        ensures client { result.end.client ≡ idle 0 }
+        ensures assembler { StandsFor result.end.assembler [] }
+        ensures ahead { result.ahead ≡ [] }
+        ensures reads { result.reads ≡ max_reads }
+    {
+        Asking {
+            end: ClientEnd::new(),
+            ahead: Unheard::new(),
+            reads: max_reads,
+        }
+    }
+
+    // Sends the command at this place, without a deadline.
+    pub(crate) fn send<O: Sink>(
+        &mut self,
+        place: usize,
+        command: &Command,
+        link: &mut O,
+    ) -> Result<(), RunFault>
+        requires { self.old.end.client ≡ idle place }
+        ensures sends { Sends place command.now (O.taken link.old) (O.taken link.new) (O.failed link.old) (O.failed link.new) result }
+        ensures client { self.new.end.client ≡ waiting_for place command.now }
+        ensures same { (self.new.end.assembler ≡ self.old.end.assembler) × (self.new.ahead ≡ self.old.ahead) × (self.new.reads ≡ self.old.reads) }
+    {
+        let mut line = Line::new();
+        let Ok(()) = self
+            .end
+            .client
+            .send_into(command.target, &command.call, u64::MAX, &mut line)
+        else {
+            unreachable!()
+        };
+        write_line(link, &line).map_err(|bytes| RunFault::Write {
+            replies: place as u64,
+            bytes,
+        })
+    }
+
+    // Sends the command at this place, and waits until it is settled.
+    fn exchange<I: Source, O: Sink>(
+        &mut self,
+        place: usize,
+        command: &Command,
+        link_in: &mut I,
+        link_out: &mut O,
+    ) -> Result<(), RunFault>
+        requires { self.old.end.client ≡ idle place }
+        ensures exchanges { (given : List ℕ) × Consumes (I.remaining link_in.old) (I.remaining link_in.new) given
+            × (length given ≤ 256 * (I.reads link_in.new - I.reads link_in.old))
+            × ((rest : List ℕ) → StandsFor self.old.end.assembler rest
+            → Exchanges place command.now rest (self.old.ahead ++ given) self.new.ahead self.new.end.assembler self.new.end.client self.new.end.settled.items
+            (O.taken link_out.old) (O.taken link_out.new) result) }
+        ensures grows { I.reads link_in.old ≤ I.reads link_in.new }
+        ensures reads { I.reads link_in.new + self.new.reads ≡ I.reads link_in.old + self.old.reads }
+        ensures ends { ExchangeEnds
+            (record { remaining = I.remaining link_in.old; reads = I.reads link_in.old; ended = I.ended link_in.old; source_failed = I.failed link_in.old; taken = O.taken link_out.old; sink_failed = O.failed link_out.old })
+            (record { remaining = I.remaining link_in.new; reads = I.reads link_in.new; ended = I.ended link_in.new; source_failed = I.failed link_in.new; taken = O.taken link_out.new; sink_failed = O.failed link_out.new })
+            self.old.reads self.new.reads result }
+    {
+        self.send(place, command, link_out)?;
+        self.end
+            .hear_reply(link_in, &mut self.ahead, &mut self.reads)
+    }
+
+    // Asks the command at this place, and writes the line of its settlement. After a fault of the link it is lost, which is
+    // written too.
+    fn ask<I: Source, O: Sink, K: Sink>(
+        &mut self,
+        place: usize,
+        command: &Command,
+        link_in: &mut I,
+        link_out: &mut O,
+        sink: &mut K,
+    ) -> Result<(), RunFault>
+        requires idle { self.old.end.client ≡ idle place }
+        requires stands { (rest : List ℕ) × StandsFor self.old.end.assembler rest }
+        ensures asks { (given : List ℕ) × Consumes (I.remaining link_in.old) (I.remaining link_in.new) given
+            × (length given ≤ 256 * (I.reads link_in.new - I.reads link_in.old))
+            × ((rest : List ℕ) → StandsFor self.old.end.assembler rest
+            → AsksOne place command.now rest (self.old.ahead ++ given) self.new.ahead self.new.end.assembler self.new.end.client
+            (O.taken link_out.old) (O.taken link_out.new) (K.taken sink.old) (K.taken sink.new) result) }
+        ensures grows { I.reads link_in.old ≤ I.reads link_in.new }
+        ensures reads { I.reads link_in.new + self.new.reads ≡ I.reads link_in.old + self.old.reads }
+        ensures ends { AskOneEnds
+            (record { remaining = I.remaining link_in.old; reads = I.reads link_in.old; ended = I.ended link_in.old; source_failed = I.failed link_in.old; taken = O.taken link_out.old; sink_failed = O.failed link_out.old })
+            (record { remaining = I.remaining link_in.new; reads = I.reads link_in.new; ended = I.ended link_in.new; source_failed = I.failed link_in.new; taken = O.taken link_out.new; sink_failed = O.failed link_out.new })
+            self.old.reads self.new.reads (K.failed sink.old) (K.failed sink.new) result }
+    {
+        match self.exchange(place, command, link_in, link_out) {
+            Ok(()) => write_settlements(sink, place, self.end.settled.as_slice()),
+            Err(fault) => {
+                let lost = self.end.client.restart();
+                match write_settlements(sink, place, lost.as_slice()) {
+                    Ok(()) => Err(fault),
+                    Err(output) => Err(output),
+                }
+            }
+        }
+    }
+}
+
+/// Reads the whole command text of a source, and asks its commands over a link, in at most `max_reads` reads of it, of at
+/// most 256 bytes each.
+///
+/// Each command is sent once the one before it is settled. Request k has id k modulo 8, and it is settled by the first reply
+/// with this id among the lines behind the one that settled request k - 1. Other lines are passed over. The line of each
+/// settlement goes to the sink as the reply comes.
+///
+/// Before anything is sent or written, `Read` comes where the source failed, `InputTooLong` where it gave more than 65,536
+/// bytes, `Schedule` at the first line that has the form of no command, counted from 1, and `Memory` where a growth was
+/// refused. Then a fault of the link ends the run: `Read` where it can't be read, `Write` where it can't be written,
+/// `LinkClosed` where it ends, and `TooManyReads` where all reads were made, none was the end, and what came doesn't
+/// settle the request. The request is lost then, and its line is written before the fault is answered. Nothing is sent
+/// afterwards. `Output` comes where the sink failed, also as it took that line.
+pub fn run_ask<S: Source, I: Source, O: Sink, K: Sink>(
+    alloc: Global,
+    commands: &mut S,
+    link_in: &mut I,
+    link_out: &mut O,
+    sink: &mut K,
+    max_reads: u32,
+) -> Result<(), RunFault>
+    // What the text was, and what of its commands was asked: what the link took, what it gave, and what the sink took; and
+    // which ports have failed.
+    ensures asks { (given : List ℕ) × Consumes (S.remaining commands.old) (S.remaining commands.new) given
+        × (S.reads commands.new ≤ S.reads commands.old + length given + end_reads (S.ended commands.new))
+        × AskRuns given
+        (record { remaining = S.remaining commands.old; reads = S.reads commands.old; ended = S.ended commands.old; failed = S.failed commands.old })
+        (record { remaining = S.remaining commands.new; reads = S.reads commands.new; ended = S.ended commands.new; failed = S.failed commands.new })
+        max_reads
+        (record { remaining = I.remaining link_in.old; reads = I.reads link_in.old; ended = I.ended link_in.old; source_failed = I.failed link_in.old; taken = O.taken link_out.old; sink_failed = O.failed link_out.old })
+        (record { remaining = I.remaining link_in.new; reads = I.reads link_in.new; ended = I.ended link_in.new; source_failed = I.failed link_in.new; taken = O.taken link_out.new; sink_failed = O.failed link_out.new })
+        (K.taken sink.old) (K.taken sink.new) (K.failed sink.old) (K.failed sink.new) result }
+
+    // At most 65,537 reads of the source were answered.
+    ensures bounded { S.reads commands.new ≤ S.reads commands.old + (TEXT_LIMIT + 1) }
+
+    // After want of memory nothing was read of the link, sent or written.
+    ensures memory { result ≡ Err RunFault.Memory
+        → (I.remaining link_in.new ≡ I.remaining link_in.old) × (I.reads link_in.new ≡ I.reads link_in.old)
+        × (O.taken link_out.new ≡ O.taken link_out.old) × (K.taken sink.new ≡ K.taken sink.old) }
+{
+    let commands = match read_command_text(alloc, commands) {
+        Ok(commands) => commands,
+        Err(fault) => return Err(fault),
+    };
+    ask_all(commands.as_slice(), link_in, link_out, sink, max_reads)
+}
+
+// Reads the whole command text of a source.
+pub(crate) fn read_command_text<S: Source>(
+    alloc: Global,
+    source: &mut S,
+) -> Result<Vec<Command>, RunFault>
+    ensures found { IfOk result (λ commands. (given : List ℕ) × Consumes (S.remaining source.old) (S.remaining source.new) given
+        × (S.reads source.new ≤ S.reads source.old + length given + end_reads (S.ended source.new))
+        × GivesCommands given
+        (record { remaining = S.remaining source.old; reads = S.reads source.old; ended = S.ended source.old; failed = S.failed source.old })
+        (record { remaining = S.remaining source.new; reads = S.reads source.new; ended = S.ended source.new; failed = S.failed source.new })
+        commands.items) }
+    ensures fault { IfErr result (λ fault. (given : List ℕ) × Consumes (S.remaining source.old) (S.remaining source.new) given
+        × (S.reads source.new ≤ S.reads source.old + length given + end_reads (S.ended source.new))
+        × RefusesText given
+        (record { remaining = S.remaining source.old; reads = S.reads source.old; ended = S.ended source.old; failed = S.failed source.old })
+        (record { remaining = S.remaining source.new; reads = S.reads source.new; ended = S.ended source.new; failed = S.failed source.new })
+        fault) }
+    ensures bounded { S.reads source.new ≤ S.reads source.old + (TEXT_LIMIT + 1) }
+{
+    match read_text(alloc, source) {
+        Ok(text) => read_commands(alloc, text.as_slice()),
+        Err(fault) => Err(fault),
+    }
+}
+
+// Asks commands in order, in so many reads of the link at most.
+pub(crate) fn ask_all<I: Source, O: Sink, K: Sink>(
+    commands: &[Command],
+    link_in: &mut I,
+    link_out: &mut O,
+    sink: &mut K,
+    max_reads: u32,
+) -> Result<(), RunFault>
+    // What the link gave, and what of the commands it took, and the sink of their settlements.
+    ensures asks { (given : List ℕ) × Consumes (I.remaining link_in.old) (I.remaining link_in.new) given
+        × (length given ≤ 256 * (I.reads link_in.new - I.reads link_in.old))
+        × Asks commands.now given (O.taken link_out.old) (O.taken link_out.new) (K.taken sink.old) (K.taken sink.new) result }
+
+    // At most so many reads were answered, and all of them where that is the fault.
+    ensures bound { I.reads link_in.new ≤ I.reads link_in.old + max_reads }
+    ensures too_many { result ≡ Err RunFault.TooManyReads → I.reads link_in.new ≡ I.reads link_in.old + max_reads }
+
+    // Why it ended, and which ports have failed.
+    ensures ends { AskEnds
+        (record { remaining = I.remaining link_in.old; reads = I.reads link_in.old; ended = I.ended link_in.old; source_failed = I.failed link_in.old; taken = O.taken link_out.old; sink_failed = O.failed link_out.old })
+        (record { remaining = I.remaining link_in.new; reads = I.reads link_in.new; ended = I.ended link_in.new; source_failed = I.failed link_in.new; taken = O.taken link_out.new; sink_failed = O.failed link_out.new })
+        (K.failed sink.old) (K.failed sink.new) result }
+{
+    let mut asking = Asking::new(max_reads);
+    for (place, command) in commands.iter().enumerate() {
+        if let Err(fault) = asking.ask(place, command, link_in, link_out, sink) {
+            return Err(fault);
+        }
+    }
+    Ok(())
+}

@@ -1,0 +1,102 @@
+//! The client's end of a link: the client behind an assembler, which gives it the lines that come.
+
+ghost use Rattle.std.specs.Prelude.{◌≡◌, ◌+◌, ◌-◌, ◌*◌, ◌≤◌, ℕ, [], ◌++◌, List, length, IfSome};
+ghost use Rattle.std.specs.Io.KnownBytes.{Consumes};
+ghost use Rattle.gc_lines.specs.Assembler.{StandsFor};
+ghost use Rattle.gc_lines.specs.Frames.{line_in};
+ghost use Rattle.gc_lines.specs.Lent.{lent_seen, IsLineWithin};
+ghost use Rattle.gc_ask.specs.Asking.{idle};
+ghost use Rattle.gc_ask.specs.Listening.{TakesFrame, Listens, HearsReply, ReadEnds};
+
+use crate::unheard::Unheard;
+use arrayvec::ArrayVec;
+use gc_client::{Client, Hearing, Settlement, Slots, WINDOW};
+use gc_lines::{Assembler, Lent, Line, Source};
+use gc_texts::RunFault;
+
+/// A client behind an assembler.
+#[derive(Drop)]
+pub(crate) struct ClientEnd {
+    pub(crate) client: Client<Slots>,
+    pub(crate) assembler: Assembler,
+    // What the last reply settled.
+    pub(crate) settled: ArrayVec<Settlement, WINDOW>,
+}
+
+impl ClientEnd {
+    pub(crate) fn new() -> ClientEnd
+        ensures client { result.client ≡ idle 0 }
+        ensures assembler { StandsFor result.assembler [] }
+    {
+        ClientEnd {
+            client: Client::new(Slots::new()),
+            assembler: Assembler::new(),
+            settled: ArrayVec::new(),
+        }
+    }
+
+    // Takes the line of a frame, if it is one, and says whether it settles a request.
+    fn take_frame(&mut self, frame: Lent<'_>) -> bool
+        requires { IsLineWithin frame }
+        ensures same { self.new.assembler ≡ self.old.assembler }
+        ensures takes { TakesFrame self.old.client self.new.client (line_in (lent_seen frame.entry)) self.new.settled.items result }
+    {
+        let Lent::Line(line) = frame else {
+            return false;
+        };
+        self.client.hear(line, &mut self.settled) == Hearing::Settled
+    }
+
+    // Takes the lines of a piece up to the first that settles a request, and says how many bytes that used. None: no line
+    // of the piece settles one, and all of it was used. A cut line is put together in `cut`.
+    fn listen(&mut self, piece: &[u8], cut: &mut Line) -> Option<usize>
+        ensures within { IfSome result (λ used. used ≤ length piece.now) }
+        ensures listens { (rest : List ℕ) → StandsFor self.old.assembler rest
+            → Listens rest piece.now self.new.assembler self.old.client self.new.client self.new.settled.items result }
+    {
+        let mut at = 0;
+        while at < piece.len() {
+            let (used, frame) = self.assembler.next(&piece[at..], cut);
+            at += used;
+            if self.take_frame(frame) {
+                return Some(at);
+            }
+        }
+        None
+    }
+
+    // Reads a link until a line of it settles a request that waits, in so many reads at most. Bytes behind that line stay
+    // in `ahead` for the next request.
+    pub(crate) fn hear_reply<I: Source>(
+        &mut self,
+        link: &mut I,
+        ahead: &mut Unheard,
+        reads: &mut u32,
+    ) -> Result<(), RunFault>
+        ensures hears { (given : List ℕ) × Consumes (I.remaining link.old) (I.remaining link.new) given
+            × (length given ≤ 256 * (I.reads link.new - I.reads link.old))
+            × ((rest : List ℕ) → StandsFor self.old.assembler rest
+            → HearsReply rest (ahead.old ++ given) ahead.new self.new.assembler self.old.client self.new.client self.new.settled.items result) }
+        ensures grows { I.reads link.old ≤ I.reads link.new }
+        ensures reads { I.reads link.new + reads.new ≡ I.reads link.old + reads.old }
+        ensures ends { ReadEnds (I.reads link.old) (I.reads link.new) (I.ended link.old) (I.ended link.new) (I.failed link.old) (I.failed link.new) reads.old reads.new result }
+    {
+        let mut cut = Line::new();
+        loop {
+            if let Some(used) = self.listen(ahead.left(), &mut cut) {
+                ahead.advance(used);
+                return Ok(());
+            }
+            if *reads == 0 {
+                return Err(RunFault::TooManyReads);
+            }
+            let Ok(more) = ahead.read(link) else {
+                return Err(RunFault::Read);
+            };
+            *reads -= 1;
+            if !more {
+                return Err(RunFault::LinkClosed);
+            }
+        }
+    }
+}

@@ -1,0 +1,74 @@
+//! The instrument's end of a link: the instrument behind an assembler, which gives it the lines that come.
+
+ghost use Rattle.std.specs.Prelude.{◌≡◌, ◌+◌, ◌≤◌, length, []};
+
+use crate::unheard::Unheard;
+use gc_instrument::Instrument;
+use gc_lines::{Answers, Assembler, Line, Outgoing, Sink, Source, write_whole};
+use gc_texts::RunFault;
+
+/// A simulator behind an assembler.
+#[derive(Drop)]
+pub(crate) struct InstrumentEnd {
+    instrument: Instrument,
+    assembler: Assembler,
+    ahead: Unheard,
+}
+
+impl InstrumentEnd {
+    pub(crate) fn new() -> InstrumentEnd {
+        InstrumentEnd {
+            instrument: Instrument::simulator(),
+            assembler: Assembler::new(),
+            ahead: Unheard::new(),
+        }
+    }
+
+    // Reads until one line is answered, in so many reads at most, and writes that reply, the one at this place.
+    pub(crate) fn answer_line<I: Source, O: Sink>(
+        &mut self,
+        place: usize,
+        link_in: &mut I,
+        link_out: &mut O,
+        reads: &mut u32,
+    ) -> Result<(), RunFault>
+        ensures { I.reads link_in.new + reads.new ≡ I.reads link_in.old + reads.old }
+    {
+        let mut text = Outgoing::new();
+        let mut cut = Line::new();
+        while !self.answer_ahead(&mut text, &mut cut) {
+            if *reads == 0 {
+                return Err(RunFault::TooManyReads);
+            }
+            let Ok(more) = self.ahead.read(link_in) else {
+                return Err(RunFault::Read);
+            };
+            *reads -= 1;
+            if !more {
+                return Err(RunFault::LinkClosed);
+            }
+        }
+        write_whole(link_out, text.as_slice()).map_err(|bytes| RunFault::Write {
+            replies: place as u64,
+            bytes,
+        })
+    }
+
+    // Takes the lines that were read up to the first that draws a reply, and says whether one does. Its reply is then the
+    // text. A cut line is put together in `cut`.
+    fn answer_ahead(&mut self, text: &mut Outgoing, cut: &mut Line) -> bool {
+        let left = self.ahead.left();
+        let mut at = 0;
+        while at < left.len() {
+            let (used, frame) = self.assembler.next(&left[at..], cut);
+            at += used;
+            text.clear();
+            if self.instrument.answer(frame, text) {
+                self.ahead.advance(at);
+                return true;
+            }
+        }
+        self.ahead.advance(at);
+        false
+    }
+}

@@ -1,0 +1,155 @@
+//! Real connections, all of them on 127.0.0.1: what runs over their two directions stands elsewhere.
+
+ghost use Rattle.std.specs.Prelude.{◌≡◌, ◌≤◌, Result};
+ghost use Rattle.gc_lines.specs.declared.served.Served.{Served};
+ghost use Rattle.gc_lines.specs.declared.served.ServeFault.{ServeFault};
+ghost use Rattle.gc_instrument.specs.Serving.{IsServing};
+ghost use Rattle.gc_instrument.specs.State.{restarted};
+ghost use Rattle.gc_ask.specs.declared.sockets.TheConstants.{MOST_CONNECTIONS};
+ghost use Rattle.gc_texts.specs.Faults.{end_of_serving};
+
+use crate::ask::{ask_all, read_command_text};
+use crate::looped::loop_all;
+use gc_instrument::{Instrument, ServeFault, serve};
+use gc_lines::{FromReader, Sink, Source, ToWriter};
+use gc_texts::RunFault;
+use std::alloc::Global;
+use std::io;
+use std::net::{Net, SocketAddr, TcpListener, TcpStream};
+
+/// The most connections that one call serves.
+pub const MOST_CONNECTIONS: u32 = 1000;
+
+/// Reads the whole command text of a source, binds a free port, connects to it, and asks the commands over that one
+/// connection, at whose other end a simulator stands, in at most `max_reads` reads of both ends together.
+///
+/// The faults are those of `run_loop`, and `Socket` where a bind, a connect or an accept failed. No socket is opened
+/// before the whole text was read.
+pub fn loop_tcp<R: Net<Listener = TcpListener, Stream = TcpStream>, S: Source, K: Sink>(
+    rt: &R,
+    alloc: Global,
+    commands: &mut S,
+    sink: &mut K,
+    max_reads: u32,
+) -> Result<(), RunFault> {
+    let commands = read_command_text(alloc, commands)?;
+    let Ok((near, far)) = both_ends(rt) else {
+        return Err(RunFault::Socket);
+    };
+    loop_all(
+        commands.as_slice(),
+        &mut FromReader::new(&near),
+        &mut ToWriter::new(&near),
+        &mut FromReader::new(&far),
+        &mut ToWriter::new(&far),
+        sink,
+        max_reads,
+    )
+}
+
+/// Binds a port, accepts so many connections one after the other, and serves each with the instrument, which is restarted
+/// for it, in at most `max_reads` reads.
+///
+/// `Socket` comes where a bind or an accept failed. A fault of a connection ends the call with it: `Read`, `Write` and
+/// `TooManyReads` as `serve` has them. The instrument is left in the state after the lines that it answered last.
+pub fn serve_tcp<R: Net<Listener = TcpListener, Stream = TcpStream>>(
+    rt: &R,
+    port: u16,
+    connections: u32,
+    instrument: &mut Instrument,
+    max_reads: u32,
+) -> Result<(), RunFault>
+    requires port { 1 ≤ port }
+    requires some { 1 ≤ connections }
+    requires few { connections ≤ MOST_CONNECTIONS }
+{
+    let Ok(listener) = TcpListener::bind(rt, here(port)) else {
+        return Err(RunFault::Socket);
+    };
+    for _ in 0..connections {
+        let Ok((stream, _)) = listener.accept() else {
+            return Err(RunFault::Socket);
+        };
+        send_at_once(&stream);
+        serve_connection(
+            instrument,
+            &mut FromReader::new(&stream),
+            &mut ToWriter::new(&stream),
+            max_reads,
+        )?;
+    }
+    Ok(())
+}
+
+/// Reads the whole command text of a source, connects to a port, and asks the commands over that connection, in at most
+/// `max_reads` reads of it.
+///
+/// The faults are those of `run_ask`, and `Socket` where the connect failed. No socket is opened before the whole text was
+/// read.
+pub fn ask_tcp<R: Net<Listener = TcpListener, Stream = TcpStream>, S: Source, K: Sink>(
+    rt: &R,
+    alloc: Global,
+    port: u16,
+    commands: &mut S,
+    sink: &mut K,
+    max_reads: u32,
+) -> Result<(), RunFault>
+    requires { 1 ≤ port }
+{
+    let commands = read_command_text(alloc, commands)?;
+    let Ok(stream) = TcpStream::connect(rt, here(port)) else {
+        return Err(RunFault::Socket);
+    };
+    send_at_once(&stream);
+    ask_all(
+        commands.as_slice(),
+        &mut FromReader::new(&stream),
+        &mut ToWriter::new(&stream),
+        sink,
+        max_reads,
+    )
+}
+
+// Serves one connection, whose two directions these are, with an instrument that is restarted for it.
+fn serve_connection<S: Source, K: Sink>(
+    instrument: &mut Instrument,
+    source: &mut S,
+    sink: &mut K,
+    max_reads: u32,
+) -> Result<(), RunFault>
+    ensures { (end : Result Served ServeFault) × IsServing (restarted instrument.old) instrument.new
+        (record { remaining = S.remaining source.old; reads = S.reads source.old; ended = S.ended source.old; source_failed = S.failed source.old; taken = K.taken sink.old; sink_failed = K.failed sink.old })
+        (record { remaining = S.remaining source.new; reads = S.reads source.new; ended = S.ended source.new; source_failed = S.failed source.new; taken = K.taken sink.new; sink_failed = K.failed sink.new })
+        max_reads end
+        × (result ≡ end_of_serving end) }
+{
+    instrument.restart();
+    match serve(instrument, source, sink, max_reads) {
+        Ok(_) => Ok(()),
+        Err(ServeFault::Read { .. }) => Err(RunFault::Read),
+        Err(ServeFault::Write { replies, bytes }) => Err(RunFault::Write { replies, bytes }),
+        Err(ServeFault::TooManyReads { .. }) => Err(RunFault::TooManyReads),
+    }
+}
+
+// A port of this machine.
+fn here(port: u16) -> SocketAddr {
+    SocketAddr::from(([127, 0, 0, 1], port))
+}
+
+// Both ends of one connection of this machine to itself.
+fn both_ends<R: Net<Listener = TcpListener, Stream = TcpStream>>(
+    rt: &R,
+) -> io::Result<(TcpStream, TcpStream)> {
+    let listener = TcpListener::bind(rt, here(0))?;
+    let near = TcpStream::connect(rt, listener.local_addr()?)?;
+    let (far, _) = listener.accept()?;
+    send_at_once(&near);
+    send_at_once(&far);
+    Ok((near, far))
+}
+
+// Sends each line as it is written. Where that can't be had, lines are only later, so it is no fault.
+fn send_at_once(stream: &TcpStream) {
+    let _ = stream.set_nodelay(true);
+}

@@ -1,0 +1,74 @@
+//! What was read of a link and isn't used yet.
+
+ghost use Rattle.std.specs.Prelude.{◌≡◌, ◌+◌, ◌≤◌, [], drop, length, true, false, not, Ok, MatchResult};
+ghost use Rattle.std.specs.Io.KnownBytes.{Consumes, Keeps};
+
+use gc_lines::{PortFailed, Source};
+use std::marker::Model;
+
+// The most bytes of one read.
+const ROOM: usize = 256;
+
+/// The bytes of the last read that aren't used yet.
+#[derive(Drop)]
+pub(crate) struct Unheard {
+    bytes: [u8; ROOM],
+    at: usize,
+    end: usize,
+}
+
+impl Model for Unheard {
+    ghost use Rattle.std.specs.Prelude.{◌≡◌, ◌≤◌, ℕ, List, length, take, drop};
+    ghost use Rattle.gc_ask.specs.declared.unheard.TheConstants.{ROOM};
+
+    ghost Value = { List ℕ };
+
+    ghost view = { λ r. drop r.at (take r.end r.bytes) };
+
+    ghost invariant = { λ r. (r.at ≤ r.end) × (r.end ≤ ROOM) × (length r.bytes ≡ ROOM) };
+}
+
+impl Unheard {
+    // Nothing was read.
+    pub(crate) fn new() -> Unheard
+        ensures { result ≡ [] }
+    {
+        Unheard {
+            bytes: [0; ROOM],
+            at: 0,
+            end: 0,
+        }
+    }
+
+    // The bytes that aren't used yet.
+    pub(crate) fn left(&self) -> &[u8]
+        ensures { result.now ≡ self.now }
+    {
+        &self.bytes[self.at..self.end]
+    }
+
+    // Uses the first of them.
+    pub(crate) fn advance(&mut self, used: usize)
+        requires { used ≤ length self.old }
+        ensures { self.new ≡ drop used self.old }
+    {
+        self.at += used;
+    }
+
+    // Reads once, in place of what was left, and says whether that wasn't the end.
+    pub(crate) fn read<S: Source>(&mut self, source: &mut S) -> Result<bool, PortFailed>
+        ensures few { length self.new ≤ 256 }
+        ensures end { result ≡ Ok false → self.new ≡ [] }
+        ensures bytes { MatchResult result (λ more. Consumes (S.remaining source.old) (S.remaining source.new) self.new
+            × (S.reads source.new ≡ S.reads source.old + 1) × (S.ended source.new ≡ not more)
+            × (S.failed source.old ≡ false) × (S.failed source.new ≡ false))
+            (λ _. Keeps (S.remaining source.old) (S.remaining source.new) × (S.reads source.new ≡ S.reads source.old)
+            × (S.ended source.new ≡ S.ended source.old) × (S.failed source.new ≡ true)) }
+    {
+        self.at = 0;
+        self.end = 0;
+        let n = source.read(&mut self.bytes)?;
+        self.end = n;
+        Ok(n > 0)
+    }
+}

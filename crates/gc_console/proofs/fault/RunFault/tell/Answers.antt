@@ -1,4 +1,0 @@
-use Rattle.gc_console.proofs.fault.RunFault.tell.Goals as goal
-
-pub returns-in-Schedule : goal.returns-in-Schedule
-returns-in-Schedule g c = rw c.in-Schedule.is c.writeln-in-Schedule.ensures.bytes

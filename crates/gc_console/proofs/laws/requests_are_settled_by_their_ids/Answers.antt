@@ -1,5 +1,0 @@
-use Rattle.gc_console.proofs.ById.{asks_by_id}
-use Rattle.gc_console.proofs.laws.requests_are_settled_by_their_ids.Goals as goal
-
-pub returns : goal.returns
-returns c = asks_by_id

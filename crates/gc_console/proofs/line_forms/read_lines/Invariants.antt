@@ -1,9 +1,0 @@
-use Rattle.std.specs.Option.{option_copied}
-use Rattle.gc_console.proofs.TextLines.{Reads, much_left}
-use Rattle.gc_console.proofs.line_forms.read_lines.Given as goal
-
-abbrev pub invariant-loop-left : goal.invariant-loop-left
-invariant-loop-left g l = Reads g.T.LineForm.form l.text (option_copied l.left) l.number l.items.items
-
-abbrev pub decreases-loop-left : goal.decreases-loop-left
-decreases-loop-left g l = much_left (option_copied l.left)

@@ -1,7 +1,0 @@
-use Rattle.std.proofs.Common.{◌≡◌, ◌++◌, take, map}
-use Rattle.gc_client.specs.Settlements.{settlement_seen}
-use Rattle.gc_console.specs.Drill.{settlement_lines}
-use Rattle.gc_console.proofs.settled.append_settlements.Given as goal
-
-abbrev pub invariant-loop-place : goal.invariant-loop-place
-invariant-loop-place l = l.text.items ≡ l.initial.text.items ++ settlement_lines (map settlement_seen (take l.place l.settlements))

@@ -1,0 +1,45 @@
+-- Which lines have the form of a command, and of which one.
+use Rattle.std.proofs.Common.{◌≡◌, ℕ, List, Option, Some, None, ap, subst, sym, ◌∙◌}
+use Rattle.std.specs.Prelude.{filter}
+use Rattle.gc_catalogue.specs.declared.call.Call.{Call}
+use Rattle.gc_texts.specs.Commands.{IsCommand, IsCommands}
+use Rattle.gc_texts.specs.Cuts.{Cuts}
+use Rattle.gc_texts.specs.LineForms.{is_kept, text_lines}
+use Rattle.gc_texts.specs.Schedule.{IsNumber, IsProcedure}
+use Rattle.gc_texts.specs.declared.commands.Command.{Command}
+use Rattle.gc_texts.proofs.Cutting.{cut_found, one_front, digits_lack_spaces}
+use Rattle.gc_texts.proofs.Forms.{one_number}
+use Rattle.gc_texts.proofs.OneSchedule.{one_procedure, one_list}
+
+some_is : (a b : List ℕ) → Some a ≡ Some b → a ≡ b
+some_is a b e = cc
+
+module _ (line : List ℕ) (command : Command) (is : IsCommand line command) where
+  the_cut : (target : List ℕ) (rest : Option (List ℕ)) → Cuts 32 line target rest → (target ≡ is.target_text) × (rest ≡ Some is.procedure)
+  the_cut target rest cut = cut_found 32 line target rest is.target_text is.procedure cut is.line_is (digits_lack_spaces is.target_text is.target_is.names.digits)
+
+  -- a space is there
+  pub no_space : (target : List ℕ) → Cuts 32 line target None → ⊥
+  no_space target cut = let parts = the_cut target None cut in let bad : None ≡ Some is.procedure = parts.1 in cc
+
+  -- and a target and a call stand before and behind it
+  pub has_number : (target : List ℕ) (rest : Option (List ℕ)) → Cuts 32 line target rest → ((n : ℕ) → IsNumber target n 4294967295 → ⊥) → ⊥
+  has_number target rest cut none = none command.target (subst (λ (ds : List ℕ). IsNumber ds command.target 4294967295) (sym (the_cut target rest cut).0) is.target_is)
+
+  pub has_call : (target procedure : List ℕ) → Cuts 32 line target (Some procedure) → ((c : Call) → IsProcedure procedure c → ⊥) → ⊥
+  has_call target procedure cut none = none command.call (subst (λ (p : List ℕ). IsProcedure p command.call) (sym (some_is procedure is.procedure (the_cut target (Some procedure) cut).1)) is.procedure_is)
+
+same_command : (c d : Command) → c.target ≡ d.target → c.call ≡ d.call → c ≡ d
+same_command c d e f = ap (λ t. record { target = t; call = c.call }) e ∙ ap (λ x. record { target = d.target; call = x }) f
+
+one_command : (line : List ℕ) (c d : Command) → IsCommand line c → IsCommand line d → c ≡ d
+one_command line c d r s =
+    let parts = one_front 32 r.target_text s.target_text r.procedure s.procedure (sym r.line_is ∙ s.line_is)
+    (digits_lack_spaces r.target_text r.target_is.names.digits) (digits_lack_spaces s.target_text s.target_is.names.digits) in
+    same_command c d
+    (one_number s.target_text c.target d.target 4294967295 (subst (λ (x : List ℕ). IsNumber x c.target 4294967295) parts.0 r.target_is) s.target_is)
+    (one_procedure s.procedure c.call d.call (subst (λ (x : List ℕ). IsProcedure x c.call) parts.1 r.procedure_is) s.procedure_is)
+
+-- a text gives one list of commands
+pub one_command_list : (text : List ℕ) (xs ys : List Command) → IsCommands text xs → IsCommands text ys → xs ≡ ys
+one_command_list text xs ys h k = one_list IsCommand one_command (filter is_kept (text_lines text)) xs ys h k

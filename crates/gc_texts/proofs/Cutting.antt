@@ -1,0 +1,68 @@
+-- Texts cut at a mark: there is one first mark.
+use Rattle.std.proofs.Common.{◌≡◌, ◌≢◌, ◌<◌, ◌+◌, ◌≤◌, ℕ, zero, suc, List, [], ◌∷◌, ◌++◌, length, take, drop, get_or, Option, Some, None, arith, refl, ap, subst, sym, ◌∙◌}
+use Rattle.std.proofs.lemmas.Bool.{eqb-true, eq-eqb}
+use Rattle.std.proofs.lemmas.List.{take_all}
+use Rattle.memchr.specs.Find.{IsFirstByte, is_byte}
+use Rattle.gc_values.specs.Digits.{AreDigits}
+use Rattle.gc_texts.specs.Cuts.{Lacks, Cuts}
+
+-- no byte before place i is the mark
+lacks_before : (mark : ℕ) (bs : List ℕ) (i : ℕ) → i ≤ length bs → ((j : ℕ) → j < i → get_or bs j 0 ≢ mark) → Lacks mark (take i bs)
+lacks_before mark bs zero le none = tt
+lacks_before mark [] (suc i) le none = tt
+lacks_before mark (b ∷ bs) (suc i) le none = (none 0 (omega arith), lacks_before mark bs i (omega (arith, le)) (λ j lt. none (suc j) (omega (arith, lt))))
+
+-- the text is what stands before place i, its byte, and what stands behind it
+split_place : (mark : ℕ) (bs : List ℕ) (i : ℕ) → i < length bs → get_or bs i 0 ≡ mark → bs ≡ take i bs ++ mark ∷ drop (i + 1) bs
+split_place mark [] i lt e = absurd (omega (arith, lt))
+split_place mark (b ∷ bs) zero lt e = ap (λ x. x ∷ bs) e
+split_place mark (b ∷ bs) (suc i) lt e =
+    let next : suc i + 1 ≡ suc (i + 1) = omega arith in
+    ap (λ l. b ∷ l) (split_place mark bs i (omega (arith, lt)) e) ∙ ap (λ n. b ∷ (take i bs ++ mark ∷ drop n (b ∷ bs))) (sym next)
+
+-- the first place of a mark cuts a text
+pub first_cuts : (mark : ℕ) (bs : List ℕ) (i : ℕ) (rest : List ℕ) → IsFirstByte (is_byte mark) bs (Some i) → rest ≡ drop (i + 1) bs → Cuts mark bs (take i bs) (Some rest)
+first_cuts mark bs i rest first is = (
+  split_place mark bs i first.0.high (eqb-true (get_or bs i 0) mark first.1) ∙ ap (λ l. take i bs ++ mark ∷ l) (sym is),
+  lacks_before mark bs i (omega (arith, first.0.high)) (λ j lt e. first.0.before j (omega arith) lt (eq-eqb (get_or bs j 0) mark e)),
+)
+
+-- and where there is none, the text is whole
+pub none_cuts : (mark : ℕ) (bs : List ℕ) → IsFirstByte (is_byte mark) bs None → Cuts mark bs bs None
+none_cuts mark bs none =
+    (refl, subst (Lacks mark) (take_all (length bs) bs (omega arith)) (lacks_before mark bs (length bs) (omega arith) (λ j lt e. none j (omega arith) lt (eq-eqb (get_or bs j 0) mark e))))
+
+-- what stands before the first mark, and what stands behind it, are determined
+pub one_front : (mark : ℕ) (f g r s : List ℕ) → f ++ mark ∷ r ≡ g ++ mark ∷ s → Lacks mark f → Lacks mark g → (f ≡ g) × (r ≡ s)
+one_front mark [] [] r s e lf lg = (refl, cc)
+one_front mark [] (b ∷ g) r s e lf lg = let same : b ≡ mark = cc in absurd (lg.0 same)
+one_front mark (a ∷ f) [] r s e lf lg = let same : a ≡ mark = cc in absurd (lf.0 same)
+one_front mark (a ∷ f) (b ∷ g) r s e lf lg =
+    let heads : a ≡ b = cc in
+    let tails : f ++ mark ∷ r ≡ g ++ mark ∷ s = cc in
+    let rest = one_front mark f g r s tails lf.1 lg.1 in
+    (cc (heads, rest.0), rest.1)
+
+-- a text with a mark doesn't lack it
+pub has_mark : (mark : ℕ) (f r g : List ℕ) → f ++ mark ∷ r ≡ g → Lacks mark g → ⊥
+has_mark mark [] r [] e lg = cc
+has_mark mark [] r (b ∷ g) e lg = let same : b ≡ mark = cc in lg.0 same
+has_mark mark (a ∷ f) r [] e lg = cc
+has_mark mark (a ∷ f) r (b ∷ g) e lg = let tails : f ++ mark ∷ r ≡ g = cc in has_mark mark f r g tails lg.1
+
+-- a cut finds the mark that is there
+pub cut_found : (mark : ℕ) (text front : List ℕ) (rest : Option (List ℕ)) (g s : List ℕ) → Cuts mark text front rest → text ≡ g ++ mark ∷ s → Lacks mark g → (front ≡ g) × (rest ≡ Some s)
+cut_found mark text front None g s cut e lg = absurd (has_mark mark g s front (sym e ∙ cut.0) cut.1)
+cut_found mark text front (Some rest) g s cut e lg =
+    let both = one_front mark front g rest s (sym cut.0 ∙ e) cut.1 lg in
+    (both.0, ap Some both.1)
+
+-- and none where there is none
+pub cut_none : (mark : ℕ) (text front : List ℕ) (rest : Option (List ℕ)) → Cuts mark text front rest → Lacks mark text → (front ≡ text) × (rest ≡ None)
+cut_none mark text front None cut lacks = (sym cut.0, refl)
+cut_none mark text front (Some rest) cut lacks = absurd (has_mark mark front rest text (sym cut.0) lacks)
+
+-- digits are no spaces
+pub digits_lack_spaces : (ds : List ℕ) → AreDigits ds → Lacks 32 ds
+digits_lack_spaces [] digits = tt
+digits_lack_spaces (d ∷ ds) digits = ((λ e. absurd (omega (arith, digits.0.0))), digits_lack_spaces ds digits.1)

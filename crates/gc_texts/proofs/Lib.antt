@@ -1,0 +1,8 @@
+mod Cutting
+mod Forms
+mod LineEnds
+mod TextLines
+mod OneSchedule
+mod CommandForms
+pub mod SettlementLines
+mod Telling

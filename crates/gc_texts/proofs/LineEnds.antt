@@ -1,0 +1,20 @@
+-- One CR at the end of a line.
+use Rattle.std.proofs.Common.{◌≡◌, ◌≢◌, ℕ, List, [], ◌∷◌, ◌++◌, refl, ap, ◌==◌, cond, Bool, true, false}
+use Rattle.std.proofs.lemmas.Bool.{eqb-true}
+use Rattle.gc_texts.specs.LineForms.{without_cr}
+
+-- it is dropped where it stands there
+pub without_cr-end : (front : List ℕ) → without_cr (front ++ 13 ∷ []) ≡ front
+without_cr-end [] = refl
+without_cr-end (b ∷ []) = refl
+without_cr-end (b ∷ c ∷ front) = ap (λ rest. b ∷ rest) (without_cr-end (c ∷ front))
+
+last_kept : (b : ℕ) (t : Bool) → (b == 13) ≡ t → ((front : List ℕ) → b ∷ [] ≢ front ++ 13 ∷ []) → cond t [] (b ∷ []) ≡ b ∷ []
+last_kept b true e none = absurd (none [] (ap (λ x. x ∷ []) (eqb-true b 13 e)))
+last_kept b false e none = refl
+
+-- and nothing is dropped where none stands there
+pub without_cr-none : (line : List ℕ) → ((front : List ℕ) → line ≢ front ++ 13 ∷ []) → without_cr line ≡ line
+without_cr-none [] none = refl
+without_cr-none (b ∷ []) none = last_kept b (b == 13) refl none
+without_cr-none (b ∷ c ∷ line) none = ap (λ rest. b ∷ rest) (without_cr-none (c ∷ line) (λ front e. none (b ∷ front) (ap (λ rest. b ∷ rest) e)))

@@ -1,0 +1,40 @@
+-- The lines of settlements, written one after the other.
+use Rattle.std.proofs.Common.{◌≡◌, ℕ, ◌+◌, ◌<◌, List, ◌∷◌, ◌++◌, length, take, drop, map, get_or, Option, sym, ap, ◌∙◌, subst, arith}
+use Rattle.std.specs.Io.KnownBytes.{Appends}
+use Rattle.std.proofs.lemmas.List.{length-map, length-take, map-append}
+use Rattle.gc_lines.specs.Ports.{TakesFront}
+use Rattle.gc_lines.proofs.Known.{Appends-append, Appends-is}
+use Rattle.gc_client.specs.declared.settlement.Settlement.{Settlement}
+use Rattle.gc_client.specs.Settlements.{settlement_seen}
+use Rattle.gc_texts.specs.Settlements.{settlement_line, lines_from, ToldPart}
+use Rattle.gc_texts.proofs.SettlementLines.{lines_one, map_one, at_place}
+
+-- how many are in front of one place
+front_is : (ss : List Settlement) (i : ℕ) → i < length ss → length (map settlement_seen (take i ss)) ≡ i
+front_is ss i below = length-map (take i ss) settlement_seen ∙ omega (arith, length-take i ss, below)
+
+-- one more line
+pub lines_next : (place : ℕ) (ss : List Settlement) (i : ℕ) (s : Settlement) (old mid new : Option (List ℕ)) (line : List ℕ) → i < length ss → s ≡ get_or ss i s → line ≡ settlement_line (place + i) (settlement_seen s)
+    → Appends old mid (lines_from place (map settlement_seen (take i ss))) → Appends mid new line → Appends old new (lines_from place (map settlement_seen (take (i + 1) ss)))
+lines_next place ss i s old mid new line below is text so more =
+    let front = map settlement_seen (take i ss) in
+    let seen = settlement_seen s in
+    Appends-is old new _ _ (ap (λ t. lines_from place front ++ t) text ∙ ap (λ n. lines_from place front ++ settlement_line (place + n) seen) (sym (front_is ss i below))
+    ∙ sym (lines_one place front seen) ∙ ap (lines_from place) (sym (map_one (take i ss) s)) ∙ ap (λ xs. lines_from place (map settlement_seen xs)) (sym (at_place ss i s below is).0))
+    (Appends-append old mid new _ _ so more)
+
+-- a line that went in part
+pub lines_part : (place : ℕ) (ss : List Settlement) (i n : ℕ) (s : Settlement) (old mid new : Option (List ℕ)) (line : List ℕ) → i < length ss → s ≡ get_or ss i s → line ≡ settlement_line (place + i) (settlement_seen s)
+    → Appends old mid (lines_from place (map settlement_seen (take i ss))) → TakesFront mid new n line → ToldPart place (map settlement_seen ss) old new
+lines_part place ss i n s old mid new line below is text so part =
+    let front = map settlement_seen (take i ss) in
+    let at : line ≡ settlement_line (place + length front) (settlement_seen s) = text ∙ ap (λ m. settlement_line (place + m) (settlement_seen s)) (sym (front_is ss i below)) in
+    record {
+      earlier = front;
+      next = settlement_seen s;
+      later = map settlement_seen (drop (i + 1) ss);
+      order = ap (map settlement_seen) (at_place ss i s below is).1 ∙ map-append settlement_seen (take i ss) (s ∷ drop (i + 1) ss);
+      part = n;
+      not_all = subst (λ (t : List ℕ). n < length t) at part.0;
+      took = Appends-append old mid new _ _ so (Appends-is mid new _ _ (ap (take n) at) part.1);
+    }

@@ -1,0 +1,168 @@
+-- The lines of a text, one after another.
+use Rattle.std.proofs.Common.{◌≡◌, ◌≢◌, ◌≤◌, ◌+◌, ℕ, List, [], ◌∷◌, ◌++◌, length, map, Option, Some, None, Bool, true, false, cond, arith, refl, ap, subst, sym, ◌∙◌, ◌==◌, append_assoc, append-nil, length-append, ne_eqb}
+use Rattle.std.specs.Prelude.{filter, not}
+use Rattle.std.proofs.lemmas.List.{length-map}
+use Rattle.gc_texts.specs.Cuts.{Cuts, Lacks}
+use Rattle.gc_texts.specs.LineForms.{Form, text_pieces, without_cr, text_lines, is_skipped, is_kept, AreItems, IsText, FirstFaulty, BehindAnItem}
+
+-- the lines of what is left of a text
+abbrev pub lines_left : Option (List ℕ) → List (List ℕ)
+lines_left None = []
+lines_left (Some text) = text_lines text
+
+-- how much is left of a text: its bytes and one more
+abbrev pub much_left : Option (List ℕ) → ℕ
+much_left None = 0
+much_left (Some text) = length text + 1
+
+-- one byte that isn't the LF
+piece-on : (before bs : List ℕ) (b : ℕ) → b ≢ 10 → text_pieces before (b ∷ bs) ≡ text_pieces (before ++ b ∷ []) bs
+piece-on before bs b other = ap (λ t. cond t (before ∷ text_pieces [] bs) (text_pieces (before ++ b ∷ []) bs)) (ne_eqb b 10 other)
+
+pieces-lacking : (before bs : List ℕ) → Lacks 10 bs → text_pieces before bs ≡ (before ++ bs) ∷ []
+pieces-lacking before [] lacks = ap (λ x. x ∷ []) (sym (append-nil before))
+pieces-lacking before (b ∷ bs) lacks =
+    piece-on before bs b lacks.0 ∙ pieces-lacking (before ++ b ∷ []) bs lacks.1 ∙ ap (λ x. x ∷ []) (append_assoc before (b ∷ []) bs)
+
+pieces-cut : (before front rest : List ℕ) → Lacks 10 front → text_pieces before (front ++ 10 ∷ rest) ≡ (before ++ front) ∷ text_pieces [] rest
+pieces-cut before [] rest lacks = ap (λ x. x ∷ text_pieces [] rest) (sym (append-nil before))
+pieces-cut before (b ∷ front) rest lacks =
+    piece-on before (front ++ 10 ∷ rest) b lacks.0 ∙ pieces-cut (before ++ b ∷ []) front rest lacks.1 ∙ ap (λ x. x ∷ text_pieces [] rest) (append_assoc before (b ∷ []) front)
+
+few_more :
+    (before bs : List ℕ) (b : ℕ) (t : Bool) → length (text_pieces [] bs) ≤ length bs + 1 → length (text_pieces (before ++ b ∷ []) bs) ≤ length bs + 1 →
+    length (cond t (before ∷ text_pieces [] bs) (text_pieces (before ++ b ∷ []) bs)) ≤ length (b ∷ bs) + 1
+few_more before bs b true new on = omega (arith, new)
+few_more before bs b false new on = omega (arith, on)
+
+-- no more pieces than bytes, and one more
+pieces-few : (before bs : List ℕ) → length (text_pieces before bs) ≤ length bs + 1
+pieces-few before [] = omega arith
+pieces-few before (b ∷ bs) = few_more before bs b (b == 10) (pieces-few [] bs) (pieces-few (before ++ b ∷ []) bs)
+
+-- the first line, and those of the rest
+pub lines-cut : (text front : List ℕ) (rest : Option (List ℕ)) → Cuts 10 text front rest → text_lines text ≡ without_cr front ∷ lines_left rest
+lines-cut text front None cut = ap (map without_cr) (ap (text_pieces []) cut.0 ∙ pieces-lacking [] front cut.1)
+lines-cut text front (Some rest) cut = ap (map without_cr) (ap (text_pieces []) cut.0 ∙ pieces-cut [] front rest cut.1)
+
+-- items, one behind the other
+pub AreItems-append : {Item : Type 0} (form : Form Item) (xs ys : List (List ℕ)) (es fs : List Item) → AreItems form xs es → AreItems form ys fs → AreItems form (xs ++ ys) (es ++ fs)
+AreItems-append form [] ys [] fs h k = k
+AreItems-append form [] ys (e ∷ es) fs h k = absurd h
+AreItems-append form (x ∷ xs) ys [] fs h k = absurd h
+AreItems-append form (x ∷ xs) ys (e ∷ es) fs h k = (h.0, AreItems-append form xs ys es fs h.1 k)
+
+-- how far the reading of a text has come: its lines are those that were read and those that are left
+pub record Reads {Item : Type 0} (form : Form Item) (text : List ℕ) (left : Option (List ℕ)) (number : ℕ) (items : List Item) : Type 0 where
+  pub read : List (List ℕ)
+  pub lines_are : text_lines text ≡ read ++ lines_left left
+  pub count : number ≡ length read
+  pub items_are : AreItems form (filter is_kept read) items
+
+-- at the beginning all lines are left
+pub reads_none : {Item : Type 0} (form : Form Item) (text : List ℕ) → Reads form text (Some text) 0 []
+reads_none form text = record { read = []; lines_are = refl; count = refl; items_are = tt }
+
+-- of a text within the limit no more lines are read than a u32 counts
+pub reads_few : {Item : Type 0} (form : Form Item) (text : List ℕ) (left : Option (List ℕ)) (number : ℕ) (items : List Item) → length text ≤ 65536 → Reads form text left number items → number ≤ 65537
+reads_few form text left number items within r =
+    let all : length (text_lines text) ≡ length r.read + length (lines_left left) = ap length r.lines_are ∙ length-append r.read (lines_left left) in
+    let pieces : length (text_lines text) ≡ length (text_pieces [] text) = length-map (text_pieces [] text) without_cr in
+    omega (arith, all, pieces, pieces-few [] text, within, r.count)
+
+filter_one :
+    (x : List ℕ) (xs ys all : List (List ℕ)) (t : Bool) → all ≡ xs ++ ys →
+    cond t (x ∷ all) all ≡ cond t (x ∷ xs) xs ++ ys
+filter_one x xs ys all true e = ap (λ rest. x ∷ rest) e
+filter_one x xs ys all false e = e
+
+filter-append : (xs ys : List (List ℕ)) → filter is_kept (xs ++ ys) ≡ filter is_kept xs ++ filter is_kept ys
+filter-append [] ys = refl
+filter-append (x ∷ xs) ys = filter_one x (filter is_kept xs) (filter is_kept ys) (filter is_kept (xs ++ ys)) (is_kept x) (filter-append xs ys)
+
+-- the items of one line more: its own, or none
+abbrev pub LineItems : {Item : Type 0} → Form Item → List ℕ → List Item → Type 0
+LineItems form line items = AreItems form (filter is_kept (line ∷ [])) items
+
+-- one line more is read
+pub reads_on : {Item : Type 0} (form : Form Item) (text now line : List ℕ) (rest : Option (List ℕ)) (number : ℕ) (items more : List Item) → Reads form text (Some now) number items → Cuts 10 now line rest → LineItems form (without_cr line) more → Reads form text rest (number + 1) (items ++ more)
+reads_on form text now line rest number items more r cut of_line =
+    let next : lines_left (Some now) ≡ without_cr line ∷ lines_left rest = lines-cut now line rest cut in
+    record {
+      read = r.read ++ without_cr line ∷ [];
+      lines_are = r.lines_are ∙ ap (λ ls. r.read ++ ls) next ∙ sym (append_assoc r.read (without_cr line ∷ []) (lines_left rest));
+      count = omega (arith, r.count, length-append r.read (without_cr line ∷ []));
+      items_are = subst (λ ls. AreItems form ls (items ++ more)) (sym (filter-append r.read (without_cr line ∷ []))) (AreItems-append form (filter is_kept r.read) (filter is_kept (without_cr line ∷ [])) items more r.items_are of_line);
+    }
+
+-- a line that is skipped has no item
+pub skipped_line : {Item : Type 0} (form : Form Item) (line : List ℕ) → is_skipped line ≡ true → LineItems form line []
+skipped_line form line skipped = subst (λ ls. AreItems form ls []) (sym (ap (λ t. cond (not t) (line ∷ []) []) skipped)) tt
+
+-- and a line that isn't has its own
+pub kept_line : {Item : Type 0} (form : Form Item) (line : List ℕ) (item : Item) → is_skipped line ≡ false → form line item → LineItems form line (item ∷ [])
+kept_line form line item kept is = subst (λ ls. AreItems form ls (item ∷ [])) (sym (ap (λ t. cond (not t) (line ∷ []) []) kept)) (is, tt)
+
+-- all lines are read: these are the text's items
+pub reads_all : {Item : Type 0} (form : Form Item) (text : List ℕ) (number : ℕ) (items : List Item) → Reads form text None number items → IsText form text items
+reads_all form text number items r =
+    let all : text_lines text ≡ r.read = r.lines_are ∙ append-nil r.read in
+    subst (λ ls. AreItems form (filter is_kept ls) items) (sym all) r.items_are
+
+-- the next line has the form of no item
+pub first_faulty : {Item : Type 0} (form : Form Item) (text now line : List ℕ) (rest : Option (List ℕ)) (number : ℕ) (items : List Item) → Reads form text (Some now) number items → Cuts 10 now line rest → is_skipped (without_cr line) ≡ false → ((e : Item) → form (without_cr line) e → ⊥) → FirstFaulty form text (number + 1)
+first_faulty form text now line rest number items r cut kept none =
+    record {
+      front = r.read;
+      line = without_cr line;
+      rest = lines_left rest;
+      lines_are = r.lines_are ∙ ap (λ ls. r.read ++ ls) (lines-cut now line rest cut);
+      place = omega (arith, r.count);
+      kept = ap not kept;
+      no_item = none;
+      items = items;
+      before = r.items_are;
+    }
+
+-- the next line has the form of an item
+pub next_item : {Item : Type 0} (form : Form Item) (text now line : List ℕ) (rest : Option (List ℕ)) (number : ℕ) (items : List Item) → Reads form text (Some now) number items → Cuts 10 now line rest → is_skipped (without_cr line) ≡ false → (e : Item) → form (without_cr line) e → BehindAnItem form text
+next_item form text now line rest number items r cut kept e is =
+    record {
+      front = r.read;
+      line = without_cr line;
+      rest = lines_left rest;
+      lines_are = r.lines_are ∙ ap (λ ls. r.read ++ ls) (lines-cut now line rest cut);
+      kept = ap not kept;
+      item = e;
+      is_item = is;
+      items = items;
+      before = r.items_are;
+    }
+
+-- one turn of the reading: a line that stands at the front of what is left
+module _
+    {Item : Type 0} (form : Form Item) (text : List ℕ) (left : Option (List ℕ)) (now line plain : List ℕ) (rest : Option (List ℕ)) (number : ℕ) (items : List Item) (skipped : Bool)
+    (r : Reads form text left number items) (some : left ≡ Some now) (cut : Cuts 10 now line rest) (is_plain : plain ≡ without_cr line) (tested : skipped ≡ is_skipped plain) where
+  stands : Reads form text (Some now) number items
+  stands = subst (λ o. Reads form text o number items) some r
+
+  not_skipped : skipped ≡ false → is_skipped (without_cr line) ≡ false
+  not_skipped isnt = ap is_skipped (sym is_plain) ∙ sym tested ∙ isnt
+
+  pub turn_skips : skipped ≡ true → Reads form text rest (number + 1) items
+  turn_skips is =
+      let empty : LineItems form (without_cr line) [] = skipped_line form (without_cr line) (ap is_skipped (sym is_plain) ∙ sym tested ∙ is) in
+      subst (λ es. Reads form text rest (number + 1) es) (append-nil items) (reads_on form text now line rest number items [] stands cut empty)
+
+  pub turn_reads : (item : Item) (new : List Item) → skipped ≡ false → form plain item → new ≡ items ++ item ∷ [] → Reads form text rest (number + 1) new
+  turn_reads item new isnt is grown =
+      let own : LineItems form (without_cr line) (item ∷ []) = kept_line form (without_cr line) item (not_skipped isnt) (subst (λ l. form l item) is_plain is) in
+      subst (λ es. Reads form text rest (number + 1) es) (sym grown) (reads_on form text now line rest number items (item ∷ []) stands cut own)
+
+  pub turn_fails : skipped ≡ false → ((e : Item) → form plain e → ⊥) → FirstFaulty form text (number + 1)
+  turn_fails isnt none =
+      first_faulty form text now line rest number items stands cut (not_skipped isnt) (λ e is. none e (subst (λ l. form l e) (sym is_plain) is))
+
+  pub turn_wants : (item : Item) → skipped ≡ false → form plain item → BehindAnItem form text
+  turn_wants item isnt is =
+      next_item form text now line rest number items stands cut (not_skipped isnt) item (subst (λ l. form l item) is_plain is)

@@ -1,0 +1,13 @@
+use Rattle.std.proofs.Common.{◌≡◌, ◌≤◌, ◌+◌, ◌-◌, length}
+use Rattle.std.specs.Io.KnownBytes.{Consumes}
+use Rattle.gc_texts.proofs.text.read_text.Given as goal
+
+abbrev pub invariant-loop-text : goal.invariant-loop-text
+invariant-loop-text g l =
+    Consumes (g.S.Source.remaining l.initial.source) (g.S.Source.remaining l.source) l.text.items × (g.S.Source.failed l.source ≡ g.S.Source.failed l.initial.source)
+    × (length l.text.items ≤ 65536) × (length l.buf ≡ 4096)
+    × (g.S.Source.reads l.initial.source ≤ g.S.Source.reads l.source)
+    × (g.S.Source.reads l.source ≤ g.S.Source.reads l.initial.source + length l.text.items)
+
+abbrev pub decreases-loop-text : goal.decreases-loop-text
+decreases-loop-text g l = 65536 - length l.text.items

@@ -1,0 +1,25 @@
+-- A command text, and the commands that it gives: this project's own.
+use Rattle.std.specs.Prelude.{◌≡◌, ℕ, List, ◌∷◌, ◌++◌}
+use Rattle.gc_texts.specs.LineForms.{IsText, FirstFaulty, BehindAnItem}
+use Rattle.gc_texts.specs.Schedule.{IsNumber, IsProcedure}
+use Rattle.gc_texts.specs.declared.commands.Command.{Command}
+
+-- `T RPC` or `T RPC PARAMS`
+pub record IsCommand (line : List ℕ) (command : Command) : Type 0 where
+  pub target_text : List ℕ
+  pub procedure : List ℕ
+  pub line_is : line ≡ target_text ++ 32 ∷ procedure
+  pub target_is : IsNumber target_text command.target 4294967295
+  pub procedure_is : IsProcedure procedure command.call
+
+-- the text is a list of these commands: one for each line that isn't skipped
+abbrev pub IsCommands : List ℕ → List Command → Type 0
+IsCommands text commands = IsText IsCommand text commands
+
+-- line number n, counted from 1, is the first that isn't skipped and has the form of no command
+abbrev pub IsFirstFaultyCommand : List ℕ → ℕ → Type 0
+IsFirstFaultyCommand text n = FirstFaulty IsCommand text n
+
+-- a line has the form of a command, and no line before it is faulty
+abbrev pub IsBehindACommand : List ℕ → Type 0
+IsBehindACommand text = BehindAnItem IsCommand text

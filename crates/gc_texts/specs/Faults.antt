@@ -1,0 +1,49 @@
+-- The faults of the engines, and what the program tells of an end: numbers, texts and statuses are this project's own.
+use Rattle.std.specs.Prelude.{◌≡◌, ℕ, List, ◌++◌, Option, Result, Ok, Err, codes}
+use Rattle.std.specs.Fmt.{decimal}
+use Rattle.std.specs.Io.KnownBytes.{Appends}
+use Rattle.gc_lines.specs.declared.served.Served.{Served}
+use Rattle.gc_lines.specs.declared.served.ServeFault.{ServeFault}
+use Rattle.gc_lines.specs.declared.served.ServeFault.TheVariants as serving
+use Rattle.gc_texts.specs.declared.fault.RunFault.{RunFault}
+use Rattle.gc_texts.specs.declared.fault.RunFault.TheVariants.{Read, Write, TooManyReads, LinkClosed, Schedule, Memory, InputTooLong, Socket, Output}
+
+-- the number of a fault
+abbrev pub run_fault_number : RunFault → ℕ
+run_fault_number Read = 42
+run_fault_number (Write _ _) = 43
+run_fault_number TooManyReads = 44
+run_fault_number LinkClosed = 45
+run_fault_number (Schedule _) = 51
+run_fault_number Memory = 52
+run_fault_number InputTooLong = 53
+run_fault_number Socket = 54
+run_fault_number Output = 55
+
+-- a fault as it is printed
+abbrev pub run_fault_text : RunFault → List ℕ
+run_fault_text Read = codes "fault 42"
+run_fault_text (Write count bytes) = codes "fault 43 reply " ++ decimal count ++ codes " byte " ++ decimal bytes
+run_fault_text TooManyReads = codes "fault 44"
+run_fault_text LinkClosed = codes "fault 45"
+run_fault_text (Schedule n) = codes "fault 51 line " ++ decimal n
+run_fault_text Memory = codes "fault 52"
+run_fault_text InputTooLong = codes "fault 53"
+run_fault_text Socket = codes "fault 54"
+run_fault_text Output = codes "fault 55"
+
+-- the line that the program writes of a fault with this text
+abbrev pub fault_line : List ℕ → List ℕ
+fault_line text = codes "geocom: " ++ text ++ codes "\n"
+
+-- what the program tells of an end, by its status and on its messages: status 0 and nothing, or status 1 and the fault's line
+abbrev pub Tells : {X E : Type 0} → (E → List ℕ) → Result X E → ℕ → Option (List ℕ) → Option (List ℕ) → Type 0
+Tells text (Ok _) status old new = (status ≡ 0) × (new ≡ old)
+Tells text (Err fault) status old new = (status ≡ 1) × Appends old new (fault_line (text fault))
+
+-- the end of serving, as the end of a run
+abbrev pub end_of_serving : Result Served ServeFault → Result (Unit {0}) RunFault
+end_of_serving (Ok _) = Ok tt
+end_of_serving (Err (serving.Read _)) = Err Read
+end_of_serving (Err (serving.Write count bytes)) = Err (Write count bytes)
+end_of_serving (Err (serving.TooManyReads _)) = Err TooManyReads

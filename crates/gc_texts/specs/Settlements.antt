@@ -1,0 +1,57 @@
+-- The lines of settlements and of totals, and what a sink took of them: this project's own.
+use Rattle.std.specs.Prelude.{◌≡◌, ℕ, ◌+◌, ◌<◌, Bool, true, List, [], ◌∷◌, ◌++◌, length, take, map, Option, Result, Ok, Err, if◌then◌else◌, codes}
+use Rattle.std.specs.Fmt.{decimal}
+use Rattle.std.specs.Io.KnownBytes.{Appends}
+use Rattle.gc_client.specs.Rule.{Settlement, Outcome, Answered, Late, Lost}
+use Rattle.gc_client.specs.Settlements.{settlement_seen}
+use Rattle.gc_world.specs.declared.report.Report.{Report}
+use Rattle.gc_texts.specs.declared.fault.RunFault.{RunFault}
+use Rattle.gc_texts.specs.declared.fault.RunFault.TheVariants.{Output}
+
+-- how a request ended, in words, and behind `answered` the line of the reply
+abbrev pub outcome_text : Outcome → List ℕ
+outcome_text (Answered line) = codes " answered " ++ line
+outcome_text Late = codes " late"
+outcome_text Lost = codes " lost"
+
+-- the line of a settlement: its place, its target, and how it ended
+abbrev pub settlement_line : ℕ → Settlement → List ℕ
+settlement_line place s = decimal place ++ codes " " ++ decimal s.target ++ outcome_text s.outcome ++ codes "\n"
+
+-- the lines of settlements, from this place on
+abbrev pub lines_from : ℕ → List Settlement → List ℕ
+lines_from place [] = []
+lines_from place (s ∷ later) = settlement_line place s ++ lines_from (place + 1) later
+
+-- the lines of settlements, from place 0 on
+abbrev pub settlement_lines : List Settlement → List ℕ
+settlement_lines settlements = lines_from 0 settlements
+
+-- the line of totals, for these counts
+abbrev pub totals_text : (sent executed made settled refused idle : ℕ) → List ℕ
+totals_text sent executed made settled refused idle =
+    codes "sent " ++ decimal sent ++ codes " executed " ++ decimal executed ++ codes " made " ++ decimal made
+    ++ codes " settled " ++ decimal settled ++ codes " refused " ++ decimal refused ++ codes " idle " ++ decimal idle ++ codes "\n"
+
+-- what is written of a report: its settlements, and behind them the totals where they are asked for
+abbrev pub report_text : Report → Bool → List ℕ
+report_text r totals =
+    settlement_lines (map settlement_seen r.settled)
+    ++ (if totals then totals_text (length r.sent) (length r.executed) (length r.made) (length r.settled) r.refused_sends r.idle_events else [])
+
+-- the lines of settlements, the first at this place, went to a sink whole, or the sink failed and took a part of them: those of the
+-- earlier ones, and of the next one less than its line
+pub record ToldPart (place : ℕ) (settled : List Settlement) (old new : Option (List ℕ)) : Type 0 where
+  pub earlier : List Settlement
+  pub next : Settlement
+  pub later : List Settlement
+  pub order : settled ≡ earlier ++ next ∷ later
+  pub part : ℕ
+  pub not_all : part < length (settlement_line (place + length earlier) next)
+  pub took : Appends old new (lines_from place earlier ++ take part (settlement_line (place + length earlier) next))
+
+-- the lines of these settlements, from this place on, were written: all, or a part of them where the sink failed
+abbrev pub Told : ℕ → List Settlement → Option (List ℕ) → Option (List ℕ) → Bool → Bool → Result (Unit {0}) RunFault → Type 0
+Told place settled old new old_failed new_failed (Ok _) = Appends old new (lines_from place settled) × (new_failed ≡ old_failed)
+Told place settled old new old_failed new_failed (Err Output) = ToldPart place settled old new × (new_failed ≡ true)
+Told place settled old new old_failed new_failed (Err _) = ⊥

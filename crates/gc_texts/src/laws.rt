@@ -1,0 +1,13 @@
+//! What is proved of the definitions themselves. The functions have no effect: their contracts are the laws.
+
+ghost use Rattle.gc_texts.specs.Laws.{OneSchedule, OneCommandList};
+
+/// A text is the schedule of one list of events at most.
+pub fn schedule_has_one_reading()
+    ensures { OneSchedule }
+{}
+
+/// A text gives one list of commands at most.
+pub fn commands_have_one_reading()
+    ensures { OneCommandList }
+{}

@@ -1,0 +1,87 @@
+//! The lines of a text: which are skipped, what each of the others stands for, and which is the first faulty one.
+
+ghost use Rattle.std.specs.Prelude.{◌≡◌, ◌<◌, ◌≤◌, ◌↔◌, length, Err, IfOk, IfErr};
+ghost use Rattle.std.specs.Option.{option_copied};
+ghost use Rattle.gc_texts.specs.LineForms.{IsText, TextFault, without_cr, is_skipped};
+ghost use Rattle.gc_texts.specs.declared.fault.RunFault.{RunFault};
+ghost use Rattle.gc_texts.specs.declared.text.TheConstants.{TEXT_LIMIT};
+
+use crate::cuts::cut_at;
+use crate::fault::RunFault;
+use crate::text::TEXT_LIMIT;
+use std::alloc::Global;
+
+/// What a line of a text stands for.
+pub trait LineForm {
+    ghost use Rattle.std.specs.Prelude.{ℕ, List, MatchOption};
+
+    /// Which lines have the form of an item.
+    ghost form: { List ℕ → Self → Type 0 };
+
+    /// Reads a line; none where it has the form of no item.
+    fn read(line: &[u8]) -> Option<Self>
+        ensures { MatchOption result ((item : Self) → form line.now item → ⊥) (λ item. form line.now item) };
+}
+
+// Drops one CR at the end.
+fn without_cr(line: &[u8]) -> &[u8]
+    ensures { result.now ≡ without_cr line.now }
+{
+    match line.strip_suffix(b"\r") {
+        Some(front) => front,
+        None => line,
+    }
+}
+
+// Whether the line is empty or begins with `#`.
+fn is_skipped(line: &[u8]) -> bool
+    ensures { result ≡ is_skipped line.now }
+{
+    matches!(line, [] | [b'#', ..])
+}
+
+/// Reads a text: its items, in order.
+///
+/// Refused are a text of more than 65,536 bytes (`InputTooLong`, before any line is looked at), and the first line that
+/// has the form of no item (`Schedule`, with its number counted from 1). `Memory` comes only where a growth was refused,
+/// behind a line that is an item.
+pub(crate) fn read_items<T: LineForm + Copy>(alloc: Global, text: &[u8]) -> Result<Vec<T>, RunFault>
+    ensures found { IfOk result (λ items. IsText T.form text.now items.items) }
+    ensures too_long { (result ≡ Err RunFault.InputTooLong) ↔ (TEXT_LIMIT < length text.now) }
+    ensures fault { IfErr result (λ e. TextFault T.form text.now e) }
+{
+    if text.len() > TEXT_LIMIT {
+        return Err(RunFault::InputTooLong);
+    }
+    read_lines(alloc, text)
+}
+
+// Reads the lines of a text.
+fn read_lines<T: LineForm + Copy>(alloc: Global, text: &[u8]) -> Result<Vec<T>, RunFault>
+    requires { length text.now ≤ TEXT_LIMIT }
+    ensures found { IfOk result (λ items. IsText T.form text.now items.items) }
+    ensures fault { IfErr result (λ e. TextFault T.form text.now e) }
+{
+    let mut items = Vec::new(alloc);
+    let mut left = Some(text);
+    let mut number = 0u32;
+    while let Some(text) = left {
+        let (line, rest) = cut_at(b'\n', text);
+        let line = without_cr(line);
+        left = rest;
+        number += 1;
+        if is_skipped(line) {
+            continue;
+        }
+        match T::read(line) {
+            Some(item) => {
+                if items.reserve(1).is_err() {
+                    return Err(RunFault::Memory);
+                }
+                items.push_reserved(item);
+            }
+            None => return Err(RunFault::Schedule { line: number }),
+        }
+    }
+    Ok(items)
+}
