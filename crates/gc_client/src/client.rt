@@ -6,7 +6,7 @@ ghost use Rattle.gc_lines.specs.Replies.{reply_seen};
 ghost use Rattle.gc_lines.specs.Readers.{reply_at};
 ghost use Rattle.gc_catalogue.specs.Calls.{IsFitting};
 ghost use Rattle.gc_catalogue.specs.Texts.{request_line};
-ghost use Rattle.gc_client.specs.Rule.{Windowed, fresh, sends, heard, hears, id_settled, deadlines, IsEarliest, expires, expiring, restarts};
+ghost use Rattle.gc_client.specs.Rule.{fresh, sends, heard, hears, id_settled, deadlines, IsEarliest, expires, expiring, restarts};
 ghost use Rattle.gc_client.specs.Places.{place_heard};
 ghost use Rattle.gc_client.specs.Settlements.{AreSettlements};
 ghost use Rattle.gc_client.specs.Hearing.{HearsAs, HearsInto, settlements_in};
@@ -97,7 +97,8 @@ impl<W: Window> Client<W> {
         Client::with_width(window, WINDOW as u8)
     }
 
-    /// Makes a client as `new` does that lets so many requests wait: one where the instrument buffers one request.
+    /// Makes a client as `new` does, but one that lets so many requests wait. One is wise where the instrument buffers one
+    /// request, and seven where it takes them all.
     pub fn with_width(mut window: W, width: u8) -> Client<W>
         requires least { 1 ≤ width }
         requires most { width ≤ WINDOW }

@@ -1,6 +1,6 @@
 -- The report of a list of events is faithful.
-use Rattle.std.proofs.Common.{ℕ, List, length, refl, lit≤, subst}
-use Rattle.gc_client.specs.Rule.{ById}
+use Rattle.std.proofs.Common.{ℕ, List, length, refl, ◌≤◌, subst}
+use Rattle.gc_client.specs.Rule.{ById, Windowed}
 use Rattle.gc_instrument.specs.State.{State, IsFittingState, restarted}
 use Rattle.gc_world.specs.declared.event.Event.{Event}
 use Rattle.gc_world.specs.declared.report.Report.{Report}
@@ -15,35 +15,35 @@ use Rattle.gc_world.proofs.Reporting.{one_for_one, books_answers, records_execut
 use Rattle.gc_world.proofs.Turns.{played_within}
 use Rattle.gc_world.proofs.Runs.{one_for_one_at, execution_at, booked_at}
 
-module _ (opening : State) (events : List Event) where
-  level : AreLevel 7 (lit≤ tt) ends KeptFits reads (restarted opening) tt (streams_by_ids 7 ends events (restarted opening)) (streams_by_numbers 7 ends events (restarted opening))
-  level = level_at 7 (lit≤ tt) ends KeptFits reads (restarted opening) tt events
+module _ (width : ℕ) (narrow : width ≤ 7) (opening : State) (events : List Event) where
+  level : AreLevel width narrow ends KeptFits reads (restarted opening) tt (streams_by_ids width ends events (restarted opening)) (streams_by_numbers width ends events (restarted opening))
+  level = level_at width narrow ends KeptFits reads (restarted opening) tt events
 
-  pub faithful : (r : Report) (up down : List ℕ) (client : ById) → IsFittingState (restarted opening) → AreOf r up down client (played opening events) → Faithful opening events r
+  pub faithful : (r : Report) (up down : List ℕ) (client : Windowed) → IsFittingState (restarted opening) → AreOf width r up down client (played width opening events) → Faithful width opening events r
   faithful r up down client good shows =
       let es = level.steps in
-      let w = (run_by_ids 7 ends es (restarted opening)).wire in
+      let w = (run_by_ids width ends es (restarted opening)).wire in
       let h : IsReport r w = subst (λ (v : World ById State). IsReport r v.wire) level.ids shows.reports in
-      let one = one_for_one r w h (one_for_one_at 7 ends es (restarted opening)) in
+      let one = one_for_one r w h (one_for_one_at width ends es (restarted opening)) in
       record {
         one_for_one = one;
-        booked = books_answers r w h IsFittingState fine shows.calls one (booked_at 7 (lit≤ tt) ends IsFittingState exchange kept_of keeper refl es opening good);
-        executed = records_execution r w h opening (execution_at 7 (lit≤ tt) ends IsFittingState exchange kept_of keeper refl es opening good);
+        booked = books_answers r w h IsFittingState fine shows.calls one (booked_at width narrow ends IsFittingState exchange kept_of keeper refl es opening good);
+        executed = records_execution r w h opening (execution_at width narrow ends IsFittingState exchange kept_of keeper refl es opening good);
         agrees =
-            agrees_with r (played opening events).wire shows.reports (played_by_numbers opening events).wire
-            (level_wire 7 (lit≤ tt) ends KeptFits reads (restarted opening) tt (streams_by_ids 7 ends events (restarted opening)) (streams_by_numbers 7 ends events (restarted opening)) level);
+            agrees_with r (played width opening events).wire shows.reports (played_by_numbers width opening events).wire
+            (level_wire width narrow ends KeptFits reads (restarted opening) tt (streams_by_ids width ends events (restarted opening)) (streams_by_numbers width ends events (restarted opening)) level);
       }
 
-  pub once : (r : Report) (up down : List ℕ) (client : ById) → IsFittingState (restarted opening) → AreOf r up down client (played opening events) → ActsOnce opening r
+  pub once : (r : Report) (up down : List ℕ) (client : Windowed) → IsFittingState (restarted opening) → AreOf width r up down client (played width opening events) → ActsOnce opening r
   once r up down client good shows =
       let es = level.steps in
-      let w = (run_by_ids 7 ends es (restarted opening)).wire in
+      let w = (run_by_ids width ends es (restarted opening)).wire in
       let h : IsReport r w = subst (λ (v : World ById State). IsReport r v.wire) level.ids shows.reports in
-      acts_once r w h opening (execution_at 7 (lit≤ tt) ends IsFittingState exchange kept_of keeper refl es opening good)
+      acts_once r w h opening (execution_at width narrow ends IsFittingState exchange kept_of keeper refl es opening good)
 
-  pub no_longer_than : (r : Report) (up down : List ℕ) (client : ById) → AreOf r up down client (played opening events) → IsNoLongerThan (length events) r
+  pub no_longer_than : (r : Report) (up down : List ℕ) (client : Windowed) → AreOf width r up down client (played width opening events) → IsNoLongerThan (length events) r
   no_longer_than r up down client shows =
       let es = level.steps in
-      let w = (run_by_ids 7 ends es (restarted opening)).wire in
+      let w = (run_by_ids width ends es (restarted opening)).wire in
       let h : IsReport r w = subst (λ (v : World ById State). IsReport r v.wire) level.ids shows.reports in
-      no_longer r (played opening events).wire shows.reports (length events) (played_within opening events) (one_for_one r w h (one_for_one_at 7 ends es (restarted opening)))
+      no_longer r (played width opening events).wire shows.reports (length events) (played_within width opening events) (one_for_one r w h (one_for_one_at width ends es (restarted opening)))

@@ -4,8 +4,7 @@ use mathlib.Core.Path.{ap₂}
 use Rattle.std.specs.Prelude.{replicate, IsTrue, ◌↔◌}
 use Rattle.std.proofs.lemmas.Bool.{cases_lt, le-ltb}
 use Rattle.gc_lines.specs.Lines.{with_end}
-use Rattle.gc_client.specs.declared.window.TheConstants.{WINDOW}
-use Rattle.gc_client.specs.Rule.{ById}
+use Rattle.gc_client.specs.Rule.{ById, Windowed}
 use Rattle.gc_instrument.specs.State.{State}
 use Rattle.gc_world.specs.declared.event.Event.TheVariants as event
 use Rattle.gc_world.specs.declared.report.Report.{Report}
@@ -30,7 +29,7 @@ none_left f gone [] part e = (refl, part)
 none_left f gone (x ∷ xs) part e = absurd (omega (arith, part, e))
 
 -- The streams v, of which these n bytes go over; and the streams now, with this many of them left.
-module _ (v : Streams ById State) where
+module _ (width : ℕ) (v : Streams ById State) where
   -- the bytes of a request, with its end
   abbrev whole : Numbered Request → List ℕ
   whole x = with_end (bytes_of x.line)
@@ -41,7 +40,7 @@ module _ (v : Streams ById State) where
     xs : List (Numbered Request)
     front : v.world.wire.up ≡ x ∷ xs
     cut_is : cut (up_lines v.world.wire) (v.up_gone + n) ≡ one_more (cut (map whole xs) (n - used))
-    tail : xs ≡ (does v.world Up_deliver).wire.up
+    tail : xs ≡ (does width v.world Up_deliver).wire.up
 
   next : (n used : ℕ) → used ≡ remaining v.up_gone (up_lines v.world.wire) → 0 < used → used ≤ n → IsNext n used
   next n used e some le =
@@ -56,14 +55,14 @@ module _ (v : Streams ById State) where
         tail = sym (ap (λ q. (up_delivered ends v.world.wire q).up) f.2);
       }
 
-  next_same : (n used : ℕ) → IsNext n used → up_handed v n ≡ up_handed (goes_on v event.UpDeliver) (n - used)
+  next_same : (n used : ℕ) → IsNext n used → up_handed width v n ≡ up_handed width (goes_on width v event.UpDeliver) (n - used)
   next_same n used h =
-      let after = does v.world Up_deliver in
+      let after = does width v.world Up_deliver in
       let zero_more : n - used ≡ 0 + (n - used) = omega arith in
-      ap (λ (d : Cut). record { world = run ends (by_ids WINDOW ends) (replicate d.lines Up_deliver) v.world; up_gone = d.gone; down_gone = v.down_gone }) h.cut_is
-      ∙ ap₂ (λ (q : List (Numbered Request)) k. let d = cut (map whole q) k in record { world = run ends (by_ids WINDOW ends) (replicate d.lines Up_deliver) after; up_gone = d.gone; down_gone = v.down_gone }) h.tail zero_more
+      ap (λ (d : Cut). record { world = run ends (by_ids width ends) (replicate d.lines Up_deliver) v.world; up_gone = d.gone; down_gone = v.down_gone }) h.cut_is
+      ∙ ap₂ (λ (q : List (Numbered Request)) k. let d = cut (map whole q) k in record { world = run ends (by_ids width ends) (replicate d.lines Up_deliver) after; up_gone = d.gone; down_gone = v.down_gone }) h.tail zero_more
 
-  next_idle : (n used : ℕ) → IsNext n used → (does v.world Up_deliver).wire.idle ≡ v.world.wire.idle
+  next_idle : (n used : ℕ) → IsNext n used → (does width v.world Up_deliver).wire.idle ≡ v.world.wire.idle
   next_idle n used h = ap (λ q. (up_delivered ends v.world.wire q).idle) h.front
 
   -- a line is completed
@@ -72,46 +71,46 @@ module _ (v : Streams ById State) where
       let s : suc (cut (map whole h.xs) (n - used)).lines ≡ 0 = sym (ap (λ (d : Cut). d.lines) h.cut_is) ∙ z in
       absurd (omega (arith, s))
 
-  up_ended : (n : ℕ) → IsPart v.up_gone (up_lines v.world.wire) → remaining v.up_gone (up_lines v.world.wire) ≡ 0 → up_handed v n ≡ v
+  up_ended : (n : ℕ) → IsPart v.up_gone (up_lines v.world.wire) → remaining v.up_gone (up_lines v.world.wire) ≡ 0 → up_handed width v n ≡ v
   up_ended n part e =
       let none = none_left whole v.up_gone v.world.wire.up part e in
-      ap (λ q. let d = cut (map whole q) (v.up_gone + n) in record { world = run ends (by_ids WINDOW ends) (replicate d.lines Up_deliver) v.world; up_gone = d.gone; down_gone = v.down_gone }) none.0
+      ap (λ q. let d = cut (map whole q) (v.up_gone + n) in record { world = run ends (by_ids width ends) (replicate d.lines Up_deliver) v.world; up_gone = d.gone; down_gone = v.down_gone }) none.0
       ∙ ap (λ g. record { world = v.world; up_gone = g; down_gone = v.down_gone }) (sym none.1)
 
-pub record IsUpReached (r : Report) (up down : List ℕ) (ug dg : ℕ) (c : ById) (v : Streams ById State) (n left : ℕ) : Type 0 where
+pub record IsUpReached (width : ℕ) (r : Report) (up down : List ℕ) (ug dg : ℕ) (c : Windowed) (v : Streams ById State) (n left : ℕ) : Type 0 where
   pub now : Streams ById State
-  pub shows : AreStreamsOf r up down ug dg c now
-  pub same : up_handed now left ≡ up_handed v n
+  pub shows : AreStreamsOf width r up down ug dg c now
+  pub same : up_handed width now left ≡ up_handed width v n
   pub spare : (cut (up_lines v.world.wire) (v.up_gone + n)).lines ≡ 0 → (cut (up_lines now.world.wire) (now.up_gone + left)).lines ≡ 0
   pub idle : now.world.wire.idle ≡ v.world.wire.idle
 
-pub up_begins : (r : Report) (up down : List ℕ) (ug dg : ℕ) (c : ById) (v : Streams ById State) (n : ℕ) → AreStreamsOf r up down ug dg c v → IsUpReached r up down ug dg c v n n
-up_begins r up down ug dg c v n h = record { now = v; shows = h; same = refl; spare = λ t. t; idle = refl }
+pub up_begins : (width : ℕ) (r : Report) (up down : List ℕ) (ug dg : ℕ) (c : Windowed) (v : Streams ById State) (n : ℕ) → AreStreamsOf width r up down ug dg c v → IsUpReached width r up down ug dg c v n n
+up_begins width r up down ug dg c v n h = record { now = v; shows = h; same = refl; spare = λ t. t; idle = refl }
 
-module _ (r : Report) (up down : List ℕ) (ug dg : ℕ) (c : ById) (v : Streams ById State) (n left : ℕ) (h : IsUpReached r up down ug dg c v n left) where
+module _ (width : ℕ) (r : Report) (up down : List ℕ) (ug dg : ℕ) (c : Windowed) (v : Streams ById State) (n left : ℕ) (h : IsUpReached width r up down ug dg c v n left) where
   -- a line more
-  pub up_goes_on : (r' : Report) (up' down' : List ℕ) (ug' dg' : ℕ) (c' : ById) (used : ℕ) → used ≡ remaining h.now.up_gone (up_lines h.now.world.wire) → 0 < used → used ≤ left → AreStreamsOf r' up' down' ug' dg' c' (goes_on h.now event.UpDeliver) → IsUpReached r' up' down' ug' dg' c' v n (left - used)
+  pub up_goes_on : (r' : Report) (up' down' : List ℕ) (ug' dg' : ℕ) (c' : Windowed) (used : ℕ) → used ≡ remaining h.now.up_gone (up_lines h.now.world.wire) → 0 < used → used ≤ left → AreStreamsOf width r' up' down' ug' dg' c' (goes_on width h.now event.UpDeliver) → IsUpReached width r' up' down' ug' dg' c' v n (left - used)
   up_goes_on r' up' down' ug' dg' c' used e some le shows =
-      let one = next h.now left used e some le in
+      let one = next width h.now left used e some le in
       record {
-        now = goes_on h.now event.UpDeliver;
+        now = goes_on width h.now event.UpDeliver;
         shows = shows;
-        same = sym (next_same h.now left used one) ∙ h.same;
-        spare = λ t. absurd (next_takes h.now left used one (h.spare t));
-        idle = next_idle h.now left used one ∙ h.idle;
+        same = sym (next_same width h.now left used one) ∙ h.same;
+        spare = λ t. absurd (next_takes width h.now left used one (h.spare t));
+        idle = next_idle width h.now left used one ∙ h.idle;
       }
 
   -- it takes memory
   pub up_takes : (used : ℕ) → used ≡ remaining h.now.up_gone (up_lines h.now.world.wire) → 0 < used → used ≤ left → (cut (up_lines v.world.wire) (v.up_gone + n)).lines ≡ 0 → ⊥
-  up_takes used e some le t = next_takes h.now left used (next h.now left used e some le) (h.spare t)
+  up_takes used e some le t = next_takes width h.now left used (next width h.now left used e some le) (h.spare t)
 
   -- the last bytes complete no line
-  pub up_stops : (r' : Report) (up' down' : List ℕ) (ug' dg' : ℕ) (c' : ById) → AreStreamsOf r' up' down' ug' dg' c' (up_handed h.now left) → AreStreamsOf r' up' down' ug' dg' c' (up_handed v n)
-  up_stops r' up' down' ug' dg' c' shows = subst (λ w. AreStreamsOf r' up' down' ug' dg' c' w) h.same shows
+  pub up_stops : (r' : Report) (up' down' : List ℕ) (ug' dg' : ℕ) (c' : Windowed) → AreStreamsOf width r' up' down' ug' dg' c' (up_handed width h.now left) → AreStreamsOf width r' up' down' ug' dg' c' (up_handed width v n)
+  up_stops r' up' down' ug' dg' c' shows = subst (λ w. AreStreamsOf width r' up' down' ug' dg' c' w) h.same shows
 
   -- no byte is under way any more
-  pub up_runs_out : remaining h.now.up_gone (up_lines h.now.world.wire) ≡ 0 → AreStreamsOf r up down ug dg c (up_handed v n)
-  up_runs_out e = subst (λ w. AreStreamsOf r up down ug dg c w) (sym (up_ended h.now left h.shows.up_flow.part e) ∙ h.same) h.shows
+  pub up_runs_out : remaining h.now.up_gone (up_lines h.now.world.wire) ≡ 0 → AreStreamsOf width r up down ug dg c (up_handed width v n)
+  up_runs_out e = subst (λ w. AreStreamsOf width r up down ug dg c w) (sym (up_ended width h.now left h.shows.up_flow.part e) ∙ h.same) h.shows
 
 pub is_not : (b : Bool) → b ≡ true → b ≡ false → ⊥
 is_not b t f = let wrong : true ≡ false = sym t ∙ f in cc
@@ -129,23 +128,23 @@ runs_out b (suc r) l iff e le = absurd (is_not b (iff.1 (omega arith, least (suc
         by_either (inr le1) = le1
 
 -- so many bytes of these streams are the event
-pub up_bytes_are : (v : Streams ById State) (n : ℕ) (lines : List (List ℕ)) → up_lines v.world.wire ≡ lines → 0 < n → 0 < length lines → goes_on v (event.UpBytes n) ≡ up_handed v n
-up_bytes_are v n lines e some more = by_cases n lines some more e
+pub up_bytes_are : (width : ℕ) (v : Streams ById State) (n : ℕ) (lines : List (List ℕ)) → up_lines v.world.wire ≡ lines → 0 < n → 0 < length lines → goes_on width v (event.UpBytes n) ≡ up_handed width v n
+up_bytes_are width v n lines e some more = by_cases n lines some more e
   where
-    by_cases : (k : ℕ) (ls : List (List ℕ)) → 0 < k → 0 < length ls → up_lines v.world.wire ≡ ls → goes_on v (event.UpBytes k) ≡ up_handed v k
+    by_cases : (k : ℕ) (ls : List (List ℕ)) → 0 < k → 0 < length ls → up_lines v.world.wire ≡ ls → goes_on width v (event.UpBytes k) ≡ up_handed width v k
     by_cases zero ls some more e = absurd (omega (arith, some))
     by_cases (suc k) [] some more e = absurd (omega (arith, more))
     by_cases (suc k) (l ∷ ls) some more e =
         ap (λ q. record {
-          world = run ends (by_ids WINDOW ends) (passed Up_deliver q v.up_gone (suc k)) v.world;
+          world = run ends (by_ids width ends) (passed Up_deliver q v.up_gone (suc k)) v.world;
           up_gone = left_gone q v.up_gone (suc k);
           down_gone = v.down_gone;
         }) e
-        ∙ ap (λ q. let d = cut q (v.up_gone + suc k) in record { world = run ends (by_ids WINDOW ends) (replicate d.lines Up_deliver) v.world; up_gone = d.gone; down_gone = v.down_gone }) (sym e)
+        ∙ ap (λ q. let d = cut q (v.up_gone + suc k) in record { world = run ends (by_ids width ends) (replicate d.lines Up_deliver) v.world; up_gone = d.gone; down_gone = v.down_gone }) (sym e)
 
 -- neither is it 0, nor is the queue empty
-pub under_way : (v : Streams ById State) (n : ℕ) (r : Report) (up down : List ℕ) (ug dg : ℕ) (c : ById) → AreStreamsOf r up down ug dg c v → (n ≡ 0 → ⊥) → (up ≡ [] → ⊥) → goes_on v (event.UpBytes n) ≡ up_handed v n
-under_way v n r up down ug dg c h not none = up_bytes_are v n (up_lines v.world.wire) refl (some n not) (by_places v.world.wire.up h.lines.up_is)
+pub under_way : (width : ℕ) (v : Streams ById State) (n : ℕ) (r : Report) (up down : List ℕ) (ug dg : ℕ) (c : Windowed) → AreStreamsOf width r up down ug dg c v → (n ≡ 0 → ⊥) → (up ≡ [] → ⊥) → goes_on width v (event.UpBytes n) ≡ up_handed width v n
+under_way width v n r up down ug dg c h not none = up_bytes_are width v n (up_lines v.world.wire) refl (some n not) (by_places v.world.wire.up h.lines.up_is)
   where
     some : (k : ℕ) → (k ≡ 0 → ⊥) → 0 < k
     some zero no_zero = absurd (no_zero refl)

@@ -3,8 +3,7 @@ use Rattle.std.proofs.Common.{◌≡◌, ℕ, zero, suc, ◌+◌, ◌-◌, ◌<�
 use mathlib.Core.Path.{ap₂}
 use Rattle.std.specs.Prelude.{replicate, slice_get}
 use Rattle.gc_lines.specs.Lines.{with_end}
-use Rattle.gc_client.specs.declared.window.TheConstants.{WINDOW}
-use Rattle.gc_client.specs.Rule.{ById, fits, heard, hears, place_in, id_settled}
+use Rattle.gc_client.specs.Rule.{ById, Windowed, fits, heard, hears, place_in, id_settled}
 use Rattle.gc_instrument.specs.State.{State}
 use Rattle.gc_world.specs.declared.event.Event.TheVariants as event
 use Rattle.gc_world.specs.declared.report.Report.{Report}
@@ -33,14 +32,14 @@ first_stray c k x xs q e h =
     (subst (λ l. IsStray c l) (sym e) at.0, at.1, at.0)
 
 -- The streams v, of which these n bytes go over; and the streams now, with this many of them left.
-module _ (v : Streams ById State) where
+module _ (width : ℕ) (v : Streams ById State) where
   -- what a line more is
   record IsNext (n used : ℕ) : Type 0 where
     x : Numbered (List ℕ)
     xs : List (Numbered (List ℕ))
     front : v.world.wire.down ≡ x ∷ xs
     cut_is : cut (down_lines v.world.wire) (v.down_gone + n) ≡ one_more (cut (map whole xs) (n - used))
-    tail : xs ≡ (does v.world Down_deliver).wire.down
+    tail : xs ≡ (does width v.world Down_deliver).wire.down
 
   next : (n used : ℕ) → used ≡ remaining v.down_gone (down_lines v.world.wire) → 0 < used → used ≤ n → IsNext n used
   next n used e some le =
@@ -52,26 +51,26 @@ module _ (v : Streams ById State) where
         xs = f.1;
         front = f.2;
         cut_is = ap (λ q. cut (map whole q) (v.down_gone + n)) f.2 ∙ cut_long (whole f.0) (map whole f.1) (v.down_gone + n) (omega (arith, size, some, le)) ∙ ap (λ k. one_more (cut (map whole f.1) k)) left;
-        tail = sym (ap (λ q. (down_delivered (by_ids WINDOW ends) v.world q).wire.down) f.2);
+        tail = sym (ap (λ q. (down_delivered (by_ids width ends) v.world q).wire.down) f.2);
       }
 
-  next_same : (n used : ℕ) → IsNext n used → down_handed v n ≡ down_handed (goes_on v event.DownDeliver) (n - used)
+  next_same : (n used : ℕ) → IsNext n used → down_handed width v n ≡ down_handed width (goes_on width v event.DownDeliver) (n - used)
   next_same n used h =
-      let after = does v.world Down_deliver in
+      let after = does width v.world Down_deliver in
       let zero_more : n - used ≡ 0 + (n - used) = omega arith in
-      ap (λ (d : Cut). record { world = run ends (by_ids WINDOW ends) (replicate d.lines Down_deliver) v.world; up_gone = v.up_gone; down_gone = d.gone }) h.cut_is
-      ∙ ap₂ (λ (q : List (Numbered (List ℕ))) k. let d = cut (map whole q) k in record { world = run ends (by_ids WINDOW ends) (replicate d.lines Down_deliver) after; up_gone = v.up_gone; down_gone = d.gone }) h.tail zero_more
+      ap (λ (d : Cut). record { world = run ends (by_ids width ends) (replicate d.lines Down_deliver) v.world; up_gone = v.up_gone; down_gone = d.gone }) h.cut_is
+      ∙ ap₂ (λ (q : List (Numbered (List ℕ))) k. let d = cut (map whole q) k in record { world = run ends (by_ids width ends) (replicate d.lines Down_deliver) after; up_gone = v.up_gone; down_gone = d.gone }) h.tail zero_more
 
-  next_idle : (n used : ℕ) → IsNext n used → (does v.world Down_deliver).wire.idle ≡ v.world.wire.idle
-  next_idle n used h = ap (λ q. (down_delivered (by_ids WINDOW ends) v.world q).wire.idle) h.front
+  next_idle : (n used : ℕ) → IsNext n used → (does width v.world Down_deliver).wire.idle ≡ v.world.wire.idle
+  next_idle n used h = ap (λ q. (down_delivered (by_ids width ends) v.world q).wire.idle) h.front
 
   -- strays behind a stray
-  next_strays : (n used : ℕ) → IsNext n used → AreStrays v.world.client (cut (down_lines v.world.wire) (v.down_gone + n)).lines v.world.wire.down → IsStray v.world.client v.world.wire.down × (let w = does v.world Down_deliver in AreStrays w.client (cut (down_lines w.wire) (0 + (n - used))).lines w.wire.down)
+  next_strays : (n used : ℕ) → IsNext n used → AreStrays v.world.client (cut (down_lines v.world.wire) (v.down_gone + n)).lines v.world.wire.down → IsStray v.world.client v.world.wire.down × (let w = does width v.world Down_deliver in AreStrays w.client (cut (down_lines w.wire) (0 + (n - used))).lines w.wire.down)
   next_strays n used h t =
       let k = (cut (map whole h.xs) (n - used)).lines in
       let first = first_stray v.world.client k h.x h.xs v.world.wire.down h.front (subst (λ (d : Cut). AreStrays v.world.client d.lines v.world.wire.down) h.cut_is t) in
-      let w = does v.world Down_deliver in
-      let same : w.client ≡ v.world.client = ap (λ q. (down_delivered (by_ids WINDOW ends) v.world q).client) h.front ∙ stray_same v.world.client h.x.line (heard h.x.line) first.2 in
+      let w = does width v.world Down_deliver in
+      let same : w.client ≡ v.world.client = ap (λ q. (down_delivered (by_ids width ends) v.world q).client) h.front ∙ stray_same v.world.client h.x.line (heard h.x.line) first.2 in
       let zero_more : n - used ≡ 0 + (n - used) = omega arith in (
         first.0,
         subst (λ c. AreStrays c (cut (down_lines w.wire) (0 + (n - used))).lines w.wire.down) (sym same)
@@ -79,65 +78,65 @@ module _ (v : Streams ById State) where
             (subst (λ (q : List (Numbered (List ℕ))). AreStrays v.world.client (cut (map whole q) (n - used)).lines q) h.tail first.1)),
       )
 
-  down_ended : (n : ℕ) → IsPart v.down_gone (down_lines v.world.wire) → remaining v.down_gone (down_lines v.world.wire) ≡ 0 → down_handed v n ≡ v
+  down_ended : (n : ℕ) → IsPart v.down_gone (down_lines v.world.wire) → remaining v.down_gone (down_lines v.world.wire) ≡ 0 → down_handed width v n ≡ v
   down_ended n part e =
       let none = none_left whole v.down_gone v.world.wire.down part e in
-      ap (λ q. let d = cut (map whole q) (v.down_gone + n) in record { world = run ends (by_ids WINDOW ends) (replicate d.lines Down_deliver) v.world; up_gone = v.up_gone; down_gone = d.gone }) none.0
+      ap (λ q. let d = cut (map whole q) (v.down_gone + n) in record { world = run ends (by_ids width ends) (replicate d.lines Down_deliver) v.world; up_gone = v.up_gone; down_gone = d.gone }) none.0
       ∙ ap (λ g. record { world = v.world; up_gone = v.up_gone; down_gone = g }) (sym none.1)
 
-pub record IsDownReached (r : Report) (up down : List ℕ) (ug dg : ℕ) (c : ById) (v : Streams ById State) (n left : ℕ) : Type 0 where
+pub record IsDownReached (width : ℕ) (r : Report) (up down : List ℕ) (ug dg : ℕ) (c : Windowed) (v : Streams ById State) (n left : ℕ) : Type 0 where
   pub now : Streams ById State
-  pub shows : AreStreamsOf r up down ug dg c now
-  pub same : down_handed now left ≡ down_handed v n
+  pub shows : AreStreamsOf width r up down ug dg c now
+  pub same : down_handed width now left ≡ down_handed width v n
   pub spare : AreStrays v.world.client (cut (down_lines v.world.wire) (v.down_gone + n)).lines v.world.wire.down → AreStrays now.world.client (cut (down_lines now.world.wire) (now.down_gone + left)).lines now.world.wire.down
   pub idle : now.world.wire.idle ≡ v.world.wire.idle
 
-pub down_begins : (r : Report) (up down : List ℕ) (ug dg : ℕ) (c : ById) (v : Streams ById State) (n : ℕ) → AreStreamsOf r up down ug dg c v → IsDownReached r up down ug dg c v n n
-down_begins r up down ug dg c v n h = record { now = v; shows = h; same = refl; spare = λ t. t; idle = refl }
+pub down_begins : (width : ℕ) (r : Report) (up down : List ℕ) (ug dg : ℕ) (c : Windowed) (v : Streams ById State) (n : ℕ) → AreStreamsOf width r up down ug dg c v → IsDownReached width r up down ug dg c v n n
+down_begins width r up down ug dg c v n h = record { now = v; shows = h; same = refl; spare = λ t. t; idle = refl }
 
-module _ (r : Report) (up down : List ℕ) (ug dg : ℕ) (c : ById) (v : Streams ById State) (n left : ℕ) (h : IsDownReached r up down ug dg c v n left) where
+module _ (width : ℕ) (r : Report) (up down : List ℕ) (ug dg : ℕ) (c : Windowed) (v : Streams ById State) (n left : ℕ) (h : IsDownReached width r up down ug dg c v n left) where
   -- a line more
-  pub down_goes_on : (r' : Report) (up' down' : List ℕ) (ug' dg' : ℕ) (c' : ById) (used : ℕ) → used ≡ remaining h.now.down_gone (down_lines h.now.world.wire) → 0 < used → used ≤ left → AreStreamsOf r' up' down' ug' dg' c' (goes_on h.now event.DownDeliver) → IsDownReached r' up' down' ug' dg' c' v n (left - used)
+  pub down_goes_on : (r' : Report) (up' down' : List ℕ) (ug' dg' : ℕ) (c' : Windowed) (used : ℕ) → used ≡ remaining h.now.down_gone (down_lines h.now.world.wire) → 0 < used → used ≤ left → AreStreamsOf width r' up' down' ug' dg' c' (goes_on width h.now event.DownDeliver) → IsDownReached width r' up' down' ug' dg' c' v n (left - used)
   down_goes_on r' up' down' ug' dg' c' used e some le shows =
-      let one = next h.now left used e some le in
+      let one = next width h.now left used e some le in
       record {
-        now = goes_on h.now event.DownDeliver;
+        now = goes_on width h.now event.DownDeliver;
         shows = shows;
-        same = sym (next_same h.now left used one) ∙ h.same;
-        spare = λ t. (next_strays h.now left used one (h.spare t)).1;
-        idle = next_idle h.now left used one ∙ h.idle;
+        same = sym (next_same width h.now left used one) ∙ h.same;
+        spare = λ t. (next_strays width h.now left used one (h.spare t)).1;
+        idle = next_idle width h.now left used one ∙ h.idle;
       }
 
   -- it takes no memory where all are strays
   pub down_spares : (used : ℕ) → used ≡ remaining h.now.down_gone (down_lines h.now.world.wire) → 0 < used → used ≤ left → AreStrays v.world.client (cut (down_lines v.world.wire) (v.down_gone + n)).lines v.world.wire.down → IsStray h.now.world.client h.now.world.wire.down
-  down_spares used e some le t = (next_strays h.now left used (next h.now left used e some le) (h.spare t)).0
+  down_spares used e some le t = (next_strays width h.now left used (next width h.now left used e some le) (h.spare t)).0
 
   -- the last bytes complete no line
-  pub down_stops : (r' : Report) (up' down' : List ℕ) (ug' dg' : ℕ) (c' : ById) → AreStreamsOf r' up' down' ug' dg' c' (down_handed h.now left) → AreStreamsOf r' up' down' ug' dg' c' (down_handed v n)
-  down_stops r' up' down' ug' dg' c' shows = subst (λ w. AreStreamsOf r' up' down' ug' dg' c' w) h.same shows
+  pub down_stops : (r' : Report) (up' down' : List ℕ) (ug' dg' : ℕ) (c' : Windowed) → AreStreamsOf width r' up' down' ug' dg' c' (down_handed width h.now left) → AreStreamsOf width r' up' down' ug' dg' c' (down_handed width v n)
+  down_stops r' up' down' ug' dg' c' shows = subst (λ w. AreStreamsOf width r' up' down' ug' dg' c' w) h.same shows
 
   -- no byte is under way any more
-  pub down_runs_out : remaining h.now.down_gone (down_lines h.now.world.wire) ≡ 0 → AreStreamsOf r up down ug dg c (down_handed v n)
-  down_runs_out e = subst (λ w. AreStreamsOf r up down ug dg c w) (sym (down_ended h.now left h.shows.down_flow.part e) ∙ h.same) h.shows
+  pub down_runs_out : remaining h.now.down_gone (down_lines h.now.world.wire) ≡ 0 → AreStreamsOf width r up down ug dg c (down_handed width v n)
+  down_runs_out e = subst (λ w. AreStreamsOf width r up down ug dg c w) (sym (down_ended width h.now left h.shows.down_flow.part e) ∙ h.same) h.shows
 
 -- so many bytes of these streams are the event
-down_bytes_are : (v : Streams ById State) (n : ℕ) (lines : List (List ℕ)) → down_lines v.world.wire ≡ lines → 0 < n → 0 < length lines → goes_on v (event.DownBytes n) ≡ down_handed v n
-down_bytes_are v n lines e some more = by_cases n lines some more e
+down_bytes_are : (width : ℕ) (v : Streams ById State) (n : ℕ) (lines : List (List ℕ)) → down_lines v.world.wire ≡ lines → 0 < n → 0 < length lines → goes_on width v (event.DownBytes n) ≡ down_handed width v n
+down_bytes_are width v n lines e some more = by_cases n lines some more e
   where
-    by_cases : (k : ℕ) (ls : List (List ℕ)) → 0 < k → 0 < length ls → down_lines v.world.wire ≡ ls → goes_on v (event.DownBytes k) ≡ down_handed v k
+    by_cases : (k : ℕ) (ls : List (List ℕ)) → 0 < k → 0 < length ls → down_lines v.world.wire ≡ ls → goes_on width v (event.DownBytes k) ≡ down_handed width v k
     by_cases zero ls some more e = absurd (omega (arith, some))
     by_cases (suc k) [] some more e = absurd (omega (arith, more))
     by_cases (suc k) (l ∷ ls) some more e =
         ap (λ q. record {
-          world = run ends (by_ids WINDOW ends) (passed Down_deliver q v.down_gone (suc k)) v.world;
+          world = run ends (by_ids width ends) (passed Down_deliver q v.down_gone (suc k)) v.world;
           up_gone = v.up_gone;
           down_gone = left_gone q v.down_gone (suc k);
         }) e
-        ∙ ap (λ q. let d = cut q (v.down_gone + suc k) in record { world = run ends (by_ids WINDOW ends) (replicate d.lines Down_deliver) v.world; up_gone = v.up_gone; down_gone = d.gone }) (sym e)
+        ∙ ap (λ q. let d = cut q (v.down_gone + suc k) in record { world = run ends (by_ids width ends) (replicate d.lines Down_deliver) v.world; up_gone = v.up_gone; down_gone = d.gone }) (sym e)
 
 -- neither is it 0, nor is the queue empty
-pub under_way_down : (v : Streams ById State) (n : ℕ) (r : Report) (up down : List ℕ) (ug dg : ℕ) (c : ById) → AreStreamsOf r up down ug dg c v → (n ≡ 0 → ⊥) → (down ≡ [] → ⊥) → goes_on v (event.DownBytes n) ≡ down_handed v n
-under_way_down v n r up down ug dg c h not none = down_bytes_are v n (down_lines v.world.wire) refl (some n not) (by_places v.world.wire.down h.lines.down_is)
+pub under_way_down : (width : ℕ) (v : Streams ById State) (n : ℕ) (r : Report) (up down : List ℕ) (ug dg : ℕ) (c : Windowed) → AreStreamsOf width r up down ug dg c v → (n ≡ 0 → ⊥) → (down ≡ [] → ⊥) → goes_on width v (event.DownBytes n) ≡ down_handed width v n
+under_way_down width v n r up down ug dg c h not none = down_bytes_are width v n (down_lines v.world.wire) refl (some n not) (by_places v.world.wire.down h.lines.down_is)
   where
     some : (k : ℕ) → (k ≡ 0 → ⊥) → 0 < k
     some zero no_zero = absurd (no_zero refl)

@@ -1,10 +1,9 @@
 -- The instrument that keeps its last reply executes each request at most once, in order.
-use Rattle.std.proofs.Common.{◌≡◌, ℕ, zero, suc, ◌+◌, ◌-◌, ◌%◌, ◌<◌, ◌≤◌, inl, inr, Bool, true, false, List, [], ◌∷◌, ◌++◌, length, map, take, drop, Option, Some, None, cond, refl, sym, ◌∙◌, ap, subst, arith, ltb, eqb}
+use Rattle.std.proofs.Common.{◌≡◌, ℕ, ◌+◌, ◌-◌, ◌%◌, ◌<◌, ◌≤◌, inl, inr, Bool, true, false, List, [], ◌∷◌, ◌++◌, length, Option, Some, None, cond, refl, sym, ◌∙◌, ap, subst, arith, ltb, eqb}
 use Rattle.std.proofs.lemmas.List.{length_push}
 use Rattle.std.proofs.lemmas.Bool.{eqb-true, eqb-false, cases_eq}
 use Rattle.gc_catalogue.specs.declared.call.Call.{Call}
 use Rattle.gc_catalogue.specs.Texts.{request_line}
-use Rattle.gc_client.specs.declared.pending.Pending.{Pending}
 use Rattle.gc_client.specs.Rule.{Sending, pending_of}
 use Rattle.gc_instrument.specs.Replying.{Handed, kept_line}
 use Rattle.gc_instrument.specs.State.{KeptReply}
@@ -12,9 +11,8 @@ use Rattle.gc_world.specs.Clients.{ByNumber, number_send, number_reply, by_numbe
 use Rattle.gc_world.specs.Exchange.{IsExchange, IsKeeper}
 use Rattle.gc_world.specs.Order.{Each, Rising, IsRecent, numbers}
 use Rattle.gc_world.specs.Record.{Increasing}
-use Rattle.gc_world.specs.World.{Request, Sent, Numbered, Ends, Step, World, Wire, without, doubled, replied, started, on_wire, requested, with_settled, run}
+use Rattle.gc_world.specs.World.{Request, Sent, Numbered, Ends, Step, World, Wire, without, doubled, replied, started, requested, with_settled, run}
 use Rattle.gc_world.proofs.Booked.{Has, has_more, has_push}
-use Rattle.gc_world.proofs.Execution.{digits}
 use Rattle.gc_world.proofs.Options.{some_is}
 use Rattle.gc_world.proofs.Places.{get_push}
 use Rattle.gc_world.proofs.Replay.{IsOf, of_more, Replays, replays_more, replays_push, replays_started, no_number}

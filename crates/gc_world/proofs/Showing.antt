@@ -10,12 +10,12 @@ use Rattle.gc_lines.specs.Answering.{AppendsAnswer}
 use Rattle.gc_catalogue.specs.declared.call.Call.{Call}
 use Rattle.gc_catalogue.specs.Calls.{IsFitting}
 use Rattle.gc_catalogue.specs.Texts.{request_line}
-use Rattle.gc_client.specs.declared.window.TheConstants.{WINDOW, IDS}
+use Rattle.gc_client.specs.declared.window.TheConstants.{IDS}
 use Rattle.gc_client.specs.declared.heard.Hearing.{Hearing}
 use Rattle.gc_client.specs.declared.heard.Hearing.TheVariants.{Settled, Stray, Unread}
 use Rattle.gc_client.specs.declared.settlement.Settlement.{Settlement}
 use Rattle.gc_client.specs.Hearing.{HearsInto}
-use Rattle.gc_client.specs.Rule.{ById, Sending, heard, hears, place_in, id_settled, id_send, sends, restarts}
+use Rattle.gc_client.specs.Rule.{ById, Windowed, Sending, heard, hears, place_in, id_settled, id_send, sends, restarts}
 use Rattle.gc_client.specs.Rule
 use Rattle.gc_client.specs.Settlements.{AreSettlements, settlement_seen, IsWellRead}
 use Rattle.gc_instrument.specs.State.{State, KeptReply, restarted}
@@ -143,9 +143,9 @@ pub map_none : {A B : Type 0} (f : A → B) (xs : List A) → map f xs ≡ [] �
 map_none f [] e = refl
 map_none f (x ∷ xs) e = cc
 
-module _ (r : Report) (up down : List ℕ) (c : ById) (w : World ById State) (h : AreOf r up down c w) where
+module _ (width : ℕ) (r : Report) (up down : List ℕ) (c : Windowed) (w : World ById State) (h : AreOf width r up down c w) where
   -- an event that is not possible
-  pub shows_idle : AreOf (counted false r) up down c (on_wire w (idle w.wire))
+  pub shows_idle : AreOf width (counted false r) up down c (on_wire w (idle w.wire))
   shows_idle =
       record { reports = reports_idle r w.wire h.reports; up_is = h.up_is; down_is = h.down_is; client_is = h.client_is; next = h.next; requests = h.requests; calls = h.calls }
 
@@ -162,43 +162,43 @@ module _ (r : Report) (up down : List ℕ) (c : ById) (w : World ById State) (h 
   no_down e = map_none Some w.wire.down (sym h.down_is ∙ ap (named r.made) e)
 
   -- the upward queue is another one, if there is a line at place k
-  up_changed : (k : ℕ) (b : Bool) (places : List ℕ) (us : List (Numbered Request)) → b ≡ ltb k (length up) → (length up ≤ k → places ≡ up) → places ≡ numbers us → Each (IsSentIn r.sent) us → AreOf (counted b r) places down c (on_wire w (with_up w.wire us (ltb k (length w.wire.up))))
+  up_changed : (k : ℕ) (b : Bool) (places : List ℕ) (us : List (Numbered Request)) → b ≡ ltb k (length up) → (length up ≤ k → places ≡ up) → places ≡ numbers us → Each (IsSentIn r.sent) us → AreOf width (counted b r) places down c (on_wire w (with_up w.wire us (ltb k (length w.wire.up))))
   up_changed k true places us e past is each =
       let e1 : ltb k (length w.wire.up) ≡ true = ap (λ n. ltb k n) (sym same_up) ∙ sym e in
-      subst (λ v. AreOf r places down c (on_wire w (with_up w.wire us v))) (sym e1)
+      subst (λ v. AreOf width r places down c (on_wire w (with_up w.wire us v))) (sym e1)
       (record { reports = reports_queues r w.wire us w.wire.down h.reports; up_is = is; down_is = h.down_is; client_is = h.client_is; next = h.next; requests = each; calls = h.calls })
   up_changed k false places us e past is each =
       let e1 : ltb k (length w.wire.up) ≡ false = ap (λ n. ltb k n) (sym same_up) ∙ sym e in
-      subst (λ v. AreOf (counted false r) places down c (on_wire w (with_up w.wire us v))) (sym e1)
-      (subst (λ q. AreOf (counted false r) q down c (on_wire w (idle w.wire))) (sym (past (ltb-false _ _ (sym e)))) shows_idle)
+      subst (λ v. AreOf width (counted false r) places down c (on_wire w (with_up w.wire us v))) (sym e1)
+      (subst (λ q. AreOf width (counted false r) q down c (on_wire w (idle w.wire))) (sym (past (ltb-false _ _ (sym e)))) shows_idle)
 
-  pub shows_up_lose : (k : ℕ) (b : Bool) → b ≡ ltb k (length up) → AreOf (counted b r) (without k up) down c (does w (Up_lose k))
+  pub shows_up_lose : (k : ℕ) (b : Bool) → b ≡ ltb k (length up) → AreOf width (counted b r) (without k up) down c (does width w (Up_lose k))
   shows_up_lose k b e =
       up_changed k b (without k up) (without k w.wire.up) e (without_past k up)
       (ap (without k) h.up_is ∙ without_map (λ x. x.number) k w.wire.up) (each_without (IsSentIn r.sent) k w.wire.up h.requests)
 
-  pub shows_up_repeat : (k : ℕ) (b : Bool) → b ≡ ltb k (length up) → AreOf (counted b r) (doubled k up) down c (does w (Up_repeat k))
+  pub shows_up_repeat : (k : ℕ) (b : Bool) → b ≡ ltb k (length up) → AreOf width (counted b r) (doubled k up) down c (does width w (Up_repeat k))
   shows_up_repeat k b e =
       up_changed k b (doubled k up) (doubled k w.wire.up) e (doubled_past k up)
       (ap (doubled k) h.up_is ∙ doubled_map (λ x. x.number) k w.wire.up) (each_doubled (IsSentIn r.sent) k w.wire.up h.requests)
 
   -- the downward queue is another one, if there is a line at place k
-  down_changed : (k : ℕ) (b : Bool) (places : List ℕ) (ds : List (Numbered (List ℕ))) → b ≡ ltb k (length down) → (length down ≤ k → places ≡ down) → named r.made places ≡ map Some ds → AreOf (counted b r) up places c (on_wire w (with_down w.wire ds (ltb k (length w.wire.down))))
+  down_changed : (k : ℕ) (b : Bool) (places : List ℕ) (ds : List (Numbered (List ℕ))) → b ≡ ltb k (length down) → (length down ≤ k → places ≡ down) → named r.made places ≡ map Some ds → AreOf width (counted b r) up places c (on_wire w (with_down w.wire ds (ltb k (length w.wire.down))))
   down_changed k true places ds e past is =
       let e1 : ltb k (length w.wire.down) ≡ true = ap (λ n. ltb k n) (sym same_down) ∙ sym e in
-      subst (λ v. AreOf r up places c (on_wire w (with_down w.wire ds v))) (sym e1)
+      subst (λ v. AreOf width r up places c (on_wire w (with_down w.wire ds v))) (sym e1)
       (record { reports = reports_queues r w.wire w.wire.up ds h.reports; up_is = h.up_is; down_is = is; client_is = h.client_is; next = h.next; requests = h.requests; calls = h.calls })
   down_changed k false places ds e past is =
       let e1 : ltb k (length w.wire.down) ≡ false = ap (λ n. ltb k n) (sym same_down) ∙ sym e in
-      subst (λ v. AreOf (counted false r) up places c (on_wire w (with_down w.wire ds v))) (sym e1)
-      (subst (λ q. AreOf (counted false r) up q c (on_wire w (idle w.wire))) (sym (past (ltb-false _ _ (sym e)))) shows_idle)
+      subst (λ v. AreOf width (counted false r) up places c (on_wire w (with_down w.wire ds v))) (sym e1)
+      (subst (λ q. AreOf width (counted false r) up q c (on_wire w (idle w.wire))) (sym (past (ltb-false _ _ (sym e)))) shows_idle)
 
-  pub shows_down_lose : (k : ℕ) (b : Bool) → b ≡ ltb k (length down) → AreOf (counted b r) up (without k down) c (does w (Down_lose k))
+  pub shows_down_lose : (k : ℕ) (b : Bool) → b ≡ ltb k (length down) → AreOf width (counted b r) up (without k down) c (does width w (Down_lose k))
   shows_down_lose k b e =
       down_changed k b (without k down) (without k w.wire.down) e (without_past k down)
       (sym (without_map (slice_get (map made_seen r.made)) k down) ∙ ap (without k) h.down_is ∙ without_map Some k w.wire.down)
 
-  pub shows_down_repeat : (k : ℕ) (b : Bool) → b ≡ ltb k (length down) → AreOf (counted b r) up (doubled k down) c (does w (Down_repeat k))
+  pub shows_down_repeat : (k : ℕ) (b : Bool) → b ≡ ltb k (length down) → AreOf width (counted b r) up (doubled k down) c (does width w (Down_repeat k))
   shows_down_repeat k b e =
       down_changed k b (doubled k down) (doubled k w.wire.down) e (doubled_past k down)
       (sym (doubled_map (slice_get (map made_seen r.made)) k down) ∙ ap (doubled k) h.down_is ∙ doubled_map Some k w.wire.down)
@@ -235,15 +235,15 @@ module _ (r : Report) (up down : List ℕ) (c : ById) (w : World ById State) (h 
   down_line p rest m e found = let f = down_front p rest e in some_is (made_seen m) f.0 (sym (get_map made_seen r.made p m found) ∙ f.3)
 
   -- a request was sent, and its line is under way
-  pub shows_send : (entry : Sent) (deadline : ℕ) (client : ById) (sent : List Sent) (up' : List ℕ) → sends WINDOW c entry.target entry.call deadline ≡ Some (record { id = c.next; client = client }) → entry.line.items ≡ request_line (Some c.next) entry.call → IsFitting entry.call → sent ≡ r.sent ++ entry ∷ [] → up' ≡ up ++ length r.sent ∷ [] → AreOf (record r { sent = sent }) up' down client (does w (Send entry.target entry.call deadline))
-  shows_send entry deadline client sent up' sends_is line fits sent_is up_is =
-      let x : Sending ById = record { id = c.next; client = client } in
-      let ruled : sends WINDOW w.client entry.target entry.call deadline ≡ Some x = ap (λ k. sends WINDOW k entry.target entry.call deadline) (sym h.client_is) ∙ sends_is in
+  pub shows_send : (entry : Sent) (deadline : ℕ) (client : Windowed) (sent : List Sent) (up' : List ℕ) → sends c.width c.ids entry.target entry.call deadline ≡ Some (record { id = c.ids.next; client = client.ids }) → client.width ≡ c.width → entry.line.items ≡ request_line (Some c.ids.next) entry.call → IsFitting entry.call → sent ≡ r.sent ++ entry ∷ [] → up' ≡ up ++ length r.sent ∷ [] → AreOf width (record r { sent = sent }) up' down client (does width w (Send entry.target entry.call deadline))
+  shows_send entry deadline client sent up' sends_is wide line fits sent_is up_is =
+      let x : Sending ById = record { id = c.ids.next; client = client.ids } in
+      let ruled : sends width w.client entry.target entry.call deadline ≡ Some x = ap (λ (k : Windowed). sends k.width k.ids entry.target entry.call deadline) (sym h.client_is) ∙ sends_is in
       let total : length r.sent ≡ length w.wire.sent = sym (length-map r.sent sent_seen) ∙ ap length h.reports.sent in
       let number : slice_get (r.sent ++ entry ∷ []) (length w.wire.sent) ≡ Some entry = subst (λ n. slice_get (r.sent ++ entry ∷ []) n ≡ Some entry) total (get_push r.sent entry) in
-      let digit : c.next < IDS = subst (λ (k : ById). k.next < IDS) (sym h.client_is) h.next in
-      subst (λ l. AreOf (record r { sent = l }) up' down client (does w (Send entry.target entry.call deadline))) (sym sent_is)
-      (subst (λ o. AreOf (record r { sent = r.sent ++ entry ∷ [] }) up' down client (requested w entry.target entry.call o)) (sym ruled) (record {
+      let digit : c.ids.next < IDS = subst (λ (k : Windowed). k.ids.next < IDS) (sym h.client_is) h.next in
+      subst (λ l. AreOf width (record r { sent = l }) up' down client (does width w (Send entry.target entry.call deadline))) (sym sent_is)
+      (subst (λ o. AreOf width (record r { sent = r.sent ++ entry ∷ [] }) up' down client (requested w entry.target entry.call o)) (sym ruled) (record {
         reports = record {
           sent = map-append sent_seen r.sent (entry ∷ []) ∙ ap₂ (λ (l : List World.Sent) t. l ++ record { target = entry.target; call = entry.call; line = t } ∷ []) h.reports.sent line;
           executed = h.reports.executed;
@@ -256,8 +256,8 @@ module _ (r : Report) (up down : List ℕ) (c : ById) (w : World ById State) (h 
         };
         up_is = up_is ∙ ap₂ (λ (l : List ℕ) n. l ++ n ∷ []) h.up_is total ∙ sym (map-append (λ (y : Numbered Request). y.number) w.wire.up _);
         down_is = h.down_is;
-        client_is = refl;
-        next = sends_next WINDOW c entry.target entry.call deadline x sends_is;
+        client_is = ap (λ n. record { width = n; ids = client.ids }) (wide ∙ ap (λ (k : Windowed). k.width) h.client_is);
+        next = sends_next c.width c.ids entry.target entry.call deadline x sends_is;
         requests =
             each_append _ w.wire.up _ (each_more _ _ (λ y s. record { request = s.request; found = get_more r.sent (entry ∷ []) y.number s.request s.found; line = s.line; digit = s.digit; fits = s.fits }) w.wire.up h.requests)
             (record { request = entry; found = number; line = line; digit = digit; fits = fits }, tt);
@@ -265,7 +265,7 @@ module _ (r : Report) (up down : List ℕ) (c : ById) (w : World ById State) (h 
       }))
 
   -- the line in front of the upward queue was handed to the instrument
-  pub shows_up_deliver : (n : ℕ) (rest down' : List ℕ) (request : Sent) (entry : Made) (executed : List ℕ) (made : List Made) (state : State) (o : Option (List ℕ)) → up ≡ n ∷ rest → slice_get r.sent n ≡ Some request → ExchangesAny r.instrument request.line.items state o → o ≡ Some entry.line.items → entry.number ≡ n → Notes r.instrument state n r.executed executed → made ≡ r.made ++ entry ∷ [] → down' ≡ down ++ length r.made ∷ [] → AreOf (record r { executed = executed; made = made; instrument = state }) rest down' c (does w Up_deliver)
+  pub shows_up_deliver : (n : ℕ) (rest down' : List ℕ) (request : Sent) (entry : Made) (executed : List ℕ) (made : List Made) (state : State) (o : Option (List ℕ)) → up ≡ n ∷ rest → slice_get r.sent n ≡ Some request → ExchangesAny r.instrument request.line.items state o → o ≡ Some entry.line.items → entry.number ≡ n → Notes r.instrument state n r.executed executed → made ≡ r.made ++ entry ∷ [] → down' ≡ down ++ length r.made ∷ [] → AreOf width (record r { executed = executed; made = made; instrument = state }) rest down' c (does width w Up_deliver)
   shows_up_deliver n rest down' request entry executed made state o e found replied told same executed_is made_is down'_is =
       let f = up_front n rest e in
       let y = f.0 in
@@ -278,7 +278,7 @@ module _ (r : Report) (up down : List ℕ) (c : ById) (w : World ById State) (h 
       some_is _ _ (sym told ∙ did.line) ∙ ap (λ s. (handed s y.line.id y.line.call).reply) h.reports.instrument in
       let entry_is : made_seen entry ≡ record { number = y.number; line = (handed w.wire.state y.line.id y.line.call).reply } =
       ap₂ (λ k (l : List ℕ). record { number = k; line = l }) (same ∙ sym f.3) reply in
-      subst (λ q. AreOf (record r { executed = executed; made = made; instrument = state }) rest down' c (on_wire w (up_delivered ends w.wire q))) (sym f.2) (record {
+      subst (λ q. AreOf width (record r { executed = executed; made = made; instrument = state }) rest down' c (on_wire w (up_delivered ends w.wire q))) (sym f.2) (record {
         reports = record {
           sent = h.reports.sent;
           executed =
@@ -313,14 +313,14 @@ module _ (r : Report) (up down : List ℕ) (c : ById) (w : World ById State) (h 
       none_is_not _ (sym told ∙ did.line)
 
   -- the line in front of the downward queue was handed to the client
-  pub shows_down_deliver : (p : ℕ) (rest : List ℕ) (m : Made) (bytes : List ℕ) (more settled : List Settlement) (client : ById) → down ≡ p ∷ rest → slice_get r.made p ≡ Some m → bytes ≡ m.line.items → AreSettlements more (hears c bytes (heard bytes)).settlements → client ≡ (hears c bytes (heard bytes)).client → settled ≡ r.settled ++ more → AreOf (record r { settled = settled }) up rest client (does w Down_deliver)
+  pub shows_down_deliver : (p : ℕ) (rest : List ℕ) (m : Made) (bytes : List ℕ) (more settled : List Settlement) (client : Windowed) → down ≡ p ∷ rest → slice_get r.made p ≡ Some m → bytes ≡ m.line.items → AreSettlements more (hears c.ids bytes (heard bytes)).settlements → client ≡ record c { ids = (hears c.ids bytes (heard bytes)).client } → settled ≡ r.settled ++ more → AreOf width (record r { settled = settled }) up rest client (does width w Down_deliver)
   shows_down_deliver p rest m bytes more settled client e found same_bytes more_are client_is settled_is =
       let f = down_front p rest e in
       let x = f.0 in
       let line : bytes ≡ x.line = same_bytes ∙ ap (λ (y : Numbered (List ℕ)). y.line) (down_line p rest m e found) in
-      let same : hears c bytes (heard bytes) ≡ hears w.client x.line (heard x.line) = ap₂ (λ k l. hears k l (heard l)) h.client_is line in
+      let same : hears c.ids bytes (heard bytes) ≡ hears w.client x.line (heard x.line) = ap₂ (λ (k : Windowed) l. hears k.ids l (heard l)) h.client_is line in
       let are : AreSettlements more (hears w.client x.line (heard x.line)).settlements = subst (λ (s : Rule.Settled ById). AreSettlements more s.settlements) same more_are in
-      subst (λ q. AreOf (record r { settled = settled }) up rest client (down_delivered (by_ids WINDOW ends) w q)) (sym f.2) (record {
+      subst (λ q. AreOf width (record r { settled = settled }) up rest client (down_delivered (by_ids width ends) w q)) (sym f.2) (record {
         reports = record {
           sent = h.reports.sent;
           executed = h.reports.executed;
@@ -333,18 +333,18 @@ module _ (r : Report) (up down : List ℕ) (c : ById) (w : World ById State) (h 
         };
         up_is = h.up_is;
         down_is = f.4;
-        client_is = client_is ∙ ap (λ (s : Rule.Settled ById). s.client) same;
+        client_is = client_is ∙ ap₂ (λ n (s : Rule.Settled ById). let d : Windowed = record { width = n; ids = s.client } in d) (ap (λ (k : Windowed). k.width) h.client_is) same;
         next = subst (λ n. n < IDS) (sym (hears_next w.client x.line (heard x.line))) h.next;
         requests = h.requests;
         calls = h.calls;
       })
 
   -- no line is under way, and the client was restarted
-  pub shows_restart_client : (more settled : List Settlement) (client : ById) (starts : List ℕ) (state : State) → up ≡ [] → down ≡ [] → AreSettlements more (restarts c).settlements → client ≡ (restarts c).client → settled ≡ r.settled ++ more → starts ≡ r.starts ++ length r.executed ∷ [] → state ≡ restarted r.instrument → AreOf (record r { settled = settled; starts = starts; instrument = state }) up down client (does w Restart_client)
+  pub shows_restart_client : (more settled : List Settlement) (client : Windowed) (starts : List ℕ) (state : State) → up ≡ [] → down ≡ [] → AreSettlements more (restarts c.ids).settlements → client ≡ record c { ids = (restarts c.ids).client } → settled ≡ r.settled ++ more → starts ≡ r.starts ++ length r.executed ∷ [] → state ≡ restarted r.instrument → AreOf width (record r { settled = settled; starts = starts; instrument = state }) up down client (does width w Restart_client)
   shows_restart_client more settled client starts state eu ed more_are client_is settled_is starts_is state_is =
-      let are : AreSettlements more (restarts w.client).settlements = subst (λ k. AreSettlements more (restarts k).settlements) h.client_is more_are in
-      subst (λ u. AreOf (record r { settled = settled; starts = starts; instrument = state }) up down client (client_restarted ends (by_ids WINDOW ends) w u w.wire.down)) (sym (no_up eu))
-      (subst (λ d. AreOf (record r { settled = settled; starts = starts; instrument = state }) up down client (client_restarted ends (by_ids WINDOW ends) w [] d)) (sym (no_down ed)) (record {
+      let are : AreSettlements more (restarts w.client).settlements = subst (λ (k : Windowed). AreSettlements more (restarts k.ids).settlements) h.client_is more_are in
+      subst (λ u. AreOf width (record r { settled = settled; starts = starts; instrument = state }) up down client (client_restarted ends (by_ids width ends) w u w.wire.down)) (sym (no_up eu))
+      (subst (λ d. AreOf width (record r { settled = settled; starts = starts; instrument = state }) up down client (client_restarted ends (by_ids width ends) w [] d)) (sym (no_down ed)) (record {
         reports = record {
           sent = h.reports.sent;
           executed = h.reports.executed;
@@ -357,18 +357,18 @@ module _ (r : Report) (up down : List ℕ) (c : ById) (w : World ById State) (h 
         };
         up_is = h.up_is;
         down_is = h.down_is;
-        client_is = client_is;
+        client_is = client_is ∙ ap (λ (k : Windowed). record k { ids = (restarts k.ids).client }) h.client_is;
         next = omega arith;
         requests = h.requests;
         calls = h.calls;
       }))
 
   -- and the instrument was
-  pub shows_restart_instrument : (starts : List ℕ) (state : State) → up ≡ [] → down ≡ [] → starts ≡ r.starts ++ length r.executed ∷ [] → state ≡ restarted r.instrument → AreOf (record r { starts = starts; instrument = state }) up down c (does w Restart_instrument)
+  pub shows_restart_instrument : (starts : List ℕ) (state : State) → up ≡ [] → down ≡ [] → starts ≡ r.starts ++ length r.executed ∷ [] → state ≡ restarted r.instrument → AreOf width (record r { starts = starts; instrument = state }) up down c (does width w Restart_instrument)
   shows_restart_instrument starts state eu ed starts_is state_is =
       let after = record r { starts = starts; instrument = state } in
-      subst (λ u. AreOf after up down c (on_wire w (instrument_restarted ends w.wire u w.wire.down))) (sym (no_up eu))
-      (subst (λ d. AreOf after up down c (on_wire w (instrument_restarted ends w.wire [] d))) (sym (no_down ed)) (record {
+      subst (λ u. AreOf width after up down c (on_wire w (instrument_restarted ends w.wire u w.wire.down))) (sym (no_up eu))
+      (subst (λ d. AreOf width after up down c (on_wire w (instrument_restarted ends w.wire [] d))) (sym (no_down ed)) (record {
         reports = record {
           sent = h.reports.sent;
           executed = h.reports.executed;
@@ -388,25 +388,25 @@ module _ (r : Report) (up down : List ℕ) (c : ById) (w : World ById State) (h 
       }))
 
   -- a line is under way, so neither was
-  pub busy_client : IsBusy up down → AreOf (counted false r) up down c (does w Restart_client)
+  pub busy_client : IsBusy up down → AreOf width (counted false r) up down c (does width w Restart_client)
   busy_client b = by_queues w.wire.up w.wire.down refl refl
     where
-      by_queues : (us : List (Numbered Request)) (ds : List (Numbered (List ℕ))) → w.wire.up ≡ us → w.wire.down ≡ ds → AreOf (counted false r) up down c (client_restarted ends (by_ids WINDOW ends) w us ds)
+      by_queues : (us : List (Numbered Request)) (ds : List (Numbered (List ℕ))) → w.wire.up ≡ us → w.wire.down ≡ ds → AreOf width (counted false r) up down c (client_restarted ends (by_ids width ends) w us ds)
       by_queues [] [] eu ed = absurd (b (h.up_is ∙ ap numbers eu, map_none (slice_get (map made_seen r.made)) down (h.down_is ∙ ap (map Some) ed)))
       by_queues [] (y ∷ ds) eu ed = shows_idle
       by_queues (x ∷ us) ds eu ed = shows_idle
 
-  pub busy_instrument : IsBusy up down → AreOf (counted false r) up down c (does w Restart_instrument)
+  pub busy_instrument : IsBusy up down → AreOf width (counted false r) up down c (does width w Restart_instrument)
   busy_instrument b = by_queues w.wire.up w.wire.down refl refl
     where
-      by_queues : (us : List (Numbered Request)) (ds : List (Numbered (List ℕ))) → w.wire.up ≡ us → w.wire.down ≡ ds → AreOf (counted false r) up down c (on_wire w (instrument_restarted ends w.wire us ds))
+      by_queues : (us : List (Numbered Request)) (ds : List (Numbered (List ℕ))) → w.wire.up ≡ us → w.wire.down ≡ ds → AreOf width (counted false r) up down c (on_wire w (instrument_restarted ends w.wire us ds))
       by_queues [] [] eu ed = absurd (b (h.up_is ∙ ap numbers eu, map_none (slice_get (map made_seen r.made)) down (h.down_is ∙ ap (map Some) ed)))
       by_queues [] (y ∷ ds) eu ed = shows_idle
       by_queues (x ∷ us) ds eu ed = shows_idle
 
   -- no line is under way in this direction
-  pub idle_up : up ≡ [] → AreOf (counted false r) up down c (does w Up_deliver)
-  idle_up e = subst (λ q. AreOf (counted false r) up down c (on_wire w (up_delivered ends w.wire q))) (sym (no_up e)) shows_idle
+  pub idle_up : up ≡ [] → AreOf width (counted false r) up down c (does width w Up_deliver)
+  idle_up e = subst (λ q. AreOf width (counted false r) up down c (on_wire w (up_delivered ends w.wire q))) (sym (no_up e)) shows_idle
 
-  pub idle_down : down ≡ [] → AreOf (counted false r) up down c (does w Down_deliver)
-  idle_down e = subst (λ q. AreOf (counted false r) up down c (down_delivered (by_ids WINDOW ends) w q)) (sym (no_down e)) shows_idle
+  pub idle_down : down ≡ [] → AreOf width (counted false r) up down c (does width w Down_deliver)
+  idle_down e = subst (λ q. AreOf width (counted false r) up down c (down_delivered (by_ids width ends) w q)) (sym (no_down e)) shows_idle

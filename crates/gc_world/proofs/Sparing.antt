@@ -1,39 +1,52 @@
 -- Events that take no memory: what a world says of them, its stage says.
-use Rattle.std.proofs.Common.{◌≡◌, ℕ, ◌≤◌, true, false, List, [], ◌∷◌, length, Some, ◌∙◌, ap, subst, arith}
+use Rattle.std.proofs.Common.{◌≡◌, ℕ, ◌≤◌, true, false, List, [], ◌∷◌, length, Some, inl, inr, sym, ◌∙◌, ap, subst, arith}
 use mathlib.Core.Path.{ap₂}
 use Rattle.std.specs.Prelude.{slice_get}
-use Rattle.gc_client.specs.declared.window.TheConstants.{WINDOW}
-use Rattle.gc_client.specs.Rule.{ById, fits, heard}
+use Rattle.gc_client.specs.Rule.{ById, Windowed, fits, heard}
 use Rattle.gc_instrument.specs.State.{State}
 use Rattle.gc_world.specs.declared.report.Made.{Made}
 use Rattle.gc_world.specs.declared.report.Report.{Report}
-use Rattle.gc_world.specs.Memory.{IsBusy, IsStray}
+use Rattle.gc_world.specs.Memory.{IsBusy, IsStray, IsNoRepeat}
 use Rattle.gc_world.specs.Order.{numbers}
 use Rattle.gc_world.specs.Stages.{AreOf}
+use Rattle.gc_world.specs.Streams.{is_begun}
 use Rattle.gc_world.specs.World.{Numbered, World}
 use Rattle.gc_world.proofs.Showing.{same_up, same_down, no_up, no_down, down_front, down_line}
 
 pub not_both : false ≡ true → ⊥
 not_both e = cc
 
-module _ (r : Report) (up down : List ℕ) (c : ById) (w : World ById State) (h : AreOf r up down c w) where
-  pub full : length w.client.waiting ≡ WINDOW → length c.waiting ≡ WINDOW
-  full t = ap (λ (x : ById). length x.waiting) h.client_is ∙ t
+module _ (width : ℕ) (r : Report) (up down : List ℕ) (c : Windowed) (w : World ById State) (h : AreOf width r up down c w) where
+  pub full : length w.client.waiting ≡ width → length c.ids.waiting ≡ c.width
+  full t = ap (λ (x : Windowed). length x.ids.waiting) h.client_is ∙ t ∙ sym (ap (λ (x : Windowed). x.width) h.client_is)
 
   pub none_up : w.wire.up ≡ [] → up ≡ []
   none_up t = h.up_is ∙ ap numbers t
 
   pub past_up : (k : ℕ) → length w.wire.up ≤ k → length up ≤ k
-  past_up k t = omega (arith, same_up r up down c w h, t)
+  past_up k t = omega (arith, same_up width r up down c w h, t)
 
   pub past_down : (k : ℕ) → length w.wire.down ≤ k → length down ≤ k
-  past_down k t = omega (arith, same_down r up down c w h, t)
+  past_down k t = omega (arith, same_down width r up down c w h, t)
+
+  -- a line that can't be repeated
+  pub no_repeat_up : (k gone gone' : ℕ) → gone ≡ gone' → IsNoRepeat k gone' w.wire.up → IsNoRepeat k gone up
+  no_repeat_up k gone gone' e t = elim t [
+    | inl begun ↦ inl (ap (is_begun k) e ∙ begun)
+    | inr past ↦ inr (past_up k past)
+  ]
+
+  pub no_repeat_down : (k gone gone' : ℕ) → gone ≡ gone' → IsNoRepeat k gone' w.wire.down → IsNoRepeat k gone down
+  no_repeat_down k gone gone' e t = elim t [
+    | inl begun ↦ inl (ap (is_begun k) e ∙ begun)
+    | inr past ↦ inr (past_down k past)
+  ]
 
   pub busy : IsBusy w.wire.up w.wire.down → IsBusy up down
-  busy b = λ quiet. b (no_up r up down c w h quiet.0, no_down r up down c w h quiet.1)
+  busy b = λ quiet. b (no_up width r up down c w h quiet.0, no_down width r up down c w h quiet.1)
 
   -- a reply in front for which no request waits
-  pub stray : (p : ℕ) (rest : List ℕ) (m : Made) (bytes : List ℕ) → down ≡ p ∷ rest → slice_get r.made p ≡ Some m → bytes ≡ m.line.items → IsStray w.client w.wire.down → fits c (heard bytes) ≡ false
+  pub stray : (p : ℕ) (rest : List ℕ) (m : Made) (bytes : List ℕ) → down ≡ p ∷ rest → slice_get r.made p ≡ Some m → bytes ≡ m.line.items → IsStray w.client w.wire.down → fits c.ids (heard bytes) ≡ false
   stray p rest m bytes e found same t =
-      let f = down_front r up down c w h p rest e in
-      ap₂ (λ (k : ById) (l : List ℕ). fits k (heard l)) h.client_is (same ∙ ap (λ (x : Numbered (List ℕ)). x.line) (down_line r up down c w h p rest m e found)) ∙ subst (λ q. IsStray w.client q) f.2 t
+      let f = down_front width r up down c w h p rest e in
+      ap₂ (λ (k : Windowed) (l : List ℕ). fits k.ids (heard l)) h.client_is (same ∙ ap (λ (x : Numbered (List ℕ)). x.line) (down_line width r up down c w h p rest m e found)) ∙ subst (λ q. IsStray w.client q) f.2 t

@@ -1,7 +1,6 @@
 -- A turn of the loop that plays events.
 use Rattle.std.proofs.Common.{◌≡◌, ℕ, ◌+◌, ◌<◌, ◌≤◌, List, [], ◌∷◌, ◌++◌, length, take, get_or, sym, ◌∙◌, ap, subst, arith, length-take}
 use Rattle.std.proofs.lemmas.List.{take_more}
-use Rattle.gc_client.specs.declared.window.TheConstants.{WINDOW}
 use Rattle.gc_instrument.specs.State.{State}
 use Rattle.gc_world.specs.declared.event.Event.{Event}
 use Rattle.gc_world.specs.declared.report.Report.{Report}
@@ -12,20 +11,20 @@ use Rattle.gc_world.proofs.Counts.{IsWithin, within_all}
 use Rattle.gc_world.proofs.Flow.{flow_append}
 
 -- one event more
-pub played_more : (opening : State) (events : List Event) (i : ℕ) (e : Event) → i < length events → e ≡ get_or events i e → streamed opening (take (i + 1) events) ≡ goes_on (streamed opening (take i events)) e
-played_more opening events i e lt is =
-    ap (streamed opening) (take_more events i e lt ∙ ap (λ x. take i events ++ x ∷ []) (sym is))
-    ∙ flow_append ends (by_ids WINDOW ends) (take i events) (e ∷ []) (begins opening)
+pub played_more : (width : ℕ) (opening : State) (events : List Event) (i : ℕ) (e : Event) → i < length events → e ≡ get_or events i e → streamed width opening (take (i + 1) events) ≡ goes_on width (streamed width opening (take i events)) e
+played_more width opening events i e lt is =
+    ap (streamed width opening) (take_more events i e lt ∙ ap (λ x. take i events ++ x ∷ []) (sym is))
+    ∙ flow_append ends (by_ids width ends) (take i events) (e ∷ []) (begins opening)
 
-pub played_within : (opening : State) (events : List Event) → IsWithin (length events) (played opening events).wire
-played_within opening events =
+pub played_within : (width : ℕ) (opening : State) (events : List Event) → IsWithin (length events) (played width opening events).wire
+played_within width opening events =
     let e : 0 + length events ≡ length events = omega arith in
-    subst (λ n. IsWithin n (played opening events).wire) e
-    (within_all ends (by_ids WINDOW ends) events (begins opening) 0 (record { sent = omega arith; executed = omega arith; made = omega arith; starts = omega arith; refused = omega arith; idle = omega arith }))
+    subst (λ n. IsWithin n (played width opening events).wire) e
+    (within_all ends (by_ids width ends) events (begins opening) 0 (record { sent = omega arith; executed = omega arith; made = omega arith; starts = omega arith; refused = omega arith; idle = omega arith }))
 
 -- a stage after so many events has counted no more
-pub counts_at : (opening : State) (events : List Event) (i : ℕ) (report : Report) → IsReport report (played opening (take i events)).wire → i ≤ length events → (report.refused_sends ≤ i) × (report.idle_events ≤ i)
-counts_at opening events i report h le =
-    let w = played_within opening (take i events) in
+pub counts_at : (width : ℕ) (opening : State) (events : List Event) (i : ℕ) (report : Report) → IsReport report (played width opening (take i events)).wire → i ≤ length events → (report.refused_sends ≤ i) × (report.idle_events ≤ i)
+counts_at width opening events i report h le =
+    let w = played_within width opening (take i events) in
     let n = length-take i events in
     (omega (arith, h.refused, w.refused, n, le), omega (arith, h.idle, w.idle, n, le))

@@ -2,7 +2,7 @@
 -- numbers; and the runs of a list of events with each, on the simulated instrument.
 use Rattle.std.specs.Prelude.{ℕ, ◌+◌, ◌-◌, ◌%◌, Bool, true, false, List, [], ◌∷◌, ◌++◌, length, map, take, drop, Option, Some, None, nat_lt, nat_eq}
 use Rattle.gc_catalogue.specs.declared.call.Call.{Call}
-use Rattle.gc_client.specs.declared.window.TheConstants.{WINDOW, IDS}
+use Rattle.gc_client.specs.declared.window.TheConstants.{IDS}
 use Rattle.gc_client.specs.declared.pending.Pending.{Pending}
 use Rattle.gc_client.specs.Rule.{Settled, Sending, ById, fresh, pending_of, expired, lost, settle, sends, heard, hears, expires, restarts}
 use Rattle.gc_instrument.specs.Replying.{handed}
@@ -91,14 +91,14 @@ module _ {State : Type 0} where
 abbrev pub ends : Ends State
 ends = record { handed = handed; restarted = restarted; heard = heard; joint = true }
 
--- the streams that the run by ids of these events leaves, from the restarted opening state, with the client's window
-abbrev pub streamed : State → List Event → Streams ById State
-streamed opening events = streams_by_ids WINDOW ends events (restarted opening)
+-- the streams that the run by ids of these events leaves, from the restarted opening state, with a window of this width
+abbrev pub streamed : ℕ → State → List Event → Streams ById State
+streamed width opening events = streams_by_ids width ends events (restarted opening)
 
 -- the world that it leaves
-abbrev pub played : State → List Event → World ById State
-played opening events = (streamed opening events).world
+abbrev pub played : ℕ → State → List Event → World ById State
+played width opening events = (streamed width opening events).world
 
--- the run by numbers of the same events
-abbrev pub played_by_numbers : State → List Event → World ByNumber State
-played_by_numbers opening events = (streams_by_numbers WINDOW ends events (restarted opening)).world
+-- the run by numbers of the same events, with the same width
+abbrev pub played_by_numbers : ℕ → State → List Event → World ByNumber State
+played_by_numbers width opening events = (streams_by_numbers width ends events (restarted opening)).world

@@ -122,9 +122,9 @@ pub record AgreesWith (w : Wire State) (r : Report) : Type 0 where
   pub refused : r.refused_sends ≡ w.refused
   pub idle : r.idle_events ≡ w.idle
 
--- the report of these events, from this opening state on, is faithful
-pub record Faithful (opening : State) (events : List Event) (r : Report) : Type 0 where
+-- the report of these events, from this opening state on, with a window of this width, is faithful
+pub record Faithful (width : ℕ) (opening : State) (events : List Event) (r : Report) : Type 0 where
   pub one_for_one : OneForOne r
   pub booked : BooksAnswers r
   pub executed : RecordsExecution opening r
-  pub agrees : AgreesWith (played_by_numbers opening events).wire r
+  pub agrees : AgreesWith (played_by_numbers width opening events).wire r

@@ -5,7 +5,7 @@
 -- settlements so far. "In time": since the request was sent the client wasn't told a moment at or past its deadline.
 -- "Delivered": its last byte goes over. Where one event hands over several replies, each is delivered in turn: the law that
 -- bytes go over in turn cuts such an event into one delivery for each.
--- The width is that of the window; `play` has the width `WINDOW`.
+-- The width is that of the window; `play_width` is told it, and `play` has the width `WINDOW`.
 use Rattle.std.specs.Prelude.{◌≡◌, ◌⊎◌, ℕ, ◌+◌, ◌-◌, ◌<◌, ◌≤◌, List, [], ◌∷◌, ◌++◌, length, map, take, drop, Some, slice_get, Contains}
 use Rattle.gc_catalogue.specs.declared.call.Call.{Call}
 use Rattle.gc_client.specs.declared.window.TheConstants.{WINDOW}

@@ -4,8 +4,8 @@ use Rattle.gc_lines.specs.Assembler.{Kept, StandsFor}
 use Rattle.gc_lines.specs.Lines.{IsPlain, with_end}
 use Rattle.gc_catalogue.specs.Calls.{IsFitting}
 use Rattle.gc_catalogue.specs.Texts.{request_line}
-use Rattle.gc_client.specs.declared.window.TheConstants.{WINDOW, IDS}
-use Rattle.gc_client.specs.Rule.{ById}
+use Rattle.gc_client.specs.declared.window.TheConstants.{IDS}
+use Rattle.gc_client.specs.Rule.{ById, Windowed}
 use Rattle.gc_instrument.specs.State.{State, restarted}
 use Rattle.gc_world.specs.declared.event.Event.{Event}
 use Rattle.gc_world.specs.declared.report.Made.{Made}
@@ -18,26 +18,26 @@ use Rattle.gc_world.specs.Reports.{made_seen, IsReport}
 use Rattle.gc_world.specs.Streams.{Streams, up_lines, down_lines, untouched, gone_of, cut, flows}
 use Rattle.gc_world.specs.World.{Request, Numbered, Step, Up_deliver, Down_deliver, World, happens, run}
 
--- the streams before the first event, one step of the run by ids, and one event
+-- the streams before the first event, one step of the run by ids with a window of this width, and one event
 abbrev pub begins : State → Streams ById State
 begins opening = untouched (ids_open (restarted opening))
 
-abbrev pub does : World ById State → Step → World ById State
-does w step = happens ends (by_ids WINDOW ends) w step
+abbrev pub does : ℕ → World ById State → Step → World ById State
+does width w step = happens ends (by_ids width ends) w step
 
-abbrev pub goes_on : Streams ById State → Event → Streams ById State
-goes_on v e = flows ends (by_ids WINDOW ends) v e
+abbrev pub goes_on : ℕ → Streams ById State → Event → Streams ById State
+goes_on width v e = flows ends (by_ids width ends) v e
 
 -- the streams behind the next n bytes
-abbrev pub up_handed : Streams ById State → ℕ → Streams ById State
-up_handed v n =
+abbrev pub up_handed : ℕ → Streams ById State → ℕ → Streams ById State
+up_handed width v n =
     let c = cut (up_lines v.world.wire) (v.up_gone + n) in
-    record { world = run ends (by_ids WINDOW ends) (replicate c.lines Up_deliver) v.world; up_gone = c.gone; down_gone = v.down_gone }
+    record { world = run ends (by_ids width ends) (replicate c.lines Up_deliver) v.world; up_gone = c.gone; down_gone = v.down_gone }
 
-abbrev pub down_handed : Streams ById State → ℕ → Streams ById State
-down_handed v n =
+abbrev pub down_handed : ℕ → Streams ById State → ℕ → Streams ById State
+down_handed width v n =
     let c = cut (down_lines v.world.wire) (v.down_gone + n) in
-    record { world = run ends (by_ids WINDOW ends) (replicate c.lines Down_deliver) v.world; up_gone = v.up_gone; down_gone = c.gone }
+    record { world = run ends (by_ids width ends) (replicate c.lines Down_deliver) v.world; up_gone = v.up_gone; down_gone = c.gone }
 
 -- the bytes of a request's line
 abbrev pub bytes_of : Request → List ℕ
@@ -55,13 +55,13 @@ pub record IsSentIn (sent : List Sent) (x : Numbered Request) : Type 0 where
 abbrev pub named : List Made → List ℕ → List (Option (Numbered (List ℕ)))
 named made places = map (slice_get (map made_seen made)) places
 
--- the report, the queues and the client are those of this world: upward the queue has the numbers of the requests under
--- way, and downward it names the replies
-pub record AreOf (report : Report) (up down : List ℕ) (client : ById) (w : World ById State) : Type 0 where
+-- the report, the queues and the client are those of this world, the client with a window of this width: upward the queue has
+-- the numbers of the requests under way, and downward it names the replies
+pub record AreOf (width : ℕ) (report : Report) (up down : List ℕ) (client : Windowed) (w : World ById State) : Type 0 where
   pub reports : IsReport report w.wire
   pub up_is : up ≡ numbers w.wire.up
   pub down_is : named report.made down ≡ map Some w.wire.down
-  pub client_is : client ≡ w.client
+  pub client_is : client ≡ record { width = width; ids = w.client }
   pub next : w.client.next < IDS
   pub requests : Each (IsSentIn report.sent) w.wire.up
   pub calls : Each (λ (q : Sent). IsFitting q.call) report.sent
@@ -82,21 +82,21 @@ abbrev pub itself : List ℕ → List ℕ
 itself line = line
 
 -- the report, the queues, what has gone of their front lines and the client are those of these streams
-pub record AreStreamsOf (report : Report) (up down : List ℕ) (up_gone down_gone : ℕ) (client : ById) (v : Streams ById State) : Type 0 where
-  pub lines : AreOf report up down client v.world
+pub record AreStreamsOf (width : ℕ) (report : Report) (up down : List ℕ) (up_gone down_gone : ℕ) (client : Windowed) (v : Streams ById State) : Type 0 where
+  pub lines : AreOf width report up down client v.world
   pub up_is : up_gone ≡ v.up_gone
   pub down_is : down_gone ≡ v.down_gone
   pub up_flow : IsFlow bytes_of report.up v.up_gone v.world.wire.up
   pub down_flow : IsFlow itself report.down v.down_gone v.world.wire.down
 
--- a stage shows these streams
-abbrev pub Shows : {W : Type 0} → Stage W → Streams ById State → Type 0
-Shows s v = AreStreamsOf s.report s.up s.down s.up_gone s.down_gone s.client v
+-- a stage whose client's window is this wide shows these streams
+abbrev pub Shows : {W : Type 0} → ℕ → Stage W → Streams ById State → Type 0
+Shows width s v = AreStreamsOf width s.report s.up s.down s.up_gone s.down_gone s.client v
 
 -- it shows some
 abbrev pub IsShown : {W : Type 0} → Stage W → Type 0
-IsShown s = (v : Streams ById State) × Shows s v
+IsShown s = (width : ℕ) × (v : Streams ById State) × Shows width s v
 
--- whatever streams the one stage shows, the other shows those behind this event
+-- whatever streams the one stage shows, the other, whose client's window is as wide, shows those behind this event
 abbrev pub Follows : {W : Type 0} → Stage W → Event → Stage W → Type 0
-Follows s e t = (v : Streams ById State) → Shows s v → Shows t (goes_on v e)
+Follows s e t = (width : ℕ) (v : Streams ById State) → Shows width s v → Shows width t (goes_on width v e)

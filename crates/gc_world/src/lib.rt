@@ -14,5 +14,5 @@ mod tests;
 
 pub use entries::Entries;
 pub use event::Event;
-pub use playing::play;
+pub use playing::{play, play_width};
 pub use report::{Made, Report, Sent};

@@ -1,6 +1,6 @@
 //! Playing a list of events on a real client and a real instrument.
 
-ghost use Rattle.std.specs.Prelude.{◌≡◌, length, IfOk, IsOk};
+ghost use Rattle.std.specs.Prelude.{◌≡◌, ◌≤◌, length, IfOk, IsOk};
 ghost use Rattle.gc_lines.specs.Assembler.{StandsFor};
 ghost use Rattle.gc_world.specs.Faithful.{ActsOnce, Faithful};
 ghost use Rattle.gc_world.specs.Clients.{played, streamed};
@@ -11,12 +11,12 @@ ghost use Rattle.gc_world.specs.Reports.{IsReport, IsNoLongerThan};
 use crate::event::Event;
 use crate::report::Report;
 use crate::stage::Stage;
-use gc_client::{Client, Window};
+use gc_client::{Client, WINDOW, Window};
 use gc_instrument::Instrument;
 use std::alloc::{AllocError, Global};
 
-/// Plays the events in order, from a restarted instrument and a new client over this window, and hands back what they led
-/// to, and the client as the last event leaves it.
+/// Plays the events in order, from a restarted instrument and a new client over this window that lets so many requests
+/// wait, and hands back what they led to, and the client as the last event leaves it.
 ///
 /// The report is that of the world's run by ids, and it is faithful: the settlements stand one for one and in order for
 /// the requests sent; each answer that the client booked is a line that the instrument made on executing that very
@@ -36,24 +36,46 @@ use std::alloc::{AllocError, Global};
 ///
 /// Want of memory comes only where a growth was refused; then nothing is handed back. A list of events that all take none
 /// never meets it.
+pub fn play_width<W: Window>(
+    alloc: Global,
+    instrument: Instrument,
+    window: W,
+    width: u8,
+    events: &[Event],
+) -> Result<(Report, Client<W>), AllocError>
+    requires least { 1 ≤ width }
+    requires most { width ≤ WINDOW }
+    ensures report { IfOk result (λ done. IsReport done.0 (played width instrument events.now).wire) }
+    ensures client { IfOk result (λ done. done.1 ≡ record { width = width; ids = (played width instrument events.now).client }) }
+    ensures up { IfOk result (λ done. StandsFor done.0.up (gone_of (streamed width instrument events.now).up_gone (up_lines (played width instrument events.now).wire))) }
+    ensures down { IfOk result (λ done. StandsFor done.0.down (gone_of (streamed width instrument events.now).down_gone (down_lines (played width instrument events.now).wire))) }
+    ensures faithful { IfOk result (λ done. Faithful width instrument events.now done.0) }
+    ensures once { IfOk result (λ done. ActsOnce instrument done.0) }
+    ensures spare { TakeNone width instrument events.now → IsOk result }
+    ensures few { IfOk result (λ done. IsNoLongerThan (length events.now) done.0) }
+{
+    let mut stage = Stage::new(alloc, instrument, window, width);
+    for event in events {
+        stage.happen(event)?;
+    }
+    Ok((stage.report, stage.client))
+}
+
+/// Plays the events as `play_width` does, with a client that lets seven requests wait: the widest window there is.
 pub fn play<W: Window>(
     alloc: Global,
     instrument: Instrument,
     window: W,
     events: &[Event],
 ) -> Result<(Report, Client<W>), AllocError>
-    ensures report { IfOk result (λ done. IsReport done.0 (played instrument events.now).wire) }
-    ensures client { IfOk result (λ done. done.1 ≡ (played instrument events.now).client) }
-    ensures up { IfOk result (λ done. StandsFor done.0.up (gone_of (streamed instrument events.now).up_gone (up_lines (played instrument events.now).wire))) }
-    ensures down { IfOk result (λ done. StandsFor done.0.down (gone_of (streamed instrument events.now).down_gone (down_lines (played instrument events.now).wire))) }
-    ensures faithful { IfOk result (λ done. Faithful instrument events.now done.0) }
+    ensures report { IfOk result (λ done. IsReport done.0 (played WINDOW instrument events.now).wire) }
+    ensures client { IfOk result (λ done. done.1 ≡ record { width = WINDOW; ids = (played WINDOW instrument events.now).client }) }
+    ensures up { IfOk result (λ done. StandsFor done.0.up (gone_of (streamed WINDOW instrument events.now).up_gone (up_lines (played WINDOW instrument events.now).wire))) }
+    ensures down { IfOk result (λ done. StandsFor done.0.down (gone_of (streamed WINDOW instrument events.now).down_gone (down_lines (played WINDOW instrument events.now).wire))) }
+    ensures faithful { IfOk result (λ done. Faithful WINDOW instrument events.now done.0) }
     ensures once { IfOk result (λ done. ActsOnce instrument done.0) }
-    ensures spare { TakeNone instrument events.now → IsOk result }
+    ensures spare { TakeNone WINDOW instrument events.now → IsOk result }
     ensures few { IfOk result (λ done. IsNoLongerThan (length events.now) done.0) }
 {
-    let mut stage = Stage::new(alloc, instrument, window);
-    for event in events {
-        stage.happen(event)?;
-    }
-    Ok((stage.report, stage.client))
+    play_width(alloc, instrument, window, WINDOW as u8, events)
 }

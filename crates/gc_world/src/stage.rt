@@ -40,8 +40,10 @@ pub struct Stage<W: Window> {
 
 impl<W: Window> Stage<W> {
     /// The stage before the first event: the instrument is restarted, and the client is new.
-    pub fn new(alloc: Global, mut instrument: Instrument, window: W) -> Stage<W>
-        ensures shows { Shows result (begins instrument) }
+    pub fn new(alloc: Global, mut instrument: Instrument, window: W, width: u8) -> Stage<W>
+        requires least { 1 ≤ width }
+        requires most { width ≤ WINDOW }
+        ensures shows { Shows width result (begins instrument) }
         ensures fits { IsFittingState (restarted instrument) }
     {
         instrument.restart();
@@ -62,7 +64,7 @@ impl<W: Window> Stage<W> {
             down: Queue::new(alloc),
             up_gone: 0,
             down_gone: 0,
-            client: Client::new(window),
+            client: Client::with_width(window, width),
             cut: Line::new(),
             settled: ArrayVec::new(),
         }
@@ -74,7 +76,7 @@ impl<W: Window> Stage<W> {
         requires idle { self.old.report.idle_events + 1 < 2 ^ 64 }
         requires shown { IsShown self.old }
         ensures follows { OnOk result (Follows self.old event.now self.new) }
-        ensures spare { (v : Streams ById State) → Shows self.old v → TakesNone v event.now → IsOk result }
+        ensures spare { (width : ℕ) (v : Streams ById State) → Shows width self.old v → TakesNone width v event.now → IsOk result }
     {
         match *event {
             Event::Send(target, ref call, deadline) => self.send(target, call, deadline)?,
@@ -96,7 +98,7 @@ impl<W: Window> Stage<W> {
     fn send(&mut self, target: u32, call: &Call, deadline: u64) -> Result<(), AllocError>
         requires { self.old.report.refused_sends + 1 < 2 ^ 64 }
         ensures follows { OnOk result (Follows self.old (Event.Send target call.now deadline) self.new) }
-        ensures spare { length self.old.client.waiting ≡ WINDOW → IsOk result }
+        ensures spare { length self.old.client.ids.waiting ≡ self.old.client.width → IsOk result }
     {
         let mut sent = Sent {
             target,
@@ -152,7 +154,7 @@ impl<W: Window> Stage<W> {
         requires idle { self.old.report.idle_events + 1 < 2 ^ 64 }
         requires shown { IsShown self.old }
         ensures follows { OnOk result (Follows self.old (Event.UpBytes n) self.new) }
-        ensures spare { (v : Streams ById State) → Shows self.old v → TakesNone v (Event.UpBytes n) → IsOk result }
+        ensures spare { (width : ℕ) (v : Streams ById State) → Shows width self.old v → TakesNone width v (Event.UpBytes n) → IsOk result }
     {
         if n == 0 || self.up.is_empty() {
             self.report.idle_events += 1;
@@ -174,7 +176,7 @@ impl<W: Window> Stage<W> {
     // How many bytes of the front line are still to go: 0 where no line is under way.
     fn up_remaining(&self) -> usize
         requires { IsShown self.now }
-        ensures { (v : Streams ById State) → Shows self.now v → result ≡ remaining v.up_gone (up_lines v.world.wire) }
+        ensures { (width : ℕ) (v : Streams ById State) → Shows width self.now v → result ≡ remaining v.up_gone (up_lines v.world.wire) }
     {
         match self.up.front() {
             Some(number) => self.report.sent.at(number).line.len() + 2 - self.up_gone,
@@ -184,8 +186,8 @@ impl<W: Window> Stage<W> {
 
     // The next bytes, which don't complete the front line.
     fn up_begin(&mut self, n: usize)
-        requires { (v : Streams ById State) × Shows self.old v × (n < remaining v.up_gone (up_lines v.world.wire)) }
-        ensures { (v : Streams ById State) → Shows self.old v → Shows self.new (up_handed v n) }
+        requires { (width : ℕ) × (v : Streams ById State) × Shows width self.old v × (n < remaining v.up_gone (up_lines v.world.wire)) }
+        ensures { (width : ℕ) (v : Streams ById State) → Shows width self.old v → Shows width self.new (up_handed width v n) }
     {
         let Some(number) = self.up.front() else {
             return;
@@ -230,7 +232,7 @@ impl<W: Window> Stage<W> {
         requires idle { self.old.report.idle_events + 1 < 2 ^ 64 }
         requires shown { IsShown self.old }
         ensures follows { OnOk result (Follows self.old Event.DownDeliver self.new) }
-        ensures spare { (v : Streams ById State) → Shows self.old v → TakesNone v Event.DownDeliver → IsOk result }
+        ensures spare { (width : ℕ) (v : Streams ById State) → Shows width self.old v → TakesNone width v Event.DownDeliver → IsOk result }
     {
         let Some(place) = self.down.take_front() else {
             self.report.idle_events += 1;
@@ -253,7 +255,7 @@ impl<W: Window> Stage<W> {
         requires idle { self.old.report.idle_events + 1 < 2 ^ 64 }
         requires shown { IsShown self.old }
         ensures follows { OnOk result (Follows self.old (Event.DownBytes n) self.new) }
-        ensures spare { (v : Streams ById State) → Shows self.old v → TakesNone v (Event.DownBytes n) → IsOk result }
+        ensures spare { (width : ℕ) (v : Streams ById State) → Shows width self.old v → TakesNone width v (Event.DownBytes n) → IsOk result }
     {
         if n == 0 || self.down.is_empty() {
             self.report.idle_events += 1;
@@ -275,7 +277,7 @@ impl<W: Window> Stage<W> {
     // How many bytes of the front line are still to go: 0 where no line is under way.
     fn down_remaining(&self) -> usize
         requires { IsShown self.now }
-        ensures { (v : Streams ById State) → Shows self.now v → result ≡ remaining v.down_gone (down_lines v.world.wire) }
+        ensures { (width : ℕ) (v : Streams ById State) → Shows width self.now v → result ≡ remaining v.down_gone (down_lines v.world.wire) }
     {
         match self.down.front() {
             Some(place) => self.report.made.at(place).line.len() + 2 - self.down_gone,
@@ -285,8 +287,8 @@ impl<W: Window> Stage<W> {
 
     // The next bytes, which don't complete the front line.
     fn down_begin(&mut self, n: usize)
-        requires { (v : Streams ById State) × Shows self.old v × (n < remaining v.down_gone (down_lines v.world.wire)) }
-        ensures { (v : Streams ById State) → Shows self.old v → Shows self.new (down_handed v n) }
+        requires { (width : ℕ) × (v : Streams ById State) × Shows width self.old v × (n < remaining v.down_gone (down_lines v.world.wire)) }
+        ensures { (width : ℕ) (v : Streams ById State) → Shows width self.old v → Shows width self.new (down_handed width v n) }
     {
         let Some(place) = self.down.front() else {
             return;

@@ -1,14 +1,14 @@
 //! Worked examples: lists of events, and what they lead to on the simulator.
 
 use crate::event::Event;
-use crate::playing::play;
+use crate::playing::{play, play_width};
 use crate::report::Report;
 use Event::{
     DownBytes, DownDeliver, DownLose, DownRepeat, Expire, RestartClient, Send, UpBytes, UpDeliver,
     UpLose, UpRepeat,
 };
 use gc_catalogue::Call;
-use gc_client::{Outcome, Pending, Ring, Slots, Window};
+use gc_client::{Client, Outcome, Pending, Ring, Slots, Window};
 use gc_instrument::Instrument;
 use std::alloc::{AllocError, Global};
 use std::cell::Cell;
@@ -49,7 +49,21 @@ fn tell(alloc: Global, report: &Report) -> Result<String, AllocError> {
 // What the events lead to on the simulator, and then how many wait and the next id.
 fn told<W: Window>(alloc: Global, window: W, events: &[Event]) -> Result<String, AllocError> {
     let (report, client) = play(alloc, Instrument::simulator(), window, events)?;
-    let mut text = tell(alloc, &report)?;
+    tell_both(alloc, &report, &client)
+}
+
+// The same with one request at a time.
+fn told_one<W: Window>(alloc: Global, window: W, events: &[Event]) -> Result<String, AllocError> {
+    let (report, client) = play_width(alloc, Instrument::simulator(), window, 1, events)?;
+    tell_both(alloc, &report, &client)
+}
+
+fn tell_both<W: Window>(
+    alloc: Global,
+    report: &Report,
+    client: &Client<W>,
+) -> Result<String, AllocError> {
+    let mut text = tell(alloc, report)?;
     write!(
         text,
         "; {} wait, next {}",
@@ -422,6 +436,38 @@ impl Window for Counting<'_> {
     fn clear(&mut self) {
         self.window.clear();
     }
+}
+
+#[test]
+fn width_one(rt: HostRuntime) -> Result<(), Fail> {
+    let events = [
+        Send(1, Call::NullProc, 9),
+        Send(2, Call::NullProc, 9),
+        UpDeliver,
+        DownDeliver,
+        Send(3, Call::NullProc, 9),
+    ];
+    let want =
+        "0 1 answered %R1P,0,0:0 / sent 2 executed 1 made 1 settled 1 refused 1 idle 0; 1 wait, next 2";
+    let with_places = told_one(rt.alloc(), Slots::new(), &events)?;
+    assert_eq!(rt; with_places.as_str(), want);
+    let with_ring = told_one(rt.alloc(), Ring::new(rt.alloc())?, &events)?;
+    assert_eq!(rt; with_ring.as_str(), want, "over a ring");
+
+    // A restart of the client keeps its width.
+    let events = [
+        Send(1, Call::NullProc, 9),
+        UpLose(0),
+        RestartClient,
+        Send(2, Call::NullProc, 9),
+        Send(3, Call::NullProc, 9),
+    ];
+    let restarted = told_one(rt.alloc(), Slots::new(), &events)?;
+    assert_eq!(rt;
+        restarted.as_str(),
+        "0 1 lost / sent 2 executed 0 made 0 settled 1 refused 1 idle 0; 1 wait, next 1"
+    );
+    Ok(())
 }
 
 #[test]

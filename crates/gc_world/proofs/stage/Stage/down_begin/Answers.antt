@@ -6,32 +6,32 @@ use Rattle.gc_world.proofs.stage.Stage.down_begin.Goals as goal
 pub at-requires : goal.at-requires
 at-requires g c =
     let s = c.args.self.now in
-    let v = c.requires.0 in
-    in_made s.report s.up s.down s.client v.world c.requires.1.lines c.in-Some.place c.in-Some.ensures.0 c.in-Some.ensures.1
+    let v = c.requires.1 in
+    in_made c.requires.0 s.report s.up s.down s.client v.world c.requires.2.lines c.in-Some.place c.in-Some.ensures.0 c.in-Some.ensures.1
 
 pub feed_some-requires-clause-plain : goal.feed_some-requires-clause-plain
 feed_some-requires-clause-plain g c =
     let s = c.args.self.now in
-    (down_front_line s.report s.up s.down s.up_gone s.down_gone s.client c.requires.0 c.requires.1 c.in-Some.place c.in-Some.ensures.0 c.at.result.now c.as_slice-line.result.now c.in-Some.ensures.1 c.at.ensures c.as_slice-line.ensures.value).plain
+    (down_front_line c.requires.0 s.report s.up s.down s.up_gone s.down_gone s.client c.requires.1 c.requires.2 c.in-Some.place c.in-Some.ensures.0 c.at.result.now c.as_slice-line.result.now c.in-Some.ensures.1 c.at.ensures c.as_slice-line.ensures.value).plain
 
 pub feed_some-requires-clause-some : goal.feed_some-requires-clause-some
 feed_some-requires-clause-some g c =
     let s = c.args.self.now in
-    short_down s.report s.up s.down s.up_gone s.down_gone s.client c.requires.0 c.requires.1 c.in-Some.place c.in-Some.ensures.0 c.at.result.now c.as_slice-line.result.now c.args.n c.in-Some.ensures.1 c.at.ensures c.as_slice-line.ensures.value c.requires.2
+    short_down c.requires.0 s.report s.up s.down s.up_gone s.down_gone s.client c.requires.1 c.requires.2 c.in-Some.place c.in-Some.ensures.0 c.at.result.now c.as_slice-line.result.now c.args.n c.in-Some.ensures.1 c.at.ensures c.as_slice-line.ensures.value c.requires.3
 
 pub feed_some-requires-clause-stands : goal.feed_some-requires-clause-stands
 feed_some-requires-clause-stands g c =
     let s = c.args.self.now in
-    (down_front_line s.report s.up s.down s.up_gone s.down_gone s.client c.requires.0 c.requires.1 c.in-Some.place c.in-Some.ensures.0 c.at.result.now c.as_slice-line.result.now c.in-Some.ensures.1 c.at.ensures c.as_slice-line.ensures.value).stands
+    (down_front_line c.requires.0 s.report s.up s.down s.up_gone s.down_gone s.client c.requires.1 c.requires.2 c.in-Some.place c.in-Some.ensures.0 c.at.result.now c.as_slice-line.result.now c.in-Some.ensures.1 c.at.ensures c.as_slice-line.ensures.value).stands
 
 pub overflow_add-self : goal.overflow_add-self
 overflow_add-self g c =
     let s = c.args.self.now in
-    let lt = short_down s.report s.up s.down s.up_gone s.down_gone s.client c.requires.0 c.requires.1 c.in-Some.place c.in-Some.ensures.0 c.at.result.now c.as_slice-line.result.now c.args.n c.in-Some.ensures.1 c.at.ensures c.as_slice-line.ensures.value c.requires.2 in
+    let lt = short_down c.requires.0 s.report s.up s.down s.up_gone s.down_gone s.client c.requires.1 c.requires.2 c.in-Some.place c.in-Some.ensures.0 c.at.result.now c.as_slice-line.result.now c.args.n c.in-Some.ensures.1 c.at.ensures c.as_slice-line.ensures.value c.requires.3 in
     omega (arith, lt, c.as_slice-line.ensures.fits)
 
 pub returns : goal.returns
 returns g c =
     let s = c.args.self.now in
-    λ v h. more_down s.report s.up s.down s.up_gone s.down_gone s.client v h c.in-Some.place c.in-Some.ensures.0 c.at.result.now c.as_slice-line.result.now c.args.n c.feed_some.new.assembler c.in-Some.ensures.1 c.at.ensures c.as_slice-line.ensures.value
-    (short_down s.report s.up s.down s.up_gone s.down_gone s.client c.requires.0 c.requires.1 c.in-Some.place c.in-Some.ensures.0 c.at.result.now c.as_slice-line.result.now c.args.n c.in-Some.ensures.1 c.at.ensures c.as_slice-line.ensures.value c.requires.2) c.feed_some.ensures
+    λ width v h. more_down width s.report s.up s.down s.up_gone s.down_gone s.client v h c.in-Some.place c.in-Some.ensures.0 c.at.result.now c.as_slice-line.result.now c.args.n c.feed_some.new.assembler c.in-Some.ensures.1 c.at.ensures c.as_slice-line.ensures.value
+    (short_down c.requires.0 s.report s.up s.down s.up_gone s.down_gone s.client c.requires.1 c.requires.2 c.in-Some.place c.in-Some.ensures.0 c.at.result.now c.as_slice-line.result.now c.args.n c.in-Some.ensures.1 c.at.ensures c.as_slice-line.ensures.value c.requires.3) c.feed_some.ensures

@@ -1,4 +1,4 @@
-use Rattle.std.proofs.Common.{◌≡◌}
+use Rattle.std.proofs.Common.{◌≡◌, ℕ}
 use Rattle.gc_client.specs.Rule.{ById}
 use Rattle.gc_instrument.specs.State.{State}
 use Rattle.gc_world.specs.Stages.{Shows}
@@ -10,8 +10,8 @@ use Rattle.gc_world.proofs.stage.Stage.down_bytes.Given as goal
 abbrev pub invariant-loop-left : goal.invariant-loop-left
 invariant-loop-left g l =
     record {
-      follows : (v : Streams ById State) → Shows l.fn.self v → IsDownReached l.self.report l.self.up l.self.down l.self.up_gone l.self.down_gone l.self.client v l.n l.left;
-      remaining : (v : Streams ById State) → Shows l.self v → l.remaining ≡ remaining v.down_gone (down_lines v.world.wire);
+      follows : (width : ℕ) (v : Streams ById State) → Shows width l.fn.self v → IsDownReached width l.self.report l.self.up l.self.down l.self.up_gone l.self.down_gone l.self.client v l.n l.left;
+      remaining : (width : ℕ) (v : Streams ById State) → Shows width l.self v → l.remaining ≡ remaining v.down_gone (down_lines v.world.wire);
     }
 
 abbrev pub decreases-loop-left : goal.decreases-loop-left

@@ -1,13 +1,13 @@
 use Rattle.std.proofs.Common.{◌≤◌, take}
 use Rattle.gc_world.specs.Clients.{streamed}
 use Rattle.gc_world.specs.Stages.{Shows}
-use Rattle.gc_world.proofs.playing.play.Given as goal
+use Rattle.gc_world.proofs.playing.play_width.Given as goal
 
 -- the stage shows the run of the events so far
 abbrev pub invariant-loop-event : goal.invariant-loop-event
 invariant-loop-event g l =
     record {
-      shows : Shows l.stage (streamed l.fn.instrument (take l.event-index l.events));
+      shows : Shows l.fn.width l.stage (streamed l.fn.width l.fn.instrument (take l.event-index l.events));
       refused : l.stage.report.refused_sends ≤ l.event-index;
       idle : l.stage.report.idle_events ≤ l.event-index;
     }
