@@ -4,8 +4,10 @@
 mod check;
 mod drill;
 mod exec;
+mod help;
 pub mod laws;
 mod program;
+mod station;
 mod verdict;
 
 pub use check::run_check;

@@ -18,6 +18,8 @@ ghost use Rattle.gc_console.specs.Drill.{drill_text, Drills, source_failed, sink
 use crate::check::run_check;
 use crate::drill::run_drill;
 use crate::exec::run_exec;
+use crate::help::{COMMANDS, EVENTS, FAULTS, REQUESTS, VERDICTS};
+use crate::station::{Station, run_station_port, station_command, station_of};
 use clap::error::ErrorKind;
 use clap::{Arg, ArgAction, Command, Error, value_parser};
 use gc_ask::{MOST_CONNECTIONS, ask_tcp, loop_tcp, serve_tcp};
@@ -29,79 +31,7 @@ use std::env::Args;
 use std::io::{self, Read, Write};
 use std::net::{Net, TcpListener, TcpStream};
 use std::process::ExitCode;
-
-// What the help ends with.
-const FAULTS: &str =
-    "Exit status: 0 where it is done, 1 after a fault, 2 for a command line that doesn't parse.
-
-A fault is one line on standard error, `geocom: fault N`:
-  42  the input, or the connection, could not be read
-  43  the output, or the connection, could not be written: `reply R byte B` says what went out
-  44  as many reads were made as are allowed, and none was the end
-  45  the other end closed the connection before a request was settled
-  51  a line of the schedule, or of the commands, has no form: `line L` says which, counted from 1
-  52  no memory was found
-  53  the schedule, or the commands, have more than 65536 bytes
-  54  a port could not be bound or connected to, or no connection accepted
-  55  the settlements, or this text, could not be written";
-
-// What the help of `exec` ends with.
-const REQUESTS: &str =
-    "Each request is a line that ends in CR LF, and so is each reply. Other lines get none.
-
-Example:
-  printf '%%R1Q,5003,2:\\r\\n' | geocom exec
-writes
-  %R1P,0,2:0,123456";
-
-// What the help of `check` ends with.
-const VERDICTS: &str =
-    "What stands before a line feed is a frame. Each gets a line, its number and what it is:
-  N request RPC ok         a request that reads
-  N request RPC fault F    a request of no known procedure (21), or whose parameters don't read (11 to 15)
-  N reply RC_COM RC        a reply
-  N fault F                a line that is neither: F is its first bad field, 1 to 5
-  N cleared                a line feed without a CR before it: an instrument drops what came
-  N overlong               more than 512 bytes
-Bytes behind the last line feed get none.
-
-Example:
-  printf '%%R1Q,5003,2:\\r\\n%%R1P,0,2:0,123456\\r\\nnoise\\r\\n' | geocom check
-writes
-  1 request 5003 ok
-  2 reply 0 0
-  3 fault 1";
-
-// What the help of `drill` ends with.
-const EVENTS: &str =
-    "A schedule has an event a line; empty lines and lines that begin with # are skipped:
-  send T D RPC PARAMS   asks target T, with the deadline D, for procedure RPC with parameters or none
-  up deliver            the first request on the line reaches the instrument
-  up lose K             the request behind K others on the line is lost
-  up repeat K           the request behind K others on the line is there twice
-  down deliver, down lose K, down repeat K   the same of the replies
-  expire M              the moment M is reached: requests whose deadline it is are given up
-  restart client, restart instrument
-
-A settlement is the end of a request: a line with its place, its target, and `answered`, `late` or `lost`.
-
-Example:
-  printf 'send 1 10 5003\\nup deliver\\ndown deliver\\n' | geocom drill
-writes
-  0 1 answered %R1P,0,0:0,123456";
-
-// What the help of `loop` and of `ask` ends with.
-const COMMANDS: &str =
-    "A command is a line `T RPC` or `T RPC PARAMS`, which asks target T for procedure RPC; empty lines and lines that
-begin with # are skipped. Each is sent once the one before it is settled.
-
-A settlement is the end of a request: a line with its place, its target, and `answered` or `lost`.
-
-Example:
-  printf '7 5003\\n8 2026\\n' | geocom loop
-writes
-  0 7 answered %R1P,0,0:0,123456
-  1 8 answered %R1P,0,1:0,0";
+use std::time::Clock;
 
 // What a command line asks for.
 enum Subcommand {
@@ -111,15 +41,16 @@ enum Subcommand {
     Loop,
     Serve { port: u16, connections: u32 },
     Ask { port: u16 },
+    Station(Station),
 }
 
-/// Runs a command line, whose first word is the program's name, over the net, an input, an output and a
-/// place for messages, and gives the exit status: 0 where it is done, 1 after a fault, which is one
+/// Runs a command line, whose first word is the program's name, over the net and the clock, an input,
+/// an output and a place for messages, and gives the exit status: 0 where it is done, 1 after a fault, which is one
 /// line on `messages`, and 2 for a command line that doesn't parse. `--help` and `--version` write
 /// to `output` and are done. It fails itself only where a text can't be written. The statuses and
 /// the fault line are this project's own.
 pub fn run_program<
-    R: Net<Listener = TcpListener, Stream = TcpStream>,
+    R: Net<Listener = TcpListener, Stream = TcpStream> + Clock,
     I: Read + Drop,
     O: Write + Drop,
     E: Write + Drop,
@@ -150,7 +81,7 @@ pub fn run_program<
 
 // Runs the engine of a subcommand over the input and the output, and tells how it ended.
 fn run_subcommand<
-    R: Net<Listener = TcpListener, Stream = TcpStream>,
+    R: Net<Listener = TcpListener, Stream = TcpStream> + Clock,
     I: Read + Drop,
     O: Write + Drop,
     E: Write,
@@ -191,6 +122,14 @@ fn run_subcommand<
             port,
             &mut FromReader::new(input),
             &mut sink,
+            messages,
+        ),
+        Subcommand::Station(station) => run_station_port(
+            rt,
+            alloc,
+            &station,
+            &mut FromReader::new(input),
+            sink,
             messages,
         ),
     }
@@ -277,7 +216,8 @@ fn subcommand_of(alloc: Global, words: &[String]) -> Result<Subcommand, Error> {
         .subcommand(drill)?
         .subcommand(looped)?
         .subcommand(serve)?
-        .subcommand(ask)?;
+        .subcommand(ask)?
+        .subcommand(station_command(alloc)?)?;
     let matches = command.try_get_matches_from(words)?;
     if matches.subcommand_matches("check").is_some() {
         return Ok(Subcommand::Check);
@@ -298,6 +238,9 @@ fn subcommand_of(alloc: Global, words: &[String]) -> Result<Subcommand, Error> {
             port: ask.get_one::<u16>("port").unwrap_or(0),
         });
     }
+    if let Some(station) = matches.subcommand_matches("station") {
+        return Ok(Subcommand::Station(station_of(station)));
+    }
     if matches.subcommand_matches("loop").is_some() {
         return Ok(Subcommand::Loop);
     }
@@ -305,7 +248,7 @@ fn subcommand_of(alloc: Global, words: &[String]) -> Result<Subcommand, Error> {
 }
 
 // A port, as a required word.
-fn port_of<'a>(alloc: Global) -> Arg<'a> {
+pub(crate) fn port_of<'a>(alloc: Global) -> Arg<'a> {
     Arg::new(alloc, "port")
         .value_name("PORT")
         .required(true)
@@ -363,7 +306,7 @@ fn ask_port<R: Net<Listener = TcpListener, Stream = TcpStream>, S: Source, K: Si
     end_of(ask_tcp(rt, alloc, port, source, sink, u32::MAX), messages)
 }
 
-fn refuse_numbers<E: Write>(messages: &mut E) -> io::Result<ExitCode>
+pub(crate) fn refuse_numbers<E: Write>(messages: &mut E) -> io::Result<ExitCode>
     ensures { IfOk result (λ status. exit_status status ≡ 2) }
 {
     writeln!(

@@ -1,0 +1,94 @@
+//! What the help of each subcommand ends with.
+
+/// What the help ends with.
+pub(crate) const FAULTS: &str =
+    "Exit status: 0 where it is done, 1 after a fault, 2 for a command line that doesn't parse.
+
+A fault is one line on standard error, `geocom: fault N`:
+  42  the input, or the connection, could not be read
+  43  the output, or the connection, could not be written: `reply R byte B` says what went out
+  44  as many reads were made as are allowed, and none was the end
+  45  the other end closed the connection before a request was settled
+  51  a line of the schedule, or of the commands, has no form: `line L` says which, counted from 1
+  52  no memory was found
+  53  the schedule, or the commands, have more than 65536 bytes
+  54  a port could not be bound or connected to, or no connection accepted
+  55  the settlements, or this text, could not be written";
+
+/// What the help of `exec` ends with.
+pub(crate) const REQUESTS: &str =
+    "Each request is a line that ends in CR LF, and so is each reply. Other lines get none.
+
+Example:
+  printf '%%R1Q,5003,2:\\r\\n' | geocom exec
+writes
+  %R1P,0,2:0,123456";
+
+/// What the help of `check` ends with.
+pub(crate) const VERDICTS: &str =
+    "What stands before a line feed is a frame. Each gets a line, its number and what it is:
+  N request RPC ok         a request that reads
+  N request RPC fault F    a request of no known procedure (21), or whose parameters don't read (11 to 15)
+  N reply RC_COM RC        a reply
+  N fault F                a line that is neither: F is its first bad field, 1 to 5
+  N cleared                a line feed without a CR before it: an instrument drops what came
+  N overlong               more than 512 bytes
+Bytes behind the last line feed get none.
+
+Example:
+  printf '%%R1Q,5003,2:\\r\\n%%R1P,0,2:0,123456\\r\\nnoise\\r\\n' | geocom check
+writes
+  1 request 5003 ok
+  2 reply 0 0
+  3 fault 1";
+
+/// What the help of `drill` ends with.
+pub(crate) const EVENTS: &str =
+    "A schedule has an event a line; empty lines and lines that begin with # are skipped:
+  send T D RPC PARAMS   asks target T, with the deadline D, for procedure RPC with parameters or none
+  up deliver            the first request on the line reaches the instrument
+  up lose K             the request behind K others on the line is lost
+  up repeat K           the request behind K others on the line is there twice
+  down deliver, down lose K, down repeat K   the same of the replies
+  expire M              the moment M is reached: requests whose deadline it is are given up
+  restart client, restart instrument
+
+A settlement is the end of a request: a line with its place, its target, and `answered`, `late` or `lost`.
+
+Example:
+  printf 'send 1 10 5003\\nup deliver\\ndown deliver\\n' | geocom drill
+writes
+  0 1 answered %R1P,0,0:0,123456";
+
+/// What the help of `loop` and of `ask` ends with.
+pub(crate) const COMMANDS: &str =
+    "A command is a line `T RPC` or `T RPC PARAMS`, which asks target T for procedure RPC; empty lines and lines that
+begin with # are skipped. Each is sent once the one before it is settled.
+
+A settlement is the end of a request: a line with its place, its target, and `answered` or `lost`.
+
+Example:
+  printf '7 5003\\n8 2026\\n' | geocom loop
+writes
+  0 7 answered %R1P,0,0:0,123456
+  1 8 answered %R1P,0,1:0,0";
+
+/// What the help of `station` ends with.
+pub(crate) const STATION: &str =
+    "A command is a line `T RPC` or `T RPC PARAMS`, which asks target T for procedure RPC; empty lines and lines that
+begin with # are skipped. Each is asked once in each cycle, and each gets a line as it ends, which begins with the moment:
+  answered  its reply came before its deadline
+  late      its reply came after it was given up; what it said is dropped
+  lost      no reply came, and none will be taken
+
+The connection is closed and made anew where it ends or fails, and where all requests that wait are given up and nothing
+came for the quiet time. With each new connection the instrument has to start anew, as `serve` does, or keep no replies;
+if it does neither, use --settle.
+
+Example, beside `geocom serve 4001`:
+  printf '7 5003\n8 2026\n' | geocom station 4001
+writes two lines as
+  2026-11-22T23:08:27.123Z 0 7 answered %R1P,0,0:0,123456
+  2026-11-22T23:08:27.124Z 1 8 answered %R1P,0,1:0,0
+and on standard error, at its end,
+  answered 2 late 0 lost 0";
