@@ -41,3 +41,8 @@ pub record WritesPart (text : Record → List ℕ) (records : List Record) (old 
   pub part : ℕ
   pub not_all : part < length (text next)
   pub took : Appends old new (texts_of text earlier ++ take part (text next))
+
+-- records were written whole, or in part where the book failed
+abbrev pub WritesAll : {X E : Type 0} → (Record → List ℕ) → List Record → Option (List ℕ) → Option (List ℕ) → Result X E → Type 0
+WritesAll text records old new (Ok _) = Appends old new (texts_of text records)
+WritesAll text records old new (Err _) = WritesPart text records old new

@@ -5,8 +5,15 @@ mod book;
 mod command;
 mod link;
 mod plan;
+mod progress;
+mod progressing;
+mod station;
+mod tally;
+mod writing;
 
 pub use book::{Book, Stamp};
 pub use command::Command;
 pub use link::{Came, Link, Moment};
 pub use plan::Plan;
+pub use progress::{Cause, Order, Phase, Progress};
+pub use tally::Tally;

@@ -1,0 +1,91 @@
+-- What each act does to how far a station is, this project's own.
+use Rattle.std.specs.Prelude.{ℕ, ◌+◌, ◌-◌, ◌&&◌, Bool, true, false, not, if◌then◌else◌, nat_lt, nat_eq, min}
+use Rattle.gc_station.specs.declared.link.Moment.{Moment}
+use Rattle.gc_station.specs.declared.plan.Plan.{Plan}
+use Rattle.gc_station.specs.declared.progress.Cause.{Cause}
+use Rattle.gc_station.specs.declared.progress.Cause.TheVariants as cause
+use Rattle.gc_station.specs.declared.progress.Phase.{Phase}
+use Rattle.gc_station.specs.declared.progress.Phase.TheVariants.{Down, Resting, Clearing, Draining, Probing, Ready, Closing, Over}
+use Rattle.gc_station.specs.declared.progress.Progress.{Progress}
+use Rattle.gc_station.specs.Deciding.{is_up, is_quiet}
+
+-- so much later than a moment, or the last moment that there is
+abbrev pub later : ℕ → ℕ → ℕ
+later moment wait = min (moment + wait) 18446744073709551615
+
+-- nothing was done
+abbrev pub at_start : Plan → ℕ → Progress
+at_start plan turns = record {
+  phase = Down;
+  probe = false;
+  stale = false;
+  moment = record { elapsed = 0; utc = 0 };
+  since = 0;
+  began = 0;
+  early = false;
+  left = plan.cycles;
+  unsent = 0;
+  tries = plan.retries;
+  turns = turns;
+}
+
+-- a turn was made
+abbrev pub turned : Progress → Progress
+turned p = record p { turns = p.turns - 1 }
+
+-- the moment was told behind bytes that went, or a connection that was closed or not made: the time of quiet begins
+abbrev pub told : Moment → Progress → Progress
+told m p = record p { moment = m; since = m.elapsed; stale = false }
+
+-- a cycle of so many commands began: when it was due where the one before it was done by then, and else now
+abbrev pub begun : Plan → ℕ → Moment → Progress → Progress
+begun plan count m p =
+    record p { moment = m; since = m.elapsed; stale = false; began = if p.early then later p.began plan.every else m.elapsed; early = false; left = p.left - 1; unsent = count }
+
+-- it can't go on so: the connection is to be closed, if there is one
+abbrev pub failing : Cause → Progress → Progress
+failing cause p = record p { phase = if is_up p.phase then Closing cause else Over cause }
+
+-- a connection was made
+abbrev pub opened : Progress → Progress
+opened p = record p { phase = Clearing }
+
+-- none was made, or one was closed: it tries again, or doesn't
+abbrev pub again : Cause → Progress → Progress
+again cause p = record p { phase = if nat_lt 0 p.tries then Resting else Over cause; probe = false; stale = true; tries = p.tries - 1 }
+
+-- the line feed went out
+abbrev pub cleared : Progress → Progress
+cleared p = record p { phase = Draining; stale = true }
+
+-- the null procedure went out
+abbrev pub probed : Progress → Progress
+probed p = record p { phase = Ready; probe = true; stale = true }
+
+-- the next command went out
+abbrev pub sent : Progress → Progress
+sent p = record p { unsent = p.unsent - 1; stale = true }
+
+-- bytes came, and so many requests waited before and after these
+abbrev pub gave : Plan → Bool → ℕ → ℕ → Progress → Progress
+gave plan rested before after p =
+    record p { probe = p.probe && not (nat_eq after 0); early = if rested then true else p.early; tries = if nat_lt after before then plan.retries else p.tries }
+
+-- where a station is once the line is quiet
+abbrev pub quieted : Plan → Phase → Phase
+quieted plan Resting = Down
+quieted plan Draining = if plan.settle then Probing else Ready
+quieted plan phase = phase
+
+-- nothing came
+abbrev pub silent : Plan → Bool → Moment → Progress → Progress
+silent plan rested m p =
+    let q : Progress = record p { moment = m; stale = false; early = if rested then true else p.early } in
+    record q { phase = if is_quiet plan q then quieted plan q.phase else q.phase }
+
+-- the connection was closed: after these causes for good, and else to be made anew
+abbrev pub closed : Cause → Progress → Progress
+closed cause.Done p = record p { phase = Over cause.Done; probe = false }
+closed cause.Clock p = record p { phase = Over cause.Clock; probe = false }
+closed cause.Turns p = record p { phase = Over cause.Turns; probe = false }
+closed cause p = again cause p

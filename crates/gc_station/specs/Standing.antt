@@ -1,0 +1,234 @@
+-- What a station is after the acts of its link, this project's own: the client's rule over what really happened, and how far
+-- the station is. Each act is the one that the station was to make next.
+use Rattle.std.specs.Prelude.{◌≡◌, ℕ, ◌+◌, ◌-◌, ◌<◌, ◌&&◌, Bool, true, false, not, List, [], ◌∷◌, ◌++◌, length, drop, Option, Some, None, map, if◌then◌else◌, min}
+use Rattle.std.specs.List.{filter_map}
+use Rattle.gc_lines.specs.Frames.{line_in, rest_behind}
+use Rattle.gc_lines.specs.Lines.{with_end}
+use Rattle.gc_lines.specs.Passing.{frames_behind}
+use Rattle.gc_catalogue.specs.declared.call.Call.{Call}
+use Rattle.gc_catalogue.specs.declared.call.Call.TheVariants.{NullProc}
+use Rattle.gc_catalogue.specs.Texts.{request_line}
+use Rattle.gc_client.specs.Rule.{ById, Settlement, Sending, Outcome, Answered, Late, Lost, fresh, sends, hears, heard, expires, restarts, deadlines}
+use Rattle.gc_station.specs.declared.command.Command.{Command}
+use Rattle.gc_station.specs.declared.link.Moment.{Moment}
+use Rattle.gc_station.specs.declared.plan.Plan.{Plan}
+use Rattle.gc_station.specs.declared.progress.Cause.{Cause}
+use Rattle.gc_station.specs.declared.progress.Cause.TheVariants as cause
+use Rattle.gc_station.specs.declared.progress.Phase.{Phase}
+use Rattle.gc_station.specs.declared.progress.Phase.TheVariants as phase
+use Rattle.gc_station.specs.declared.progress.Order.{Order}
+use Rattle.gc_station.specs.declared.progress.Order.TheVariants.{Tell, Begin, Open, Clear, Probe, Send, Read, Rest, Close, Stop}
+use Rattle.gc_station.specs.declared.progress.Progress.{Progress}
+use Rattle.gc_station.specs.Acts.{Act, Told, Untold, Put, Cut, Gave, Silent, Ended, Broke, Closed, Opened, Unopened}
+use Rattle.gc_station.specs.Deciding.{width_of, order_of}
+use Rattle.gc_station.specs.Progressing.{later, at_start, turned, told, begun, failing, opened, again, cleared, probed, sent, gave, silent, closed}
+use Rattle.gc_station.specs.Records.{Record, records_from}
+
+-- where a station stands: how far it is, the bytes since the last line feed, the client, and the records so far
+pub record Standing : Type 0 where
+  pub progress : Progress
+  pub rest : List ℕ
+  pub client : ById
+  pub records : List Record
+
+-- nothing was done
+abbrev pub opening : Plan → ℕ → Standing
+opening plan turns = record { progress = at_start plan turns; rest = []; client = fresh; records = [] }
+
+-- a list has no element
+abbrev pub is_nil : {A : Type 0} → List A → Bool
+is_nil [] = true
+is_nil (x ∷ xs) = false
+
+-- all that wait are given up
+abbrev pub is_hopeless : ById → Bool
+is_hopeless client = is_nil (deadlines client.waiting)
+
+-- what is next
+abbrev pub order_at : Plan → Standing → Order
+order_at plan s = order_of plan s.progress (length s.client.waiting) (is_hopeless s.client)
+
+-- a command of the cycle, counted from 0
+abbrev pub place_next : List Command → Progress → ℕ
+place_next commands p = length commands - p.unsent
+
+-- a request line with its CR LF
+abbrev pub request_text : ById → Call → List ℕ
+request_text client call = with_end (request_line (Some client.next) call)
+
+-- the request line of the first of these commands
+abbrev pub first_text : ById → List Command → List ℕ
+first_text client [] = []
+first_text client (command ∷ others) = request_text client command.call
+
+-- these bytes were put, whole or in part
+abbrev pub Puts : List ℕ → Act → Type 0
+Puts bytes (Put out) = out ≡ bytes
+Puts bytes (Cut out count) = (out ≡ bytes) × (count < length bytes)
+Puts bytes _ = ⊥
+
+abbrev pub IsTelling : Act → Type 0
+IsTelling (Told m) = Unit {0}
+IsTelling Untold = Unit {0}
+IsTelling _ = ⊥
+
+abbrev pub IsOpening : Act → Type 0
+IsOpening Opened = Unit {0}
+IsOpening Unopened = Unit {0}
+IsOpening _ = ⊥
+
+abbrev pub IsReading : Act → Type 0
+IsReading (Gave bytes m) = Unit {0}
+IsReading (Silent m) = Unit {0}
+IsReading Ended = Unit {0}
+IsReading Broke = Unit {0}
+IsReading Untold = Unit {0}
+IsReading _ = ⊥
+
+-- the act is that of this order
+abbrev pub Obeys : List Command → Standing → Order → Act → Type 0
+Obeys commands s Tell act = IsTelling act
+Obeys commands s Begin act = IsTelling act
+Obeys commands s Open act = IsOpening act
+Obeys commands s Clear act = Puts (10 ∷ []) act
+Obeys commands s Probe act = Puts (request_text s.client NullProc) act
+Obeys commands s Send act = Puts (first_text s.client (drop (place_next commands s.progress) commands)) act
+Obeys commands s Read act = IsReading act
+Obeys commands s Rest act = IsReading act
+Obeys commands s (Close cause) act = act ≡ Closed
+Obeys commands s (Stop cause) act = ⊥
+
+-- What an act does.
+
+-- how far the station is changes, and nothing else
+abbrev pub with_progress : (Progress → Progress) → Standing → Standing
+with_progress f s = record s { progress = f s.progress }
+
+-- a moment gives up what has reached its deadline
+abbrev pub with_moment : Moment → Standing → Standing
+with_moment m s = record s { client = expires s.client m.elapsed }
+
+-- the client after a send, where it wasn't refused
+abbrev pub client_sent : ById → Option (Sending ById) → ById
+client_sent client None = client
+client_sent client (Some x) = x.client
+
+-- a request is sent, with its deadline so long after the moment that was told last
+abbrev pub asks : Plan → ℕ → Call → Standing → Standing
+asks plan target call s =
+    record s { client = client_sent s.client (sends (width_of plan) s.client target call (later s.progress.moment.elapsed plan.deadline)) }
+
+-- the first of these commands is sent
+abbrev pub asks_first : Plan → List Command → Standing → Standing
+asks_first plan [] s = s
+asks_first plan (command ∷ others) s = asks plan command.target command.call s
+
+-- settlements are written down as the ends of the oldest requests of the cycle that waited; those of the null procedure aren't
+abbrev pub with_settled : Plan → List Command → List Settlement → Standing → Standing
+with_settled plan commands settlements s =
+    record s { records = s.records ++ (if s.progress.probe then [] else records_from s.progress.moment.utc (plan.cycles - s.progress.left) (place_next commands s.progress - length s.client.waiting) settlements) }
+
+-- the client is another
+abbrev pub with_client : ById → Standing → Standing
+with_client client s = record s { client = client }
+
+-- a line came
+abbrev pub line_came : Plan → List Command → Standing → List ℕ → Standing
+line_came plan commands s line =
+    let x = hears s.client line (heard line) in
+    with_client x.client (with_settled plan commands x.settlements s)
+
+abbrev pub lines_came : Plan → List Command → Standing → List (List ℕ) → Standing
+lines_came plan commands s [] = s
+lines_came plan commands s (line ∷ others) = lines_came plan commands (line_came plan commands s line) others
+
+-- the lines that a piece completes behind a rest
+abbrev pub lines_behind : List ℕ → List ℕ → List (List ℕ)
+lines_behind rest piece = filter_map line_in (frames_behind rest piece)
+
+abbrev pub with_rest : List ℕ → Standing → Standing
+with_rest rest s = record s { rest = rest }
+
+-- the lines of a piece are heard, in order
+abbrev pub piece_came : Plan → List Command → List ℕ → Standing → Standing
+piece_came plan commands piece s = lines_came plan commands (with_rest (rest_behind s.rest piece) s) (lines_behind s.rest piece)
+
+-- what comes is heard where requests go out, and is dropped before that
+abbrev pub is_heard : Phase → Bool
+is_heard phase.Down = false
+is_heard phase.Resting = false
+is_heard phase.Clearing = false
+is_heard phase.Draining = false
+is_heard phase.Probing = false
+is_heard phase.Ready = true
+is_heard (phase.Closing cause) = false
+is_heard (phase.Over cause) = false
+
+abbrev pub came : Bool → Plan → List Command → List ℕ → Standing → Standing
+came true plan commands piece s = piece_came plan commands piece s
+came false plan commands piece s = s
+
+-- how far a station is once it heard a piece
+abbrev pub reckoned : Plan → Bool → ℕ → Standing → Standing
+reckoned plan rested before s = with_progress (gave plan rested before (length s.client.waiting)) s
+
+-- a piece came, and then it was this moment: it gives up what has reached its deadline, and then hears
+abbrev pub piece_at : Plan → List Command → Bool → List ℕ → Moment → Standing → Standing
+piece_at plan commands rested piece m s =
+    reckoned plan rested (length s.client.waiting) (came (is_heard s.progress.phase) plan commands piece (with_moment m (with_progress (told m) s)))
+
+-- what was read
+abbrev pub after_read : Plan → List Command → Bool → Standing → Act → Standing
+after_read plan commands rested s (Gave bytes m) = piece_at plan commands rested bytes m s
+after_read plan commands rested s (Silent m) = with_moment m (with_progress (silent plan rested m) s)
+after_read plan commands rested s Ended = with_progress (failing cause.End) s
+after_read plan commands rested s Broke = with_progress (failing cause.Read) s
+after_read plan commands rested s _ = with_progress (failing cause.Clock) s
+
+-- the clock was read
+abbrev pub after_tell : (Moment → Progress → Progress) → Standing → Act → Standing
+after_tell f s (Told m) = with_moment m (with_progress (f m) s)
+after_tell f s _ = with_progress (failing cause.Clock) s
+
+-- bytes were put, which does this; where they were cut, the connection is to be closed
+abbrev pub after_put : List Command → (Standing → Standing) → Standing → Act → Standing
+after_put commands f s (Cut bytes count) = with_progress (failing (cause.Write (place_next commands s.progress) count)) (f s)
+after_put commands f s _ = f s
+
+-- a connection was asked for
+abbrev pub after_open : Standing → Act → Standing
+after_open s Opened = with_progress opened s
+after_open s _ = with_progress (again cause.Open) s
+
+-- the connection was closed: what waits is lost, and ids and lines begin anew
+abbrev pub after_close : Plan → List Command → Cause → Standing → Standing
+after_close plan commands cause s =
+    let x = restarts s.client in
+    with_progress (closed cause) (with_rest [] (with_client x.client (with_settled plan commands x.settlements s)))
+
+-- what an act of this order does, apart from the turn
+abbrev pub moved : Plan → List Command → Order → Standing → Act → Standing
+moved plan commands Tell s act = after_tell told s act
+moved plan commands Begin s act = after_tell (begun plan (length commands)) s act
+moved plan commands Open s act = after_open s act
+moved plan commands Clear s act = after_put commands (with_progress cleared) s act
+moved plan commands Probe s act = after_put commands (λ (s : Standing). with_progress probed (asks plan 0 NullProc s)) s act
+moved plan commands Send s act = after_put commands (λ (s : Standing). with_progress sent (asks_first plan (drop (place_next commands s.progress) commands) s)) s act
+moved plan commands Read s act = after_read plan commands false s act
+moved plan commands Rest s act = after_read plan commands true s act
+moved plan commands (Close cause) s act = after_close plan commands cause s
+moved plan commands (Stop cause) s act = s
+
+-- an act takes a turn, and does what it does by the order that it obeys
+abbrev pub after : Plan → List Command → Standing → Act → Standing
+after plan commands s act = moved plan commands (order_at plan s) (with_progress turned s) act
+
+-- after all acts, in order
+abbrev pub after_all : Plan → List Command → Standing → List Act → Standing
+after_all plan commands s [] = s
+after_all plan commands s (act ∷ acts) = after_all plan commands (after plan commands s act) acts
+
+-- each act is the one that was to be made next
+abbrev pub Runs : Plan → List Command → Standing → List Act → Type 0
+Runs plan commands s [] = Unit {0}
+Runs plan commands s (act ∷ acts) = Obeys commands s (order_at plan s) act × Runs plan commands (after plan commands s act) acts

@@ -1,0 +1,43 @@
+-- No part of a promise: what the functions of a station say of it, in the words of where it stands.
+use Rattle.std.specs.Prelude.{◌≡◌, ℕ, ◌<◌, ◌≤◌, ◌++◌, List, [], ◌∷◌, length, Option, Result, Ok, Err}
+use Rattle.std.specs.Io.KnownBytes.{Appends}
+use Rattle.gc_lines.specs.Assembler.{StandsFor}
+use Rattle.gc_station.specs.declared.command.Command.{Command}
+use Rattle.gc_station.specs.declared.plan.Plan.{Plan}
+use Rattle.gc_station.specs.declared.progress.Cause.TheVariants as cause
+use Rattle.gc_station.specs.declared.progress.Order.{Order}
+use Rattle.gc_station.specs.declared.progress.Order.TheVariants.{Send, Probe, Stop}
+use Rattle.gc_station.specs.declared.progress.Progress.{Progress}
+use Rattle.gc_station.specs.declared.station.Station.{Station}
+use Rattle.gc_station.specs.Acts.{Act, Closed, Tells}
+use Rattle.gc_station.specs.Deciding.{width_of}
+use Rattle.gc_station.specs.Progressing.{failing}
+use Rattle.gc_station.specs.Records.{Record, texts_of, WritesPart}
+use Rattle.gc_station.specs.Standing.{Standing, Obeys, moved}
+use Rattle.gc_station.specs.Tallies.{none_yet, tallied}
+
+-- a station stands there
+pub record Stands (plan : Plan) (station : Station) (s : Standing) : Type 0 where
+  pub progress : station.progress ≡ s.progress
+  pub ids : station.client.ids ≡ s.client
+  pub width : station.client.width ≡ width_of plan
+  pub assembles : StandsFor station.assembler s.rest
+  pub tally : station.tally ≡ tallied none_yet s.records
+
+-- a link told one act of this order, and the station did what that does; a book took what it writes down
+pub record Does (plan : Plan) (commands : List Command) (order : Order) (text : Record → List ℕ) (acts acts' : Option (List Act)) (taken taken' : Option (List ℕ)) (station station' : Station) : Type 0 where
+  pub act : Act
+  pub tells : Tells acts acts' (act ∷ [])
+  pub goes : (s : Standing) (start : Option (List ℕ)) → Stands plan station s → Appends start taken (texts_of text s.records)
+      → Obeys commands s order act × Stands plan station' (moved plan commands order s act) × Appends start taken' (texts_of text (moved plan commands order s act).records)
+
+-- where a write was cut
+abbrev pub cut_progress : Result (Unit {0}) ℕ → ℕ → Progress → Progress
+cut_progress (Ok _) requests p = p
+cut_progress (Err n) requests p = failing (cause.Write requests n) p
+
+-- where a request is to be sent, the window has room, and where it is a command's, one is left
+abbrev pub HasRoom : Plan → Progress → ℕ → Order → Type 0
+HasRoom plan p waiting Send = (0 < p.unsent) × (waiting < width_of plan)
+HasRoom plan p waiting Probe = waiting < width_of plan
+HasRoom plan p waiting _ = Unit {0}

@@ -1,0 +1,152 @@
+//! What each act does to how far a station is.
+
+ghost use Rattle.std.specs.Prelude.{◌≡◌};
+ghost use Rattle.gc_station.specs.Progressing.{later, turned, told, begun, failing, opened, again, quieted, cleared, probed, sent, gave, silent, closed};
+
+use crate::link::Moment;
+use crate::plan::Plan;
+use crate::progress::{Cause, Phase, Progress};
+
+// So much later than a moment, or the last moment that there is.
+pub(crate) fn later(moment: u64, wait: u64) -> u64
+    ensures { result ≡ later moment wait }
+{
+    moment.saturating_add(wait)
+}
+
+impl Phase {
+    // Where a station is once the line is quiet.
+    fn quieted(self, plan: &Plan) -> Phase
+        ensures { result ≡ quieted plan.now self }
+    {
+        match self {
+            Phase::Resting => Phase::Down,
+            Phase::Draining => {
+                if plan.settle {
+                    Phase::Probing
+                } else {
+                    Phase::Ready
+                }
+            }
+            phase => phase,
+        }
+    }
+}
+
+impl Progress {
+    pub(crate) fn turn(&mut self)
+        ensures { self.new ≡ turned self.old }
+    {
+        self.turns = self.turns.saturating_sub(1);
+    }
+
+    pub(crate) fn tell(&mut self, moment: Moment)
+        ensures { self.new ≡ told moment self.old }
+    {
+        self.moment = moment;
+        self.since = moment.elapsed;
+        self.stale = false;
+    }
+
+    pub(crate) fn begin(&mut self, plan: &Plan, count: usize, moment: Moment)
+        ensures { self.new ≡ begun plan.now count moment self.old }
+    {
+        self.began = if self.early {
+            later(self.began, plan.every)
+        } else {
+            moment.elapsed
+        };
+        self.tell(moment);
+        self.early = false;
+        self.left = self.left.saturating_sub(1);
+        self.unsent = count;
+    }
+
+    pub(crate) fn fail(&mut self, cause: Cause)
+        ensures { self.new ≡ failing cause self.old }
+    {
+        self.phase = if self.phase.is_up() {
+            Phase::Closing(cause)
+        } else {
+            Phase::Over(cause)
+        };
+    }
+
+    pub(crate) fn open(&mut self)
+        ensures { self.new ≡ opened self.old }
+    {
+        self.phase = Phase::Clearing;
+    }
+
+    pub(crate) fn try_again(&mut self, cause: Cause)
+        ensures { self.new ≡ again cause self.old }
+    {
+        self.phase = if self.tries > 0 {
+            Phase::Resting
+        } else {
+            Phase::Over(cause)
+        };
+        self.probe = false;
+        self.stale = true;
+        self.tries = self.tries.saturating_sub(1);
+    }
+
+    pub(crate) fn clear(&mut self)
+        ensures { self.new ≡ cleared self.old }
+    {
+        self.phase = Phase::Draining;
+        self.stale = true;
+    }
+
+    pub(crate) fn probe(&mut self)
+        ensures { self.new ≡ probed self.old }
+    {
+        self.phase = Phase::Ready;
+        self.probe = true;
+        self.stale = true;
+    }
+
+    pub(crate) fn send(&mut self)
+        ensures { self.new ≡ sent self.old }
+    {
+        self.unsent = self.unsent.saturating_sub(1);
+        self.stale = true;
+    }
+
+    pub(crate) fn give(&mut self, plan: &Plan, rested: bool, before: usize, after: usize)
+        ensures { self.new ≡ gave plan.now rested before after self.old }
+    {
+        self.probe = self.probe && after != 0;
+        if rested {
+            self.early = true;
+        }
+        if after < before {
+            self.tries = plan.retries;
+        }
+    }
+
+    pub(crate) fn be_silent(&mut self, plan: &Plan, rested: bool, moment: Moment)
+        ensures { self.new ≡ silent plan.now rested moment self.old }
+    {
+        self.moment = moment;
+        self.stale = false;
+        if rested {
+            self.early = true;
+        }
+        if self.is_quiet(plan) {
+            self.phase = self.phase.quieted(plan);
+        }
+    }
+
+    pub(crate) fn close(&mut self, cause: Cause)
+        ensures { self.new ≡ closed cause self.old }
+    {
+        match cause {
+            Cause::Done | Cause::Clock | Cause::Turns => {
+                self.phase = Phase::Over(cause);
+                self.probe = false;
+            }
+            _ => self.try_again(cause),
+        }
+    }
+}

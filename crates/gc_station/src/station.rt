@@ -1,0 +1,264 @@
+//! A station's steps: each makes the one call of the link that is next, and does by the client what came of it.
+
+ghost use Rattle.std.specs.Prelude.{◌≡◌, ℕ, ◌+◌, ◌-◌, ◌<◌, ◌≤◌, ◌^◌, ◌++◌, List, [], ◌∷◌, length, map, Option, if◌then◌else◌, OnOk, IfSome};
+ghost use Rattle.std.specs.Io.KnownBytes.{Appends};
+ghost use Rattle.gc_lines.specs.Assembler.{StandsFor};
+ghost use Rattle.gc_lines.specs.Frames.{line_in};
+ghost use Rattle.gc_lines.specs.Lent.{lent_seen, IsLineWithin};
+ghost use Rattle.gc_lines.specs.Ports.{FailsWith};
+ghost use Rattle.gc_client.specs.Rule.{sends};
+ghost use Rattle.gc_client.specs.Settlements.{settlement_seen};
+ghost use Rattle.gc_station.specs.Acts.{Tells, put_as, IsPart};
+ghost use Rattle.gc_station.specs.Deciding.{width_of};
+ghost use Rattle.gc_station.specs.Progressing.{later};
+ghost use Rattle.gc_station.specs.Records.{Record, records_from, texts_of, WritesAll};
+ghost use Rattle.gc_station.specs.Standing.{Standing, opening, order_at, place_next, request_text, client_sent, is_heard};
+ghost use Rattle.gc_station.specs.Stations.{Stands, Does, HasRoom, cut_progress};
+ghost use Rattle.gc_station.specs.Tallies.{none_yet, tallied};
+ghost use Rattle.gc_station.specs.declared.progress.Order.TheVariants.{Tell, Begin, Open, Clear, Probe, Send};
+ghost use Rattle.gc_station.specs.declared.plan.Plan.{Plan};
+ghost use Rattle.gc_station.specs.declared.command.Command.{Command};
+
+use crate::book::{Book, Stamp};
+use crate::command::Command;
+use crate::link::{Came, Link, Moment};
+use crate::plan::Plan;
+use crate::progress::{Cause, Order, Phase, Progress, width};
+use crate::progressing::later;
+use crate::tally::Tally;
+use crate::writing::write_settlements;
+use arrayvec::ArrayVec;
+use gc_catalogue::Call;
+use gc_client::{Client, Settlement, Slots, WINDOW};
+use gc_lines::{Assembler, Lent, Line, PortFailed, append};
+
+/// What a station keeps from one act to the next.
+#[derive(Drop)]
+pub(crate) struct Station {
+    pub(crate) client: Client<Slots>,
+    pub(crate) assembler: Assembler,
+    pub(crate) progress: Progress,
+    pub(crate) tally: Tally,
+    // What the last line settled.
+    pub(crate) settled: ArrayVec<Settlement, WINDOW>,
+}
+
+impl Phase {
+    // Whether what comes is heard.
+    fn is_heard(self) -> bool
+        ensures { result ≡ is_heard self }
+    {
+        match self {
+            Phase::Down => false,
+            Phase::Resting => false,
+            Phase::Clearing => false,
+            Phase::Draining => false,
+            Phase::Probing => false,
+            Phase::Ready => true,
+            Phase::Closing(_) => false,
+            Phase::Over(_) => false,
+        }
+    }
+}
+
+impl Station {
+    // A station that has done nothing.
+    pub(crate) fn new(plan: &Plan, max_turns: u64) -> Station
+        ensures { Stands plan.now result (opening plan.now max_turns) }
+    {
+        Station {
+            client: Client::with_width(Slots::new(), width(plan)),
+            assembler: Assembler::new(),
+            progress: Progress::at_start(plan, max_turns),
+            tally: Tally::new(),
+            settled: ArrayVec::new(),
+        }
+    }
+
+    // What is next.
+    pub(crate) fn order(&self, plan: &Plan) -> Order
+        ensures order { (s : Standing) → Stands plan.now self.now s → result ≡ order_at plan.now s }
+        ensures room { HasRoom plan.now self.now.progress (length self.now.client.ids.waiting) result }
+    {
+        self.progress.order(
+            plan,
+            self.client.waiting(),
+            self.client.next_deadline().is_none(),
+        )
+    }
+
+    // How many commands of the cycle were sent.
+    fn place(&self, commands: &[Command]) -> usize
+        ensures { result ≡ place_next commands.now self.now.progress }
+    {
+        commands.len().saturating_sub(self.progress.unsent)
+    }
+
+    // The stamp of the oldest request of the cycle that waits.
+    fn stamp(&self, plan: &Plan, commands: &[Command]) -> Stamp
+        ensures utc { result.utc ≡ self.now.progress.moment.utc }
+        ensures cycle { result.cycle ≡ plan.now.cycles - self.now.progress.left }
+        ensures place { result.place ≡ place_next commands.now self.now.progress - length self.now.client.ids.waiting }
+        ensures fits { result.place + 7 ≤ 2 ^ 64 }
+    {
+        Stamp {
+            utc: self.progress.moment.utc,
+            cycle: plan.cycles.saturating_sub(self.progress.left),
+            place: self.place(commands).saturating_sub(self.client.waiting()),
+        }
+    }
+
+    // How many milliseconds to wait for bytes. Nothing rests on it.
+    fn patience(&self, plan: &Plan, rested: bool) -> u64 {
+        let quiet = later(self.progress.since, plan.quiet);
+        let until = match self.client.next_deadline() {
+            Some(deadline) => deadline,
+            None => if rested {
+                later(self.progress.began, plan.every)
+            } else {
+                quiet
+            },
+        };
+        until
+            .saturating_sub(self.progress.moment.elapsed)
+            .max(1)
+            .min(60_000)
+    }
+
+    // Reads the clock.
+    fn tell<L: Link>(&mut self, link: &mut L)
+        ensures { (plan : Plan) (commands : List Command) (text : Record → List ℕ) (known : Option (List ℕ))
+            → Does plan commands Tell text (L.acts link.old) (L.acts link.new) known known self.old self.new }
+    {
+        match link.now() {
+            Ok(moment) => {
+                self.progress.tell(moment);
+                self.client.expire(moment.elapsed);
+            }
+            Err(_) => self.progress.fail(Cause::Clock),
+        }
+    }
+
+    // Reads the clock, and begins a cycle.
+    fn begin<L: Link, B: Book>(
+        &mut self,
+        link: &mut L,
+        book: &mut B,
+        plan: &Plan,
+        commands: &[Command],
+    )
+        ensures does { (text : Record → List ℕ) (known : Option (List ℕ))
+            → Does plan.now commands.now Begin text (L.acts link.old) (L.acts link.new) known known self.old self.new }
+        ensures taken { B.taken book.new ≡ B.taken book.old }
+        ensures failed { B.failed book.new ≡ B.failed book.old }
+    {
+        match link.now() {
+            Ok(moment) => {
+                let cycle = plan.cycles.saturating_sub(self.progress.left);
+                if cycle > 0 && plan.every > 0 && !self.progress.early {
+                    book.overran(cycle);
+                }
+                self.progress.begin(plan, commands.len(), moment);
+                self.client.expire(moment.elapsed);
+            }
+            Err(_) => self.progress.fail(Cause::Clock),
+        }
+    }
+
+    // Makes a connection.
+    fn open<L: Link>(&mut self, link: &mut L)
+        ensures { (plan : Plan) (commands : List Command) (text : Record → List ℕ) (known : Option (List ℕ))
+            → Does plan commands Open text (L.acts link.old) (L.acts link.new) known known self.old self.new }
+    {
+        match link.open() {
+            Ok(()) => self.progress.open(),
+            Err(_) => self.progress.try_again(Cause::Open),
+        }
+    }
+
+    // The connection is to be closed where a write was cut.
+    fn cut(&mut self, put: Result<(), usize>, requests: usize)
+        ensures { self.new ≡ record self.old { progress = cut_progress put requests self.old.progress } }
+    {
+        if let Err(bytes) = put {
+            self.progress.fail(Cause::Write { requests, bytes });
+        }
+    }
+
+    // Sends a lone line feed.
+    fn clear<L: Link>(&mut self, link: &mut L, commands: &[Command])
+        ensures { (plan : Plan) (text : Record → List ℕ) (known : Option (List ℕ))
+            → Does plan commands.now Clear text (L.acts link.old) (L.acts link.new) known known self.old self.new }
+    {
+        let requests = self.place(commands);
+        let put = link.put(b"\n");
+        self.progress.clear();
+        self.cut(put, requests);
+    }
+
+    // Sends a request.
+    fn ask<L: Link>(
+        &mut self,
+        link: &mut L,
+        plan: &Plan,
+        target: u32,
+        call: &Call,
+    ) -> Result<(), usize>
+        requires { length self.old.client.ids.waiting < self.old.client.width }
+        ensures tells { Tells (L.acts link.old) (L.acts link.new) (put_as result (request_text self.old.client.ids call.now) ∷ []) }
+        ensures part { IsPart result (request_text self.old.client.ids call.now) }
+        ensures client { self.new ≡ record self.old { client = record self.old.client { ids =
+            client_sent self.old.client.ids (sends self.old.client.width self.old.client.ids target call.now (later self.old.progress.moment.elapsed plan.now.deadline)) } } }
+    {
+        let deadline = later(self.progress.moment.elapsed, plan.deadline);
+        let mut line = Line::new();
+        let Ok(()) = self.client.send_into(target, call, deadline, &mut line) else {
+            unreachable!()
+        };
+        let mut text = ArrayVec::<u8, 514>::new();
+        append(&mut text, &line);
+        append(&mut text, b"\r\n");
+        link.put(text.as_slice())
+    }
+
+    // Sends the null procedure.
+    fn probe<L: Link>(&mut self, link: &mut L, plan: &Plan, commands: &[Command])
+        requires { length self.old.client.ids.waiting < self.old.client.width }
+        ensures { (text : Record → List ℕ) (known : Option (List ℕ))
+            → Does plan.now commands.now Probe text (L.acts link.old) (L.acts link.new) known known self.old self.new }
+    {
+        let requests = self.place(commands);
+        let put = self.ask(link, plan, 0, &Call::NullProc);
+        self.progress.probe();
+        self.cut(put, requests);
+    }
+
+    // Sends the next command.
+    fn send<L: Link>(&mut self, link: &mut L, plan: &Plan, commands: &[Command])
+        requires room { length self.old.client.ids.waiting < self.old.client.width }
+        requires unsent { 0 < self.old.progress.unsent }
+        requires within { self.old.progress.unsent ≤ length commands.now }
+        ensures { (text : Record → List ℕ) (known : Option (List ℕ))
+            → Does plan.now commands.now Send text (L.acts link.old) (L.acts link.new) known known self.old self.new }
+    {
+        let place = self.place(commands);
+        let command = &commands[place];
+        let put = self.ask(link, plan, command.target, &command.call);
+        self.progress.send();
+        self.cut(put, place);
+    }
+
+    // Writes down what was settled, unless it is the null procedure's end.
+    fn write<B: Book>(&mut self, book: &mut B, first: Stamp) -> Result<(), PortFailed>
+        requires { first.place + length self.old.settled.items ≤ 2 ^ 64 }
+        ensures wrote { (start : Option (List ℕ)) (before : List Record) → Appends start (B.taken book.old) (texts_of B.text before)
+            → WritesAll B.text (before ++ (if self.old.progress.probe then [] else records_from first.utc first.cycle first.place (map settlement_seen self.old.settled.items))) start (B.taken book.new) result }
+        ensures tally { OnOk result (self.new ≡ record self.old { tally = tallied self.old.tally (if self.old.progress.probe then [] else records_from first.utc first.cycle first.place (map settlement_seen self.old.settled.items)) }) }
+        ensures fails { FailsWith result (B.failed book.old) (B.failed book.new) }
+    {
+        if self.progress.probe {
+            return Ok(());
+        }
+        write_settlements(book, &mut self.tally, first, self.settled.as_slice())
+    }
+}
