@@ -9,6 +9,7 @@ mod progress;
 mod progressing;
 mod station;
 mod tally;
+mod tcp;
 mod writing;
 
 pub use book::{Book, Stamp};
@@ -17,3 +18,4 @@ pub use link::{Came, Link, Moment};
 pub use plan::Plan;
 pub use progress::{Cause, Order, Phase, Progress};
 pub use tally::Tally;
+pub use tcp::TcpLink;
