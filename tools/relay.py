@@ -1,8 +1,8 @@
 """A bad line between `geocom station` and `geocom serve`, by a seed: it loses, delays, repeats and cuts lines, hands them over
 in pieces, kills connections, refuses them for a while, and stalls. It keeps order, as the protocol wants of a line.
 
-For each connection of the station it makes a new one to `geocom serve`, which it starts where none runs. What was under way on
-the last connection may still come on the new one, within the quiet time.
+For each connection of the station it starts `geocom serve` and makes a connection to it. What was under way on the last
+connection may still come on the new one, at once.
 
 With `--tag` each answer that comes back carries the number of the request that it answers in place of its values. What numbers
 stand for which request is written to the log, a line `NUMBER CYCLE PLACE` each.
@@ -53,28 +53,28 @@ class Relay:
         self.cycle = 1
         self.place = -1
         self.told = collections.Counter()
-        self.serve = None
-        self.port = 0
+        self.serves = []
         self.left_down, self.left_up = [], []
 
     # The instrument's end.
 
     def instrument(self):
-        """A new connection to `geocom serve`."""
+        """A connection to a `geocom serve` that has served none."""
+        self.serves = [s for s in self.serves if s.poll() is None]
         for _ in range(200):
-            if self.serve is None or self.serve.poll() is not None:
-                with socket.socket() as free:
-                    free.bind(("127.0.0.1", 0))
-                    self.port = free.getsockname()[1]
-                words = [self.options.geocom, "serve", str(self.port), "--connections", "1000"]
-                self.serve = subprocess.Popen(words, stderr=subprocess.DEVNULL)
-                self.told["started"] += 1
-            try:
-                far = socket.create_connection(("127.0.0.1", self.port), 5)
+            with socket.socket() as free:
+                free.bind(("127.0.0.1", 0))
+                port = free.getsockname()[1]
+            words = [self.options.geocom, "serve", str(port)]
+            self.serves.append(subprocess.Popen(words, stderr=subprocess.DEVNULL))
+            while self.serves[-1].poll() is None:
+                try:
+                    far = socket.create_connection(("127.0.0.1", port), 5)
+                except OSError:
+                    time.sleep(0.005)
+                    continue
                 far.setsockopt(socket.IPPROTO_TCP, socket.TCP_NODELAY, 1)
                 return far
-            except OSError:
-                time.sleep(0.02)
         sys.exit("geocom serve can't be reached")
 
     # What a line is.
@@ -104,13 +104,13 @@ class Relay:
     def chance(self, per_mille):
         return self.random.random() * 1000 < per_mille * self.options.bad
 
-    def spoil(self, way, line, now, sent):
-        """Queues a line, or what is left of it. Says whether the connection dies within it."""
+    def spoil(self, way, line, sent):
+        """Queues a line, or what is left of it."""
         o = self.options
-        at = now + self.random.uniform(0, o.delay) / 1000
+        at = time.monotonic() + self.random.uniform(0, o.delay) / 1000
         if self.chance(30):
             self.told["lost"] += 1
-            return False
+            return
         if self.chance(15):
             self.told["delayed"] += 1
             at += o.deadline * self.random.uniform(0.5, 2) / 1000
@@ -121,78 +121,87 @@ class Relay:
         if o.kill and self.chance(6):
             self.told["killed"] += 1
             way.put(at, line[: self.random.randrange(len(line))], "kill")
-            return True
+            return
         for _ in range(2 if self.chance(30) else 1):
             cut = sorted(self.random.sample(range(1, len(line)), min(len(line) - 1, self.random.choice([0, 0, 1, 3]))))
             for begin, end in zip([0] + cut, cut + [len(line)]):
                 way.put(at, line[begin:end], sent if end == len(line) else None)
                 at += self.random.uniform(0, 4) / 1000
-        return False
 
     # One connection.
 
-    def connection(self, near):
+    def connection(self, near, far):
         """Relays until one end closes or the connection is killed."""
-        o = self.options
         near.setsockopt(socket.IPPROTO_TCP, socket.TCP_NODELAY, 1)
-        far = self.instrument()
         up, down = Way(), Way()
         owed = collections.deque()
-        begin = time.monotonic()
-        if o.leftovers:
-            for line in self.left_down:
-                down.put(begin + 0.02, line)
-        if o.leftovers == "both":
-            for line, number in self.left_up:
-                up.put(begin, line, ("request", number))
-        self.told["leftovers"] += len(down.queue) + len(up.queue)
+        self.remain(up, down, far, owed)
         dead_until = 0.0
-        killed = False
-        while True:
+        alive = True
+        while alive:
             now = time.monotonic()
-            for way, to in ((up, far), (down, near)):
-                while way.queue and way.queue[0][0] <= now and dead_until <= now and not killed:
-                    _, data, then = way.queue.popleft()
-                    try:
-                        to.sendall(data)
-                    except OSError:
-                        killed = True
-                    if then == "kill":
-                        killed = True
-                    elif then:
-                        owed.append(then[1])
-            if killed:
-                break
+            if dead_until <= now:
+                alive = self.deliver(up, far, owed) and self.deliver(down, near, owed)
             soonest = min([w.queue[0][0] for w in (up, down) if w.queue], default=now + 1)
             wait = max(0.0, max(soonest, dead_until) - now)
-            ready, _, _ = select.select([near, far], [], [], min(wait, 1))
-            ended = False
-            for end in ready:
+            for end in select.select([near, far], [], [], min(wait, 1))[0] if alive else []:
                 try:
                     data = end.recv(65536)
                 except OSError:
                     data = b""
-                if not data:
-                    ended = True
-                    continue
-                now = time.monotonic()
+                alive = alive and bool(data)
                 if end is near:
-                    for line in up.lines(data):
-                        number = self.name(line)
-                        sent = ("request", number) if REQUEST.match(line) else None
-                        self.spoil(up, line, now, sent)
+                    self.from_station(up, data)
                 else:
-                    for line in down.lines(data):
-                        self.spoil(down, self.tagged(line, owed.popleft()), now, None)
+                    self.from_instrument(down, data, owed)
                 if self.chance(2):
                     self.told["stalled"] += 1
-                    dead_until = now + 3 * o.deadline / 1000
-            if ended:
-                break
+                    dead_until = now + 3 * self.options.deadline / 1000
         self.left_down = [data for _, data, then in down.queue if then != "kill"][:8]
-        self.left_up = [(data, then[1]) for _, data, then in up.queue if isinstance(then, tuple) and REQUEST.match(data)][:8]
+        self.left_up = [(data, then) for _, data, then in up.queue if REQUEST.match(data) and then and then != "kill"][:8]
+        ahead = self.instrument()
         self.end(near, up)
         far.close()
+        return ahead
+
+    def remain(self, up, down, far, owed):
+        """What was under way on the last connection comes on this one, before the line is quiet."""
+        now = time.monotonic()
+        if self.options.leftovers:
+            for data in self.left_down:
+                down.put(now + 0.02, data)
+        if self.options.leftovers == "both":
+            for data, (number, _) in self.left_up:
+                up.put(now, data, (number, True))
+        self.told["leftovers"] += len(down.queue) + len(up.queue)
+
+    def deliver(self, way, to, owed):
+        """Hands over what is due. Says whether the connection lives."""
+        while way.queue and way.queue[0][0] <= time.monotonic():
+            _, data, then = way.queue.popleft()
+            try:
+                to.sendall(data)
+            except OSError:
+                return False
+            if then == "kill":
+                return False
+            if then:
+                owed.append(then)
+        return True
+
+    def from_station(self, up, data):
+        for line in up.lines(data):
+            number = self.name(line)
+            self.spoil(up, line, (number, False) if REQUEST.match(line) else None)
+
+    def from_instrument(self, down, data, owed):
+        for line in down.lines(data):
+            number, old = owed.popleft()
+            line = self.tagged(line, number)
+            if old:
+                down.put(time.monotonic(), line)
+            else:
+                self.spoil(down, line, None)
 
     def end(self, near, up):
         """Ends the station's connection, by an end or by a reset, and notes what it had sent."""
@@ -212,23 +221,20 @@ class Relay:
             near.setsockopt(socket.SOL_SOCKET, socket.SO_LINGER, struct.pack("ii", 1, 0))
         near.close()
 
-    def listener(self):
-        at = socket.create_server(("127.0.0.1", self.options.listen), reuse_port=False)
-        return at
-
     def run(self):
-        at = self.listener()
+        at = socket.create_server(("127.0.0.1", self.options.listen))
+        far = self.instrument()
         while True:
             near, _ = at.accept()
             self.told["connections"] += 1
             refuse = self.options.kill and self.chance(100)
             if refuse:
                 at.close()
-            self.connection(near)
+            far = self.connection(near, far)
             if refuse:
                 self.told["refused"] += 1
                 time.sleep(1.5 * self.options.quiet / 1000)
-                at = self.listener()
+                at = socket.create_server(("127.0.0.1", self.options.listen))
 
 
 def main():
@@ -248,8 +254,8 @@ def main():
     relay = Relay(words.parse_args())
 
     def stop(*_):
-        if relay.serve:
-            relay.serve.kill()
+        for serve in relay.serves:
+            serve.kill()
         print(" ".join(f"{k} {v}" for k, v in sorted(relay.told.items())), file=sys.stderr)
         sys.exit(0)
 

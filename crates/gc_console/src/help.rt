@@ -86,7 +86,7 @@ came for the quiet time. With each new connection the instrument has to start an
 if it does neither, use --settle.
 
 Example, beside `geocom serve 4001`:
-  printf '7 5003\n8 2026\n' | geocom station 4001
+  printf '7 5003\\n8 2026\\n' | geocom station 4001
 writes two lines as
   2026-11-22T23:08:27.123Z 0 7 answered %R1P,0,0:0,123456
   2026-11-22T23:08:27.124Z 1 8 answered %R1P,0,1:0,0

@@ -127,7 +127,7 @@ fn run_subcommand<
         Subcommand::Station(station) => run_station_port(
             rt,
             alloc,
-            &station,
+            station,
             &mut FromReader::new(input),
             sink,
             messages,

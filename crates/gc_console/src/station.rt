@@ -21,6 +21,7 @@ use std::time::Clock;
 
 
 /// What the words of `station` ask for.
+#[derive(Clone, Copy)]
 pub(crate) struct Station {
     port: u16,
     form: Form,
@@ -49,7 +50,7 @@ pub(crate) fn station_command<'a>(alloc: Global) -> Result<Command<'a>, Error> {
         .help("Connects anew so many times in a row");
     let every = time_of(alloc, "every", "SECONDS", "0", "Begins a cycle so many seconds after the last began")
         .value_parser(value_parser!(u64).range(0..=86_400));
-    Command::new(alloc, "station")
+    Ok(Command::new(alloc, "station")
         .about("Measures the commands of standard input on a port of 127.0.0.1, cycle after cycle, with deadlines")
         .after_help(STATION)
         .arg(port_of(alloc))?
@@ -60,7 +61,7 @@ pub(crate) fn station_command<'a>(alloc: Global) -> Result<Command<'a>, Error> {
         .arg(time_of(alloc, "quiet", "MS", "2000", "Takes the line for quiet where nothing came for so many milliseconds"))?
         .arg(retries)?
         .arg(flag_of(alloc, "settle", "Has a null procedure answered on each new connection first"))?
-        .arg(flag_of(alloc, "csv", "Writes comma-separated values, with a header"))
+        .arg(flag_of(alloc, "csv", "Writes comma-separated values, with a header"))?)
 }
 
 // A time, as a word with a default.
@@ -108,7 +109,7 @@ pub(crate) fn run_station_port<
 >(
     rt: &R,
     alloc: Global,
-    station: &Station,
+    station: Station,
     source: &mut S,
     sink: K,
     messages: &mut E,
@@ -139,7 +140,7 @@ fn measure<
 >(
     rt: &R,
     alloc: Global,
-    station: &Station,
+    station: Station,
     source: &mut S,
     mut sink: K,
     messages: &mut E,
@@ -170,6 +171,7 @@ fn measure<
 }
 
 // A book of lines, and where cycles that were not done in time are told.
+#[derive(Drop)]
 struct Lines<'a, K, E> {
     sink: K,
     messages: &'a mut E,
@@ -193,6 +195,7 @@ impl<'a, K: Sink, E: Write> Book for Lines<'a, K, E> {
 }
 
 // A book of rows of comma-separated values, and where cycles that were not done in time are told.
+#[derive(Drop)]
 struct Rows<'a, K, E> {
     sink: K,
     messages: &'a mut E,
