@@ -27,7 +27,7 @@ pub(crate) struct Asking {
 
 impl Asking {
     pub(crate) fn new(max_reads: u32) -> Asking
-        ensures client { result.end.client ≡ idle 0 }
+        ensures client { result.end.client.ids ≡ idle 0 }
         ensures assembler { StandsFor result.end.assembler [] }
         ensures ahead { result.ahead ≡ [] }
         ensures reads { result.reads ≡ max_reads }
@@ -46,9 +46,9 @@ impl Asking {
         command: &Command,
         link: &mut O,
     ) -> Result<(), RunFault>
-        requires { self.old.end.client ≡ idle place }
+        requires { self.old.end.client.ids ≡ idle place }
         ensures sends { Sends place command.now (O.taken link.old) (O.taken link.new) (O.failed link.old) (O.failed link.new) result }
-        ensures client { self.new.end.client ≡ waiting_for place command.now }
+        ensures client { self.new.end.client.ids ≡ waiting_for place command.now }
         ensures same { (self.new.end.assembler ≡ self.old.end.assembler) × (self.new.ahead ≡ self.old.ahead) × (self.new.reads ≡ self.old.reads) }
     {
         let mut line = Line::new();
@@ -73,11 +73,11 @@ impl Asking {
         link_in: &mut I,
         link_out: &mut O,
     ) -> Result<(), RunFault>
-        requires { self.old.end.client ≡ idle place }
+        requires { self.old.end.client.ids ≡ idle place }
         ensures exchanges { (given : List ℕ) × Consumes (I.remaining link_in.old) (I.remaining link_in.new) given
             × (length given ≤ 256 * (I.reads link_in.new - I.reads link_in.old))
             × ((rest : List ℕ) → StandsFor self.old.end.assembler rest
-            → Exchanges place command.now rest (self.old.ahead ++ given) self.new.ahead self.new.end.assembler self.new.end.client self.new.end.settled.items
+            → Exchanges place command.now rest (self.old.ahead ++ given) self.new.ahead self.new.end.assembler self.new.end.client.ids self.new.end.settled.items
             (O.taken link_out.old) (O.taken link_out.new) result) }
         ensures grows { I.reads link_in.old ≤ I.reads link_in.new }
         ensures reads { I.reads link_in.new + self.new.reads ≡ I.reads link_in.old + self.old.reads }
@@ -101,12 +101,12 @@ impl Asking {
         link_out: &mut O,
         sink: &mut K,
     ) -> Result<(), RunFault>
-        requires idle { self.old.end.client ≡ idle place }
+        requires idle { self.old.end.client.ids ≡ idle place }
         requires stands { (rest : List ℕ) × StandsFor self.old.end.assembler rest }
         ensures asks { (given : List ℕ) × Consumes (I.remaining link_in.old) (I.remaining link_in.new) given
             × (length given ≤ 256 * (I.reads link_in.new - I.reads link_in.old))
             × ((rest : List ℕ) → StandsFor self.old.end.assembler rest
-            → AsksOne place command.now rest (self.old.ahead ++ given) self.new.ahead self.new.end.assembler self.new.end.client
+            → AsksOne place command.now rest (self.old.ahead ++ given) self.new.ahead self.new.end.assembler self.new.end.client.ids
             (O.taken link_out.old) (O.taken link_out.new) (K.taken sink.old) (K.taken sink.new) result) }
         ensures grows { I.reads link_in.old ≤ I.reads link_in.new }
         ensures reads { I.reads link_in.new + self.new.reads ≡ I.reads link_in.old + self.old.reads }

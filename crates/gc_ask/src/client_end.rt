@@ -25,7 +25,7 @@ pub(crate) struct ClientEnd {
 
 impl ClientEnd {
     pub(crate) fn new() -> ClientEnd
-        ensures client { result.client ≡ idle 0 }
+        ensures client { result.client.ids ≡ idle 0 }
         ensures assembler { StandsFor result.assembler [] }
     {
         ClientEnd {
@@ -39,7 +39,7 @@ impl ClientEnd {
     fn take_frame(&mut self, frame: Lent<'_>) -> bool
         requires { IsLineWithin frame }
         ensures same { self.new.assembler ≡ self.old.assembler }
-        ensures takes { TakesFrame self.old.client self.new.client (line_in (lent_seen frame.entry)) self.new.settled.items result }
+        ensures takes { TakesFrame self.old.client.ids self.new.client.ids (line_in (lent_seen frame.entry)) self.new.settled.items result }
     {
         let Lent::Line(line) = frame else {
             return false;
@@ -52,7 +52,7 @@ impl ClientEnd {
     fn listen(&mut self, piece: &[u8], cut: &mut Line) -> Option<usize>
         ensures within { IfSome result (λ used. used ≤ length piece.now) }
         ensures listens { (rest : List ℕ) → StandsFor self.old.assembler rest
-            → Listens rest piece.now self.new.assembler self.old.client self.new.client self.new.settled.items result }
+            → Listens rest piece.now self.new.assembler self.old.client.ids self.new.client.ids self.new.settled.items result }
     {
         let mut at = 0;
         while at < piece.len() {
@@ -76,7 +76,7 @@ impl ClientEnd {
         ensures hears { (given : List ℕ) × Consumes (I.remaining link.old) (I.remaining link.new) given
             × (length given ≤ 256 * (I.reads link.new - I.reads link.old))
             × ((rest : List ℕ) → StandsFor self.old.assembler rest
-            → HearsReply rest (ahead.old ++ given) ahead.new self.new.assembler self.old.client self.new.client self.new.settled.items result) }
+            → HearsReply rest (ahead.old ++ given) ahead.new self.new.assembler self.old.client.ids self.new.client.ids self.new.settled.items result) }
         ensures grows { I.reads link.old ≤ I.reads link.new }
         ensures reads { I.reads link.new + reads.new ≡ I.reads link.old + reads.old }
         ensures ends { ReadEnds (I.reads link.old) (I.reads link.new) (I.ended link.old) (I.ended link.new) (I.failed link.old) (I.failed link.new) reads.old reads.new result }

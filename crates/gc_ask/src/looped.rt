@@ -94,9 +94,9 @@ impl Ends {
         instrument_out: &mut D,
         sink: &mut K,
     ) -> Result<(), RunFault>
-        requires idle { self.old.asking.end.client ≡ idle place }
+        requires idle { self.old.asking.end.client.ids ≡ idle place }
         requires stands { (rest : List ℕ) × StandsFor self.old.asking.end.assembler rest }
-        ensures idle { OnOk result (self.new.asking.end.client ≡ idle (place + 1)) }
+        ensures idle { OnOk result (self.new.asking.end.client.ids ≡ idle (place + 1)) }
         ensures stands { OnOk result ((rest : List ℕ) × StandsFor self.new.asking.end.assembler rest) }
         ensures reads { A.reads client_in.new + C.reads instrument_in.new + self.new.asking.reads ≡ A.reads client_in.old + C.reads instrument_in.old + self.old.asking.reads }
     {
@@ -129,11 +129,11 @@ impl Ends {
         instrument_in: &mut C,
         instrument_out: &mut D,
     ) -> Result<(), RunFault>
-        requires idle { self.old.asking.end.client ≡ idle place }
+        requires idle { self.old.asking.end.client.ids ≡ idle place }
         requires stands { (rest : List ℕ) × StandsFor self.old.asking.end.assembler rest }
-        ensures settled { OnOk result ((length self.new.asking.end.settled.items ≡ 1) × (self.new.asking.end.client ≡ idle (place + 1))
+        ensures settled { OnOk result ((length self.new.asking.end.settled.items ≡ 1) × (self.new.asking.end.client.ids ≡ idle (place + 1))
             × ((rest : List ℕ) × StandsFor self.new.asking.end.assembler rest)) }
-        ensures waits { IfErr result (λ _. self.new.asking.end.client ≡ waiting_for place command.now) }
+        ensures waits { IfErr result (λ _. self.new.asking.end.client.ids ≡ waiting_for place command.now) }
         ensures reads { A.reads client_in.new + C.reads instrument_in.new + self.new.asking.reads ≡ A.reads client_in.old + C.reads instrument_in.old + self.old.asking.reads }
     {
         if let Err(fault) = self.asking.send(place, command, client_out) {

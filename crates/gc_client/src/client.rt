@@ -1,6 +1,6 @@
 //! The client: all that happens to the next id and to the requests that wait is the client's rule, this project's own.
 
-ghost use Rattle.std.specs.Prelude.{◌≡◌, ℕ, ◌+◌, ◌<◌, ◌≤◌, ◌↔◌, true, List, [], ◌∷◌, ◌++◌, length, Option, Some, None, Ok, Err, IfSome, IfOk, IfErr, OnOk, IsErr, MatchResult};
+ghost use Rattle.std.specs.Prelude.{◌≡◌, ℕ, ◌+◌, ◌<◌, ◌≤◌, ◌↔◌, true, List, [], ◌∷◌, ◌++◌, length, Option, Some, None, Ok, Err, IfSome, IfOk, IfErr, OnOk, IsOk, IsErr, MatchResult};
 ghost use Rattle.gc_lines.specs.Lines.{IsPlain};
 ghost use Rattle.gc_lines.specs.Replies.{reply_seen};
 ghost use Rattle.gc_lines.specs.Readers.{reply_at};
@@ -260,6 +260,7 @@ impl<W: Window> Client<W> {
             × (line.items ≡ request_line (Some self.old.ids.next) call))
             (λ _. (ruled ≡ None) × (self.new ≡ self.old)) }
         ensures full { IsErr result ↔ (length self.old.ids.waiting ≡ self.old.width) }
+        ensures first { self.old.ids.waiting ≡ [] → IsOk result }
         ensures width { self.new.width ≡ self.old.width }
         ensures plain { IfOk result (λ line. IsPlain line.items) }
         ensures fitting { OnOk result (IsFitting call) }
@@ -284,6 +285,7 @@ impl<W: Window> Client<W> {
             × (line.new.items ≡ request_line (Some self.old.ids.next) call.now))
             (λ _. (ruled ≡ None) × (self.new ≡ self.old) × (line.new.items ≡ line.old.items)) }
         ensures full { IsErr result ↔ (length self.old.ids.waiting ≡ self.old.width) }
+        ensures first { self.old.ids.waiting ≡ [] → IsOk result }
         ensures width { self.new.width ≡ self.old.width }
         ensures plain { OnOk result (IsPlain line.new.items) }
         ensures fitting { OnOk result (IsFitting call.now) }

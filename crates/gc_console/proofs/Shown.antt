@@ -31,11 +31,11 @@ text_shown r w totals is =
     (six totals_text (length r.sent) (length r.executed) (length r.made) (length r.settled) r.refused_sends r.idle_events (length w.sent) (length w.executed) (length w.made) (length w.settled) w.refused w.idle
     sent (ap length is.executed) made settled is.refused is.idle)
 
-text_of_run : (events : List Event) (totals : Bool) → drill_text events totals ≡ wire_text (played simulator_opening events).wire totals
-text_of_run events totals = unfold drill_text in refl
+text_of_run : (width : ℕ) (events : List Event) (totals : Bool) → drill_text width events totals ≡ wire_text (played width simulator_opening events).wire totals
+text_of_run width events totals = unfold drill_text in refl
 
 -- what is written of a report of the simulator's run
-pub drill_shown : (opening : State) (events : List Event) (totals : Bool) (r : Report) → opening ≡ simulator_opening → IsReport r (played opening events).wire → report_text r totals ≡ drill_text events totals
-drill_shown opening events totals r simulator is =
-    let at : IsReport r (played simulator_opening events).wire = subst (λ o. IsReport r (played o events).wire) simulator is in
-    text_shown r (played simulator_opening events).wire totals at ∙ sym (text_of_run events totals)
+pub drill_shown : (width : ℕ) (opening : State) (events : List Event) (totals : Bool) (r : Report) → opening ≡ simulator_opening → IsReport r (played width opening events).wire → report_text r totals ≡ drill_text width events totals
+drill_shown width opening events totals r simulator is =
+    let at : IsReport r (played width simulator_opening events).wire = subst (λ o. IsReport r (played width o events).wire) simulator is in
+    text_shown r (played width simulator_opening events).wire totals at ∙ sym (text_of_run width events totals)

@@ -1,4 +1,4 @@
-//! What the help of each subcommand ends with.
+//! The texts behind the options of `--help`: what a command reads and writes, and the faults.
 
 /// What the help ends with.
 pub(crate) const FAULTS: &str =

@@ -11,7 +11,7 @@ mod station;
 mod verdict;
 
 pub use check::run_check;
-pub use drill::run_drill;
+pub use drill::{run_drill, run_drill_width};
 pub use exec::run_exec;
 pub use gc_ask::{MOST_CONNECTIONS, ask_tcp, loop_tcp, run_ask, run_loop, serve_tcp};
 pub use gc_instrument::{ServeFault, Served, serve};

@@ -16,13 +16,14 @@ ghost use Rattle.gc_console.specs.Checking.{IsChecking};
 ghost use Rattle.gc_console.specs.Drill.{drill_text, Drills, source_failed, sink_failed};
 
 use crate::check::run_check;
-use crate::drill::run_drill;
+use crate::drill::run_drill_width;
 use crate::exec::run_exec;
 use crate::help::{COMMANDS, EVENTS, FAULTS, REQUESTS, VERDICTS};
 use crate::station::{Station, run_station_port, station_command, station_of};
 use clap::error::ErrorKind;
 use clap::{Arg, ArgAction, Command, Error, value_parser};
 use gc_ask::{MOST_CONNECTIONS, ask_tcp, loop_tcp, serve_tcp};
+use gc_client::WINDOW;
 use gc_instrument::Instrument;
 use gc_lines::{FromReader, ReadAhead, ServeFault, Served, Sink, Source, ToWriter};
 use gc_texts::RunFault;
@@ -37,7 +38,7 @@ use std::time::Clock;
 enum Subcommand {
     Exec,
     Check,
-    Drill { totals: bool },
+    Drill { totals: bool, width: u8 },
     Loop,
     Serve { port: u16, connections: u32 },
     Ask { port: u16 },
@@ -107,11 +108,12 @@ fn run_subcommand<
             &mut sink,
             messages,
         ),
-        Subcommand::Drill { totals } => drill(
+        Subcommand::Drill { totals, width } => drill_within(
             alloc,
             &mut FromReader::new(input),
             &mut sink,
             totals,
+            width,
             messages,
         ),
         Subcommand::Loop => loop_port(rt, alloc, &mut FromReader::new(input), &mut sink, messages),
@@ -180,14 +182,6 @@ fn subcommand_of(alloc: Global, words: &[String]) -> Result<Subcommand, Error> {
     let check = Command::new(alloc, "check")
         .about("Says of each frame of standard input what it is, or what is wrong with it")
         .after_help(VERDICTS);
-    let totals = Arg::new(alloc, "totals")
-        .long("totals")
-        .action(ArgAction::SetTrue)
-        .help("Writes a line of totals behind the settlements");
-    let drill = Command::new(alloc, "drill")
-        .about("Plays the schedule of standard input, and writes a line for each settlement")
-        .after_help(EVENTS)
-        .arg(totals)?;
     let looped = Command::new(alloc, "loop")
         .about("Asks the commands of standard input over a connection to a simulator of its own")
         .after_help(COMMANDS);
@@ -213,7 +207,7 @@ fn subcommand_of(alloc: Global, words: &[String]) -> Result<Subcommand, Error> {
         .disable_help_subcommand(true)
         .subcommand(exec)?
         .subcommand(check)?
-        .subcommand(drill)?
+        .subcommand(drill_of(alloc)?)?
         .subcommand(looped)?
         .subcommand(serve)?
         .subcommand(ask)?
@@ -225,6 +219,7 @@ fn subcommand_of(alloc: Global, words: &[String]) -> Result<Subcommand, Error> {
     if let Some(drill) = matches.subcommand_matches("drill") {
         return Ok(Subcommand::Drill {
             totals: drill.get_flag("totals"),
+            width: drill.get_one::<u8>("width").unwrap_or(0),
         });
     }
     if let Some(serve) = matches.subcommand_matches("serve") {
@@ -245,6 +240,26 @@ fn subcommand_of(alloc: Global, words: &[String]) -> Result<Subcommand, Error> {
         return Ok(Subcommand::Loop);
     }
     Ok(Subcommand::Exec)
+}
+
+// The subcommand that plays a schedule.
+fn drill_of<'a>(alloc: Global) -> Result<Command<'a>, Error> {
+    let totals = Arg::new(alloc, "totals")
+        .long("totals")
+        .action(ArgAction::SetTrue)
+        .help("Writes a line of totals behind the settlements");
+    let width = Arg::new(alloc, "width")
+        .long("width")
+        .value_name("W")
+        .value_parser(value_parser!(u8).range(1..=7))
+        .default_value("7")
+        .help("Lets so many requests wait: a send beyond them is refused");
+    let drill = Command::new(alloc, "drill")
+        .about("Plays the schedule of standard input, and writes a line for each settlement")
+        .after_help(EVENTS)
+        .arg(totals)?
+        .arg(width)?;
+    Ok(drill)
 }
 
 // A port, as a required word.
@@ -393,25 +408,50 @@ fn tell_end<E: Write>(end: Result<Served, ServeFault>, messages: &mut E) -> io::
     }
 }
 
+// Plays a schedule, and tells how it ended. A width out of its range is refused: the words were read with this range, but no
+// clause says so.
+fn drill_within<S: Source, K: Sink, E: Write>(
+    alloc: Global,
+    source: &mut S,
+    sink: &mut K,
+    totals: bool,
+    width: u8,
+    messages: &mut E,
+) -> io::Result<ExitCode>
+    ensures { IfOk result (λ status. exit_status status ≤ 2) }
+{
+    if width == 0 || usize::from(width) > WINDOW {
+        return refuse_numbers(messages);
+    }
+    drill(alloc, source, sink, totals, width, messages)
+}
+
 // Plays a schedule, and tells how it ended.
 fn drill<S: Source, K: Sink, E: Write>(
     alloc: Global,
     source: &mut S,
     sink: &mut K,
     totals: bool,
+    width: u8,
     messages: &mut E,
 ) -> io::Result<ExitCode>
+    requires least { 1 ≤ width }
+    requires most { width ≤ WINDOW }
+
     // What became of the schedule, and that the messages and the status tell it.
     ensures told { IfOk result (λ status. (end : Result (Unit {0}) RunFault)
-        × ((given : List ℕ) × Consumes (S.remaining source.old) (S.remaining source.new) given × Drills given totals (K.taken sink.old) (K.taken sink.new) end)
+        × ((given : List ℕ) × Consumes (S.remaining source.old) (S.remaining source.new) given × Drills width given totals (K.taken sink.old) (K.taken sink.new) end)
         × (S.failed source.new ≡ source_failed end (S.failed source.old))
         × (K.failed sink.new ≡ sink_failed end (K.failed sink.old))
         × Tells run_fault_text end (exit_status status) (E.contents messages.old) (E.contents messages.new)) }
 
     // Status 0 only where the sink took the output of the text's events.
     ensures done { IfOk result (λ status. exit_status status ≡ 0 → (given : List ℕ) × Consumes (S.remaining source.old) (S.remaining source.new) given
-        × ((events : List Event) × IsSchedule given events × Appends (K.taken sink.old) (K.taken sink.new) (drill_text events totals))) }
+        × ((events : List Event) × IsSchedule given events × Appends (K.taken sink.old) (K.taken sink.new) (drill_text width events totals))) }
     ensures bound { IfOk result (λ status. exit_status status ≤ 1) }
 {
-    end_of(run_drill(alloc, source, sink, totals), messages)
+    end_of(
+        run_drill_width(alloc, source, sink, totals, width),
+        messages,
+    )
 }

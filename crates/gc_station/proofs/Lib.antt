@@ -1,2 +1,5 @@
+mod Going
+mod Hearing
 mod Orders
 mod Records
+mod Turns

@@ -4,4 +4,5 @@ pub mod Deciding
 pub mod Progressing
 pub mod Standing
 pub mod Tallies
+pub mod Runs
 pub mod Stations

@@ -1,18 +1,19 @@
 -- No part of a promise: what the functions of a station say of it, in the words of where it stands.
-use Rattle.std.specs.Prelude.{◌≡◌, ℕ, ◌<◌, ◌≤◌, ◌++◌, List, [], ◌∷◌, length, Option, Result, Ok, Err}
+use Rattle.std.specs.Prelude.{◌≡◌, ℕ, ◌<◌, ◌≤◌, ◌++◌, Bool, true, false, List, [], ◌∷◌, length, Option, Result, Ok, Err}
 use Rattle.std.specs.Io.KnownBytes.{Appends}
 use Rattle.gc_lines.specs.Assembler.{StandsFor}
 use Rattle.gc_station.specs.declared.command.Command.{Command}
 use Rattle.gc_station.specs.declared.plan.Plan.{Plan}
 use Rattle.gc_station.specs.declared.progress.Cause.TheVariants as cause
 use Rattle.gc_station.specs.declared.progress.Order.{Order}
-use Rattle.gc_station.specs.declared.progress.Order.TheVariants.{Send, Probe, Stop}
+use Rattle.gc_station.specs.declared.progress.Order.TheVariants.{Send, Probe, Read, Rest, Stop}
 use Rattle.gc_station.specs.declared.progress.Progress.{Progress}
 use Rattle.gc_station.specs.declared.station.Station.{Station}
 use Rattle.gc_station.specs.Acts.{Act, Closed, Tells}
 use Rattle.gc_station.specs.Deciding.{width_of}
 use Rattle.gc_station.specs.Progressing.{failing}
 use Rattle.gc_station.specs.Records.{Record, texts_of, WritesPart}
+use Rattle.gc_station.specs.Runs.{closing}
 use Rattle.gc_station.specs.Standing.{Standing, Obeys, moved}
 use Rattle.gc_station.specs.Tallies.{none_yet, tallied}
 
@@ -41,3 +42,30 @@ abbrev pub HasRoom : Plan → Progress → ℕ → Order → Type 0
 HasRoom plan p waiting Send = (0 < p.unsent) × (waiting < width_of plan)
 HasRoom plan p waiting Probe = waiting < width_of plan
 HasRoom plan p waiting _ = Unit {0}
+
+-- a station stands there, and a book took the records; or the book failed, and took a part of them
+abbrev pub Follows : {X E : Type 0} → Plan → (Record → List ℕ) → Station → Option (List ℕ) → Option (List ℕ) → Standing → Result X E → Type 0
+Follows plan text station start taken s (Ok _) = Stands plan station s × Appends start taken (texts_of text s.records)
+Follows plan text station start taken s (Err _) = WritesPart text s.records start taken
+
+-- a link told one act of this order, and a book failed as it took what that writes down
+pub record Breaks (plan : Plan) (commands : List Command) (order : Order) (text : Record → List ℕ) (acts acts' : Option (List Act)) (taken taken' : Option (List ℕ)) (station : Station) : Type 0 where
+  pub act : Act
+  pub tells : Tells acts acts' (act ∷ closing act)
+  pub goes : (s : Standing) (start : Option (List ℕ)) → Stands plan station s → Appends start taken (texts_of text s.records)
+      → Obeys commands s order act × WritesPart text (moved plan commands order s act).records start taken'
+
+-- an order was obeyed, or the book failed
+abbrev pub Obeyed : {X E : Type 0} → Plan → List Command → Order → (Record → List ℕ) → Option (List Act) → Option (List Act) → Option (List ℕ) → Option (List ℕ) → Station → Station → Result X E → Type 0
+Obeyed plan commands order text acts acts' taken taken' station station' (Ok _) = Does plan commands order text acts acts' taken taken' station station'
+Obeyed plan commands order text acts acts' taken taken' station station' (Err _) = Breaks plan commands order text acts acts' taken taken' station
+
+-- of each order but the last
+abbrev pub OnCall : Order → Type 0 → Type 0
+OnCall (Stop cause) claim = Unit {0}
+OnCall _ claim = claim
+
+-- a read, while the next cycle isn't due or otherwise
+abbrev pub read_order : Bool → Order
+read_order true = Rest
+read_order false = Read

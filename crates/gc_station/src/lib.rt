@@ -7,6 +7,7 @@ mod link;
 mod plan;
 mod progress;
 mod progressing;
+mod run;
 mod station;
 mod tally;
 mod tcp;

@@ -1,6 +1,7 @@
 //! A station's steps: each makes the one call of the link that is next, and does by the client what came of it.
 
 ghost use Rattle.std.specs.Prelude.{◌≡◌, ℕ, ◌+◌, ◌-◌, ◌<◌, ◌≤◌, ◌^◌, ◌++◌, List, [], ◌∷◌, length, map, Option, if◌then◌else◌, OnOk, IfSome};
+ghost use Rattle.std.specs.Option.{option_to_list};
 ghost use Rattle.std.specs.Io.KnownBytes.{Appends};
 ghost use Rattle.gc_lines.specs.Assembler.{StandsFor};
 ghost use Rattle.gc_lines.specs.Frames.{line_in};
@@ -12,10 +13,10 @@ ghost use Rattle.gc_station.specs.Acts.{Tells, put_as, IsPart};
 ghost use Rattle.gc_station.specs.Deciding.{width_of};
 ghost use Rattle.gc_station.specs.Progressing.{later};
 ghost use Rattle.gc_station.specs.Records.{Record, records_from, texts_of, WritesAll};
-ghost use Rattle.gc_station.specs.Standing.{Standing, opening, order_at, place_next, request_text, client_sent, is_heard};
-ghost use Rattle.gc_station.specs.Stations.{Stands, Does, HasRoom, cut_progress};
+ghost use Rattle.gc_station.specs.Standing.{Standing, opening, order_at, place_next, request_text, client_sent, is_heard, lines_came, piece_came, came, piece_at};
+ghost use Rattle.gc_station.specs.Stations.{Stands, Does, Obeyed, OnCall, Follows, HasRoom, cut_progress, read_order};
 ghost use Rattle.gc_station.specs.Tallies.{none_yet, tallied};
-ghost use Rattle.gc_station.specs.declared.progress.Order.TheVariants.{Tell, Begin, Open, Clear, Probe, Send};
+ghost use Rattle.gc_station.specs.declared.progress.Order.TheVariants.{Tell, Begin, Open, Clear, Probe, Send, Close};
 ghost use Rattle.gc_station.specs.declared.plan.Plan.{Plan};
 ghost use Rattle.gc_station.specs.declared.command.Command.{Command};
 
@@ -260,5 +261,207 @@ impl Station {
             return Ok(());
         }
         write_settlements(book, &mut self.tally, first, self.settled.as_slice())
+    }
+
+    // Takes the line of a frame, if it is one, and writes down what it settles.
+    fn hear<B: Book>(
+        &mut self,
+        book: &mut B,
+        plan: &Plan,
+        commands: &[Command],
+        frame: Lent<'_>,
+    ) -> Result<(), PortFailed>
+        requires { IsLineWithin frame }
+        ensures hears { (s : Standing) (start : Option (List ℕ)) → Stands plan.now self.old s → Appends start (B.taken book.old) (texts_of B.text s.records)
+            → Follows plan.now B.text self.new start (B.taken book.new) (lines_came plan.now commands.now s (option_to_list (line_in (lent_seen frame.entry)))) result }
+        ensures fails { FailsWith result (B.failed book.old) (B.failed book.new) }
+    {
+        let Lent::Line(line) = frame else {
+            return Ok(());
+        };
+        let first = self.stamp(plan, commands);
+        self.client.hear(line, &mut self.settled);
+        self.write(book, first)
+    }
+
+    // Takes the lines of a piece.
+    fn listen<B: Book>(
+        &mut self,
+        book: &mut B,
+        plan: &Plan,
+        commands: &[Command],
+        piece: &[u8],
+    ) -> Result<(), PortFailed>
+        ensures listens { (s : Standing) (start : Option (List ℕ)) → Stands plan.now self.old s → Appends start (B.taken book.old) (texts_of B.text s.records)
+            → Follows plan.now B.text self.new start (B.taken book.new) (piece_came plan.now commands.now piece.now s) result }
+        ensures fails { FailsWith result (B.failed book.old) (B.failed book.new) }
+    {
+        let mut cut = Line::new();
+        let mut at = 0;
+        while at < piece.len() {
+            let (used, frame) = self.assembler.next(&piece[at..], &mut cut);
+            at += used;
+            if let Err(failed) = self.hear(book, plan, commands, frame) {
+                return Err(failed);
+            }
+        }
+        Ok(())
+    }
+
+    // Takes the lines of a piece where they are heard.
+    fn take_lines<B: Book>(
+        &mut self,
+        book: &mut B,
+        plan: &Plan,
+        commands: &[Command],
+        piece: &[u8],
+    ) -> Result<(), PortFailed>
+        ensures takes { (s : Standing) (start : Option (List ℕ)) → Stands plan.now self.old s → Appends start (B.taken book.old) (texts_of B.text s.records)
+            → Follows plan.now B.text self.new start (B.taken book.new) (came (is_heard s.progress.phase) plan.now commands.now piece.now s) result }
+        ensures fails { FailsWith result (B.failed book.old) (B.failed book.new) }
+    {
+        if !self.progress.phase.is_heard() {
+            return Ok(());
+        }
+        self.listen(book, plan, commands, piece)
+    }
+
+    // Takes a piece, behind which it was this moment.
+    fn take_piece<B: Book>(
+        &mut self,
+        book: &mut B,
+        plan: &Plan,
+        commands: &[Command],
+        rested: bool,
+        piece: &[u8],
+        moment: Moment,
+    ) -> Result<(), PortFailed>
+        ensures takes { (s : Standing) (start : Option (List ℕ)) → Stands plan.now self.old s → Appends start (B.taken book.old) (texts_of B.text s.records)
+            → Follows plan.now B.text self.new start (B.taken book.new) (piece_at plan.now commands.now rested piece.now moment s) result }
+        ensures fails { FailsWith result (B.failed book.old) (B.failed book.new) }
+    {
+        let before = self.client.waiting();
+        self.progress.tell(moment);
+        self.client.expire(moment.elapsed);
+        if let Err(failed) = self.take_lines(book, plan, commands, piece) {
+            return Err(failed);
+        }
+        let after = self.client.waiting();
+        self.progress.give(plan, rested, before, after);
+        Ok(())
+    }
+
+    // Reads, and takes what came. Where the book fails, the connection is closed.
+    fn read<L: Link, B: Book>(
+        &mut self,
+        link: &mut L,
+        book: &mut B,
+        plan: &Plan,
+        commands: &[Command],
+        rested: bool,
+    ) -> Result<(), PortFailed>
+        ensures does { Obeyed plan.now commands.now (read_order rested) B.text (L.acts link.old) (L.acts link.new) (B.taken book.old) (B.taken book.new) self.old self.new result }
+        ensures fails { FailsWith result (B.failed book.old) (B.failed book.new) }
+    {
+        let mut buf = [0u8; 256];
+        let millis = self.patience(plan, rested);
+        match link.read(&mut buf, millis) {
+            Came::Bytes(n, moment) => {
+                if let Err(failed) =
+                    self.take_piece(book, plan, commands, rested, &buf[..n], moment)
+                {
+                    link.close();
+                    return Err(failed);
+                }
+                Ok(())
+            }
+            Came::Silence(moment) => {
+                self.progress.be_silent(plan, rested, moment);
+                self.client.expire(moment.elapsed);
+                Ok(())
+            }
+            Came::End => {
+                self.progress.fail(Cause::End);
+                Ok(())
+            }
+            Came::Failure => {
+                self.progress.fail(Cause::Read);
+                Ok(())
+            }
+            Came::NoMoment => {
+                self.progress.fail(Cause::Clock);
+                Ok(())
+            }
+        }
+    }
+
+    // Closes the connection, and writes down what is lost.
+    fn close<L: Link, B: Book>(
+        &mut self,
+        link: &mut L,
+        book: &mut B,
+        plan: &Plan,
+        commands: &[Command],
+        cause: Cause,
+    ) -> Result<(), PortFailed>
+        ensures does { Obeyed plan.now commands.now (Close cause) B.text (L.acts link.old) (L.acts link.new) (B.taken book.old) (B.taken book.new) self.old self.new result }
+        ensures fails { FailsWith result (B.failed book.old) (B.failed book.new) }
+    {
+        link.close();
+        let first = self.stamp(plan, commands);
+        self.settled = self.client.restart();
+        if let Err(failed) = self.write(book, first) {
+            return Err(failed);
+        }
+        self.assembler = Assembler::new();
+        self.progress.close(cause);
+        Ok(())
+    }
+
+    // Makes the one call of an order, and does what comes of it.
+    pub(crate) fn obey<L: Link, B: Book>(
+        &mut self,
+        link: &mut L,
+        book: &mut B,
+        plan: &Plan,
+        commands: &[Command],
+        order: Order,
+    ) -> Result<(), PortFailed>
+        requires width { self.old.client.width ≡ width_of plan.now }
+        requires within { self.old.progress.unsent ≤ length commands.now }
+        requires room { HasRoom plan.now self.old.progress (length self.old.client.ids.waiting) order }
+        ensures does { OnCall order (Obeyed plan.now commands.now order B.text (L.acts link.old) (L.acts link.new) (B.taken book.old) (B.taken book.new) self.old self.new result) }
+        ensures fails { FailsWith result (B.failed book.old) (B.failed book.new) }
+    {
+        match order {
+            Order::Tell => {
+                self.tell(link);
+                Ok(())
+            }
+            Order::Begin => {
+                self.begin(link, book, plan, commands);
+                Ok(())
+            }
+            Order::Open => {
+                self.open(link);
+                Ok(())
+            }
+            Order::Clear => {
+                self.clear(link, commands);
+                Ok(())
+            }
+            Order::Probe => {
+                self.probe(link, plan, commands);
+                Ok(())
+            }
+            Order::Send => {
+                self.send(link, plan, commands);
+                Ok(())
+            }
+            Order::Read => self.read(link, book, plan, commands, false),
+            Order::Rest => self.read(link, book, plan, commands, true),
+            Order::Close(cause) => self.close(link, book, plan, commands, cause),
+            Order::Stop(_) => Ok(()),
+        }
     }
 }

@@ -1,6 +1,6 @@
 //! What a drill writes, and its faults.
 
-use crate::{RunFault, run_drill};
+use crate::{RunFault, run_drill, run_drill_width};
 use gc_probes::{PieceSink, PieceSource};
 use std::alloc::Global;
 use std::process::Abort;
@@ -90,5 +90,18 @@ fn no_bytes_under_way(rt: HostRuntime) {
         rt.alloc(),
         b"up bytes 0\ndown bytes 5\n",
         b"sent 0 executed 0 made 0 settled 0 refused 0 idle 2\n",
+    );
+}
+
+#[test]
+fn width_one(rt: HostRuntime) {
+    let schedule = b"send 1 9 0\nsend 2 9 0\nup deliver\ndown deliver\nsend 3 9 0\n";
+    let mut source = PieceSource::new(schedule, &[1, 7, 30], u64::MAX);
+    let mut sink = PieceSink::new(rt.alloc(), 5, u64::MAX);
+    let result = run_drill_width(rt.alloc(), &mut source, &mut sink, true, 1);
+    assert_eq!(rt; result, Ok(()));
+    assert_eq!(rt;
+        sink.taken(),
+        b"0 1 answered %R1P,0,0:0\nsent 2 executed 1 made 1 settled 1 refused 1 idle 0\n".as_slice()
     );
 }

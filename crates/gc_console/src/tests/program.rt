@@ -100,6 +100,15 @@ fn each_engine_runs_with_each_option_on_and_off(rt: HostRuntime) -> Result<(), F
 
 #[test]
 fn an_input_is_empty_or_is_checked(rt: HostRuntime) -> Result<(), Fail> {
+    expect_run(
+        &rt,
+        rt.alloc(),
+        &["geocom", "drill", "--totals", "--width", "1"],
+        b"send 1 9 0\nsend 2 9 0\n",
+        0,
+        "sent 1 executed 0 made 0 settled 0 refused 1 idle 0\n",
+        "",
+    )?;
     expect_run(&rt, rt.alloc(), &["geocom", "drill"], b"", 0, "", "")?;
     expect_run(&rt, rt.alloc(), &["geocom", "exec"], b"", 0, "", "")?;
     expect_run(&rt, rt.alloc(), &["geocom", "check"], b"", 0, "", "")?;
@@ -158,7 +167,7 @@ fn a_text_of_the_engines_is_refused(rt: HostRuntime) -> Result<(), Fail> {
 }
 
 // A name, a command line, its status, and a part of its output and of its messages.
-const COMMAND_LINES: [(&str, &[&str], u8, &str, &str); 21] = [
+const COMMAND_LINES: [(&str, &[&str], u8, &str, &str); 23] = [
     (
         "help",
         &["geocom", "--help"],
@@ -247,6 +256,20 @@ const COMMAND_LINES: [(&str, &[&str], u8, &str, &str); 21] = [
     (
         "a width of eight",
         &["geocom", "station", "4001", "--width", "8"],
+        2,
+        "",
+        "error: invalid value '8' for '--width <W>'",
+    ),
+    (
+        "a window of none",
+        &["geocom", "drill", "--width", "0"],
+        2,
+        "",
+        "error: invalid value '0' for '--width <W>'",
+    ),
+    (
+        "a window too wide",
+        &["geocom", "drill", "--width", "8"],
         2,
         "",
         "error: invalid value '8' for '--width <W>'",

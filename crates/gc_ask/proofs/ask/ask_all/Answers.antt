@@ -39,7 +39,7 @@ loop-place-preserved g c =
     let command = c.index-commands-place.result in
     let one = c.in_default.ensures.asks in
     let asking = c.ask.new.self in
-    let next = course_next commands (take place commands) (drop (place + 1) commands) command place so.0 c.loop-place.asking.ahead one.0 asking.ahead c.loop-place.asking.end.assembler asking.end.assembler c.loop-place.asking.end.client asking.end.client
+    let next = course_next commands (take place commands) (drop (place + 1) commands) command place so.0 c.loop-place.asking.ahead one.0 asking.ahead c.loop-place.asking.end.assembler asking.end.assembler c.loop-place.asking.end.client.ids asking.end.client.ids
     _ _ _ _ _ _ at (place_is commands place c.loop-place-test.true) (one.3 at.now at.stands) in
     record {
       course = (
@@ -72,7 +72,7 @@ returns-in-Err-clause-asks g c =
       so.0 ++ one.0,
       Consumes-append _ _ _ so.0 one.0 so.1 one.1,
       omega (arith, so.2, one.2, length-append so.0 one.0, c.loop-place.invariant.grows, c.in-Err.ensures.grows),
-      course_fault commands (take place commands) (drop (place + 1) commands) command place so.0 c.loop-place.asking.ahead one.0 asking.ahead c.loop-place.asking.end.assembler asking.end.assembler c.loop-place.asking.end.client asking.end.client
+      course_fault commands (take place commands) (drop (place + 1) commands) command place so.0 c.loop-place.asking.ahead one.0 asking.ahead c.loop-place.asking.end.assembler asking.end.assembler c.loop-place.asking.end.client.ids asking.end.client.ids
           (g.O.Sink.taken c.args.link_out.now) (g.O.Sink.taken out) (g.O.Sink.taken out') (g.K.Sink.taken c.args.sink.now) (g.K.Sink.taken c.loop-place.sink) (g.K.Sink.taken c.ask.new.sink)
           c.in-Err.fault
           (record { remaining = g.I.Source.remaining link; reads = g.I.Source.reads link; ended = g.I.Source.ended link; source_failed = g.I.Source.failed link; taken = g.O.Sink.taken out; sink_failed = g.O.Sink.failed out })

@@ -17,9 +17,9 @@ write_settlements-requires-in-Err g c =
     let stands = c.requires.stands in
     let ex = c.in-Err.ensures.exchanges in
     let end = c.exchange.new.self.end in
-    let waits = still_waits c.args.place c.args.command.now stands.0 (c.args.self.now.ahead ++ ex.0) c.exchange.new.self.ahead end.assembler end.client end.settled.items
+    let waits = still_waits c.args.place c.args.command.now stands.0 (c.args.self.now.ahead ++ ex.0) c.exchange.new.self.ahead end.assembler end.client.ids end.settled.items
     (g.O.Sink.taken c.args.link_out.now) (g.O.Sink.taken c.exchange.new.link_out) c.in-Err.fault (ex.3 stands.0 stands.1) in
-    let one = lost_alone c.args.place c.args.command.now end.client c.restart-lost.result.items waits c.restart-lost.ensures.settled in
+    let one = lost_alone c.args.place c.args.command.now end.client.ids c.restart-lost.result.items waits c.restart-lost.ensures.settled in
     omega (arith, c.ranges.place.fits, sym (length-map c.restart-lost.result.items settlement_seen), ap length one, ap length c.as_slice-in-Err.ensures.value)
 
 pub returns-in-Ok-write_settlements-clause-asks : goal.returns-in-Ok-write_settlements-clause-asks
@@ -34,7 +34,7 @@ returns-in-Ok-write_settlements-clause-asks g c =
       ex.1,
       ex.2,
       λ rest s.
-          asks_lost c.args.place c.args.command.now rest (c.args.self.now.ahead ++ ex.0) c.exchange.new.self.ahead end.assembler end.assembler end.client c.restart-lost.new.self end.settled.items
+          asks_lost c.args.place c.args.command.now rest (c.args.self.now.ahead ++ ex.0) c.exchange.new.self.ahead end.assembler end.assembler end.client.ids c.restart-lost.new.self.ids end.settled.items
           c.restart-lost.result.items c.as_slice-in-Err.result.now
           (g.O.Sink.taken out) (g.O.Sink.taken out') (g.K.Sink.taken c.args.sink.now) (g.K.Sink.taken c.write_settlements-in-Err.new.sink)
           c.in-Err.fault
@@ -52,7 +52,7 @@ returns-in-Err-write_settlements-clause-asks g c =
       ex.1,
       ex.2,
       λ rest s.
-          asks_untold c.args.place c.args.command.now rest (c.args.self.now.ahead ++ ex.0) c.exchange.new.self.ahead end.assembler end.assembler end.client c.restart-lost.new.self end.settled.items
+          asks_untold c.args.place c.args.command.now rest (c.args.self.now.ahead ++ ex.0) c.exchange.new.self.ahead end.assembler end.assembler end.client.ids c.restart-lost.new.self.ids end.settled.items
           c.restart-lost.result.items c.as_slice-in-Err.result.now
           (g.O.Sink.taken c.args.link_out.now) (g.O.Sink.taken c.exchange.new.link_out) (g.K.Sink.taken c.args.sink.now) (g.K.Sink.taken c.write_settlements-in-Err.new.sink)
           (g.K.Sink.failed c.args.sink.now) (g.K.Sink.failed c.write_settlements-in-Err.new.sink)

@@ -8,7 +8,7 @@ abbrev pub invariant-loop-used : goal.invariant-loop-used
 invariant-loop-used g l = record {
   heard : (given : List ℕ) × Consumes (g.I.Source.remaining l.initial.link) (g.I.Source.remaining l.link) given
       × (length given ≤ 256 * (g.I.Source.reads l.link - g.I.Source.reads l.initial.link))
-      × ((rest : List ℕ) → StandsFor l.initial.self.assembler rest → Reading rest l.initial.ahead given l.ahead l.self.assembler l.initial.self.client l.self.client);
+      × ((rest : List ℕ) → StandsFor l.initial.self.assembler rest → Reading rest l.initial.ahead given l.ahead l.self.assembler l.initial.self.client.ids l.self.client.ids);
   reads : g.I.Source.reads l.link + l.reads ≡ g.I.Source.reads l.initial.link + l.initial.reads;
   grows : g.I.Source.reads l.initial.link ≤ g.I.Source.reads l.link;
   going : g.I.Source.reads l.initial.link < g.I.Source.reads l.link → g.I.Source.ended l.link ≡ false;

@@ -6,7 +6,7 @@ use Rattle.gc_ask.proofs.client_end.ClientEnd.listen.Given as goal
 abbrev pub invariant-loop-at : goal.invariant-loop-at
 invariant-loop-at l = record {
   within : l.at ≤ length l.piece;
-  passed : (rest : List ℕ) → StandsFor l.initial.self.assembler rest → Passed rest l.piece (drop l.at l.piece) l.self.assembler l.initial.self.client l.self.client;
+  passed : (rest : List ℕ) → StandsFor l.initial.self.assembler rest → Passed rest l.piece (drop l.at l.piece) l.self.assembler l.initial.self.client.ids l.self.client.ids;
 }
 
 abbrev pub decreases-loop-at : goal.decreases-loop-at

@@ -10,5 +10,5 @@ returns-clause-settled g c =
     let end = c.hear_reply.new.self in
     let s = subst (λ (k : Kept). StandsFor k stands.0) (sym c.send.ensures.same.0) stands.1 in
     let heard = c.hear_reply.ensures.hears in
-    one_settled c.args.place c.args.command.now stands.0 (ahead ++ heard.0) c.hear_reply.new.ahead end.assembler c.send.new.self.end.client end.client end.settled.items c.hear_reply.result
+    one_settled c.args.place c.args.command.now stands.0 (ahead ++ heard.0) c.hear_reply.new.ahead end.assembler c.send.new.self.end.client.ids end.client.ids end.settled.items c.hear_reply.result
     c.send.ensures.client (heard.3 stands.0 s)

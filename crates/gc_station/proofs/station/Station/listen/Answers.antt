@@ -1,0 +1,44 @@
+use Rattle.std.proofs.Common.{◌≡◌, ◌∙◌, ℕ, List, drop, arith, length-drop, drop-drop, sym, ap, refl}
+use Rattle.std.proofs.lemmas.List.{take_rest, drop_all}
+use Rattle.gc_lines.specs.Lent.{lent_seen}
+use Rattle.gc_lines.proofs.Passing.{Takes, takes}
+use Rattle.gc_station.specs.Standing.{Standing}
+use Rattle.gc_station.specs.Stations.{Stands}
+use Rattle.gc_station.proofs.Hearing.{Hearing, hearing_on, hearing_part, hearing_end}
+use Rattle.gc_station.proofs.station.Station.listen.Goals as goal
+
+pub loop-at-preserved : goal.loop-at-preserved
+loop-at-preserved g c =
+    let piece = c.args.piece.now in
+    let at = c.loop-at.at in
+    let left = drop at piece in
+    let used = c.next-used.result.0 in
+    let frame = lent_seen c.next-used.result.1 in
+    let fewer = rw (take_rest piece at) at c.next-used.ensures.used.0 in
+    let more = rw (take_rest piece at) at c.next-used.ensures.more in
+    let whole = rw (take_rest piece at) at c.next-used.ensures.frame in
+    record {
+      within = omega (arith, fewer, length-drop at piece, c.loop-at.invariant.within);
+      hearing = λ s start stands so.
+          let h = c.loop-at.invariant.hearing s start stands so in
+          let t : Takes h.now.rest left used frame c.next-used.new.self = takes h.now.rest left used frame _
+          (λ e. let m = more e in (m.0, m.1, m.2 h.now.rest h.stands.assembles)) (λ i e. let m = whole i e in (m.0, m.1 h.now.rest h.stands.assembles, m.2)) in
+          rw (← drop-drop used at piece) (hearing_on c.args.plan.now c.args.commands.now g.B.Book.text start _ _ _ _ s piece left used frame _ h t
+          (c.in_default.ensures.hears _ start (record { progress = h.stands.progress; ids = h.stands.ids; width = h.stands.width; assembles = t.stands; tally = h.stands.tally }) h.wrote));
+      failed = c.in_default.ensures.fails ∙ c.loop-at.invariant.failed;
+    }
+
+pub returns-in-Err-clause-listens : goal.returns-in-Err-clause-listens
+returns-in-Err-clause-listens g c s start stands so =
+    let piece = c.args.piece.now in
+    let at = c.loop-at.at in
+    let left = drop at piece in
+    let used = c.next-used.result.0 in
+    let frame = lent_seen c.next-used.result.1 in
+    let more = rw (take_rest piece at) at c.next-used.ensures.more in
+    let whole = rw (take_rest piece at) at c.next-used.ensures.frame in
+    let h = c.loop-at.invariant.hearing s start stands so in
+    let t : Takes h.now.rest left used frame c.next-used.new.self = takes h.now.rest left used frame _
+    (λ e. let m = more e in (m.0, m.1, m.2 h.now.rest h.stands.assembles)) (λ i e. let m = whole i e in (m.0, m.1 h.now.rest h.stands.assembles, m.2)) in
+    hearing_part c.args.plan.now c.args.commands.now g.B.Book.text start (g.B.Book.taken c.loop-at.book) _ c.loop-at.self s piece left used frame _ h t
+    (c.in-Err.ensures.hears _ start (record { progress = h.stands.progress; ids = h.stands.ids; width = h.stands.width; assembles = t.stands; tally = h.stands.tally }) h.wrote)

@@ -1,0 +1,40 @@
+-- Whole runs of a station, this project's own: each act was the one that was to be made next, and the book has what they write
+-- down.
+use Rattle.std.specs.Prelude.{◌≡◌, ℕ, List, [], ◌∷◌, ◌++◌, Option}
+use Rattle.std.specs.Io.KnownBytes.{Appends}
+use Rattle.gc_station.specs.declared.command.Command.{Command}
+use Rattle.gc_station.specs.declared.plan.Plan.{Plan}
+use Rattle.gc_station.specs.declared.progress.Cause.{Cause}
+use Rattle.gc_station.specs.declared.progress.Order.TheVariants.{Stop}
+use Rattle.gc_station.specs.declared.tally.Tally.{Tally}
+use Rattle.gc_station.specs.Acts.{Act, Closed, Tells}
+use Rattle.gc_station.specs.Records.{Record, texts_of, WritesPart}
+use Rattle.gc_station.specs.Standing.{Standing, opening, order_at, after_all, Runs}
+use Rattle.gc_station.specs.Tallies.{none_yet, tallied}
+
+-- where a station stands after these acts, from the start on
+abbrev pub stood : Plan → List Command → ℕ → List Act → Standing
+stood plan commands turns acts = after_all plan commands (opening plan turns) acts
+
+-- a link told these acts, each the one that was to be made next; then none was, for this cause; and the book took the records
+pub record RanTo (plan : Plan) (commands : List Command) (turns : ℕ) (text : Record → List ℕ) (told told' : Option (List Act)) (taken taken' : Option (List ℕ)) (cause : Cause) (tally : Tally) : Type 0 where
+  pub acts : List Act
+  pub tells : Tells told told' acts
+  pub runs : Runs plan commands (opening plan turns) acts
+  pub stops : order_at plan (stood plan commands turns acts) ≡ Stop cause
+  pub took : Appends taken taken' (texts_of text (stood plan commands turns acts).records)
+  pub counts : tally ≡ tallied none_yet (stood plan commands turns acts).records
+
+-- what closes the connection where the book failed at an act's records
+abbrev pub closing : Act → List Act
+closing Closed = []
+closing _ = Closed ∷ []
+
+-- a link told these acts, each the one that was to be made next; the book failed at the records of the last one, of which it took
+-- a part, and the connection was closed
+pub record BrokeAt (plan : Plan) (commands : List Command) (turns : ℕ) (text : Record → List ℕ) (told told' : Option (List Act)) (taken taken' : Option (List ℕ)) : Type 0 where
+  pub acts : List Act
+  pub last : Act
+  pub tells : Tells told told' (acts ++ last ∷ closing last)
+  pub runs : Runs plan commands (opening plan turns) (acts ++ last ∷ [])
+  pub took : WritesPart text (stood plan commands turns (acts ++ last ∷ [])).records taken taken'
