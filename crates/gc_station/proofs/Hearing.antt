@@ -13,7 +13,7 @@ use Rattle.gc_lines.proofs.Passing.{Takes}
 use Rattle.gc_client.specs.Rule.{ById, Settlement, hears, heard}
 use Rattle.gc_station.specs.Acts.{Act, Gave, Tells}
 use Rattle.gc_station.specs.declared.link.Moment.{Moment}
-use Rattle.gc_station.specs.declared.command.Command.{Command}
+use Rattle.gc_texts.specs.declared.commands.Command.{Command}
 use Rattle.gc_station.specs.declared.plan.Plan.{Plan}
 use Rattle.gc_station.specs.declared.progress.Progress.{Progress}
 use Rattle.gc_station.specs.declared.station.Station.{Station}

@@ -2,8 +2,8 @@
 -- whether all of these are given up.
 use Rattle.std.specs.Prelude.{ℕ, ◌-◌, ◌&&◌, Bool, true, false, List, [], ◌∷◌, if◌then◌else◌, nat_lt, nat_le, nat_eq, min, max}
 use Rattle.gc_station.specs.declared.plan.Plan.{Plan}
-use Rattle.gc_station.specs.declared.progress.Cause.{Cause}
-use Rattle.gc_station.specs.declared.progress.Cause.TheVariants.{Done, Silence, Turns}
+use Rattle.gc_station.specs.declared.cause.Cause.{Cause}
+use Rattle.gc_station.specs.declared.cause.Cause.TheVariants.{Done, Silence, Turns}
 use Rattle.gc_station.specs.declared.progress.Phase.{Phase}
 use Rattle.gc_station.specs.declared.progress.Phase.TheVariants as phase
 use Rattle.gc_station.specs.declared.progress.Order.{Order}

@@ -1,4 +1,5 @@
 pub mod Acts
+pub mod Causes
 pub mod Records
 pub mod Deciding
 pub mod Progressing

@@ -2,8 +2,8 @@
 use Rattle.std.specs.Prelude.{ℕ, ◌+◌, ◌-◌, ◌&&◌, Bool, true, false, not, if◌then◌else◌, nat_lt, nat_eq, min}
 use Rattle.gc_station.specs.declared.link.Moment.{Moment}
 use Rattle.gc_station.specs.declared.plan.Plan.{Plan}
-use Rattle.gc_station.specs.declared.progress.Cause.{Cause}
-use Rattle.gc_station.specs.declared.progress.Cause.TheVariants as cause
+use Rattle.gc_station.specs.declared.cause.Cause.{Cause}
+use Rattle.gc_station.specs.declared.cause.Cause.TheVariants as cause
 use Rattle.gc_station.specs.declared.progress.Phase.{Phase}
 use Rattle.gc_station.specs.declared.progress.Phase.TheVariants.{Down, Resting, Clearing, Draining, Probing, Ready, Closing, Over}
 use Rattle.gc_station.specs.declared.progress.Progress.{Progress}

@@ -1,10 +1,14 @@
 -- Whole runs of a station, this project's own: each act was the one that was to be made next, and the book has what they write
 -- down.
-use Rattle.std.specs.Prelude.{◌≡◌, ℕ, List, [], ◌∷◌, ◌++◌, Option}
+use Rattle.std.specs.Prelude.{◌≡◌, ℕ, Bool, true, List, [], ◌∷◌, ◌++◌, Option, Some, Result, Ok, Err}
 use Rattle.std.specs.Io.KnownBytes.{Appends}
-use Rattle.gc_station.specs.declared.command.Command.{Command}
+use Rattle.gc_texts.specs.declared.commands.Command.{Command}
+use Rattle.gc_texts.specs.declared.fault.RunFault.{RunFault}
+use Rattle.gc_texts.specs.declared.fault.RunFault.TheVariants.{Output}
+use Rattle.gc_station.specs.declared.cause.Cause.TheVariants.{Done}
+use Rattle.gc_station.specs.Causes.{fault_of}
 use Rattle.gc_station.specs.declared.plan.Plan.{Plan}
-use Rattle.gc_station.specs.declared.progress.Cause.{Cause}
+use Rattle.gc_station.specs.declared.cause.Cause.{Cause}
 use Rattle.gc_station.specs.declared.progress.Order.TheVariants.{Stop}
 use Rattle.gc_station.specs.declared.tally.Tally.{Tally}
 use Rattle.gc_station.specs.Acts.{Act, Closed, Tells}
@@ -38,3 +42,16 @@ pub record BrokeAt (plan : Plan) (commands : List Command) (turns : ℕ) (text :
   pub tells : Tells told told' (acts ++ last ∷ closing last)
   pub runs : Runs plan commands (opening plan turns) (acts ++ last ∷ [])
   pub took : WritesPart text (stood plan commands turns (acts ++ last ∷ [])).records taken taken'
+
+-- a run with this end: it stopped for a cause with this fault, or it is done; or the book failed
+abbrev pub Ran : Plan → List Command → ℕ → (Record → List ℕ) → Option (List Act) → Option (List Act) → Option (List ℕ) → Option (List ℕ) → Result Tally RunFault → Type 0
+Ran plan commands turns text told told' taken taken' (Ok tally) = RanTo plan commands turns text told told' taken taken' Done tally
+Ran plan commands turns text told told' taken taken' (Err Output) = BrokeAt plan commands turns text told told' taken taken'
+Ran plan commands turns text told told' taken taken' (Err fault) =
+    (cause : Cause) × (tally : Tally) × RanTo plan commands turns text told told' taken taken' cause tally × (fault_of cause ≡ Some fault)
+
+-- the book failed where that is the fault, and else is as it was
+abbrev pub FailsAtOutput : {X : Type 0} → Bool → Bool → Result X RunFault → Type 0
+FailsAtOutput old new (Ok _) = new ≡ old
+FailsAtOutput old new (Err Output) = new ≡ true
+FailsAtOutput old new (Err fault) = new ≡ old

@@ -9,11 +9,11 @@ use Rattle.gc_catalogue.specs.declared.call.Call.{Call}
 use Rattle.gc_catalogue.specs.declared.call.Call.TheVariants.{NullProc}
 use Rattle.gc_catalogue.specs.Texts.{request_line}
 use Rattle.gc_client.specs.Rule.{ById, Settlement, Sending, Outcome, Answered, Late, Lost, fresh, sends, hears, heard, expires, restarts, deadlines}
-use Rattle.gc_station.specs.declared.command.Command.{Command}
+use Rattle.gc_texts.specs.declared.commands.Command.{Command}
 use Rattle.gc_station.specs.declared.link.Moment.{Moment}
 use Rattle.gc_station.specs.declared.plan.Plan.{Plan}
-use Rattle.gc_station.specs.declared.progress.Cause.{Cause}
-use Rattle.gc_station.specs.declared.progress.Cause.TheVariants as cause
+use Rattle.gc_station.specs.declared.cause.Cause.{Cause}
+use Rattle.gc_station.specs.declared.cause.Cause.TheVariants as cause
 use Rattle.gc_station.specs.declared.progress.Phase.{Phase}
 use Rattle.gc_station.specs.declared.progress.Phase.TheVariants as phase
 use Rattle.gc_station.specs.declared.progress.Order.{Order}

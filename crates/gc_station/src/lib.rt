@@ -2,7 +2,7 @@
 #![tactic(auto)]
 
 mod book;
-mod command;
+mod cause;
 mod link;
 mod plan;
 mod progress;
@@ -14,9 +14,9 @@ mod tcp;
 mod writing;
 
 pub use book::{Book, Stamp};
-pub use command::Command;
 pub use link::{Came, Link, Moment};
 pub use plan::Plan;
-pub use progress::{Cause, Order, Phase, Progress};
+pub use cause::Cause;
+pub use run::run_station;
 pub use tally::Tally;
 pub use tcp::TcpLink;

@@ -4,33 +4,13 @@ ghost use Rattle.std.specs.Prelude.{◌≡◌};
 ghost use Rattle.gc_station.specs.Deciding.{width_of, is_up, is_quiet, is_due, order_of, order_on, order_ready, order_room, order_done, order_waiting};
 ghost use Rattle.gc_station.specs.Progressing.{at_start};
 
+use crate::cause::Cause;
 use crate::link::Moment;
 use crate::plan::Plan;
 
-/// Why a connection is closed, or a run ends.
-#[derive(Clone, Copy, Debug, PartialEq, Eq)]
-pub enum Cause {
-    /// Each command of each cycle is settled.
-    Done,
-    /// All requests that wait are given up, no other may go out, and nothing came for the quiet time.
-    Silence,
-    /// A read failed.
-    Read,
-    /// The other end closed the connection.
-    End,
-    /// A write failed: of the cycle's requests so many had gone out, and so many bytes of what was next went out.
-    Write { requests: usize, bytes: usize },
-    /// The clock can't be read.
-    Clock,
-    /// No connection could be made.
-    Open,
-    /// All turns are used up.
-    Turns,
-}
-
 /// Where a station is.
-#[derive(Clone, Copy, Debug, PartialEq, Eq)]
-pub enum Phase {
+#[derive(Clone, Copy)]
+pub(crate) enum Phase {
     /// Without a connection, and one is to be made.
     Down,
     /// Without a connection, and one is to be made after the quiet time.
@@ -50,8 +30,8 @@ pub enum Phase {
 }
 
 /// What a station does next. Each is one call of its link.
-#[derive(Clone, Copy, Debug, PartialEq, Eq)]
-pub enum Order {
+#[derive(Clone, Copy)]
+pub(crate) enum Order {
     /// To read the clock.
     Tell,
     /// To read the clock, and to begin a cycle.
@@ -75,8 +55,8 @@ pub enum Order {
 }
 
 /// How far a station is.
-#[derive(Clone, Copy, Debug, PartialEq, Eq)]
-pub struct Progress {
+#[derive(Clone, Copy)]
+pub(crate) struct Progress {
     /// Where it is.
     pub phase: Phase,
     /// Whether what waits is the null procedure.

@@ -5,7 +5,8 @@ ghost use Rattle.gc_station.specs.Progressing.{later, turned, told, begun, faili
 
 use crate::link::Moment;
 use crate::plan::Plan;
-use crate::progress::{Cause, Phase, Progress};
+use crate::cause::Cause;
+use crate::progress::{Phase, Progress};
 
 // So much later than a moment, or the last moment that there is.
 pub(crate) fn later(moment: u64, wait: u64) -> u64

@@ -18,13 +18,14 @@ ghost use Rattle.gc_station.specs.Stations.{Stands, Does, Obeyed, OnCall, Follow
 ghost use Rattle.gc_station.specs.Tallies.{none_yet, tallied};
 ghost use Rattle.gc_station.specs.declared.progress.Order.TheVariants.{Tell, Begin, Open, Clear, Probe, Send, Close};
 ghost use Rattle.gc_station.specs.declared.plan.Plan.{Plan};
-ghost use Rattle.gc_station.specs.declared.command.Command.{Command};
+ghost use Rattle.gc_texts.specs.declared.commands.Command.{Command};
 
 use crate::book::{Book, Stamp};
-use crate::command::Command;
+use gc_texts::Command;
 use crate::link::{Came, Link, Moment};
 use crate::plan::Plan;
-use crate::progress::{Cause, Order, Phase, Progress, width};
+use crate::cause::Cause;
+use crate::progress::{Order, Phase, Progress, width};
 use crate::progressing::later;
 use crate::tally::Tally;
 use crate::writing::write_settlements;

@@ -1,0 +1,48 @@
+//! Causes: why a connection is closed, or a run ends, and the fault that the program tells then.
+
+ghost use Rattle.std.specs.Prelude.{◌≡◌};
+ghost use Rattle.gc_station.specs.Causes.{fault_of};
+
+use gc_texts::RunFault;
+
+/// Why a connection is closed, or a run ends.
+#[derive(Clone, Copy, Debug, PartialEq, Eq)]
+pub enum Cause {
+    /// Each command of each cycle is settled.
+    Done,
+    /// All requests that wait are given up, no other may go out, and nothing came for the quiet time.
+    Silence,
+    /// A read failed.
+    Read,
+    /// The other end closed the connection.
+    End,
+    /// A write failed: of the cycle's requests so many had gone out, and so many bytes of what was next went out.
+    Write { requests: usize, bytes: usize },
+    /// The clock can't be read.
+    Clock,
+    /// No connection could be made.
+    Open,
+    /// All turns are used up.
+    Turns,
+}
+
+impl Cause {
+    /// The fault of a run that ends so, or `None` where it is done.
+    pub fn fault(self) -> Option<RunFault>
+        ensures { result ≡ fault_of self }
+    {
+        match self {
+            Cause::Done => None,
+            Cause::Silence => Some(RunFault::Read),
+            Cause::Read => Some(RunFault::Read),
+            Cause::End => Some(RunFault::LinkClosed),
+            Cause::Write { requests, bytes } => Some(RunFault::Write {
+                replies: requests as u64,
+                bytes,
+            }),
+            Cause::Clock => Some(RunFault::Read),
+            Cause::Open => Some(RunFault::Socket),
+            Cause::Turns => Some(RunFault::TooManyReads),
+        }
+    }
+}
