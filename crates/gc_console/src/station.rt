@@ -19,7 +19,6 @@ use std::net::{Net, TcpListener, TcpStream};
 use std::process::ExitCode;
 use std::time::Clock;
 
-
 /// What the words of `station` ask for.
 #[derive(Clone, Copy)]
 pub(crate) struct Station {
@@ -48,24 +47,56 @@ pub(crate) fn station_command<'a>(alloc: Global) -> Result<Command<'a>, Error> {
         .value_parser(value_parser!(u32))
         .default_value("10")
         .help("Connects anew so many times in a row");
-    let every = time_of(alloc, "every", "SECONDS", "0", "Begins a cycle so many seconds after the last began")
-        .value_parser(value_parser!(u64).range(0..=86_400));
-    Ok(Command::new(alloc, "station")
-        .about("Measures the commands of standard input on a port of 127.0.0.1, cycle after cycle, with deadlines")
-        .after_help(STATION)
-        .arg(port_of(alloc))?
-        .arg(width)?
-        .arg(time_of(alloc, "deadline", "MS", "10000", "Gives each request up so many milliseconds after it was sent"))?
-        .arg(every)?
-        .arg(cycles)?
-        .arg(time_of(alloc, "quiet", "MS", "2000", "Takes the line for quiet where nothing came for so many milliseconds"))?
-        .arg(retries)?
-        .arg(flag_of(alloc, "settle", "Has a null procedure answered on each new connection first"))?
-        .arg(flag_of(alloc, "csv", "Writes comma-separated values, with a header"))?)
+    let every = time_of(
+        alloc,
+        "every",
+        "SECONDS",
+        "0",
+        "Begins a cycle so many seconds after the last began",
+    )
+    .value_parser(value_parser!(u64).range(0..=86_400));
+    Ok(
+        Command::new(alloc, "station")
+            .about(
+                "Measures the commands of standard input on a port of 127.0.0.1, cycle after cycle, with deadlines",
+            )
+            .after_help(STATION)
+            .arg(port_of(alloc))?
+            .arg(width)?
+            .arg(time_of(
+                alloc,
+                "deadline",
+                "MS",
+                "10000",
+                "Gives each request up so many milliseconds after it was sent",
+            ))?
+            .arg(every)?
+            .arg(cycles)?
+            .arg(time_of(
+                alloc,
+                "quiet",
+                "MS",
+                "2000",
+                "Takes the line for quiet where nothing came for so many milliseconds",
+            ))?
+            .arg(retries)?
+            .arg(flag_of(
+                alloc,
+                "settle",
+                "Has a null procedure answered on each new connection first",
+            ))?
+            .arg(flag_of(alloc, "csv", "Writes comma-separated values, with a header"))?,
+    )
 }
 
 // A time, as a word with a default.
-fn time_of<'a>(alloc: Global, name: &'a str, value: &'a str, default: &'a str, help: &'a str) -> Arg<'a> {
+fn time_of<'a>(
+    alloc: Global,
+    name: &'a str,
+    value: &'a str,
+    default: &'a str,
+    help: &'a str,
+) -> Arg<'a> {
     Arg::new(alloc, name)
         .long(name)
         .value_name(value)
@@ -87,7 +118,11 @@ pub(crate) fn station_of(matches: &ArgMatches) -> Station {
     let number = |name: &str| matches.get_one::<u64>(name).unwrap_or(0);
     Station {
         port: matches.get_one::<u16>("port").unwrap_or(0),
-        form: if matches.get_flag("csv") { Form::Csv } else { Form::Lines },
+        form: if matches.get_flag("csv") {
+            Form::Csv
+        } else {
+            Form::Lines
+        },
         plan: Plan {
             width: matches.get_one::<u8>("width").unwrap_or(1),
             deadline: number("deadline"),
@@ -120,7 +155,13 @@ pub(crate) fn run_station_port<
         return refuse_numbers(messages);
     }
     match measure(rt, alloc, station, source, sink, messages) {
-        Ok(Tally { answered, late, lost }) => {
+        Ok(
+            Tally {
+                answered,
+                late,
+                lost,
+            },
+        ) => {
             writeln!(messages, "answered {answered} late {late} lost {lost}")?;
             Ok(ExitCode::SUCCESS)
         }
@@ -185,8 +226,15 @@ impl<'a, K: Sink, E: Write> Book for Lines<'a, K, E> {
     ghost failed = { λ book. K.failed book.sink };
 
     fn write(&mut self, stamp: Stamp, settlement: &Settlement) -> Result<(), PortFailed> {
-        write_record(&mut self.sink, Form::Lines, stamp.utc, stamp.cycle, stamp.place, settlement)
-            .map_err(|_| PortFailed)
+        write_record(
+            &mut self.sink,
+            Form::Lines,
+            stamp.utc,
+            stamp.cycle,
+            stamp.place,
+            settlement,
+        )
+        .map_err(|_| PortFailed)
     }
 
     fn overran(&mut self, cycle: u32) {
@@ -209,8 +257,15 @@ impl<'a, K: Sink, E: Write> Book for Rows<'a, K, E> {
     ghost failed = { λ book. K.failed book.sink };
 
     fn write(&mut self, stamp: Stamp, settlement: &Settlement) -> Result<(), PortFailed> {
-        write_record(&mut self.sink, Form::Csv, stamp.utc, stamp.cycle, stamp.place, settlement)
-            .map_err(|_| PortFailed)
+        write_record(
+            &mut self.sink,
+            Form::Csv,
+            stamp.utc,
+            stamp.cycle,
+            stamp.place,
+            settlement,
+        )
+        .map_err(|_| PortFailed)
     }
 
     fn overran(&mut self, cycle: u32) {
@@ -221,5 +276,8 @@ impl<'a, K: Sink, E: Write> Book for Rows<'a, K, E> {
 // Says that a cycle was not done when the next was due. Where that can't be written the station measures on: what it writes
 // of each request doesn't depend on it.
 fn tell_overrun<E: Write>(messages: &mut E, cycle: u32) {
-    let _ = writeln!(messages, "geocom: cycle {cycle} was not done when the next was due");
+    let _ = writeln!(
+        messages,
+        "geocom: cycle {cycle} was not done when the next was due"
+    );
 }

@@ -92,7 +92,7 @@ fn expect_lost(
 fn nobody_answers_a_station(rt: HostRuntime) -> Result<(), Fail> {
     let listener = TcpListener::bind(&rt, any_port())?;
     let port = listener.local_addr()?.port();
-    expect_lost(&rt, rt.alloc(), port, b" 0 7 lost\n", b"geocom: fault 45\n")?;
+    expect_lost(&rt, rt.alloc(), port, b" 0 7 lost\n", b"geocom: fault 42\n")?;
     drop(listener);
     expect_lost(&rt, rt.alloc(), port, b"", b"geocom: fault 54\n")
 }
