@@ -260,6 +260,7 @@ def main():
         sys.exit(0)
 
     signal.signal(signal.SIGTERM, stop)
+    signal.signal(signal.SIGINT, stop)
     relay.run()
 
 

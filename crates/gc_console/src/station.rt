@@ -226,15 +226,18 @@ impl<'a, K: Sink, E: Write> Book for Lines<'a, K, E> {
     ghost failed = { λ book. K.failed book.sink };
 
     fn write(&mut self, stamp: Stamp, settlement: &Settlement) -> Result<(), PortFailed> {
-        write_record(
+        let taken = write_record(
             &mut self.sink,
             Form::Lines,
             stamp.utc,
             stamp.cycle,
             stamp.place,
             settlement,
-        )
-        .map_err(|_| PortFailed)
+        );
+        match taken {
+            Ok(()) => Ok(()),
+            Err(_) => Err(PortFailed),
+        }
     }
 
     fn overran(&mut self, cycle: u32) {
@@ -257,15 +260,18 @@ impl<'a, K: Sink, E: Write> Book for Rows<'a, K, E> {
     ghost failed = { λ book. K.failed book.sink };
 
     fn write(&mut self, stamp: Stamp, settlement: &Settlement) -> Result<(), PortFailed> {
-        write_record(
+        let taken = write_record(
             &mut self.sink,
             Form::Csv,
             stamp.utc,
             stamp.cycle,
             stamp.place,
             settlement,
-        )
-        .map_err(|_| PortFailed)
+        );
+        match taken {
+            Ok(()) => Ok(()),
+            Err(_) => Err(PortFailed),
+        }
     }
 
     fn overran(&mut self, cycle: u32) {
