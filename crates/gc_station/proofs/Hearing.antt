@@ -84,8 +84,8 @@ frame_first plan commands s left later rest frame seen rests =
     ∙ lines_came-append plan commands (with_rest end s) line (lines_behind rest later)
     ∙ ap (λ x. lines_came plan commands x (lines_behind rest later)) (lines_rest plan commands (with_rest rest s) end line)
     ∙ sym (ap (λ r. lines_came plan commands (with_rest (rest_behind r later) (lines_came plan commands (with_rest rest s) line)) (lines_behind r later)) (rest_kept rest line)) where
-  rest_kept : (rest : List ℕ) (line : List (List ℕ)) → (lines_came plan commands (with_rest rest s) line).rest ≡ rest
-  rest_kept rest line = ap (λ x. x.rest) (lines_rest plan commands s rest line)
+      rest_kept : (rest : List ℕ) (line : List (List ℕ)) → (lines_came plan commands (with_rest rest s) line).rest ≡ rest
+      rest_kept rest line = ap (λ x. x.rest) (lines_rest plan commands s rest line)
 
 -- one more frame
 pub hearing_on : (plan : Plan) (commands : List Command) (text : Record → List ℕ) (start taken taken' : Option (List ℕ)) (station station' : Station) (s : Standing) (piece left : List ℕ) (used : ℕ) (frame : Frame) (kept : Kept)

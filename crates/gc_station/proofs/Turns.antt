@@ -15,7 +15,7 @@ use Rattle.gc_station.specs.declared.progress.Progress.{Progress}
 use Rattle.gc_station.specs.Acts.{Act, Told, Untold, Put, Cut, Gave, Silent, Ended, Broke, Closed, Opened, Unopened}
 use Rattle.gc_station.specs.Deciding.{is_up, order_of, order_in, order_up}
 use Rattle.gc_station.specs.Standing.{Standing, order_at, Obeys, moved, after, asks, asks_first, with_progress, with_moment, with_rest, line_came, lines_came, lines_behind, piece_came, came, after_tell, after_put, after_open, after_read, is_heard, is_hopeless, place_next}
-use Rattle.gc_station.specs.Progressing.{turned, told, begun, cleared, probed, sent, closed}
+use Rattle.gc_station.specs.Progressing.{turned, told, begun, cleared, probed, sent, is_finished, closed}
 
 -- no turn is taken, and no more commands are to be sent than there are
 pub record Steady (commands : List Command) (p q : Progress) : Type 0 where
@@ -132,20 +132,21 @@ up_least : (b : Bool) → up_count b ≤ 1
 up_least true = omega arith
 up_least false = omega arith
 
-again_down : (t : Bool) (cause : Cause) → is_up (if t then phase.Resting else phase.Over cause) ≡ false
-again_down true cause = refl
-again_down false cause = refl
+again_down : (done some : Bool) (why : Cause) → is_up (if done then phase.Over cause.Done else if some then phase.Resting else phase.Over why) ≡ false
+again_down true some why = refl
+again_down false true why = refl
+again_down false false why = refl
 
 -- a connection that is closed is not up
 closed_down : (cause : Cause) (p : Progress) → is_up (closed cause p).phase ≡ false
 closed_down cause.Done p = refl
 closed_down cause.Clock p = refl
 closed_down cause.Turns p = refl
-closed_down cause.Silence p = again_down (nat_lt 0 p.tries) cause.Silence
-closed_down cause.Read p = again_down (nat_lt 0 p.tries) cause.Read
-closed_down cause.End p = again_down (nat_lt 0 p.tries) cause.End
-closed_down (cause.Write n m) p = again_down (nat_lt 0 p.tries) (cause.Write n m)
-closed_down cause.Open p = again_down (nat_lt 0 p.tries) cause.Open
+closed_down cause.Silence p = again_down (is_finished p) (nat_lt 0 p.tries) cause.Silence
+closed_down cause.Read p = again_down (is_finished p) (nat_lt 0 p.tries) cause.Read
+closed_down cause.End p = again_down (is_finished p) (nat_lt 0 p.tries) cause.End
+closed_down (cause.Write n m) p = again_down (is_finished p) (nat_lt 0 p.tries) (cause.Write n m)
+closed_down cause.Open p = again_down (is_finished p) (nat_lt 0 p.tries) cause.Open
 
 -- once all turns are used up, an act closes the connection
 up_closes : (plan : Plan) (commands : List Command) (s t : Standing) (up : Bool) (act : Act) → Obeys commands t (order_up up) act

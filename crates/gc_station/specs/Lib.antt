@@ -6,4 +6,5 @@ pub mod Progressing
 pub mod Standing
 pub mod Tallies
 pub mod Runs
+pub mod EachOnce
 pub mod Stations

@@ -50,9 +50,17 @@ failing cause p = record p { phase = if is_up p.phase then Closing cause else Ov
 abbrev pub opened : Progress → Progress
 opened p = record p { phase = Clearing }
 
--- none was made, or one was closed: it tries again, or doesn't
+-- no command of any cycle is left to be sent
+abbrev pub is_finished : Progress → Bool
+is_finished p = nat_eq p.left 0 && nat_eq p.unsent 0
+
+-- where a station is that has no connection: it is done, tries again, or doesn't
+abbrev pub phase_again : Cause → Progress → Phase
+phase_again why p = if is_finished p then Over cause.Done else if nat_lt 0 p.tries then Resting else Over why
+
+-- none was made, or one was closed
 abbrev pub again : Cause → Progress → Progress
-again cause p = record p { phase = if nat_lt 0 p.tries then Resting else Over cause; probe = false; stale = true; tries = p.tries - 1 }
+again cause p = record p { phase = phase_again cause p; probe = false; stale = true; tries = p.tries - 1 }
 
 -- the line feed went out
 abbrev pub cleared : Progress → Progress

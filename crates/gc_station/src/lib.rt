@@ -14,9 +14,12 @@ mod tcp;
 mod writing;
 
 pub use book::{Book, Stamp};
+pub use cause::Cause;
 pub use link::{Came, Link, Moment};
 pub use plan::Plan;
-pub use cause::Cause;
 pub use run::run_station;
 pub use tally::Tally;
 pub use tcp::TcpLink;
+
+#[cfg(test)]
+mod tests;

@@ -1,11 +1,11 @@
 //! What each act does to how far a station is.
 
 ghost use Rattle.std.specs.Prelude.{◌≡◌};
-ghost use Rattle.gc_station.specs.Progressing.{later, turned, told, begun, failing, opened, again, quieted, cleared, probed, sent, gave, silent, closed};
+ghost use Rattle.gc_station.specs.Progressing.{later, turned, told, begun, failing, opened, again, is_finished, phase_again, quieted, cleared, probed, sent, gave, silent, closed};
 
+use crate::cause::Cause;
 use crate::link::Moment;
 use crate::plan::Plan;
-use crate::cause::Cause;
 use crate::progress::{Phase, Progress};
 
 // So much later than a moment, or the last moment that there is.
@@ -79,14 +79,30 @@ impl Progress {
         self.phase = Phase::Clearing;
     }
 
-    pub(crate) fn try_again(&mut self, cause: Cause)
-        ensures { self.new ≡ again cause self.old }
+    // Whether no command of any cycle is left to be sent.
+    fn is_finished(&self) -> bool
+        ensures { result ≡ is_finished self.now }
     {
-        self.phase = if self.tries > 0 {
+        self.left == 0 && self.unsent == 0
+    }
+
+    // Where a station is that has no connection.
+    fn phase_again(&self, cause: Cause) -> Phase
+        ensures { result ≡ phase_again cause self.now }
+    {
+        if self.is_finished() {
+            Phase::Over(Cause::Done)
+        } else if self.tries > 0 {
             Phase::Resting
         } else {
             Phase::Over(cause)
-        };
+        }
+    }
+
+    pub(crate) fn try_again(&mut self, cause: Cause)
+        ensures { self.new ≡ again cause self.old }
+    {
+        self.phase = self.phase_again(cause);
         self.probe = false;
         self.stale = true;
         self.tries = self.tries.saturating_sub(1);

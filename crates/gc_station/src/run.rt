@@ -6,13 +6,13 @@ ghost use Rattle.gc_station.specs.Runs.{RanTo, BrokeAt, Ran, FailsAtOutput};
 
 use crate::book::Book;
 use crate::cause::Cause;
-use gc_texts::{Command, RunFault};
 use crate::link::Link;
 use crate::plan::Plan;
 use crate::progress::Order;
 use crate::station::Station;
 use crate::tally::Tally;
 use gc_lines::PortFailed;
+use gc_texts::{Command, RunFault};
 
 // Runs a station, and says for which cause it stopped. `Err`: the book failed.
 pub(crate) fn run<L: Link, B: Book>(

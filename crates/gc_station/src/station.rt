@@ -21,10 +21,9 @@ ghost use Rattle.gc_station.specs.declared.plan.Plan.{Plan};
 ghost use Rattle.gc_texts.specs.declared.commands.Command.{Command};
 
 use crate::book::{Book, Stamp};
-use gc_texts::Command;
+use crate::cause::Cause;
 use crate::link::{Came, Link, Moment};
 use crate::plan::Plan;
-use crate::cause::Cause;
 use crate::progress::{Order, Phase, Progress, width};
 use crate::progressing::later;
 use crate::tally::Tally;
@@ -33,6 +32,7 @@ use arrayvec::ArrayVec;
 use gc_catalogue::Call;
 use gc_client::{Client, Settlement, Slots, WINDOW};
 use gc_lines::{Assembler, Lent, Line, PortFailed, append};
+use gc_texts::Command;
 
 /// What a station keeps from one act to the next.
 #[derive(Drop)]
@@ -209,8 +209,12 @@ impl Station {
         requires { length self.old.client.ids.waiting < self.old.client.width }
         ensures tells { Tells (L.acts link.old) (L.acts link.new) (put_as result (request_text self.old.client.ids call.now) ∷ []) }
         ensures part { IsPart result (request_text self.old.client.ids call.now) }
-        ensures client { self.new ≡ record self.old { client = record self.old.client { ids =
-            client_sent self.old.client.ids (sends self.old.client.width self.old.client.ids target call.now (later self.old.progress.moment.elapsed plan.now.deadline)) } } }
+        ensures client { self.new ≡ record self.old {
+          client = record self.old.client {
+            ids =
+                client_sent self.old.client.ids (sends self.old.client.width self.old.client.ids target call.now (later self.old.progress.moment.elapsed plan.now.deadline));
+          };
+        } }
     {
         let deadline = later(self.progress.moment.elapsed, plan.deadline);
         let mut line = Line::new();
@@ -335,15 +339,15 @@ impl Station {
         commands: &[Command],
         rested: bool,
         piece: &[u8],
-        moment: Moment,
+        now: Moment,
     ) -> Result<(), PortFailed>
         ensures takes { (s : Standing) (start : Option (List ℕ)) → Stands plan.now self.old s → Appends start (B.taken book.old) (texts_of B.text s.records)
-            → Follows plan.now B.text self.new start (B.taken book.new) (piece_at plan.now commands.now rested piece.now moment s) result }
+            → Follows plan.now B.text self.new start (B.taken book.new) (piece_at plan.now commands.now rested piece.now now s) result }
         ensures fails { FailsWith result (B.failed book.old) (B.failed book.new) }
     {
         let before = self.client.waiting();
-        self.progress.tell(moment);
-        self.client.expire(moment.elapsed);
+        self.progress.tell(now);
+        self.client.expire(now.elapsed);
         if let Err(failed) = self.take_lines(book, plan, commands, piece) {
             return Err(failed);
         }
@@ -368,9 +372,14 @@ impl Station {
         let millis = self.patience(plan, rested);
         match link.read(&mut buf, millis) {
             Came::Bytes(n, moment) => {
-                if let Err(failed) =
-                    self.take_piece(book, plan, commands, rested, &buf[..n], moment)
-                {
+                if let Err(failed) = self.take_piece(
+                    book,
+                    plan,
+                    commands,
+                    rested,
+                    &buf[..n],
+                    moment,
+                ) {
                     link.close();
                     return Err(failed);
                 }

@@ -7,7 +7,7 @@ use Rattle.gc_station.proofs.station.Station.take_piece.Goals as goal
 
 pub returns-in-Err-clause-takes : goal.returns-in-Err-clause-takes
 returns-in-Err-clause-takes g c s start stands so =
-    let m = c.args.moment in
+    let m = c.args.now in
     c.in-Err.ensures.takes (with_moment m (with_progress (told m) s)) start
     (record {
       progress = c.tell.ensures ∙ ap (told m) stands.progress;
@@ -20,7 +20,7 @@ returns-in-Err-clause-takes g c s start stands so =
 
 pub returns-clause-takes : goal.returns-clause-takes
 returns-clause-takes g c s start stands so =
-    let m = c.args.moment in
+    let m = c.args.now in
     let plan = c.args.plan.now in
     let rested = c.args.rested in
     let t =
@@ -34,8 +34,7 @@ returns-clause-takes g c s start stands so =
     })
     so in
     let before = c.waiting-before.ensures.waiting ∙ ap (λ ids. length ids.waiting) stands.ids in
-    let after = c.waiting-after.ensures.waiting ∙ ap (λ ids. length ids.waiting) t.0.ids in
-    (
+    let after = c.waiting-after.ensures.waiting ∙ ap (λ ids. length ids.waiting) t.0.ids in (
       record {
         progress = c.give.ensures ∙ ap (λ b. gave plan rested b c.waiting-after.result c.take_lines.new.self.progress) before
             ∙ ap (λ a. gave plan rested (length s.client.waiting) a c.take_lines.new.self.progress) after ∙ ap (gave plan rested (length s.client.waiting) _) t.0.progress;

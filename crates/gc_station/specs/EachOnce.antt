@@ -1,0 +1,65 @@
+-- Each command once, this project's own: the records of a run, and behind them the requests that wait, are the commands that were
+-- sent, cycle by cycle and in order, each once.
+use Rattle.std.specs.Prelude.{◌≡◌, ℕ, zero, suc, ◌+◌, ◌-◌, ◌≤◌, Bool, true, false, List, [], ◌∷◌, ◌++◌, length, take, map, if◌then◌else◌}
+use Rattle.gc_catalogue.specs.declared.call.Call.{Call}
+use Rattle.gc_client.specs.OneForOne.{Asked, of_settled, of_pending}
+use Rattle.gc_texts.specs.declared.commands.Command.{Command}
+use Rattle.gc_station.specs.declared.plan.Plan.{Plan}
+use Rattle.gc_station.specs.declared.cause.Cause.{Cause}
+use Rattle.gc_station.specs.declared.cause.Cause.TheVariants.{Done}
+use Rattle.gc_station.specs.declared.progress.Order.TheVariants.{Stop}
+use Rattle.gc_station.specs.Acts.{Act}
+use Rattle.gc_station.specs.Records.{Record}
+use Rattle.gc_station.specs.Runs.{stood}
+use Rattle.gc_station.specs.Standing.{Standing, opening, order_at, place_next, Runs}
+
+-- a request of a run: of which cycle and place it is, whom it is for, and what it asks for
+pub record Request : Type 0 where
+  pub cycle : ℕ
+  pub place : ℕ
+  pub asked : Asked
+
+-- requests of one cycle, the first of them at this place
+abbrev pub requests : ℕ → ℕ → List Asked → List Request
+requests cycle place [] = []
+requests cycle place (a ∷ others) = record { cycle = cycle; place = place; asked = a } ∷ requests cycle (place + 1) others
+
+-- what a command asks
+abbrev pub of_command : Command → Asked
+of_command c = record { target = c.target; call = c.call }
+
+-- all commands of so many cycles, which are counted from 1
+abbrev pub all_cycles : List Command → ℕ → List Request
+all_cycles commands zero = []
+all_cycles commands (suc n) = all_cycles commands n ++ requests (suc n) 0 (map of_command commands)
+
+-- so many cycles began, and of the last of them so many commands were sent
+abbrev pub sent_by : List Command → ℕ → ℕ → List Request
+sent_by commands zero place = []
+sent_by commands (suc n) place = all_cycles commands n ++ requests (suc n) 0 (map of_command (take place commands))
+
+-- how many cycles began
+abbrev pub cycles_begun : Plan → Standing → ℕ
+cycles_begun plan s = plan.cycles - s.progress.left
+
+-- the request that a record is of
+abbrev pub of_record : Record → Request
+of_record r = record { cycle = r.cycle; place = r.place; asked = of_settled r.settlement }
+
+-- the requests of the cycle that wait
+abbrev pub still_waiting : Plan → List Command → Standing → List Request
+still_waiting plan commands s =
+    if s.progress.probe then []
+    else requests (cycles_begun plan s) (place_next commands s.progress - length s.client.waiting) (map of_pending s.client.waiting)
+
+-- the records, and behind them the requests that wait, are the commands that were sent
+abbrev pub IsEachOnce : Plan → List Command → Standing → Type 0
+IsEachOnce plan commands s =
+    map of_record s.records ++ still_waiting plan commands s ≡ sent_by commands (cycles_begun plan s) (place_next commands s.progress)
+
+-- after each run, and where it stopped: nothing waits, and where it is done all commands of all cycles were sent
+pub record EachOnce (plan : Plan) (commands : List Command) (turns : ℕ) (acts : List Act) : Type 0 where
+  pub each : IsEachOnce plan commands (stood plan commands turns acts)
+  pub settled : (cause : Cause) → order_at plan (stood plan commands turns acts) ≡ Stop cause
+      → map of_record (stood plan commands turns acts).records ≡ sent_by commands (cycles_begun plan (stood plan commands turns acts)) (place_next commands (stood plan commands turns acts).progress)
+  pub done : order_at plan (stood plan commands turns acts) ≡ Stop Done → map of_record (stood plan commands turns acts).records ≡ all_cycles commands plan.cycles
