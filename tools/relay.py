@@ -114,7 +114,7 @@ class Relay:
         if self.chance(15):
             self.told["delayed"] += 1
             at += o.deadline * self.random.uniform(0.5, 2) / 1000
-        if self.chance(15):
+        if len(line) > 1 and self.chance(15):
             self.told["beheaded"] += 1
             line = line[self.random.randrange(1, len(line)) :]
             sent = None

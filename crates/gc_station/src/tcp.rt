@@ -15,6 +15,9 @@ use std::time::{Clock, Duration, Instant, SystemTime, UNIX_EPOCH};
 // request line in less than a second.
 const PATIENCE: u64 = 10_000;
 
+// How often one put is tried again where it was interrupted.
+const MOST_INTERRUPTIONS: u32 = 1000;
+
 /// A connection to a port of this machine, and the time since the link was made. No clause says what a socket carried, so its
 /// acts are not known.
 #[derive(Drop)]
@@ -73,6 +76,19 @@ fn millis_of(time: Duration) -> u64 {
     u64::try_from(time.as_millis()).unwrap_or(u64::MAX)
 }
 
+// Whether a call was interrupted, and did nothing.
+fn is_interrupted(error: &io::Error) -> bool {
+    error.kind() == ErrorKind::Interrupted
+}
+
+// Whether a connection is one to itself, as a connect to a port where nobody listens can make it.
+fn is_to_itself(stream: &TcpStream) -> bool {
+    match (stream.local_addr(), stream.peer_addr()) {
+        (Ok(near), Ok(far)) => near == far,
+        _ => false,
+    }
+}
+
 // Whether an error of a read says no more than that nothing came in its time.
 fn is_silence(kind: ErrorKind) -> bool {
     matches!(
@@ -113,10 +129,14 @@ impl<'a, R: Net<Listener = TcpListener, Stream = TcpStream> + Clock> Link for Tc
             return Err(0);
         };
         let mut at = 0;
+        let mut interruptions = 0;
         while at < bytes.len() {
             match stream.write(&bytes[at..]) {
                 Ok(0) => return Err(at),
                 Ok(n) => at += n,
+                Err(error) if is_interrupted(&error) && interruptions < MOST_INTERRUPTIONS => {
+                    interruptions += 1;
+                }
                 Err(_) => return Err(at),
             }
         }
@@ -133,6 +153,9 @@ impl<'a, R: Net<Listener = TcpListener, Stream = TcpStream> + Clock> Link for Tc
         let Ok(stream) = TcpStream::connect_timeout(self.rt, &here, patience) else {
             return Err(PortFailed);
         };
+        if is_to_itself(&stream) {
+            return Err(PortFailed);
+        }
         // Without this a peer that takes nothing would hold a write for ever, so a connection that refuses it is none.
         if stream.set_write_timeout(Some(patience)).is_err() {
             return Err(PortFailed);
