@@ -42,7 +42,7 @@ went_nothing plan commands turns text told taken station stands = record {
   took = Appends-nil taken;
 }
 
-after_all-append : (plan : Plan) (commands : List Command) (s : Standing) (xs ys : List Act) → after_all plan commands s (xs ++ ys) ≡ after_all plan commands (after_all plan commands s xs) ys
+pub after_all-append : (plan : Plan) (commands : List Command) (s : Standing) (xs ys : List Act) → after_all plan commands s (xs ++ ys) ≡ after_all plan commands (after_all plan commands s xs) ys
 after_all-append plan commands s [] ys = refl
 after_all-append plan commands s (x ∷ xs) ys = after_all-append plan commands (after plan commands s x) xs ys
 
@@ -51,7 +51,7 @@ runs-append plan commands s [] ys p q = q
 runs-append plan commands s (x ∷ xs) ys p q = (p.0, runs-append plan commands (after plan commands s x) xs ys p.1 q)
 
 -- an order is obeyed by the same acts, whatever the turn
-turn_obeys : (commands : List Command) (order : Order) (s : Standing) (act : Act) → Obeys commands (with_progress turned s) order act → Obeys commands s order act
+pub turn_obeys : (commands : List Command) (order : Order) (s : Standing) (act : Act) → Obeys commands (with_progress turned s) order act → Obeys commands s order act
 turn_obeys commands Tell s act o = o
 turn_obeys commands Begin s act o = o
 turn_obeys commands Open s act o = o

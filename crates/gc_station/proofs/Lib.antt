@@ -1,3 +1,7 @@
+mod Closings
+mod Each
+mod Facts
+mod Fine
 mod Going
 mod Hearing
 mod Orders

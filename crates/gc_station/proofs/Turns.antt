@@ -138,7 +138,7 @@ again_down false true why = refl
 again_down false false why = refl
 
 -- a connection that is closed is not up
-closed_down : (cause : Cause) (p : Progress) → is_up (closed cause p).phase ≡ false
+pub closed_down : (cause : Cause) (p : Progress) → is_up (closed cause p).phase ≡ false
 closed_down cause.Done p = refl
 closed_down cause.Clock p = refl
 closed_down cause.Turns p = refl

@@ -7,4 +7,6 @@ pub mod Standing
 pub mod Tallies
 pub mod Runs
 pub mod EachOnce
+pub mod Reasons
+pub mod Closing
 pub mod Stations

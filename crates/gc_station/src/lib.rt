@@ -3,6 +3,7 @@
 
 mod book;
 mod cause;
+pub mod laws;
 mod link;
 mod plan;
 mod progress;
