@@ -12,14 +12,14 @@ use Rattle.gc_station.specs.declared.progress.Order.{Order}
 use Rattle.gc_station.specs.declared.progress.Order.TheVariants as order
 use Rattle.gc_station.specs.declared.progress.Progress.{Progress}
 use Rattle.gc_station.specs.Acts.{Act, Told, Untold, Put, Cut, Gave, Silent, Ended, Broke, Closed, Opened, Unopened}
-use Rattle.gc_station.specs.Deciding.{is_up, is_quiet, order_of, order_in}
-use Rattle.gc_station.specs.Progressing.{turned, told, begun, failing, quieted, silent, phase_again, is_finished, closed, cleared, probed, sent}
+use Rattle.gc_station.specs.Deciding.{is_up, is_quiet, order_in}
+use Rattle.gc_station.specs.Progressing.{turned, told, begun, failing, quieted, is_finished, closed, cleared, probed, sent}
 use Rattle.gc_station.specs.Closing.{IsReasoned, Shows, ClosesForACause}
 use Rattle.gc_station.specs.Reasons.{IsFor, IsAtItsEnd}
 use Rattle.gc_station.specs.Runs.{stood}
-use Rattle.gc_station.specs.Standing.{Standing, opening, order_at, place_next, with_progress, with_moment, is_heard, is_hopeless, came, asks, asks_first, after_tell, after_put, after_open, after_read, Puts, IsTelling, IsOpening, IsReading, Obeys, moved, after, after_all, Runs}
+use Rattle.gc_station.specs.Standing.{Standing, opening, order_at, place_next, with_progress, with_moment, is_heard, is_hopeless, asks, asks_first, after_tell, after_put, after_open, after_read, Puts, IsTelling, IsOpening, IsReading, Obeys, moved, after, after_all, Runs}
 use Rattle.gc_station.proofs.Facts.{order_for}
-use Rattle.gc_station.proofs.Going.{after_all-append, turn_obeys}
+use Rattle.gc_station.proofs.Going.{after_all-append}
 use Rattle.gc_station.proofs.Turns.{came_progress, closed_down}
 
 fail_closes : (up : Bool) (why c : Cause) → (if up then Closing why else Over why) ≡ Closing c → why ≡ c
@@ -145,6 +145,7 @@ after_shown plan commands s act c o e = by_order (order_at plan s) refl (moved_s
   turned_obeys commands order.Rest s act o = o
   turned_obeys commands (order.Close why) s act o = o
   turned_obeys commands (order.Stop why) s act o = o
+
   by_order : (next : Order) → order_at plan s ≡ next → (Shows c act ⊎ (s.progress.phase ≡ Closing c)) → Shows c act
   by_order next is (inl shows) = shows
   by_order next is (inr phase) =
@@ -196,19 +197,20 @@ closed_for plan commands turns acts later runs =
       closes = it.1;
       shown = by_needs it.0 needs.1 split.0;
     } where
-  by_last : (why : Cause) → (stood plan commands turns acts).progress.phase ≡ Closing why → Runs plan commands (opening plan turns) acts → ((acts ≡ []) ⊎ ((earlier : List Act) × (last : Act) × (acts ≡ earlier ++ last ∷ [])))
-      → (earlier : List Act) × (last : Act) × (acts ≡ earlier ++ last ∷ []) × Shows why last
-  by_last why phase runs (inl none) = let down : Down ≡ Closing why = sym (ap (λ (xs : List Act). (stood plan commands turns xs).progress.phase) none) ∙ phase in cc
-  by_last why phase runs (inr some) =
-      let earlier = some.0 in
-      let last = some.1 in
-      let split = runs_split plan commands (opening plan turns) earlier [] last (subst (λ (xs : List Act). Runs plan commands (opening plan turns) xs) some.2 runs) in
-      let behind : (after plan commands (stood plan commands turns earlier) last).progress.phase ≡ Closing why =
-      sym (ap (λ (x : Standing). x.progress.phase) (after_all-append plan commands (opening plan turns) earlier (last ∷ []))) ∙ sym (ap (λ (xs : List Act). (stood plan commands turns xs).progress.phase) some.2) ∙ phase in
-      (earlier, last, some.2, after_shown plan commands (stood plan commands turns earlier) last why split.1 behind)
-  by_needs : (why : Cause) → (((stood plan commands turns acts).progress.phase ≡ Closing why) ⊎ IsAtItsEnd plan (stood plan commands turns acts).progress (length (stood plan commands turns acts).client.waiting) (is_hopeless (stood plan commands turns acts).client) why)
-      → Runs plan commands (opening plan turns) acts
-      → IsAtItsEnd plan (stood plan commands turns acts).progress (length (stood plan commands turns acts).client.waiting) (is_hopeless (stood plan commands turns acts).client) why
-      ⊎ ((earlier : List Act) × (last : Act) × (acts ≡ earlier ++ last ∷ []) × Shows why last)
-  by_needs why (inl phase) runs = inr (by_last why phase runs (last_of acts))
-  by_needs why (inr end) runs = inl end
+      by_last : (why : Cause) → (stood plan commands turns acts).progress.phase ≡ Closing why → Runs plan commands (opening plan turns) acts → ((acts ≡ []) ⊎ ((earlier : List Act) × (last : Act) × (acts ≡ earlier ++ last ∷ [])))
+          → (earlier : List Act) × (last : Act) × (acts ≡ earlier ++ last ∷ []) × Shows why last
+      by_last why phase runs (inl none) = let down : Down ≡ Closing why = sym (ap (λ (xs : List Act). (stood plan commands turns xs).progress.phase) none) ∙ phase in cc
+      by_last why phase runs (inr some) =
+          let earlier = some.0 in
+          let last = some.1 in
+          let split = runs_split plan commands (opening plan turns) earlier [] last (subst (λ (xs : List Act). Runs plan commands (opening plan turns) xs) some.2 runs) in
+          let behind : (after plan commands (stood plan commands turns earlier) last).progress.phase ≡ Closing why =
+          sym (ap (λ (x : Standing). x.progress.phase) (after_all-append plan commands (opening plan turns) earlier (last ∷ []))) ∙ sym (ap (λ (xs : List Act). (stood plan commands turns xs).progress.phase) some.2) ∙ phase in
+          (earlier, last, some.2, after_shown plan commands (stood plan commands turns earlier) last why split.1 behind)
+
+      by_needs : (why : Cause) → (((stood plan commands turns acts).progress.phase ≡ Closing why) ⊎ IsAtItsEnd plan (stood plan commands turns acts).progress (length (stood plan commands turns acts).client.waiting) (is_hopeless (stood plan commands turns acts).client) why)
+          → Runs plan commands (opening plan turns) acts
+          → IsAtItsEnd plan (stood plan commands turns acts).progress (length (stood plan commands turns acts).client.waiting) (is_hopeless (stood plan commands turns acts).client) why
+          ⊎ ((earlier : List Act) × (last : Act) × (acts ≡ earlier ++ last ∷ []) × Shows why last)
+      by_needs why (inl phase) runs = inr (by_last why phase runs (last_of acts))
+      by_needs why (inr end) runs = inl end

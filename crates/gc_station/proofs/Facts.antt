@@ -1,18 +1,15 @@
 -- What has to hold where an order is next.
-use Rattle.std.proofs.Common.{◌≡◌, ℕ, ◌<◌, ◌&&◌, Bool, true, false, if◌then◌else◌, nat_lt, nat_eq, refl, sym, ap, ◌∙◌, inl, inr, arith}
+use Rattle.std.proofs.Common.{◌≡◌, ℕ, ◌<◌, ◌&&◌, Bool, true, false, if◌then◌else◌, nat_lt, nat_eq, refl, ap, inl, inr, arith}
 use Rattle.std.proofs.lemmas.Bool.{ltb-true, eqb-true}
 use Rattle.std.proofs.lemmas.Bool.Decides.{nat_tests}
 use Rattle.gc_station.specs.declared.plan.Plan.{Plan}
-use Rattle.gc_station.specs.declared.cause.Cause.{Cause}
 use Rattle.gc_station.specs.declared.cause.Cause.TheVariants as cause
 use Rattle.gc_station.specs.declared.progress.Phase.{Phase}
 use Rattle.gc_station.specs.declared.progress.Phase.TheVariants.{Down, Resting, Clearing, Draining, Probing, Ready, Closing, Over}
-use Rattle.gc_station.specs.declared.progress.Order.{Order}
 use Rattle.gc_station.specs.declared.progress.Order.TheVariants as order
 use Rattle.gc_station.specs.declared.progress.Progress.{Progress}
 use Rattle.gc_station.specs.Reasons.{IsFor}
-use Rattle.gc_station.specs.Deciding.{width_of, is_up, is_quiet, is_due, order_of, order_in, order_on, order_told, order_ready, order_room, order_sent, order_done, order_waiting, order_up}
-
+use Rattle.gc_station.specs.Deciding.{width_of, is_up, is_quiet, is_due, order_of, order_in, order_on, order_told, order_ready, order_waiting, order_up}
 
 -- what holds of both holds of the one that a test takes
 either : {A : Type 0} (P : A → Type 0) (x y : A) (t : Bool) → (t ≡ true → P x) → (t ≡ false → P y) → P (if t then x else y)

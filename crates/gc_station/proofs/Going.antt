@@ -1,5 +1,5 @@
 -- A run on the way: what was done so far, and one act more.
-use Rattle.std.proofs.Common.{◌≡◌, ℕ, ◌<◌, ◌≤◌, List, [], ◌∷◌, ◌++◌, length, Option, Some, None, refl, sym, ap, ◌∙◌, subst, append_assoc, append-nil}
+use Rattle.std.proofs.Common.{◌≡◌, ℕ, ◌<◌, ◌≤◌, List, [], ◌∷◌, ◌++◌, length, Option, Some, None, refl, sym, ap, ◌∙◌, subst, append-nil}
 use Rattle.std.specs.Io.KnownBytes.{Appends}
 use Rattle.gc_lines.proofs.Known.{Appends-nil}
 use Rattle.gc_texts.specs.declared.commands.Command.{Command}
@@ -9,11 +9,10 @@ use Rattle.gc_station.specs.declared.progress.Order.{Order}
 use Rattle.gc_station.specs.declared.progress.Order.TheVariants.{Tell, Begin, Open, Clear, Probe, Send, Read, Rest, Close, Stop}
 use Rattle.gc_station.specs.declared.progress.Progress.{Progress}
 use Rattle.gc_station.specs.declared.station.Station.{Station}
-use Rattle.gc_station.specs.declared.tally.Tally.{Tally}
 use Rattle.gc_station.specs.Acts.{Act, Tells}
 use Rattle.gc_station.specs.Progressing.{turned}
-use Rattle.gc_station.specs.Records.{Record, texts_of, WritesPart}
-use Rattle.gc_station.specs.Runs.{stood, RanTo, BrokeAt, closing}
+use Rattle.gc_station.specs.Records.{Record, texts_of}
+use Rattle.gc_station.specs.Runs.{stood, BrokeAt, closing}
 use Rattle.gc_station.specs.Standing.{Standing, opening, order_at, Obeys, after, after_all, moved, Runs, with_progress}
 use Rattle.gc_station.specs.Stations.{Stands, Does, Breaks, OnCall}
 use Rattle.gc_station.proofs.Hearing.{tells_more}

@@ -1,5 +1,6 @@
 mod Closings
 mod Each
+mod EachRun
 mod Facts
 mod Fine
 mod Going

@@ -6,10 +6,9 @@ use Rattle.gc_station.specs.declared.plan.Plan.{Plan}
 use Rattle.gc_station.specs.declared.cause.Cause.TheVariants as cause
 use Rattle.gc_station.specs.declared.progress.Phase.{Phase}
 use Rattle.gc_station.specs.declared.progress.Phase.TheVariants.{Down, Resting, Clearing, Draining, Probing, Ready, Closing, Over}
-use Rattle.gc_station.specs.declared.progress.Order.{Order}
 use Rattle.gc_station.specs.declared.progress.Order.TheVariants as order
 use Rattle.gc_station.specs.declared.progress.Progress.{Progress}
-use Rattle.gc_station.specs.Deciding.{width_of, is_up, is_quiet, is_due, order_of, order_in, order_on, order_told, order_ready, order_room, order_sent, order_done, order_waiting, order_up}
+use Rattle.gc_station.specs.Deciding.{width_of, is_up, is_quiet, is_due, order_of, order_in, order_on, order_told, order_ready, order_done, order_waiting, order_up}
 use Rattle.gc_station.specs.Standing.{is_nil, is_hopeless}
 use Rattle.gc_station.specs.Stations.{HasRoom}
 

@@ -13,8 +13,8 @@ use Rattle.gc_station.specs.declared.progress.Order.{Order}
 use Rattle.gc_station.specs.declared.progress.Order.TheVariants.{Tell, Begin, Open, Clear, Probe, Send, Read, Rest, Close, Stop}
 use Rattle.gc_station.specs.declared.progress.Progress.{Progress}
 use Rattle.gc_station.specs.Acts.{Act, Told, Untold, Put, Cut, Gave, Silent, Ended, Broke, Closed, Opened, Unopened}
-use Rattle.gc_station.specs.Deciding.{is_up, order_of, order_in, order_up}
-use Rattle.gc_station.specs.Standing.{Standing, order_at, Obeys, moved, after, asks, asks_first, with_progress, with_moment, with_rest, line_came, lines_came, lines_behind, piece_came, came, after_tell, after_put, after_open, after_read, is_heard, is_hopeless, place_next}
+use Rattle.gc_station.specs.Deciding.{is_up, order_in, order_up}
+use Rattle.gc_station.specs.Standing.{Standing, order_at, Obeys, moved, after, asks, asks_first, with_progress, with_moment, with_rest, line_came, lines_came, lines_behind, came, after_tell, after_put, after_open, after_read, is_heard, is_hopeless, place_next}
 use Rattle.gc_station.specs.Progressing.{turned, told, begun, cleared, probed, sent, is_finished, closed}
 
 -- no turn is taken, and no more commands are to be sent than there are

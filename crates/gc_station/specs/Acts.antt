@@ -1,5 +1,5 @@
 -- What a link tells: each call adds what came of it, in the order of the calls. This project's own.
-use Rattle.std.specs.Prelude.{◌≡◌, ℕ, ◌<◌, ◌≤◌, List, [], ◌∷◌, ◌++◌, length, take, Option, Some, None, Result, Ok, Err}
+use Rattle.std.specs.Prelude.{◌≡◌, ℕ, ◌<◌, ◌≤◌, List, ◌++◌, length, take, Option, Some, None, Result, Ok, Err}
 use Rattle.gc_station.specs.declared.link.Came.{Came}
 use Rattle.gc_station.specs.declared.link.Came.TheVariants.{Bytes, Silence, End, Failure, NoMoment}
 use Rattle.gc_station.specs.declared.link.Moment.{Moment}

@@ -1,7 +1,6 @@
 -- Each command once, this project's own: the records of a run, and behind them the requests that wait, are the commands that were
 -- sent, cycle by cycle and in order, each once.
-use Rattle.std.specs.Prelude.{◌≡◌, ℕ, zero, suc, ◌+◌, ◌-◌, ◌≤◌, Bool, true, false, List, [], ◌∷◌, ◌++◌, length, take, map, if◌then◌else◌}
-use Rattle.gc_catalogue.specs.declared.call.Call.{Call}
+use Rattle.std.specs.Prelude.{◌≡◌, ℕ, zero, suc, ◌+◌, ◌-◌, List, [], ◌∷◌, ◌++◌, length, take, map, if◌then◌else◌}
 use Rattle.gc_client.specs.OneForOne.{Asked, of_settled, of_pending}
 use Rattle.gc_texts.specs.declared.commands.Command.{Command}
 use Rattle.gc_station.specs.declared.plan.Plan.{Plan}
@@ -11,7 +10,7 @@ use Rattle.gc_station.specs.declared.progress.Order.TheVariants.{Stop}
 use Rattle.gc_station.specs.Acts.{Act}
 use Rattle.gc_station.specs.Records.{Record}
 use Rattle.gc_station.specs.Runs.{stood}
-use Rattle.gc_station.specs.Standing.{Standing, opening, order_at, place_next, Runs}
+use Rattle.gc_station.specs.Standing.{Standing, order_at, place_next}
 
 -- a request of a run: of which cycle and place it is, whom it is for, and what it asks for
 pub record Request : Type 0 where

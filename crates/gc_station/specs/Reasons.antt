@@ -2,8 +2,7 @@
 use Rattle.std.specs.Prelude.{◌≡◌, ℕ, ◌<◌, ◌⊎◌, Bool, true, false}
 use Rattle.gc_station.specs.declared.plan.Plan.{Plan}
 use Rattle.gc_station.specs.declared.cause.Cause.{Cause}
-use Rattle.gc_station.specs.declared.cause.Cause.TheVariants.{Done, Silence, Turns, Read, End, Write, Clock, Open}
-use Rattle.gc_station.specs.declared.progress.Phase.{Phase}
+use Rattle.gc_station.specs.declared.cause.Cause.TheVariants.{Done, Silence, Turns}
 use Rattle.gc_station.specs.declared.progress.Phase.TheVariants as phase
 use Rattle.gc_station.specs.declared.progress.Order.{Order}
 use Rattle.gc_station.specs.declared.progress.Order.TheVariants as order

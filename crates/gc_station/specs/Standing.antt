@@ -1,6 +1,6 @@
 -- What a station is after the acts of its link, this project's own: the client's rule over what really happened, and how far
 -- the station is. Each act is the one that the station was to make next.
-use Rattle.std.specs.Prelude.{◌≡◌, ℕ, ◌+◌, ◌-◌, ◌<◌, ◌&&◌, Bool, true, false, not, List, [], ◌∷◌, ◌++◌, length, drop, Option, Some, None, map, if◌then◌else◌, min}
+use Rattle.std.specs.Prelude.{◌≡◌, ℕ, ◌-◌, ◌<◌, Bool, true, false, List, [], ◌∷◌, ◌++◌, length, drop, Option, Some, None, if◌then◌else◌}
 use Rattle.std.specs.List.{filter_map}
 use Rattle.gc_lines.specs.Frames.{line_in, rest_behind}
 use Rattle.gc_lines.specs.Lines.{with_end}
@@ -8,7 +8,7 @@ use Rattle.gc_lines.specs.Passing.{frames_behind}
 use Rattle.gc_catalogue.specs.declared.call.Call.{Call}
 use Rattle.gc_catalogue.specs.declared.call.Call.TheVariants.{NullProc}
 use Rattle.gc_catalogue.specs.Texts.{request_line}
-use Rattle.gc_client.specs.Rule.{ById, Settlement, Sending, Outcome, Answered, Late, Lost, fresh, sends, hears, heard, expires, restarts, deadlines}
+use Rattle.gc_client.specs.Rule.{ById, Settlement, Sending, fresh, sends, hears, heard, expires, restarts, deadlines}
 use Rattle.gc_texts.specs.declared.commands.Command.{Command}
 use Rattle.gc_station.specs.declared.link.Moment.{Moment}
 use Rattle.gc_station.specs.declared.plan.Plan.{Plan}

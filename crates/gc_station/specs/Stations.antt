@@ -1,5 +1,5 @@
 -- No part of a promise: what the functions of a station say of it, in the words of where it stands.
-use Rattle.std.specs.Prelude.{◌≡◌, ℕ, ◌<◌, ◌≤◌, ◌++◌, Bool, true, false, List, [], ◌∷◌, length, Option, Result, Ok, Err}
+use Rattle.std.specs.Prelude.{◌≡◌, ℕ, ◌<◌, Bool, true, false, List, [], ◌∷◌, Option, Result, Ok, Err}
 use Rattle.std.specs.Io.KnownBytes.{Appends}
 use Rattle.gc_lines.specs.Assembler.{StandsFor}
 use Rattle.gc_texts.specs.declared.commands.Command.{Command}
@@ -9,7 +9,7 @@ use Rattle.gc_station.specs.declared.progress.Order.{Order}
 use Rattle.gc_station.specs.declared.progress.Order.TheVariants.{Send, Probe, Read, Rest, Stop}
 use Rattle.gc_station.specs.declared.progress.Progress.{Progress}
 use Rattle.gc_station.specs.declared.station.Station.{Station}
-use Rattle.gc_station.specs.Acts.{Act, Closed, Tells}
+use Rattle.gc_station.specs.Acts.{Act, Tells}
 use Rattle.gc_station.specs.Deciding.{width_of}
 use Rattle.gc_station.specs.Progressing.{failing}
 use Rattle.gc_station.specs.Records.{Record, texts_of, WritesPart}

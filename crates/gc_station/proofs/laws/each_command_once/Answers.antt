@@ -1,4 +1,4 @@
-use Rattle.gc_station.proofs.Fine.{each_once}
+use Rattle.gc_station.proofs.EachRun.{each_once}
 use Rattle.gc_station.proofs.laws.each_command_once.Goals as goal
 
 pub returns : goal.returns

@@ -1,4 +1,4 @@
-use Rattle.std.proofs.Common.{◌≡◌, ap, ◌∙◌}
+use Rattle.std.proofs.Common.{ap, ◌∙◌}
 use Rattle.gc_station.specs.Progressing.{turned}
 use Rattle.gc_station.specs.Runs.{stood}
 use Rattle.gc_station.proofs.Going.{on_call, went_on, went_wrong, went_nearer}

@@ -1,4 +1,4 @@
-use Rattle.std.proofs.Common.{◌≡◌, ◌∷◌, [], take, map, drop, ◌+◌, ap, sym, ◌∙◌}
+use Rattle.std.proofs.Common.{take, map, ap, sym, ◌∙◌}
 use Rattle.gc_client.specs.Settlements.{settlement_seen}
 use Rattle.gc_station.specs.Records.{records_from}
 use Rattle.gc_station.specs.Tallies.{tallied, counted}

@@ -1,4 +1,4 @@
-use Rattle.std.proofs.Common.{◌≡◌, sym, ap, ◌∙◌, refl}
+use Rattle.std.proofs.Common.{ap, ◌∙◌, refl}
 use Rattle.gc_client.specs.Rule.{restarts}
 use Rattle.gc_station.specs.Acts.{Closed}
 use Rattle.gc_station.specs.Progressing.{closed}

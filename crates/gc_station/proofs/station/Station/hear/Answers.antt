@@ -1,4 +1,4 @@
-use Rattle.std.proofs.Common.{◌≡◌, ◌≤◌, length, sym, ap, ◌∙◌, refl}
+use Rattle.std.proofs.Common.{◌≤◌, length, ap, ◌∙◌, refl}
 use Rattle.gc_client.specs.Rule.{hears, heard}
 use Rattle.gc_station.proofs.Hearing.{settles}
 use Rattle.gc_station.proofs.station.Station.hear.Goals as goal

@@ -1,10 +1,8 @@
-use Rattle.std.proofs.Common.{◌≡◌, ◌∙◌, ℕ, List, drop, arith, length-drop, drop-drop, sym, ap, refl}
-use Rattle.std.proofs.lemmas.List.{take_rest, drop_all}
+use Rattle.std.proofs.Common.{◌∙◌, drop, arith, length-drop, drop-drop}
+use Rattle.std.proofs.lemmas.List.{take_rest}
 use Rattle.gc_lines.specs.Lent.{lent_seen}
 use Rattle.gc_lines.proofs.Passing.{Takes, takes}
-use Rattle.gc_station.specs.Standing.{Standing}
-use Rattle.gc_station.specs.Stations.{Stands}
-use Rattle.gc_station.proofs.Hearing.{Hearing, hearing_on, hearing_part, hearing_end}
+use Rattle.gc_station.proofs.Hearing.{hearing_on, hearing_part}
 use Rattle.gc_station.proofs.station.Station.listen.Goals as goal
 
 pub loop-at-preserved : goal.loop-at-preserved

@@ -1,6 +1,5 @@
-use Rattle.std.proofs.Common.{◌≡◌, length, sym, ap, ◌∙◌, refl, subst, ℕ}
+use Rattle.std.proofs.Common.{length, sym, ◌∙◌, refl, subst}
 use Rattle.gc_client.specs.Rule.{deadlines}
-use Rattle.gc_station.specs.Deciding.{order_of}
 use Rattle.gc_station.specs.Standing.{is_hopeless}
 use Rattle.gc_station.specs.Stations.{HasRoom}
 use Rattle.gc_station.proofs.Orders.{hopeless_is, order_shown, order_has_room}

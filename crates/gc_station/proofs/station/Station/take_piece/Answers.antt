@@ -1,8 +1,7 @@
-use Rattle.std.proofs.Common.{◌≡◌, length, sym, ap, ◌∙◌, refl}
+use Rattle.std.proofs.Common.{length, ap, ◌∙◌}
 use Rattle.gc_client.specs.Rule.{expires}
 use Rattle.gc_station.specs.Progressing.{told, gave}
-use Rattle.gc_station.specs.Standing.{Standing, with_moment, with_progress, came, is_heard}
-use Rattle.gc_station.specs.Stations.{Stands}
+use Rattle.gc_station.specs.Standing.{with_moment, with_progress}
 use Rattle.gc_station.proofs.station.Station.take_piece.Goals as goal
 
 pub returns-in-Err-clause-takes : goal.returns-in-Err-clause-takes

@@ -1,0 +1,189 @@
+//! A link that plays a script, and a book that keeps a letter for each outcome.
+
+use crate::book::{Book, Stamp};
+use crate::link::{Came, Link, Moment};
+use arrayvec::ArrayVec;
+use gc_client::{Outcome, Settlement};
+use gc_lines::PortFailed;
+
+// What a read comes to, so many milliseconds after it began.
+#[derive(Clone, Copy)]
+pub(super) enum Step {
+    Line(&'static [u8], u64),
+    Silence(u64),
+    // The clock goes back.
+    Back(u64),
+    End,
+    Failure,
+    NoMoment,
+}
+
+// A link that plays steps, and then is silent for as long as it is asked to wait. What is put is kept as text.
+#[derive(Drop)]
+pub(super) struct Script<'a> {
+    steps: &'a [Step],
+    at: usize,
+    // The first so many opens fail.
+    pub(super) closed_doors: usize,
+    // The call of `put` that is cut after one byte, counted from 1.
+    pub(super) cut: usize,
+    puts: usize,
+    clock: u64,
+    // Whether the clock can't be read.
+    pub(super) blind: bool,
+    pub(super) text: ArrayVec<u8, 1024>,
+}
+
+impl<'a> Script<'a> {
+    pub(super) fn new(steps: &'a [Step]) -> Script<'a> {
+        Script {
+            steps,
+            at: 0,
+            closed_doors: 0,
+            cut: 0,
+            puts: 0,
+            clock: 1000,
+            blind: false,
+            text: ArrayVec::new(),
+        }
+    }
+
+    fn note(&mut self, text: &[u8]) {
+        let _ = self.text.try_extend_from_slice(text);
+    }
+
+    fn moment(&mut self, later: u64) -> Moment {
+        self.clock = self.clock.saturating_add(later);
+        Moment {
+            elapsed: self.clock,
+            utc: self.clock,
+        }
+    }
+}
+
+impl<'a> Link for Script<'a> {
+    ghost use Rattle.std.specs.Prelude.{None};
+
+    ghost acts = { λ _. None };
+
+    fn now(&mut self) -> Result<Moment, PortFailed> {
+        if self.blind {
+            return Err(PortFailed);
+        }
+        Ok(self.moment(0))
+    }
+
+    fn read(&mut self, buf: &mut [u8], millis: u64) -> Came {
+        let Some(step) = self.steps.get(self.at).copied() else {
+            return Came::Silence(self.moment(millis));
+        };
+        self.at = self.at.saturating_add(1);
+        match step {
+            Step::Line(line, later) => {
+                let moment = self.moment(later);
+                let mut n: usize = 0;
+                for (place, byte) in buf.iter_mut().zip(line) {
+                    *place = *byte;
+                    n = n.saturating_add(1);
+                }
+                if n == 0 || n > buf.len() {
+                    return Came::Silence(moment);
+                }
+                Came::Bytes(n, moment)
+            }
+            Step::Silence(later) => Came::Silence(self.moment(later)),
+            Step::Back(earlier) => {
+                self.clock = self.clock.saturating_sub(earlier);
+                Came::Silence(self.moment(0))
+            }
+            Step::End => Came::End,
+            Step::Failure => Came::Failure,
+            Step::NoMoment => Came::NoMoment,
+        }
+    }
+
+    fn put(&mut self, bytes: &[u8]) -> Result<(), usize> {
+        self.puts = self.puts.saturating_add(1);
+        if self.puts == self.cut {
+            self.note(b"cut ");
+            return Err(0);
+        }
+        if bytes == b"\n".as_slice() {
+            self.note(b"lf ");
+        } else {
+            let end = bytes.len().saturating_sub(2);
+            self.note(&bytes[..end]);
+            self.note(b" ");
+        }
+        Ok(())
+    }
+
+    fn close(&mut self) {
+        self.note(b"close ");
+    }
+
+    fn open(&mut self) -> Result<(), PortFailed> {
+        if self.closed_doors > 0 {
+            self.closed_doors = self.closed_doors.saturating_sub(1);
+            self.note(b"shut ");
+            return Err(PortFailed);
+        }
+        self.note(b"open ");
+        Ok(())
+    }
+}
+
+// A book that keeps a letter for each outcome behind cycle and place, and fails at one of its writes.
+#[derive(Drop)]
+pub(super) struct Ends {
+    pub(super) text: ArrayVec<u8, 256>,
+    writes: usize,
+    pub(super) fails: usize,
+}
+
+impl Ends {
+    pub(super) fn new() -> Ends {
+        Ends {
+            text: ArrayVec::new(),
+            writes: 0,
+            fails: 0,
+        }
+    }
+
+    fn digit(&mut self, n: u64) {
+        let _ = self.text.try_push(b'0'.wrapping_add((n % 10) as u8));
+    }
+}
+
+impl Book for Ends {
+    ghost use Rattle.std.specs.Prelude.{None, [], ◌∷◌, true};
+
+    ghost text = { λ _. 0 ∷ [] };
+
+    ghost taken = { λ _. None };
+
+    ghost failed = { λ _. true };
+
+    fn write(&mut self, stamp: Stamp, settlement: &Settlement) -> Result<(), PortFailed> {
+        self.writes = self.writes.saturating_add(1);
+        if self.writes == self.fails {
+            return Err(PortFailed);
+        }
+        self.digit(u64::from(stamp.cycle));
+        self.digit(stamp.place as u64);
+        let letter = match &settlement.outcome {
+            Outcome::Answered(_, _) => b'a',
+            Outcome::Late => b'l',
+            Outcome::Lost => b'x',
+        };
+        let _ = self.text.try_push(letter);
+        let _ = self.text.try_push(b' ');
+        Ok(())
+    }
+
+    fn overran(&mut self, cycle: u32) {
+        self.digit(u64::from(cycle));
+        let _ = self.text.try_push(b'!');
+        let _ = self.text.try_push(b' ');
+    }
+}
