@@ -131,21 +131,22 @@ moved_shown plan commands (order.Stop why) s act c o e = absurd o
 closing_closes : (plan : Plan) (s : Standing) (c : Cause) → s.progress.phase ≡ Closing c → order_at plan s ≡ order.Close c
 closing_closes plan s c e = ap (λ (phase : Phase). order_in phase plan s.progress (length s.client.waiting) (is_hopeless s.client)) e
 
+-- an order is obeyed by the same acts, whatever the turn
+pub obeys_turned : (commands : List Command) (order : Order) (s : Standing) (act : Act) → Obeys commands s order act → Obeys commands (with_progress turned s) order act
+obeys_turned commands order.Tell s act o = o
+obeys_turned commands order.Begin s act o = o
+obeys_turned commands order.Open s act o = o
+obeys_turned commands order.Clear s act o = o
+obeys_turned commands order.Probe s act o = o
+obeys_turned commands order.Send s act o = o
+obeys_turned commands order.Read s act o = o
+obeys_turned commands order.Rest s act o = o
+obeys_turned commands (order.Close why) s act o = o
+obeys_turned commands (order.Stop why) s act o = o
+
 -- the act behind which a connection is to be closed shows the cause
 after_shown : (plan : Plan) (commands : List Command) (s : Standing) (act : Act) (c : Cause) → Obeys commands s (order_at plan s) act → (after plan commands s act).progress.phase ≡ Closing c → Shows c act
-after_shown plan commands s act c o e = by_order (order_at plan s) refl (moved_shown plan commands (order_at plan s) (with_progress turned s) act c (turned_obeys commands (order_at plan s) s act o) e) where
-  turned_obeys : (commands : List Command) (order : Order) (s : Standing) (act : Act) → Obeys commands s order act → Obeys commands (with_progress turned s) order act
-  turned_obeys commands order.Tell s act o = o
-  turned_obeys commands order.Begin s act o = o
-  turned_obeys commands order.Open s act o = o
-  turned_obeys commands order.Clear s act o = o
-  turned_obeys commands order.Probe s act o = o
-  turned_obeys commands order.Send s act o = o
-  turned_obeys commands order.Read s act o = o
-  turned_obeys commands order.Rest s act o = o
-  turned_obeys commands (order.Close why) s act o = o
-  turned_obeys commands (order.Stop why) s act o = o
-
+after_shown plan commands s act c o e = by_order (order_at plan s) refl (moved_shown plan commands (order_at plan s) (with_progress turned s) act c (obeys_turned commands (order_at plan s) s act o) e) where
   by_order : (next : Order) → order_at plan s ≡ next → (Shows c act ⊎ (s.progress.phase ≡ Closing c)) → Shows c act
   by_order next is (inl shows) = shows
   by_order next is (inr phase) =
@@ -153,7 +154,7 @@ after_shown plan commands s act c o e = by_order (order_at plan s) refl (moved_s
       let gone : (moved plan commands (order.Close c) (with_progress turned s) act).progress.phase ≡ Closing c = subst (λ (o : Order). (moved plan commands o (with_progress turned s) act).progress.phase ≡ Closing c) closes e in
       absurd (up_clash (closed c (turned s.progress)).phase c (closed_down c (turned s.progress)) gone)
 
-runs_split : (plan : Plan) (commands : List Command) (s : Standing) (earlier later : List Act) (act : Act) → Runs plan commands s (earlier ++ act ∷ later)
+pub runs_split : (plan : Plan) (commands : List Command) (s : Standing) (earlier later : List Act) (act : Act) → Runs plan commands s (earlier ++ act ∷ later)
     → Runs plan commands s earlier × Obeys commands (after_all plan commands s earlier) (order_at plan (after_all plan commands s earlier)) act
 runs_split plan commands s [] later act runs = (tt, runs.0)
 runs_split plan commands s (x ∷ xs) later act runs = let r = runs_split plan commands (after plan commands s x) xs later act runs.1 in ((runs.0, r.0), r.1)
@@ -167,7 +168,7 @@ act_reasoned plan commands turns earlier later act runs =
     }
 
 -- the last of some acts
-last_of : (acts : List Act) → (acts ≡ []) ⊎ ((earlier : List Act) × (last : Act) × (acts ≡ earlier ++ last ∷ []))
+pub last_of : (acts : List Act) → (acts ≡ []) ⊎ ((earlier : List Act) × (last : Act) × (acts ≡ earlier ++ last ∷ []))
 last_of [] = inl refl
 last_of (x ∷ xs) = on (last_of xs) where
   on : ((xs ≡ []) ⊎ ((earlier : List Act) × (last : Act) × (xs ≡ earlier ++ last ∷ []))) → (x ∷ xs ≡ []) ⊎ ((earlier : List Act) × (last : Act) × (x ∷ xs ≡ earlier ++ last ∷ []))

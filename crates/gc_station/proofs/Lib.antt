@@ -1,3 +1,4 @@
+mod Answers
 mod Closings
 mod Each
 mod EachRun
@@ -7,4 +8,5 @@ mod Going
 mod Hearing
 mod Orders
 mod Records
+mod Stops
 mod Turns

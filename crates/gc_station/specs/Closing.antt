@@ -5,7 +5,7 @@ use Rattle.gc_station.specs.declared.cause.Cause.{Cause}
 use Rattle.gc_station.specs.declared.cause.Cause.TheVariants as cause
 use Rattle.gc_station.specs.declared.plan.Plan.{Plan}
 use Rattle.gc_station.specs.declared.progress.Order.TheVariants.{Close}
-use Rattle.gc_station.specs.Acts.{Act, Untold, Cut, Ended, Broke}
+use Rattle.gc_station.specs.Acts.{Act, Untold, Cut, Ended, Broke, Closed, Unopened}
 use Rattle.gc_station.specs.Reasons.{IsFor, IsAtItsEnd}
 use Rattle.gc_station.specs.Runs.{stood}
 use Rattle.gc_station.specs.Standing.{Standing, order_at, is_hopeless, Obeys}
@@ -29,3 +29,14 @@ pub record ClosesForACause (plan : Plan) (commands : List Command) (turns : ℕ)
   pub closes : order_at plan (stood plan commands turns acts) ≡ Close why
   pub shown : IsAtItsEnd plan (stood plan commands turns acts).progress (length (stood plan commands turns acts).client.waiting) (is_hopeless (stood plan commands turns acts).client) why
       ⊎ ((earlier : List Act) × (last : Act) × (acts ≡ earlier ++ last ∷ []) × Shows why last)
+
+-- an act ends a run for a cause: the connection was closed for it, or none could be made; or a call failed where there was none. It is
+-- done where nothing was left to be sent then
+abbrev pub Ends : Plan → Standing → Cause → Act → Type 0
+Ends plan s why act =
+    ((act ≡ Closed) × ((order_at plan s ≡ Close why) ⊎ (why ≡ cause.Done))) ⊎ (((act ≡ Unopened) × ((why ≡ cause.Open) ⊎ (why ≡ cause.Done))) ⊎ Shows why act)
+
+-- a run stops for a cause: all turns are used up, or what the last act shows
+abbrev pub StopsForACause : Plan → List Command → ℕ → List Act → Cause → Type 0
+StopsForACause plan commands turns acts why =
+    ((why ≡ cause.Turns) × ((stood plan commands turns acts).progress.turns ≡ 0)) ⊎ ((earlier : List Act) × (last : Act) × (acts ≡ earlier ++ last ∷ []) × Ends plan (stood plan commands turns earlier) why last)

@@ -9,4 +9,5 @@ pub mod Runs
 pub mod EachOnce
 pub mod Reasons
 pub mod Closing
+pub mod Answers
 pub mod Stations

@@ -1,13 +1,17 @@
 //! Laws of a station's runs, whatever its link tells.
 
-ghost use Rattle.std.specs.Prelude.{ℕ, List, [], ◌∷◌, ◌++◌};
+ghost use Rattle.std.specs.Prelude.{◌≡◌, ℕ, List, [], ◌∷◌, ◌++◌};
+ghost use Rattle.std.specs.List.{AllByRecursion};
 ghost use Rattle.gc_texts.specs.declared.commands.Command.{Command};
+ghost use Rattle.gc_station.specs.declared.cause.Cause.{Cause};
+ghost use Rattle.gc_station.specs.declared.progress.Order.TheVariants.{Stop};
 ghost use Rattle.gc_station.specs.declared.plan.Plan.{Plan};
 ghost use Rattle.gc_station.specs.Acts.{Act, Closed};
-ghost use Rattle.gc_station.specs.Closing.{IsReasoned, ClosesForACause};
+ghost use Rattle.gc_station.specs.Answers.{IsTrueRecord};
+ghost use Rattle.gc_station.specs.Closing.{IsReasoned, ClosesForACause, StopsForACause};
 ghost use Rattle.gc_station.specs.EachOnce.{EachOnce};
 ghost use Rattle.gc_station.specs.Runs.{stood};
-ghost use Rattle.gc_station.specs.Standing.{opening, Runs};
+ghost use Rattle.gc_station.specs.Standing.{opening, order_at, Runs};
 
 /// The records of a run, and behind them the requests that wait, are the commands that were sent: cycle by cycle, in
 /// order, each once. Where the run stopped nothing waits, and where it is done they are all commands of all cycles.
@@ -27,4 +31,19 @@ pub fn each_act_is_due()
 pub fn closes_for_a_cause()
     ensures { (plan : Plan) (commands : List Command) (turns : ℕ) (earlier later : List Act)
         → Runs plan commands (opening plan turns) (earlier ++ Closed ∷ later) → ClosesForACause plan commands turns earlier }
+{}
+
+/// Each record of an answer is of a line that came on the connection on which its request had gone out, behind that
+/// request, and before a moment at or past its deadline was told: no close stands between them. So a line that came after
+/// a close is never booked for a request from before it, nor the other way round.
+pub fn answers_come_in_time()
+    ensures { (plan : Plan) (commands : List Command) (turns : ℕ) (acts : List Act)
+        → Runs plan commands (opening plan turns) acts → AllByRecursion (IsTrueRecord plan commands turns acts) (stood plan commands turns acts).records }
+{}
+
+/// A run stops only for a cause: all turns are used up, or the last act closed the connection for that cause, or shows that
+/// none could be made, or that a call failed while there was none; and it is done where nothing was left to be sent then.
+pub fn stops_for_a_cause()
+    ensures { (plan : Plan) (commands : List Command) (turns : ℕ) (acts : List Act) (why : Cause) → Runs plan commands (opening plan turns) acts
+        → order_at plan (stood plan commands turns acts) ≡ Stop why → StopsForACause plan commands turns acts why }
 {}
