@@ -176,8 +176,8 @@ pub fn run_ask<S: Source, I: Source, O: Sink, K: Sink>(
     ask_all(commands.as_slice(), link_in, link_out, sink, max_reads)
 }
 
-// Reads the whole command text of a source.
-pub(crate) fn read_command_text<S: Source>(
+/// Reads the whole command text of a source. The faults are those of `read_commands`, and `Read` where a read failed.
+pub fn read_command_text<S: Source>(
     alloc: Global,
     source: &mut S,
 ) -> Result<Vec<Command>, RunFault>

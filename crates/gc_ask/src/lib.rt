@@ -9,7 +9,7 @@ mod looped;
 mod sockets;
 mod unheard;
 
-pub use ask::run_ask;
+pub use ask::{read_command_text, run_ask};
 pub use looped::run_loop;
 pub use sockets::{MOST_CONNECTIONS, ask_tcp, loop_tcp, serve_tcp};
 

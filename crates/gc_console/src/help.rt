@@ -73,3 +73,23 @@ Example:
 writes
   0 7 answered %R1P,0,0:0,123456
   1 8 answered %R1P,0,1:0,0";
+
+/// What the help of `station` ends with.
+pub(crate) const STATION: &str =
+    "A command is a line `T RPC` or `T RPC PARAMS`, which asks target T for procedure RPC; empty lines and lines that
+begin with # are skipped. Each is asked once in each cycle, and each gets a line as it ends, which begins with the moment:
+  answered  its reply came before its deadline
+  late      its reply came after it was given up; what it said is dropped
+  lost      no reply came, and none will be taken
+
+The connection is closed and made anew where it ends or fails, and where all requests that wait are given up and nothing
+came for the quiet time. With each new connection the instrument has to start anew, as `serve` does, or keep no replies;
+if it does neither, use --settle.
+
+Example, beside `geocom serve 4001`:
+  printf '7 5003\\n8 2026\\n' | geocom station 4001
+writes two lines as
+  2026-11-22T23:08:27.123Z 0 7 answered %R1P,0,0:0,123456
+  2026-11-22T23:08:27.124Z 1 8 answered %R1P,0,1:0,0
+and on standard error, at its end,
+  answered 2 late 0 lost 0";

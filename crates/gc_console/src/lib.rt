@@ -7,6 +7,7 @@ mod exec;
 mod help;
 pub mod laws;
 mod program;
+mod station;
 mod verdict;
 
 pub use check::run_check;

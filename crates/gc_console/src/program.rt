@@ -19,6 +19,7 @@ use crate::check::run_check;
 use crate::drill::run_drill_width;
 use crate::exec::run_exec;
 use crate::help::{COMMANDS, EVENTS, FAULTS, REQUESTS, VERDICTS};
+use crate::station::{Station, run_station_port, station_command, station_of};
 use clap::error::ErrorKind;
 use clap::{Arg, ArgAction, Command, Error, value_parser};
 use gc_ask::{MOST_CONNECTIONS, ask_tcp, loop_tcp, serve_tcp};
@@ -31,6 +32,7 @@ use std::env::Args;
 use std::io::{self, Read, Write};
 use std::net::{Net, TcpListener, TcpStream};
 use std::process::ExitCode;
+use std::time::Clock;
 
 // What a command line asks for.
 enum Subcommand {
@@ -40,15 +42,16 @@ enum Subcommand {
     Loop,
     Serve { port: u16, connections: u32 },
     Ask { port: u16 },
+    Station(Station),
 }
 
-/// Runs a command line, whose first word is the program's name, over the net, an input, an output and a
-/// place for messages, and gives the exit status: 0 where it is done, 1 after a fault, which is one
+/// Runs a command line, whose first word is the program's name, over the net and the clock, an input,
+/// an output and a place for messages, and gives the exit status: 0 where it is done, 1 after a fault, which is one
 /// line on `messages`, and 2 for a command line that doesn't parse. `--help` and `--version` write
 /// to `output` and are done. It fails itself only where a text can't be written. The statuses and
 /// the fault line are this project's own.
 pub fn run_program<
-    R: Net<Listener = TcpListener, Stream = TcpStream>,
+    R: Net<Listener = TcpListener, Stream = TcpStream> + Clock,
     I: Read + Drop,
     O: Write + Drop,
     E: Write + Drop,
@@ -79,7 +82,7 @@ pub fn run_program<
 
 // Runs the engine of a subcommand over the input and the output, and tells how it ended.
 fn run_subcommand<
-    R: Net<Listener = TcpListener, Stream = TcpStream>,
+    R: Net<Listener = TcpListener, Stream = TcpStream> + Clock,
     I: Read + Drop,
     O: Write + Drop,
     E: Write,
@@ -121,6 +124,14 @@ fn run_subcommand<
             port,
             &mut FromReader::new(input),
             &mut sink,
+            messages,
+        ),
+        Subcommand::Station(station) => run_station_port(
+            rt,
+            alloc,
+            station,
+            &mut FromReader::new(input),
+            sink,
             messages,
         ),
     }
@@ -199,7 +210,8 @@ fn subcommand_of(alloc: Global, words: &[String]) -> Result<Subcommand, Error> {
         .subcommand(drill_of(alloc)?)?
         .subcommand(looped)?
         .subcommand(serve)?
-        .subcommand(ask)?;
+        .subcommand(ask)?
+        .subcommand(station_command(alloc)?)?;
     let matches = command.try_get_matches_from(words)?;
     if matches.subcommand_matches("check").is_some() {
         return Ok(Subcommand::Check);
@@ -220,6 +232,9 @@ fn subcommand_of(alloc: Global, words: &[String]) -> Result<Subcommand, Error> {
         return Ok(Subcommand::Ask {
             port: ask.get_one::<u16>("port").unwrap_or(0),
         });
+    }
+    if let Some(station) = matches.subcommand_matches("station") {
+        return Ok(Subcommand::Station(station_of(station)));
     }
     if matches.subcommand_matches("loop").is_some() {
         return Ok(Subcommand::Loop);
@@ -248,7 +263,7 @@ fn drill_of<'a>(alloc: Global) -> Result<Command<'a>, Error> {
 }
 
 // A port, as a required word.
-fn port_of<'a>(alloc: Global) -> Arg<'a> {
+pub(crate) fn port_of<'a>(alloc: Global) -> Arg<'a> {
     Arg::new(alloc, "port")
         .value_name("PORT")
         .required(true)
@@ -306,7 +321,7 @@ fn ask_port<R: Net<Listener = TcpListener, Stream = TcpStream>, S: Source, K: Si
     end_of(ask_tcp(rt, alloc, port, source, sink, u32::MAX), messages)
 }
 
-fn refuse_numbers<E: Write>(messages: &mut E) -> io::Result<ExitCode>
+pub(crate) fn refuse_numbers<E: Write>(messages: &mut E) -> io::Result<ExitCode>
     ensures { IfOk result (λ status. exit_status status ≡ 2) }
 {
     writeln!(

@@ -6,3 +6,4 @@ mod drill;
 mod exec;
 mod failing;
 mod program;
+mod station;

@@ -11,6 +11,7 @@ mod progressing;
 mod run;
 mod station;
 mod tally;
+mod tcp;
 mod writing;
 
 pub use book::{Book, Stamp};
@@ -19,6 +20,7 @@ pub use link::{Came, Link, Moment};
 pub use plan::Plan;
 pub use run::run_station;
 pub use tally::Tally;
+pub use tcp::TcpLink;
 
 #[cfg(test)]
 mod tests;

@@ -6,3 +6,5 @@ mod OneSchedule
 mod CommandForms
 pub mod SettlementLines
 mod Telling
+mod Columns
+mod Dates

@@ -5,4 +5,6 @@ pub mod Commands
 pub mod Texts
 pub mod Settlements
 pub mod Faults
+pub mod Stamps
+pub mod Records
 pub mod Laws

@@ -7,6 +7,7 @@ use std::io::{self, ErrorKind, Read};
 use std::net::{Net, TcpListener, TcpStream};
 use std::process::{Abort, ExitCode};
 use std::test::Fail;
+use std::time::Clock;
 
 const REQUESTS: &[u8] = b"%R1Q,0,1:\r\n%R1Q,5003:\r\n";
 
@@ -25,7 +26,7 @@ fn words_of(alloc: Global, texts: &[&str]) -> Result<Args, AllocError> {
 
 // Runs a command line, and expects this status, this output and these messages.
 fn expect_run(
-    rt: &(impl Abort + Net<Listener = TcpListener, Stream = TcpStream>),
+    rt: &(impl Abort + Net<Listener = TcpListener, Stream = TcpStream> + Clock),
     alloc: Global,
     texts: &[&str],
     input: &[u8],
@@ -166,7 +167,7 @@ fn a_text_of_the_engines_is_refused(rt: HostRuntime) -> Result<(), Fail> {
 }
 
 // A name, a command line, its status, and a part of its output and of its messages.
-const COMMAND_LINES: [(&str, &[&str], u8, &str, &str); 16] = [
+const COMMAND_LINES: [(&str, &[&str], u8, &str, &str); 23] = [
     (
         "help",
         &["geocom", "--help"],
@@ -246,6 +247,20 @@ const COMMAND_LINES: [(&str, &[&str], u8, &str, &str); 16] = [
         "error: invalid value '1001' for '--connections <N>'",
     ),
     (
+        "help of station",
+        &["geocom", "station", "--help"],
+        0,
+        "\n  answered 2 late 0 lost 0\n",
+        "",
+    ),
+    (
+        "a width of eight",
+        &["geocom", "station", "4001", "--width", "8"],
+        2,
+        "",
+        "error: invalid value '8' for '--width <W>'",
+    ),
+    (
         "a window of none",
         &["geocom", "drill", "--width", "0"],
         2,
@@ -258,6 +273,41 @@ const COMMAND_LINES: [(&str, &[&str], u8, &str, &str); 16] = [
         2,
         "",
         "error: invalid value '8' for '--width <W>'",
+    ),
+    (
+        "no deadline",
+        &["geocom", "station", "4001", "--deadline", "0"],
+        2,
+        "",
+        "error: invalid value '0' for '--deadline <MS>'",
+    ),
+    (
+        "a quiet time of more than a day",
+        &["geocom", "station", "4001", "--quiet", "86400001"],
+        2,
+        "",
+        "error: invalid value '86400001' for '--quiet <MS>'",
+    ),
+    (
+        "more than a day between cycles",
+        &["geocom", "station", "4001", "--every", "86401"],
+        2,
+        "",
+        "error: invalid value '86401' for '--every <SECONDS>'",
+    ),
+    (
+        "no cycles",
+        &["geocom", "station", "4001", "--cycles", "0"],
+        2,
+        "",
+        "error: invalid value '0' for '--cycles <N>'",
+    ),
+    (
+        "retries too many",
+        &["geocom", "station", "4001", "--retries", "4294967296"],
+        2,
+        "",
+        "error: invalid value '4294967296' for '--retries <N>'",
     ),
     (
         "totals twice",
@@ -306,7 +356,7 @@ impl Read for Broken {
 
 // Runs a command line over this input and an output with room for five bytes, and expects status 1 and these messages.
 fn expect_fault<I: Read + Drop>(
-    rt: &(impl Abort + Net<Listener = TcpListener, Stream = TcpStream>),
+    rt: &(impl Abort + Net<Listener = TcpListener, Stream = TcpStream> + Clock),
     alloc: Global,
     texts: &[&str],
     input: I,
@@ -352,7 +402,7 @@ fn an_input_or_an_output_fails(rt: HostRuntime) -> Result<(), Fail> {
 
 // Runs the program with words that could not be read, and expects this status and these messages.
 fn expect_words_refused(
-    rt: &(impl Abort + Net<Listener = TcpListener, Stream = TcpStream>),
+    rt: &(impl Abort + Net<Listener = TcpListener, Stream = TcpStream> + Clock),
     alloc: Global,
     kind: ErrorKind,
     status: u8,

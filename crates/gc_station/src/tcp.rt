@@ -1,0 +1,168 @@
+//! A link over a real connection to a port of 127.0.0.1: what a socket answers is told as an act, and nothing of it waits for
+//! ever.
+
+ghost use Rattle.std.specs.Prelude.{ℕ, List, None};
+ghost use Rattle.gc_station.specs.Acts.{IsWithin};
+
+use crate::link::{Came, Link, Moment};
+use gc_lines::PortFailed;
+use std::io::{self, ErrorKind, Read, Write};
+use std::net::{Net, SocketAddr, TcpListener, TcpStream};
+use std::thread;
+use std::time::{Clock, Duration, Instant, SystemTime, UNIX_EPOCH};
+
+// How long one write, and the making of a connection, may wait for the other end, in milliseconds. A radio modem takes a
+// request line in less than a second.
+const PATIENCE: u64 = 10_000;
+
+// How often one put is tried again where it was interrupted.
+const MOST_INTERRUPTIONS: u32 = 1000;
+
+/// A connection to a port of this machine, and the time since the link was made. No clause says what a socket carried, so its
+/// acts are not known.
+#[derive(Drop)]
+pub struct TcpLink<'a, R> {
+    rt: &'a R,
+    start: Instant,
+    port: u16,
+    stream: Option<TcpStream>,
+}
+
+impl<'a, R: Net<Listener = TcpListener, Stream = TcpStream> + Clock> TcpLink<'a, R> {
+    /// A link that is not connected yet. It fails where the clock can't be read.
+    pub fn new(rt: &'a R, port: u16) -> io::Result<TcpLink<'a, R>> {
+        Ok(TcpLink {
+            rt,
+            start: Instant::now(rt)?,
+            port,
+            stream: None,
+        })
+    }
+
+    // The moment on both clocks.
+    fn moment(&self) -> io::Result<Moment> {
+        let elapsed = self.start.elapsed(self.rt)?;
+        let since_1970 = match SystemTime::now(self.rt)?.duration_since(UNIX_EPOCH) {
+            Ok(time) => time,
+            Err(_) => Duration::ZERO,
+        };
+        Ok(Moment {
+            elapsed: millis_of(elapsed),
+            utc: millis_of(since_1970),
+        })
+    }
+
+    // Waits, where there is no connection to read from.
+    fn wait(&self, millis: u64) -> Came
+        ensures { (buf : List ℕ) → IsWithin result buf }
+    {
+        thread::sleep(self.rt, Duration::from_millis(millis));
+        self.silence()
+    }
+
+    // That nothing came until now.
+    fn silence(&self) -> Came
+        ensures { (buf : List ℕ) → IsWithin result buf }
+    {
+        match self.moment() {
+            Ok(moment) => Came::Silence(moment),
+            Err(_) => Came::NoMoment,
+        }
+    }
+}
+
+// A time in milliseconds; the longest that a u64 holds, where it is longer.
+fn millis_of(time: Duration) -> u64 {
+    u64::try_from(time.as_millis()).unwrap_or(u64::MAX)
+}
+
+// Whether a call was interrupted, and did nothing.
+fn is_interrupted(error: &io::Error) -> bool {
+    error.kind() == ErrorKind::Interrupted
+}
+
+// Whether a connection is one to itself, as a connect to a port where nobody listens can make it.
+fn is_to_itself(stream: &TcpStream) -> bool {
+    match (stream.local_addr(), stream.peer_addr()) {
+        (Ok(near), Ok(far)) => near == far,
+        _ => false,
+    }
+}
+
+// Whether an error of a read says no more than that nothing came in its time.
+fn is_silence(kind: ErrorKind) -> bool {
+    matches!(
+        kind,
+        ErrorKind::WouldBlock | ErrorKind::TimedOut | ErrorKind::Interrupted
+    )
+}
+
+impl<'a, R: Net<Listener = TcpListener, Stream = TcpStream> + Clock> Link for TcpLink<'a, R> {
+    ghost acts = { λ _. None };
+
+    fn now(&mut self) -> Result<Moment, PortFailed> {
+        self.moment().map_err(|_| PortFailed)
+    }
+
+    fn read(&mut self, buf: &mut [u8], millis: u64) -> Came {
+        let Some(stream) = &mut self.stream else {
+            return self.wait(millis);
+        };
+        // A time of zero would be an error, and none would wait for ever.
+        let patience = Some(Duration::from_millis(millis.max(1)));
+        if stream.set_read_timeout(patience).is_err() {
+            return Came::Failure;
+        }
+        match stream.read(buf) {
+            Ok(0) => Came::End,
+            Ok(n) => match self.moment() {
+                Ok(moment) => Came::Bytes(n, moment),
+                Err(_) => Came::NoMoment,
+            },
+            Err(error) if is_silence(error.kind()) => self.silence(),
+            Err(_) => Came::Failure,
+        }
+    }
+
+    fn put(&mut self, bytes: &[u8]) -> Result<(), usize> {
+        let Some(stream) = &mut self.stream else {
+            return Err(0);
+        };
+        let mut at = 0;
+        let mut interruptions = 0;
+        while at < bytes.len() {
+            match stream.write(&bytes[at..]) {
+                Ok(0) => return Err(at),
+                Ok(n) => at += n,
+                Err(error) if is_interrupted(&error) && interruptions < MOST_INTERRUPTIONS => {
+                    interruptions += 1;
+                }
+                Err(_) => return Err(at),
+            }
+        }
+        Ok(())
+    }
+
+    fn close(&mut self) {
+        self.stream = None;
+    }
+
+    fn open(&mut self) -> Result<(), PortFailed> {
+        let here = SocketAddr::from(([127, 0, 0, 1], self.port));
+        let patience = Duration::from_millis(PATIENCE);
+        let Ok(stream) = TcpStream::connect_timeout(self.rt, &here, patience) else {
+            return Err(PortFailed);
+        };
+        if is_to_itself(&stream) {
+            return Err(PortFailed);
+        }
+        // Without this a peer that takes nothing would hold a write for ever, so a connection that refuses it is none.
+        if stream.set_write_timeout(Some(patience)).is_err() {
+            return Err(PortFailed);
+        }
+        // Sends each line as it is written. Where that can't be had, lines are only later, so it is no fault.
+        let _ = stream.set_nodelay(true);
+        self.stream = Some(stream);
+        Ok(())
+    }
+}

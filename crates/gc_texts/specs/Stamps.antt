@@ -1,0 +1,60 @@
+-- Moments as text: UTC by the Gregorian calendar, in the form of ISO 8601; that a stamp has milliseconds is this project's own.
+use Rattle.std.specs.Prelude.{ℕ, zero, suc, ◌+◌, ◌/◌, ◌%◌, ◌==◌, ◌&&◌, ◌||◌, Bool, not, nat_lt, List, [], ◌∷◌, ◌++◌, if◌then◌else◌, codes}
+use Rattle.std.specs.Fmt.{decimal}
+use Rattle.gc_texts.specs.declared.stamp.Date.{Date}
+
+-- every fourth year, but of the centuries only every fourth
+abbrev pub is_leap : ℕ → Bool
+is_leap year = (year % 4 == 0) && (not (year % 100 == 0) || (year % 400 == 0))
+
+-- the days of a month
+abbrev pub month_days : ℕ → ℕ → ℕ
+month_days year month =
+    if month == 2 then (if is_leap year then 29 else 28)
+    else (if (month == 4) || (month == 6) || (month == 9) || (month == 11) then 30 else 31)
+
+-- the days of a year
+abbrev pub year_days : ℕ → ℕ
+year_days year = if is_leap year then 366 else 365
+
+-- the days of the first so many months of a year
+unfoldable pub days_of_months : ℕ → ℕ → ℕ
+days_of_months year zero = 0
+days_of_months year (suc n) = days_of_months year n + month_days year (n + 1)
+
+-- the day after a day
+abbrev pub next_day : Date → Date
+next_day d =
+    if nat_lt d.day (month_days d.year d.month) then record { year = d.year; month = d.month; day = d.day + 1 }
+    else (if nat_lt d.month 12 then record { year = d.year; month = d.month + 1; day = 1 } else record { year = d.year + 1; month = 1; day = 1 })
+
+-- the day that so many days later is
+unfoldable pub days_after : ℕ → Date → Date
+days_after zero d = d
+days_after (suc n) d = days_after n (next_day d)
+
+-- the day on which so many days have gone by since 1 January 1970
+abbrev pub date_of : ℕ → Date
+date_of days = days_after days (record { year = 1970; month = 1; day = 1 })
+
+-- a number in two digits
+abbrev pub two_digits : ℕ → List ℕ
+two_digits n = (48 + n / 10) ∷ (48 + n % 10) ∷ []
+
+-- a number in three digits
+abbrev pub three_digits : ℕ → List ℕ
+three_digits n = (48 + n / 100) ∷ two_digits (n % 100)
+
+-- a day, as 2026-11-22
+abbrev pub date_text : Date → List ℕ
+date_text d = decimal d.year ++ codes "-" ++ two_digits d.month ++ codes "-" ++ two_digits d.day
+
+-- the milliseconds of a day as its time, as 23:08:27.123
+abbrev pub time_text : ℕ → List ℕ
+time_text millis =
+    two_digits (millis / 3_600_000) ++ codes ":" ++ two_digits (millis / 60_000 % 60) ++ codes ":"
+    ++ two_digits (millis / 1_000 % 60) ++ codes "." ++ three_digits (millis % 1_000)
+
+-- the moment so many milliseconds after the beginning of 1970, as 2026-11-22T23:08:27.123Z
+abbrev pub stamp_text : ℕ → List ℕ
+stamp_text utc = date_text (date_of (utc / 86_400_000)) ++ codes "T" ++ time_text (utc % 86_400_000) ++ codes "Z"

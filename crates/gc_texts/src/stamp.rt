@@ -1,0 +1,144 @@
+//! Moments as text: UTC by the Gregorian calendar, to the millisecond.
+
+ghost use Rattle.std.specs.Prelude.{◌≡◌, ℕ, ◌+◌, ◌^◌, ◌<◌, ◌≤◌, ◌++◌, if◌then◌else◌};
+ghost use Rattle.arrayvec.specs.ArrayVec.{array_vec_len};
+ghost use Rattle.gc_texts.specs.Stamps.{is_leap, month_days, year_days, days_after, date_of, two_digits, three_digits, date_text, time_text, stamp_text};
+
+use arrayvec::ArrayVec;
+use gc_lines::append;
+use itoa::Buffer;
+
+// A day of the Gregorian calendar.
+#[derive(Clone, Copy)]
+struct Date {
+    year: u64,
+    // 1 to 12.
+    month: u64,
+    // From 1 on.
+    day: u64,
+}
+
+// The days of a month.
+fn month_days(year: u64, month: u64) -> u64
+    ensures { result ≡ month_days year month }
+{
+    match month {
+        2 if is_leap(year) => 29,
+        2 => 28,
+        4 | 6 | 9 | 11 => 30,
+        _ => 31,
+    }
+}
+
+// The days of a year.
+fn year_days(year: u64) -> u64
+    ensures { result ≡ year_days year }
+{
+    if is_leap(year) { 366 } else { 365 }
+}
+
+fn is_leap(year: u64) -> bool
+    ensures { result ≡ is_leap year }
+{
+    year % 4 == 0 && (year % 100 != 0 || year % 400 == 0)
+}
+
+// The day on which so many days have gone by since 1 January 1970.
+fn date_of(days: u64) -> Date
+    requires { days < 2 ^ 63 }
+    ensures date { result ≡ date_of days }
+    ensures month { result.month ≤ 12 }
+    ensures day { result.day ≤ 31 }
+{
+    let mut year = 1970;
+    let mut left = days;
+    while left >= year_days(year) {
+        left -= year_days(year);
+        year += 1;
+    }
+    day_of_year(year, left)
+}
+
+// The day on which so many days of a year have gone by, which has more.
+fn day_of_year(year: u64, days: u64) -> Date
+    requires { days < year_days year }
+    ensures date { result ≡ days_after days (record { year = year; month = 1; day = 1 }) }
+    ensures month { result.month ≤ 12 }
+    ensures day { result.day ≤ 31 }
+{
+    let mut month = 1;
+    let mut left = days;
+    while left >= month_days(year, month) {
+        left -= month_days(year, month);
+        month += 1;
+    }
+    Date {
+        year,
+        month,
+        day: left + 1,
+    }
+}
+
+// A number in two digits.
+fn two_digits(n: u64) -> [u8; 2]
+    requires { n < 100 }
+    ensures { result ≡ two_digits n }
+{
+    [b'0' + (n / 10) as u8, b'0' + (n % 10) as u8]
+}
+
+// A number in three digits.
+fn three_digits(n: u64) -> [u8; 3]
+    requires { n < 1000 }
+    ensures { result ≡ three_digits n }
+{
+    let [tens, ones] = two_digits(n % 100);
+    [b'0' + (n / 100) as u8, tens, ones]
+}
+
+// A day, as 2026-11-22.
+fn date_text(date: Date) -> ArrayVec<u8, 26>
+    requires month { date.month < 100 }
+    requires day { date.day < 100 }
+    ensures { result.items ≡ date_text date }
+{
+    let mut digits = Buffer::new();
+    let mut text = ArrayVec::new();
+    append(&mut text, digits.format(date.year).as_bytes());
+    append(&mut text, b"-");
+    append(&mut text, &two_digits(date.month));
+    append(&mut text, b"-");
+    append(&mut text, &two_digits(date.day));
+    text
+}
+
+// The milliseconds of a day as its time, as 23:08:27.123.
+fn time_text(millis: u64) -> ArrayVec<u8, 12>
+    requires { millis < 86400000 }
+    ensures { result.items ≡ time_text millis }
+{
+    let mut text = ArrayVec::new();
+    append(&mut text, &two_digits(millis / 3_600_000));
+    append(&mut text, b":");
+    append(&mut text, &two_digits(millis / 60_000 % 60));
+    append(&mut text, b":");
+    append(&mut text, &two_digits(millis / 1_000 % 60));
+    append(&mut text, b".");
+    append(&mut text, &three_digits(millis % 1_000));
+    text
+}
+
+/// The most bytes of a stamp: a date, `T`, a time and `Z`.
+pub(crate) const STAMP_ROOM: usize = 26 + 1 + 12 + 1;
+
+/// The moment so many milliseconds after the beginning of 1970, as 2026-11-22T23:08:27.123Z.
+pub(crate) fn stamp(utc: u64) -> ArrayVec<u8, STAMP_ROOM>
+    ensures { result.items ≡ stamp_text utc }
+{
+    let mut text = ArrayVec::new();
+    append(&mut text, &date_text(date_of(utc / 86_400_000)));
+    append(&mut text, b"T");
+    append(&mut text, &time_text(utc % 86_400_000));
+    append(&mut text, b"Z");
+    text
+}
