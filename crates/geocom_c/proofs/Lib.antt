@@ -1,0 +1,4 @@
+mod LineFeeds
+mod Keeping
+mod Places
+mod Lines

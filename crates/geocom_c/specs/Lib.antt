@@ -1,0 +1,3 @@
+pub mod FirstAre
+pub mod Rest
+pub mod State
