@@ -1,4 +1,5 @@
 mod LineFeeds
 mod Keeping
+mod Clients
 mod Places
 mod Lines

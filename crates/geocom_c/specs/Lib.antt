@@ -1,3 +1,5 @@
 pub mod FirstAre
 pub mod Rest
 pub mod State
+pub mod Sending
+pub mod Deadlines

@@ -1,8 +1,20 @@
-//! The client for C, C++ and Python.
+//! The client for C, C++ and Python: a static library over `gc_client`, with the names of `c/include/geocom.h`. The state
+//! is the caller's, plain bytes of a fixed size, and whatever stands in them a call returns: no call takes memory, starts a
+//! thread or opens anything. A pointer and a length stand for a slice.
 #![tactic(auto)]
 
+mod answers;
+mod calls;
+mod faults;
 mod rest;
+mod sends;
 mod state;
 
+pub use answers::{GeocomCount, GeocomDeadline, GeocomHeard};
+pub use calls::{
+    geocom_client_expire, geocom_client_init, geocom_client_next_deadline, geocom_client_waiting,
+    geocom_version,
+};
 pub use rest::GeocomRest;
+pub use sends::geocom_client_send;
 pub use state::{GeocomClient, GeocomWaiting};

@@ -8,7 +8,7 @@ ghost use Rattle.gc_client.specs.Rule.{Windowed};
 ghost use Rattle.gc_client.specs.Rule;
 ghost use Rattle.geocom_c.specs.FirstAre.{FirstAre};
 ghost use Rattle.geocom_c.specs.Rest.{kept, IsCut, IsRest};
-ghost use Rattle.geocom_c.specs.State.{IsLineOf, IsPlace, HasHead, StandsFor};
+ghost use Rattle.geocom_c.specs.State.{IsLineOf, IsPlace, HasHead, StandsFor, IsAstray};
 
 use crate::rest::GeocomRest;
 use gc_catalogue::{Call, decode_call, encode_call};
@@ -197,6 +197,7 @@ fn has_head(state: &GeocomClient) -> bool
 pub(crate) fn load(state: &GeocomClient) -> Option<Client<Slots>>
     ensures found { IfSome result (λ c. StandsFor state.now c (kept state.now.rest)) }
     ensures only { (c : Windowed) (rest : List ℕ) → StandsFor state.now c rest → result ≡ Some c }
+    ensures none { result ≡ None → IsAstray state.now }
 {
     if !has_head(state) || !state.rest.is_cut() {
         return None;
