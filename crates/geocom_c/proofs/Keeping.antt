@@ -1,11 +1,10 @@
 -- What is kept of a line under way, as more of it comes.
-use Rattle.std.proofs.Common.{◌≡◌, ◌≢◌, ℕ, zero, suc, ◌+◌, ◌-◌, ◌<◌, ◌≤◌, true, List, [], ◌∷◌, ◌++◌, length, take, get_or, All, refl, sym, subst, ap, ap₂, ◌∙◌, arith, append_assoc, length-append, if◌then◌else◌, ◌==◌}
+use Rattle.std.proofs.Common.{◌≡◌, ◌≢◌, ℕ, zero, suc, ◌+◌, ◌-◌, ◌<◌, ◌≤◌, List, [], ◌∷◌, ◌++◌, length, take, get_or, All, refl, sym, subst, ap, ap₂, ◌∙◌, arith, append_assoc, length-append, if◌then◌else◌, ◌==◌}
 use Rattle.std.specs.Prelude.{slice_set}
 use Rattle.std.proofs.lemmas.List.{length-take, append-nil, get_or-take, take_more_set}
 use Rattle.std.proofs.lemmas.List.Elements.{All-append}
 use Rattle.std.proofs.lemmas.Bool.{lt-ltb}
 use Rattle.gc_lines.specs.Frames.{frame_of}
-use Rattle.gc_lines.specs.declared.frame.Frame.{Frame}
 use Rattle.gc_lines.specs.declared.frame.Frame.TheVariants.{Overlong, Cleared}
 use Rattle.geocom_c.specs.Rest.{IsRest}
 use Rattle.gc_lines.proofs.Keeping.{take-append, last-append}
@@ -78,10 +77,10 @@ module _ (bytes t p rest : List ℕ) (n f : ℕ) (is : n ≡ length t) (clean : 
       let sum : n + f ≡ 514 = omega (arith, short, room) in
       let long : 513 < length (t ++ p) = omega (arith, is, sum, more, length-append t p) in
       let front : take 513 bytes ≡ take 513 (t ++ p) =
-        sym (shorter 513 514 bytes (omega arith)) ∙ ap (λ k. take 513 (take k bytes)) (sym sum) ∙ ap (take 513) text ∙ filled t p f (omega (arith, is, short)) (omega (arith, is, room)) (omega (arith, more)) in
+      sym (shorter 513 514 bytes (omega arith)) ∙ ap (λ k. take 513 (take k bytes)) (sym sum) ∙ ap (take 513) text ∙ filled t p f (omega (arith, is, short)) (omega (arith, is, room)) (omega (arith, more)) in
       let byte : last ≡ last_of (t ++ p) = e ∙ sym (last-append t p (omega (arith, more))) in
       let whole : take (n + f) (slice_set bytes 513 last) ≡ take 513 (t ++ p) ++ last_of (t ++ p) ∷ [] =
-        ap (λ k. take k (slice_set bytes 513 last)) sum ∙ take_more_set bytes 513 last within ∙ ap₂ (λ u b. u ++ b ∷ []) front byte in
+      ap (λ k. take k (slice_set bytes 513 last)) sum ∙ take_more_set bytes 513 last within ∙ ap₂ (λ u b. u ++ b ∷ []) front byte in
       let both = All-append (λ b. b ≢ 10) t p clean cleanly in
       record {
         cut = record {

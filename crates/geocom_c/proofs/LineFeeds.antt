@@ -1,8 +1,7 @@
 -- Bytes without a line feed.
-use Rattle.std.proofs.Common.{◌≡◌, ◌≢◌, ℕ, ◌<◌, ◌≤◌, Bool, true, false, not, cond, List, [], ◌∷◌, ◌++◌, length, take, get_or, All, Some, None, refl, arith, eqb, ltb, eq-eqb, length-append}
+use Rattle.std.proofs.Common.{◌≡◌, ◌≢◌, ℕ, ◌≤◌, Bool, true, false, not, cond, List, length, get_or, All, Some, None, refl, arith, ltb, eq-eqb}
 use Rattle.std.specs.List.{prefix_len, position}
 use Rattle.std.proofs.lemmas.Bool.{ltb-true, ltb-false, eqb-true}
-use Rattle.std.proofs.lemmas.List.{get_or-take, length-take}
 use Rattle.std.proofs.lemmas.List.Sums.{prefix_len_passes, prefix_len_stops}
 use Rattle.gc_lines.specs.Frames.{is_line_feed}
 use Rattle.gc_lines.proofs.Cutting.{goes_on}

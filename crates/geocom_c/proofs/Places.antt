@@ -1,6 +1,6 @@
 -- Two lists side by side, one element further.
-use Rattle.std.proofs.Common.{◌≡◌, ℕ, zero, suc, ◌+◌, ◌<◌, ◌≤◌, Bool, List, [], ◌∷◌, ◌++◌, length, take, refl, sym, subst, ap, ◌∙◌, arith}
-use Rattle.std.specs.Prelude.{Some, None, slice_get, slice_set}
+use Rattle.std.proofs.Common.{◌≡◌, ℕ, zero, suc, ◌<◌, ◌≤◌, Bool, List, [], ◌∷◌, ◌++◌, length, take, refl, subst, arith}
+use Rattle.std.specs.Prelude.{Some, slice_get, slice_set}
 use Rattle.gc_catalogue.specs.declared.call.Call.{Call}
 use Rattle.gc_client.specs.declared.pending.Pending.{Pending}
 use Rattle.geocom_c.specs.FirstAre.{FirstAre}
@@ -37,6 +37,12 @@ module _ {A B : Type 0} (Is : A → B → Type 0) where
   first_fewer xs [] are = omega arith
   first_fewer [] (b ∷ ys) are = absurd are
   first_fewer (a ∷ xs) (b ∷ ys) are = omega (arith, first_fewer xs ys are.1)
+
+-- what holds of each
+pub first_map : {A B : Type 0} (Is Be : A → B → Type 0) → ((x : A) (y : B) → Is x y → Be x y) → (xs : List A) (ys : List B) → FirstAre Is xs ys → FirstAre Be xs ys
+first_map Is Be step xs [] are = tt
+first_map Is Be step [] (b ∷ ys) are = absurd are
+first_map Is Be step (a ∷ xs) (b ∷ ys) are = (step a b are.0, first_map Is Be step xs ys are.1)
 
 -- a request is what its fields are
 pub same_pending : (p : Pending) (target : ℕ) (call : Call) (deadline : ℕ) (given_up : Bool) → target ≡ p.target → Some call ≡ Some p.call → deadline ≡ p.deadline → Some given_up ≡ Some p.given_up

@@ -3,3 +3,5 @@ pub mod Rest
 pub mod State
 pub mod Sending
 pub mod Deadlines
+pub mod Settled
+pub mod Feeding

@@ -37,18 +37,42 @@ pub(crate) fn counted(count: u32) -> GeocomCount
     ensures fault { result.fault ≡ 0 }
     ensures count { result.count ≡ count }
 {
-    GeocomCount {
-        fault: 0,
-        count,
-    }
+    GeocomCount { fault: 0, count }
 }
 
 pub(crate) fn refused(fault: u32) -> GeocomCount
     ensures fault { result.fault ≡ fault }
     ensures count { result.count ≡ 0 }
 {
-    GeocomCount {
+    GeocomCount { fault, count: 0 }
+}
+
+pub(crate) fn heard(kind: u32, line_fault: u32, count: u32) -> GeocomHeard
+    ensures { result ≡ record { used = 0; fault = 0; count = count; kind = kind; line_fault = line_fault } }
+{
+    GeocomHeard {
+        used: 0,
+        fault: 0,
+        count,
+        kind,
+        line_fault,
+    }
+}
+
+pub(crate) fn unheard(fault: u32) -> GeocomHeard
+    ensures { result ≡ record { used = 0; fault = fault; count = 0; kind = 0; line_fault = 0 } }
+{
+    GeocomHeard {
+        used: 0,
         fault,
         count: 0,
+        kind: 0,
+        line_fault: 0,
     }
+}
+
+pub(crate) fn using(used: usize, told: GeocomHeard) -> GeocomHeard
+    ensures { result ≡ record told { used = used } }
+{
+    GeocomHeard { used, ..told }
 }

@@ -6,8 +6,11 @@
 mod answers;
 mod calls;
 mod faults;
+mod feeding;
+mod listed;
 mod rest;
 mod sends;
+mod settled;
 mod state;
 
 pub use answers::{GeocomCount, GeocomDeadline, GeocomHeard};
@@ -15,6 +18,9 @@ pub use calls::{
     geocom_client_expire, geocom_client_init, geocom_client_next_deadline, geocom_client_waiting,
     geocom_version,
 };
+pub use feeding::{geocom_client_feed, geocom_client_restart};
+pub use listed::GeocomItem;
 pub use rest::GeocomRest;
 pub use sends::geocom_client_send;
+pub use settled::GeocomSettlement;
 pub use state::{GeocomClient, GeocomWaiting};

@@ -82,8 +82,12 @@ pub extern "C" fn geocom_client_send(
         → IsRefusal procedure params.now e → result.fault ≡ refusal_number e }
     ensures room { (result.fault ≡ NO_ROOM) ↔ (length line.old < LINE_ROOM) }
     ensures astray { (result.fault ≡ NO_CLIENT) ↔ ((LINE_ROOM ≤ length line.old) × IsAstray state.old) }
-    ensures full { result.fault ≡ 31 → (c : Windowed) × (rest : List ℕ) × StandsFor state.old c rest × (length c.ids.waiting ≡ c.width) }
-    ensures done { result.fault ≡ 0 → (c : Windowed) × (rest : List ℕ) × StandsFor state.old c rest × (length c.ids.waiting < c.width) }
+    ensures full { result.fault ≡ 31 → (c : Windowed) × (rest : List ℕ) × (call : Call) × StandsFor state.old c rest
+        × IsCall procedure params.now call × (length c.ids.waiting ≡ c.width) }
+    ensures done { result.fault ≡ 0 → (c : Windowed) × (rest : List ℕ) × (call : Call) × StandsFor state.old c rest
+        × IsCall procedure params.now call × (length c.ids.waiting < c.width) }
+    ensures refusal { result.fault ≢ 0 → result.fault ≢ 31 → result.fault ≢ NO_ROOM → result.fault ≢ NO_CLIENT
+        → (e : CallFault) × IsRefusal procedure params.now e × (result.fault ≡ refusal_number e) }
     ensures refused { result.fault ≢ 0 → (result.count ≡ 0) × (state.new ≡ state.old) × (line.new ≡ line.old) }
     ensures length { length line.new ≡ length line.old }
 {

@@ -61,8 +61,6 @@ pub(crate) fn fresh(width: u8) -> GeocomClient
     }
 }
 
-
-
 // The call of a request without an id.
 fn call_of(request: &Request<'_>) -> Option<Call>
     ensures found { IfSome result (λ call. (request.now.id ≡ None) × IsCall request.now.rpc request.now.params.now call) }

@@ -1,4 +1,4 @@
-use Rattle.std.proofs.Common.{◌≡◌, ◌∙◌, Some, None, sym, subst, refl}
+use Rattle.std.proofs.Common.{◌∙◌, Some, None, sym, subst, refl}
 use Rattle.gc_client.specs.Rule.{Windowed, deadlines, IsEarliest}
 use Rattle.geocom_c.proofs.Clients.{from_some}
 use Rattle.geocom_c.proofs.calls.geocom_client_next_deadline.Goals as goal

@@ -1,4 +1,4 @@
-use Rattle.std.proofs.Common.{◌≡◌, ◌∙◌, Some, Ok, sym, subst}
+use Rattle.std.proofs.Common.{◌≡◌, ◌∙◌, Ok, sym, subst}
 use Rattle.gc_client.specs.Rule.{Windowed, sends}
 use Rattle.geocom_c.specs.Sending.{IsSent}
 use Rattle.geocom_c.proofs.Clients.{from_some, not_63, no_refusal_63}
@@ -16,8 +16,8 @@ returns-in-Ok-clause-sent c = λ room c' rest call s is.
     let both : Ok c.in-Ok.call ≡ Ok call = sym c.in-Ok.is ∙ c.decode_call.ensures.only call is in
     let called : c.in-Ok.call ≡ call = cc in
     subst (λ k. IsSent c' rest k (sends c'.width c'.ids c.args.target k c.args.deadline) c.args.state.now c.send_call.new.state c.args.line.now c.send_call.new.line c.send_call.result) called
-      (subst (λ (d : Windowed). IsSent d rest c.in-Ok.call (sends d.width d.ids c.args.target c.in-Ok.call c.args.deadline) c.args.state.now c.send_call.new.state c.args.line.now c.send_call.new.line c.send_call.result) same
-        (c.send_call.ensures.sent rest s.under_way))
+    (subst (λ (d : Windowed). IsSent d rest c.in-Ok.call (sends d.width d.ids c.args.target c.in-Ok.call c.args.deadline) c.args.state.now c.send_call.new.state c.args.line.now c.send_call.new.line c.send_call.result) same
+    (c.send_call.ensures.sent rest s.under_way))
 
 pub returns-in-Ok-clause-astray : goal.returns-in-Ok-clause-astray
 returns-in-Ok-clause-astray c = (λ e. absurd (not_63 _ c.send_call.ensures.either e), λ both. absurd (both.1 _ _ c.in-Some.ensures.found))

@@ -1,4 +1,4 @@
-use Rattle.std.proofs.Common.{rules, subst, take, sym}
+use Rattle.std.proofs.Common.{subst, take, sym}
 use Rattle.geocom_c.specs.State.{IsLineOf}
 use Rattle.geocom_c.proofs.state.call_at.Goals as goal
 
