@@ -251,6 +251,8 @@ class Client:
         self._lock = threading.Lock()
         #: how many feeds ended with which kind of line
         self.counts: collections.Counter[Kind] = collections.Counter()
+        #: how many lines that are no replies had which first faulty field, 1 to 5
+        self.line_faults: collections.Counter[int] = collections.Counter()
         _check(_library.geocom_client_init(self._state, width if 0 <= width < 256 else 0))
 
     def send(self, target: int, deadline: int, procedure: int, params: str | bytes = b"") -> bytes:
@@ -281,6 +283,8 @@ class Client:
                 _check(heard.fault)
                 left = left[heard.used :]
                 self.counts[Kind(heard.kind)] += 1
+                if heard.kind == Kind.UNREAD:
+                    self.line_faults[heard.line_fault] += 1
                 settled += self._settled(heard.count)
         return settled
 

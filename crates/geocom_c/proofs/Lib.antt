@@ -5,4 +5,5 @@ mod Places
 mod Items
 mod Records
 mod Frames
+mod Hearings
 mod Lines

@@ -5,3 +5,4 @@ pub mod Sending
 pub mod Deadlines
 pub mod Settled
 pub mod Feeding
+pub mod Following

@@ -97,6 +97,7 @@ fn feed(
         → (result.used ≡ at + 1) × IsFed client (frame_of (rest ++ take at bytes.now)) result settlements.new text.new
         × StandsFor state.new (behind client (frame_of (rest ++ take at bytes.now))) [] }
     ensures fault { result.fault ≡ 0 }
+    ensures used { (result.used ≤ length bytes.now) × (0 < length bytes.now → 0 < result.used) }
     ensures records { length settlements.new ≡ length settlements.old }
     ensures text { length text.new ≡ length text.old }
     ensures silent { result.count ≡ 0 → (settlements.new ≡ settlements.old) × (text.new ≡ text.old) }
@@ -137,6 +138,7 @@ pub extern "C" fn geocom_client_feed(
         → position is_line_feed bytes.now ≡ Some at
         → (result.used ≡ at + 1) × IsFed c (frame_of (rest ++ take at bytes.now)) result settlements.new text.new
         × StandsFor state.new (behind c (frame_of (rest ++ take at bytes.now))) [] }
+    ensures used { (result.used ≤ length bytes.now) × (result.fault ≡ 0 → 0 < length bytes.now → 0 < result.used) }
     ensures room { (result.fault ≡ NO_ROOM) ↔ (HasRoom settlements.old text.old → ⊥) }
     ensures astray { (result.fault ≡ NO_CLIENT) ↔ (HasRoom settlements.old text.old × IsAstray state.old) }
     ensures done { result.fault ≡ 0 → (c : Windowed) × (rest : List ℕ) × StandsFor state.old c rest }

@@ -1,4 +1,4 @@
-//! The client for C, C++ and Python: a static library over `gc_client`, with the names of `c/include/geocom.h`. The state
+//! The client for C, C++ and Python: a static library over `gc_client`, with the names of `library/include/geocom.h`. The state
 //! is the caller's, plain bytes of a fixed size, and whatever stands in them a call returns: no call takes memory, starts a
 //! thread or opens anything. A pointer and a length stand for a slice.
 #![tactic(auto)]
@@ -7,6 +7,7 @@ mod answers;
 mod calls;
 mod faults;
 mod feeding;
+mod following;
 mod listed;
 mod rest;
 mod sends;
@@ -19,6 +20,7 @@ pub use calls::{
     geocom_version,
 };
 pub use feeding::{geocom_client_feed, geocom_client_restart};
+pub use following::{Step, follow};
 pub use listed::GeocomItem;
 pub use rest::GeocomRest;
 pub use sends::geocom_client_send;

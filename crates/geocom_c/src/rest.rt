@@ -1,6 +1,6 @@
 //! The bytes of a line under way: a state keeps of them what the frame of the next line feed depends on.
 
-ghost use Rattle.std.specs.Prelude.{◌≡◌, ◌≢◌, ◌≤◌, ◌↔◌, All, ◌+◌, ◌++◌, ℕ, List, [], length, take, Some, None, IsTrue};
+ghost use Rattle.std.specs.Prelude.{◌≡◌, ◌≢◌, ◌<◌, ◌≤◌, ◌↔◌, All, ◌+◌, ◌++◌, ℕ, List, [], length, take, Some, None, IsTrue};
 ghost use Rattle.std.specs.List.{position};
 ghost use Rattle.gc_lines.specs.Frames.{is_line_feed, frame_of};
 ghost use Rattle.gc_lines.specs.declared.frame.Frame.{Frame};
@@ -41,6 +41,7 @@ impl GeocomRest {
     // What the first line feed of a piece makes of the bytes since the last one, and how many of the piece's that uses.
     pub(crate) fn frame(&self, piece: &[u8]) -> (usize, Frame)
         requires { IsCut self.now }
+        ensures used { (result.0 ≤ length piece.now) × (0 < length piece.now → 0 < result.0) }
         ensures more { (rest : List ℕ) → IsRest self.now rest → position is_line_feed piece.now ≡ None
             → (result.0 ≡ length piece.now) × (result.1 ≡ Frame.More) }
         ensures frame { (rest : List ℕ) (at : ℕ) → IsRest self.now rest → position is_line_feed piece.now ≡ Some at

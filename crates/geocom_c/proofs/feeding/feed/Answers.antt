@@ -1,4 +1,4 @@
-use Rattle.std.proofs.Common.{◌≡◌, ◌∙◌, ◌++◌, [], take, length, sym, ap, subst}
+use Rattle.std.proofs.Common.{◌≡◌, ◌∙◌, ◌++◌, [], take, length, arith, sym, ap, subst}
 use Rattle.gc_lines.specs.Frames.{frame_of}
 use Rattle.gc_lines.specs.declared.frame.Frame.{Frame}
 use Rattle.geocom_c.specs.State.{StandsFor}
@@ -33,6 +33,7 @@ returns-in_default c =
             subst (λ (g : Frame). StandsFor c.feed_frame.new.state (behind client g) []) f.1 stands,
           );
       fault = ap (λ (x : GeocomHeard). x.fault) c.using-in_default.ensures ∙ c.feed_frame.ensures.fed.fault;
+      used = (omega (arith, ap (λ (x : GeocomHeard). x.used) c.using-in_default.ensures, c.frame-used.ensures.used.0), λ some. omega (arith, ap (λ (x : GeocomHeard). x.used) c.using-in_default.ensures, c.frame-used.ensures.used.1 some));
       records = c.feed_frame.ensures.records;
       text = c.feed_frame.ensures.text;
       silent = λ none. c.feed_frame.ensures.silent (sym (ap (λ (x : GeocomHeard). x.count) c.using-in_default.ensures) ∙ none);
