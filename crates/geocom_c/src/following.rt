@@ -31,7 +31,7 @@ pub enum Step<'a> {
     Restart,
 }
 
-const VACANT: GeocomSettlement = GeocomSettlement {
+pub(crate) const VACANT: GeocomSettlement = GeocomSettlement {
     target: 0,
     procedure: 0,
     code: 0,

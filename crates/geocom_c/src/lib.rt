@@ -13,6 +13,8 @@ mod rest;
 mod sends;
 mod settled;
 mod state;
+#[cfg(test)]
+mod tests;
 
 pub use answers::{GeocomCount, GeocomDeadline, GeocomHeard};
 pub use calls::{
