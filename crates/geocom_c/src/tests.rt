@@ -21,6 +21,11 @@ fn put_bytes(told: &mut String, bytes: &[u8]) -> Result<(), AllocError> {
     Ok(())
 }
 
+// The first bytes.
+fn front(bytes: &[u8], count: usize) -> &[u8] {
+    bytes.get(..count).unwrap_or(b"")
+}
+
 // A request for the null procedure.
 fn null(target: u32, deadline: u64) -> Step<'static> {
     Send {
@@ -42,23 +47,13 @@ fn tell(
         write!(
             told,
             "{} {} {} {} ",
-            record.target,
-            record.outcome,
-            record.reading,
-            record.code
+            record.target, record.outcome, record.reading, record.code
         )?;
-        put_bytes(
-            told,
-            text.get(..usize::from(record.line_length)).unwrap_or(b""),
-        )?;
+        put_bytes(told, front(text, usize::from(record.line_length)))?;
         for place in record.places.iter().take(usize::from(record.items)) {
-            let from = usize::from(place.offset);
             told.push('<')?;
-            put_bytes(
-                told,
-                text.get(from..from + usize::from(place.length))
-                    .unwrap_or(b""),
-            )?;
+            let behind = text.get(usize::from(place.offset)..).unwrap_or(b"");
+            put_bytes(told, front(behind, usize::from(place.length)))?;
             told.push('>')?;
         }
         told.push_str(", ")?;
@@ -81,7 +76,7 @@ fn feed(told: &mut String, state: &mut GeocomClient, piece: &[u8]) -> Result<(),
                 told,
                 "kind {}, fault {}, ",
                 heard.kind,
-                heard.line_fault + heard.fault
+                heard.line_fault.max(heard.fault)
             )?;
         }
         tell(told, &records, heard.count, &text)?;
@@ -184,13 +179,24 @@ fn late_reply(rt: HostRuntime) -> Result<(), Fail> {
             procedure: 2108,
             params: b"5000,1",
         },
-        Feed(b"noise\n%R1P,0,0:0,123456\r\n%R1P,0,1:0, 2.25 ,1.625,110.0625\r\n%R1P,0:0\r\n%R1P,0,0:x\r\n"),
+        Feed(
+            b"noise\n%R1P,0,0:0,123456\r\n%R1P,0,1:0, 2.25 ,1.625,110.0625\r\n%R1P,0:0\r\n%R1P,0,0:x\r\n",
+        ),
     ];
-    let want = "0: %R1Q,5003,0:; 1 wait, 10\n1, ; 1 wait, 0\n%R1Q,2108,1:5000,1; 2 wait, 20\nkind 4, fault 0, 1 2 0 0 , 2 1 1 0 %R1P,0,1:0, 2.25 ,1.625,110.0625<2.25><1.625><110.0625>, kind 2, fault 0, kind 3, fault 5, ; 0 wait, 0\n";
+    let want =
+        "0: %R1Q,5003,0:; 1 wait, 10\n1, ; 1 wait, 0\n%R1Q,2108,1:5000,1; 2 wait, 20\nkind 4, fault 0, 1 2 0 0 , 2 1 1 0 %R1P,0,1:0, 2.25 ,1.625,110.0625<2.25><1.625><110.0625>, kind 2, fault 0, kind 3, fault 5, ; 0 wait, 0\n";
     for first in 0..90 {
-        assert_eq!(rt; told(rt.alloc(), 7, &steps, first, 90)?.as_str(), want, "cut at {first}");
+        assert_eq!(rt;
+            told(rt.alloc(), 7, &steps, first, 90)?.as_str(),
+            want,
+            "cut at {first}"
+        );
     }
-    assert_eq!(rt; told(rt.alloc(), 7, &steps, 1, 1)?.as_str(), want, "single bytes");
+    assert_eq!(rt;
+        told(rt.alloc(), 7, &steps, 1, 1)?.as_str(),
+        want,
+        "single bytes"
+    );
     Ok(())
 }
 
@@ -215,9 +221,14 @@ fn seven_waiting(rt: HostRuntime) -> Result<(), Fail> {
             params: b"1e14",
         },
     ];
-    let want = "0: %R1Q,0,0:; 1 wait, 9\n%R1Q,0,1:; 2 wait, 9\nfault 31; 2 wait, 9\n1 3 0 0 , 2 1 1 0 %R1P,0,1:0, ; 0 wait, 0\n; 0 wait, 0\nfault 21; 0 wait, 0\nfault 12; 0 wait, 0\n";
+    let want =
+        "0: %R1Q,0,0:; 1 wait, 9\n%R1Q,0,1:; 2 wait, 9\nfault 31; 2 wait, 9\n1 3 0 0 , 2 1 1 0 %R1P,0,1:0, ; 0 wait, 0\n; 0 wait, 0\nfault 21; 0 wait, 0\nfault 12; 0 wait, 0\n";
     assert_eq!(rt; told(rt.alloc(), 2, &steps, 90, 90)?.as_str(), want);
-    assert_eq!(rt; told(rt.alloc(), 2, &steps, 1, 1)?.as_str(), want, "single bytes");
+    assert_eq!(rt;
+        told(rt.alloc(), 2, &steps, 1, 1)?.as_str(),
+        want,
+        "single bytes"
+    );
     Ok(())
 }
 
@@ -231,9 +242,17 @@ fn overlong_line(rt: HostRuntime) -> Result<(), Fail> {
     let steps = [null(1, 9), Feed(&bytes)];
     let want = "0: %R1Q,0,0:; 1 wait, 9\nkind 5, fault 0, 1 1 2 27 %R1P,0,0:27, ; 0 wait, 0\n";
     for first in [0, 1, 512, 513, 514, 515, 525, 526, 527, 540] {
-        assert_eq!(rt; told(rt.alloc(), 1, &steps, first, 600)?.as_str(), want, "cut at {first}");
+        assert_eq!(rt;
+            told(rt.alloc(), 1, &steps, first, 600)?.as_str(),
+            want,
+            "cut at {first}"
+        );
     }
-    assert_eq!(rt; told(rt.alloc(), 1, &steps, 1, 1)?.as_str(), want, "single bytes");
+    assert_eq!(rt;
+        told(rt.alloc(), 1, &steps, 1, 1)?.as_str(),
+        want,
+        "single bytes"
+    );
     Ok(())
 }
 
@@ -244,14 +263,32 @@ fn refusals(rt: HostRuntime) {
     assert_eq!(rt; geocom_client_init(&mut state, 8), 61);
     let mut records = [VACANT; WINDOW];
     let mut text = [0; TEXT_ROOM];
-    assert_eq!(rt; geocom_client_feed(&mut state, b"x", &mut records[..6], &mut text).fault, 62);
-    assert_eq!(rt; geocom_client_feed(&mut state, b"x", &mut records, &mut text[..1023]).fault, 62);
-    assert_eq!(rt; geocom_client_restart(&mut state, &mut records[..6]).fault, 62);
+    assert_eq!(rt;
+        geocom_client_feed(&mut state, b"x", &mut records[..6], &mut text).fault,
+        62
+    );
+    assert_eq!(rt;
+        geocom_client_feed(&mut state, b"x", &mut records, &mut text[..1023]).fault,
+        62
+    );
+    assert_eq!(rt;
+        geocom_client_restart(&mut state, &mut records[..6]).fault,
+        62
+    );
     assert_eq!(rt; geocom_client_expire(&mut state, 0, &mut [0; 6]).fault, 62);
-    assert_eq!(rt; geocom_client_send(&mut state, 1, 1, 0, b"", &mut text[..513]).fault, 62);
+    assert_eq!(rt;
+        geocom_client_send(&mut state, 1, 1, 0, b"", &mut text[..513]).fault,
+        62
+    );
     state.width = 0;
     assert_eq!(rt; geocom_client_waiting(&state).fault, 63);
     assert_eq!(rt; geocom_client_next_deadline(&state).fault, 63);
-    assert_eq!(rt; geocom_client_feed(&mut state, b"x", &mut records, &mut text).fault, 63);
-    assert_eq!(rt; geocom_client_send(&mut state, 1, 1, 0, b"", &mut text).fault, 63);
+    assert_eq!(rt;
+        geocom_client_feed(&mut state, b"x", &mut records, &mut text).fault,
+        63
+    );
+    assert_eq!(rt;
+        geocom_client_send(&mut state, 1, 1, 0, b"", &mut text).fault,
+        63
+    );
 }
