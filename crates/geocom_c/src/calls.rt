@@ -61,6 +61,7 @@ pub extern "C" fn geocom_client_expire(
     ensures astray { (result.fault ≡ NO_CLIENT) ↔ ((WINDOW ≤ length targets.old) × IsAstray state.old) }
     ensures done { result.fault ≡ 0 → (c : Windowed) × (rest : List ℕ) × StandsFor state.old c rest }
     ensures refused { result.fault ≢ 0 → (result.count ≡ 0) × (state.new ≡ state.old) × (targets.new ≡ targets.old) }
+    ensures few { result.count ≤ WINDOW }
     ensures length { length targets.new ≡ length targets.old }
 {
     if targets.len() < WINDOW {
@@ -83,6 +84,7 @@ pub extern "C" fn geocom_client_next_deadline(state: &GeocomClient) -> GeocomDea
     ensures earliest { (c : Windowed) (rest : List ℕ) → StandsFor state.now c rest → (result.fault ≡ 0)
         × IsEarliest (deadlines c.ids.waiting) (earliest_in result) }
     ensures astray { (result.fault ≡ NO_CLIENT) ↔ IsAstray state.now }
+    ensures done { result.fault ≡ 0 → (c : Windowed) × (rest : List ℕ) × StandsFor state.now c rest }
 {
     let Some(client) = load(state) else {
         return GeocomDeadline {
@@ -113,6 +115,7 @@ pub extern "C" fn geocom_client_waiting(state: &GeocomClient) -> GeocomCount
     ensures waiting { (c : Windowed) (rest : List ℕ) → StandsFor state.now c rest → (result.fault ≡ 0)
         × (result.count ≡ length c.ids.waiting) }
     ensures astray { (result.fault ≡ NO_CLIENT) ↔ IsAstray state.now }
+    ensures done { result.fault ≡ 0 → (c : Windowed) × (rest : List ℕ) × StandsFor state.now c rest }
 {
     match load(state) {
         Some(client) => counted(client.waiting() as u32),

@@ -41,6 +41,7 @@ fn hear(
     ensures state { (rest : List ℕ) → IsRest state.old.rest rest → StandsFor state.new (behind client (Frame.Line line.now)) rest }
     ensures records { length settlements.new ≡ length settlements.old }
     ensures text { length text.new ≡ length text.old }
+    ensures few { result.count ≤ WINDOW }
     ensures silent { result.count ≡ 0 → (settlements.new ≡ settlements.old) × (text.new ≡ text.old) }
 {
     let told = client.on_line(line);
@@ -70,6 +71,7 @@ fn feed_frame(
     ensures state { (rest : List ℕ) → StandsFor state.old client rest → StandsFor state.new (behind client frame.now) rest }
     ensures records { length settlements.new ≡ length settlements.old }
     ensures text { length text.new ≡ length text.old }
+    ensures few { result.count ≤ WINDOW }
     ensures silent { result.count ≡ 0 → (settlements.new ≡ settlements.old) × (text.new ≡ text.old) }
 {
     match frame {
@@ -100,6 +102,7 @@ fn feed(
     ensures used { (result.used ≤ length bytes.now) × (0 < length bytes.now → 0 < result.used) }
     ensures records { length settlements.new ≡ length settlements.old }
     ensures text { length text.new ≡ length text.old }
+    ensures few { result.count ≤ WINDOW }
     ensures silent { result.count ≡ 0 → (settlements.new ≡ settlements.old) × (text.new ≡ text.old) }
 {
     let (used, frame) = state.rest.frame(bytes);
@@ -143,6 +146,7 @@ pub extern "C" fn geocom_client_feed(
     ensures astray { (result.fault ≡ NO_CLIENT) ↔ (HasRoom settlements.old text.old × IsAstray state.old) }
     ensures done { result.fault ≡ 0 → (c : Windowed) × (rest : List ℕ) × StandsFor state.old c rest }
     ensures refused { result.fault ≢ 0 → (result.used ≡ 0) × (result.count ≡ 0) × (state.new ≡ state.old) }
+    ensures few { result.count ≤ WINDOW }
     ensures silent { result.count ≡ 0 → (settlements.new ≡ settlements.old) × (text.new ≡ text.old) }
     ensures records { length settlements.new ≡ length settlements.old }
     ensures text { length text.new ≡ length text.old }
@@ -176,6 +180,7 @@ pub extern "C" fn geocom_client_restart(
     ensures astray { (result.fault ≡ NO_CLIENT) ↔ ((WINDOW ≤ length settlements.old) × IsAstray state.old) }
     ensures done { result.fault ≡ 0 → (c : Windowed) × (rest : List ℕ) × StandsFor state.old c rest }
     ensures refused { result.fault ≢ 0 → (result.count ≡ 0) × (state.new ≡ state.old) × (settlements.new ≡ settlements.old) }
+    ensures few { result.count ≤ WINDOW }
     ensures length { length settlements.new ≡ length settlements.old }
 {
     if settlements.len() < WINDOW {

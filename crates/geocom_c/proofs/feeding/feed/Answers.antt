@@ -36,5 +36,6 @@ returns-in_default c =
       used = (omega (arith, ap (λ (x : GeocomHeard). x.used) c.using-in_default.ensures, c.frame-used.ensures.used.0), λ some. omega (arith, ap (λ (x : GeocomHeard). x.used) c.using-in_default.ensures, c.frame-used.ensures.used.1 some));
       records = c.feed_frame.ensures.records;
       text = c.feed_frame.ensures.text;
+      few = omega (arith, ap (λ (x : GeocomHeard). x.count) c.using-in_default.ensures, c.feed_frame.ensures.few);
       silent = λ none. c.feed_frame.ensures.silent (sym (ap (λ (x : GeocomHeard). x.count) c.using-in_default.ensures) ∙ none);
     }

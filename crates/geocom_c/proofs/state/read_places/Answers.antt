@@ -42,8 +42,8 @@ returns-in_default-clause-only c = λ ps n are.
     let k = c.loop-k.k in
     let places = c.args.places.now in
     let within : k < length places = omega (arith, c.loop-k-test.true, c.requires.there) in
-    let here = slice_get-get_or places k _ within in
     let it = got ps k (omega (arith, n, c.loop-k-test.true)) in
+    let here = slice_get-get_or places k _ within in
     absurd (c.in_default.not-Some it.0 (c.read_place.ensures.only it.0 (first_at IsPlace places ps k _ it.0 are here it.1)))
 
 pub returns-clause-only : goal.returns-clause-only
