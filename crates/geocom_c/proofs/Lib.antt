@@ -6,4 +6,5 @@ mod Items
 mod Records
 mod Frames
 mod Hearings
+mod Courses
 mod Lines

@@ -3,7 +3,7 @@
 ghost use Rattle.std.specs.Prelude.{◌≡◌, ◌<◌, ◌≤◌, ℕ, List, [], ◌∷◌, length, drop, slice_get, Some};
 ghost use Rattle.gc_lines.specs.Frames.{rest_behind};
 ghost use Rattle.gc_client.specs.Rule.{IsWidth};
-ghost use Rattle.gc_client.specs.OneForOne.{Course, begun};
+ghost use Rattle.gc_client.specs.OneForOne.{Course, begun, IsOneForOne};
 ghost use Rattle.geocom_c.specs.State.{StandsFor};
 ghost use Rattle.geocom_c.specs.Following.{hearing, FedTo, Follows, Reached};
 
@@ -113,10 +113,11 @@ fn step_at<'a>(steps: &[Step<'a>], k: usize) -> Step<'a>
 }
 
 /// Makes a client of this width, and then these calls, each with ample room. The state stands for the client that the rule
-/// makes of these calls, whatever they are, and for the bytes that came since the last line feed.
+/// makes of these calls, whatever they are, and for the bytes that came since the last line feed: what was settled, and behind
+/// it the requests that wait, are the sends that weren't refused, in order, each once.
 pub fn follow(state: &mut GeocomClient, width: u8, steps: &[Step<'_>])
     ensures { IsWidth width → (x : Course) × (rest : List ℕ) × Follows width begun [] steps.now x rest
-        × StandsFor state.new (record { width = width; ids = x.client }) rest }
+        × StandsFor state.new (record { width = width; ids = x.client }) rest × IsOneForOne x }
 {
     let _ = geocom_client_init(state, width);
     for k in 0..steps.len() {

@@ -4,6 +4,7 @@ use Rattle.gc_client.proofs.Lists.{drop_turn}
 use Rattle.gc_client.specs.OneForOne.{begun}
 use Rattle.geocom_c.specs.Following.{Follows}
 use Rattle.geocom_c.specs.declared.following.Step.{Step}
+use Rattle.geocom_c.proofs.Courses.{follows_one_for_one}
 use Rattle.geocom_c.proofs.following.follow.Goals as goal
 
 pub loop-k-init : goal.loop-k-init
@@ -28,4 +29,5 @@ pub returns : goal.returns
 returns c = λ iw.
     let f = c.loop-k.invariant iw in
     let none = drop_all c.loop-k.k c.args.steps.now c.loop-k-test.false in
-    (f.reached, f.now, f.on f.reached f.now (subst (λ (ss : List Step). Follows c.args.width f.reached f.now ss f.reached f.now) (sym none) (refl, refl)), f.stands)
+    let follows = f.on f.reached f.now (subst (λ (ss : List Step). Follows c.args.width f.reached f.now ss f.reached f.now) (sym none) (refl, refl)) in
+    (f.reached, f.now, follows, f.stands, follows_one_for_one c.args.width c.args.steps.now f.reached f.now follows)
