@@ -1,0 +1,46 @@
+-- Frames that are fed.
+use Rattle.std.proofs.Common.{◌≡◌, ℕ, ◌-◌, List, Bool, true, false, length, take, ap, ◌∙◌, subst}
+use Rattle.std.specs.Prelude.{if◌then◌else◌, nat_lt}
+use Rattle.gc_lines.specs.declared.frame.Frame.{Frame}
+use Rattle.gc_lines.specs.declared.frame.Frame.TheVariants.{Line, Cleared, Overlong, More}
+use Rattle.gc_lines.specs.Frames.{frame_of, ends_in_return}
+use Rattle.gc_client.specs.Rule.{Windowed}
+use Rattle.geocom_c.specs.Rest.{IsRest}
+use Rattle.geocom_c.specs.State.{StandsFor}
+use Rattle.geocom_c.specs.Feeding.{IsFed}
+use Rattle.geocom_c.specs.declared.answers.GeocomHeard.{GeocomHeard}
+use Rattle.geocom_c.specs.declared.rest.GeocomRest.{GeocomRest}
+use Rattle.geocom_c.specs.declared.settled.GeocomSettlement.{GeocomSettlement}
+use Rattle.geocom_c.specs.declared.state.GeocomClient.{GeocomClient}
+
+pick : (a b : Bool) (l : Frame) → (l ≡ More → ⊥) → (if a then (if b then Overlong else l) else Cleared) ≡ More → ⊥
+pick false b l other e = let bad : Cleared ≡ More = e in cc
+pick true true l other e = let bad : Overlong ≡ More = e in cc
+pick true false l other e = other e
+
+-- a line feed always makes a frame
+pub never_more : (bs : List ℕ) → frame_of bs ≡ More → ⊥
+never_more bs e = pick (ends_in_return bs) (nat_lt 512 (length bs - 1)) (Line (record { items = take (length bs - 1) bs })) (λ same. cc) e
+
+-- other bytes of a line under way
+pub with_rest : (s : GeocomClient) (r : GeocomRest) (c : Windowed) (old new : List ℕ) → StandsFor s c old → IsRest r new → StandsFor (record s { rest = r }) c new
+with_rest s r c old new is rest =
+    record {
+      width = is.width;
+      next = is.next;
+      waiting = is.waiting;
+      head = record { width = is.head.width; digit = is.head.digit; few = is.head.few };
+      places = is.places;
+      under_way = rest;
+    }
+
+-- how many bytes were used doesn't count
+pub fed_used : (c : Windowed) (f g : Frame) (r q : GeocomHeard) (records : List GeocomSettlement) (text : List ℕ) (used : ℕ) → f ≡ g → q ≡ record r { used = used } → IsFed c f r records text → IsFed c g q records text
+fed_used c f g r q records text used e same is =
+    subst (λ (h : Frame). IsFed c h q records text) e (record {
+      fault = ap (λ (x : GeocomHeard). x.fault) same ∙ is.fault;
+      kind = ap (λ (x : GeocomHeard). x.kind) same ∙ is.kind;
+      line_fault = ap (λ (x : GeocomHeard). x.line_fault) same ∙ is.line_fault;
+      count = ap (λ (x : GeocomHeard). x.count) same ∙ is.count;
+      told = is.told;
+    })

@@ -1,0 +1,120 @@
+-- Bytes that are fed, one frame further.
+use Rattle.std.proofs.Common.{◌≡◌, ◌≢◌, ℕ, ◌+◌, Bool, true, false, eqb, eq-eqb, arith, length, Option, List, [], ◌∷◌, ◌++◌, map, take, drop, Some, None, refl, sym, ap, subst, ◌∙◌}
+use Rattle.std.specs.List.{position, filter_map}
+use Rattle.std.proofs.lemmas.Bool.{eqb-true}
+use Rattle.gc_catalogue.specs.declared.call.Call.{Call}
+use Rattle.gc_lines.specs.Frames.{is_line_feed, frame_of, line_in, pieces_behind, rest_behind}
+use Rattle.gc_lines.specs.declared.frame.Frame.{Frame}
+use Rattle.gc_lines.specs.declared.frame.Frame.TheVariants.{Line, Cleared, Overlong, More}
+use Rattle.gc_lines.proofs.Cutting.{cut_none, cut_some}
+use Rattle.gc_client.specs.Rule.{Windowed, ById, Sending}
+use Rattle.gc_client.specs.OneForOne.{Course, goes, course, sent_on}
+use Rattle.gc_client.specs.OneForOne as one
+use Rattle.geocom_c.specs.Feeding.{behind}
+use Rattle.geocom_c.specs.State.{StandsFor}
+use Rattle.geocom_c.specs.Sending.{IsSent}
+use Rattle.geocom_c.specs.declared.answers.GeocomCount.{GeocomCount}
+use Rattle.geocom_c.specs.Following.{hearing, FedTo}
+use Rattle.geocom_c.specs.declared.state.GeocomClient.{GeocomClient}
+
+-- the course behind a frame
+abbrev pub past : ℕ → Course → Frame → Course
+past width x (Line line) = goes width x (one.Hear line.items)
+past width x Cleared = x
+past width x Overlong = x
+past width x More = x
+
+pub behind_past : (width : ℕ) (x : Course) (f : Frame) → behind (record { width = width; ids = x.client }) f ≡ record { width = width; ids = (past width x f).client }
+behind_past width x (Line line) = refl
+behind_past width x Cleared = refl
+behind_past width x Overlong = refl
+behind_past width x More = refl
+
+frame_first : (width : ℕ) (x : Course) (f : Frame) (fs : List Frame) → course width x (map one.Hear (filter_map line_in (f ∷ fs))) ≡ course width (past width x f) (map one.Hear (filter_map line_in fs))
+frame_first width x (Line line) fs = refl
+frame_first width x Cleared fs = refl
+frame_first width x Overlong fs = refl
+frame_first width x More fs = refl
+
+-- without a line feed nothing is heard
+pub none_heard : (width : ℕ) (x : Course) (rest bytes : List ℕ) → position is_line_feed bytes ≡ None → hearing width x rest bytes ≡ x
+none_heard width x rest bytes e = ap (λ ps. course width x (map one.Hear (filter_map line_in (map frame_of ps)))) (cut_none rest bytes e).0
+
+pub none_left : (rest bytes : List ℕ) → position is_line_feed bytes ≡ None → rest_behind rest bytes ≡ rest ++ bytes
+none_left rest bytes e = (cut_none rest bytes e).1
+
+-- with one, the first frame is
+pub some_heard : (width : ℕ) (x : Course) (rest bytes : List ℕ) (at : ℕ) → position is_line_feed bytes ≡ Some at
+    → hearing width (past width x (frame_of (rest ++ take at bytes))) [] (drop (at + 1) bytes) ≡ hearing width x rest bytes
+some_heard width x rest bytes at e =
+    sym (ap (λ ps. course width x (map one.Hear (filter_map line_in (map frame_of ps)))) (cut_some rest bytes at e).0
+    ∙ frame_first width x (frame_of (rest ++ take at bytes)) (map frame_of (pieces_behind [] (drop (at + 1) bytes))))
+
+pub some_left : (rest bytes : List ℕ) (at : ℕ) → position is_line_feed bytes ≡ Some at → rest_behind [] (drop (at + 1) bytes) ≡ rest_behind rest bytes
+some_left rest bytes at e = sym (cut_some rest bytes at e).1
+
+-- all was used, and no line feed came
+pub fed_none : (width : ℕ) (x : Course) (rest bytes : List ℕ) (state : GeocomClient) (left : List ℕ) → position is_line_feed bytes ≡ None → left ≡ []
+    → StandsFor state (record { width = width; ids = x.client }) (rest ++ bytes) → FedTo width x rest bytes state left
+fed_none width x rest bytes state left e none s =
+    record {
+      reached = x;
+      now = rest ++ bytes;
+      stands = s;
+      same = ap (hearing width x (rest ++ bytes)) none ∙ sym (none_heard width x rest bytes e);
+      behind = ap (rest_behind (rest ++ bytes)) none ∙ sym (none_left rest bytes e);
+    }
+
+-- the bytes through the first line feed were
+pub fed_some : (width : ℕ) (x : Course) (rest bytes : List ℕ) (state : GeocomClient) (used at : ℕ) → position is_line_feed bytes ≡ Some at → used ≡ at + 1
+    → StandsFor state (behind (record { width = width; ids = x.client }) (frame_of (rest ++ take at bytes))) [] → FedTo width x rest bytes state (drop used bytes)
+fed_some width x rest bytes state used at e n s =
+    record {
+      reached = past width x (frame_of (rest ++ take at bytes));
+      now = [];
+      stands = subst (λ (d : Windowed). StandsFor state d []) (behind_past width x (frame_of (rest ++ take at bytes))) s;
+      same = ap (λ m. hearing width (past width x (frame_of (rest ++ take at bytes))) [] (drop m bytes)) n ∙ some_heard width x rest bytes at e;
+      behind = ap (λ m. rest_behind [] (drop m bytes)) n ∙ some_left rest bytes at e;
+    }
+
+-- what is fed further
+pub fed_on : (width : ℕ) (x : Course) (rest bytes left end : List ℕ) (state new : GeocomClient) (f : FedTo width x rest bytes state left) → FedTo width f.reached f.now left new end → FedTo width x rest bytes new end
+fed_on width x rest bytes left end state new f g = record { reached = g.reached; now = g.now; stands = g.stands; same = g.same ∙ f.same; behind = g.behind ∙ f.behind }
+
+-- a line feed is there or not
+pub either : {P : Type 0} (o : Option ℕ) → (o ≡ None → P) → ((at : ℕ) → o ≡ Some at → P) → P
+either None f g = f refl
+either (Some at) f g = g at refl
+
+pub nothing_left : (bytes : List ℕ) (used : ℕ) → used ≡ length bytes → drop used bytes ≡ []
+nothing_left bytes used e = ap (λ n. drop n bytes) e ∙ none bytes where
+  none : (xs : List ℕ) → drop (length xs) xs ≡ []
+  none [] = refl
+  none (x ∷ xs) = none xs
+
+-- where all was fed
+pub fed_all : (width : ℕ) (x : Course) (rest bytes left : List ℕ) (state : GeocomClient) → FedTo width x rest bytes state left → left ≡ [] → StandsFor state (record { width = width; ids = (hearing width x rest bytes).client }) (rest_behind rest bytes)
+fed_all width x rest bytes left state f none =
+    let same : f.reached ≡ hearing width x rest bytes = sym (ap (hearing width f.reached f.now) none) ∙ f.same in
+    let behind : f.now ≡ rest_behind rest bytes = sym (ap (rest_behind f.now) none) ∙ f.behind in
+    subst (λ (y : Course). StandsFor state (record { width = width; ids = y.client }) (rest_behind rest bytes)) same (subst (λ (r : List ℕ). StandsFor state (record { width = width; ids = f.reached.client }) r) behind f.stands)
+
+-- a send that the rule takes or refuses
+pub sent_course : (width : ℕ) (x : Course) (rest : List ℕ) (call : Call) (target : ℕ) (o : Option (Sending ById)) (old new : GeocomClient) (before after : List ℕ) (r : GeocomCount)
+    → StandsFor old (record { width = width; ids = x.client }) rest → IsSent (record { width = width; ids = x.client }) rest call o old new before after r
+    → StandsFor new (record { width = width; ids = (sent_on x target call o).client }) rest
+sent_course width x rest call target None old new before after r s is = subst (λ (t : GeocomClient). StandsFor t (record { width = width; ids = x.client }) rest) (sym is.1) s
+sent_course width x rest call target (Some q) old new before after r s is = is.1
+
+-- a number is another, or not
+pub decided : {P : Type 0} (n m : ℕ) → (n ≡ m → P) → (n ≢ m → P) → P
+decided {P} n m f g = elim (eqb n m) as (λ v. eqb n m ≡ v → P) [
+  | true ↦ λ e. f (eqb-true n m e)
+  | false ↦ λ e. g (λ same. let t = eq-eqb n m same in clash t e)
+] refl where
+  clash : {b : Bool} → b ≡ true → b ≡ false → ⊥
+  clash e f = let bad = sym e ∙ f in cc
+
+pub empty_is : (xs : List ℕ) → length xs ≡ 0 → xs ≡ []
+empty_is [] e = refl
+empty_is (x ∷ xs) e = absurd (omega (arith, e))

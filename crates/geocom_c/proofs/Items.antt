@@ -1,0 +1,89 @@
+-- Items that stand in a text.
+use Rattle.std.proofs.Common.{◌≡◌, ℕ, zero, suc, ◌+◌, ◌<◌, ◌≤◌, List, [], ◌∷◌, ◌++◌, length, take, drop, replicate, get_or, refl, ap, ◌∙◌, arith, inl, inr, length-append}
+use Rattle.std.proofs.lemmas.List.{take_all, take-append-le}
+use Rattle.std.specs.List.{flat_map}
+use Rattle.gc_values.specs.Params.{IsParams, ArePieces, joined}
+use Rattle.gc_values.specs.Lists.{AreItems}
+use Rattle.gc_values.specs.declared.value.Value.{Value}
+use Rattle.gc_lines.specs.Replies.{ReplyFields, IsReply, reply_signature}
+use Rattle.gc_lines.specs.Headers.{id_text}
+use Rattle.geocom_c.specs.Settled.{StandsAt, total}
+use Rattle.geocom_c.specs.declared.listed.GeocomItem.{GeocomItem}
+
+-- how many bytes the first k + 1 have
+pub total_turn : (items : List (List ℕ)) (k : ℕ) → k < length items → total (take (suc k) items) ≡ total (take k items) + length (get_or items k [])
+total_turn [] k lt = absurd (omega (arith, lt))
+total_turn (i ∷ items) zero lt = omega arith
+total_turn (i ∷ items) (suc k) lt = omega (arith, total_turn items k (omega (arith, lt)))
+
+pub total_first : (items : List (List ℕ)) (k : ℕ) → total (take k items) ≤ total items
+total_first [] zero = omega arith
+total_first [] (suc k) = omega arith
+total_first (i ∷ items) zero = omega arith
+total_first (i ∷ items) (suc k) = omega (arith, total_first items k)
+
+-- items are no more than what they are cut of
+pieces_total : (pieces items : List (List ℕ)) → ArePieces pieces items → total items ≤ total pieces
+pieces_total [] [] are = omega arith
+pieces_total [] (i ∷ items) are = absurd are
+pieces_total (p ∷ pieces) [] are = absurd are
+pieces_total (p ∷ pieces) (i ∷ items) are =
+    let is = are.0 in
+    let n = ap length is.piece_is in
+    omega (arith, n, length-append (replicate is.before 32) (i ++ replicate is.behind 32), length-append i (replicate is.behind 32), pieces_total pieces items are.2)
+
+flat_total : (ts : List (List ℕ)) → total ts ≤ length (flat_map (λ (u : List ℕ). 44 ∷ u) ts)
+flat_total [] = omega arith
+flat_total (t ∷ ts) = omega (arith, flat_total ts, length-append (44 ∷ t) (flat_map (λ (u : List ℕ). 44 ∷ u) ts))
+
+joined_total : (ts : List (List ℕ)) → total ts ≤ length (joined ts)
+joined_total [] = omega arith
+joined_total (t ∷ ts) = omega (arith, flat_total ts, length-append t (flat_map (λ (u : List ℕ). 44 ∷ u) ts))
+
+pub items_total : (params : List ℕ) (items : List (List ℕ)) → IsParams params items → total items ≤ length params
+items_total params [] is = omega arith
+items_total params (i ∷ items) is = let n = ap length is.bytes_are in omega (arith, n, joined_total is.pieces, pieces_total is.pieces (i ∷ items) is.pieces_are)
+
+-- parameters are no longer than their line
+pub params_fit : (line : List ℕ) (reply : ReplyFields) → IsReply line reply → length reply.params ≤ length line
+params_fit line reply is = elim is.is_tail [
+  | inl none ↦ let n = ap length none.1 in omega (arith, n)
+  | inr some ↦
+      let n = ap length is.whole in
+      let t = ap length some in
+      omega (arith, n, t, length-append reply_signature (is.number ++ (id_text reply.id ++ 58 ∷ (is.code ++ is.tail))), length-append is.number (id_text reply.id ++ 58 ∷ (is.code ++ is.tail)), length-append (id_text reply.id) (58 ∷ (is.code ++ is.tail)), length-append is.code is.tail)
+]
+
+-- as many items are read as values
+pub items_length : (items : List (List ℕ)) (values : List Value) → AreItems items values → length items ≡ length values
+items_length [] [] are = refl
+items_length [] (v ∷ vs) are = absurd are
+items_length (i ∷ items) [] are = absurd are
+items_length (i ∷ items) (v ∷ vs) are = omega (arith, items_length items vs are.1)
+
+-- behind a text
+drop_exact : (t u : List ℕ) → drop (length t) (t ++ u) ≡ u
+drop_exact [] u = refl
+drop_exact (x ∷ t) u = drop_exact t u
+
+-- within a front
+take_drop_front : (n k : ℕ) (t u : List ℕ) → n + k ≤ length t → take k (drop n (t ++ u)) ≡ take k (drop n t)
+take_drop_front zero k t u fits = take-append-le k t u (omega (arith, fits))
+take_drop_front (suc n) k [] u fits = absurd (omega (arith, fits))
+take_drop_front (suc n) k (x ∷ t) u fits = take_drop_front n k t u (omega (arith, fits))
+
+-- an item that is appended
+pub stands_here : (text item : List ℕ) (place : GeocomItem) → place.offset ≡ length text → place.length ≡ length item → StandsAt (text ++ item) place item
+stands_here text item place o n =
+    record {
+      within = omega (arith, o, n, length-append text item);
+      stands = ap (λ m. take place.length (drop m (text ++ item))) o ∙ ap (take place.length) (drop_exact text item) ∙ take_all place.length item (omega (arith, n));
+    }
+
+-- as more is appended
+pub stands_more : (text more : List ℕ) (place : GeocomItem) (item : List ℕ) → StandsAt text place item → StandsAt (text ++ more) place item
+stands_more text more place item is =
+    record {
+      within = omega (arith, is.within, length-append text more);
+      stands = take_drop_front place.offset place.length text more is.within ∙ is.stands;
+    }

@@ -1,0 +1,10 @@
+mod LineFeeds
+mod Keeping
+mod Clients
+mod Places
+mod Items
+mod Records
+mod Frames
+mod Hearings
+mod Courses
+mod Lines

@@ -1,0 +1,121 @@
+-- Records of settlements.
+use Rattle.std.proofs.Common.{◌≡◌, ℕ, zero, suc, ◌≤◌, Bool, true, false, List, [], ◌∷◌, ◌++◌, length, map, Some, None, Ok, Err, Option, Result, refl, sym, subst, ap, ◌∙◌, arith, if◌then◌else◌}
+use Rattle.std.specs.Prelude.{slice_get, IsOk}
+use Rattle.std.proofs.lemmas.List.{length-take, take-append-le}
+use Rattle.gc_lines.specs.declared.fault.LineFault.{LineFault}
+use Rattle.gc_lines.specs.Faults.{fault_number}
+use Rattle.gc_lines.specs.Replies.{ReplyFields, IsReply}
+use Rattle.gc_catalogue.specs.declared.answer.Answer.{Answer}
+use Rattle.gc_catalogue.specs.declared.answer.Answer.TheVariants as answer
+use Rattle.gc_catalogue.specs.declared.answer.Reading.{Reading}
+use Rattle.gc_catalogue.specs.declared.answer.Reading.TheVariants.{Value, Refused, ComFault, Unreadable}
+use Rattle.gc_catalogue.specs.declared.call.Call.{Call}
+use Rattle.gc_catalogue.specs.Answers.{answer_fields}
+use Rattle.gc_catalogue.specs.Readings.{IsReading}
+use Rattle.gc_client.specs.declared.pending.Pending.{Pending}
+use Rattle.gc_client.specs.Rule.{ById, Settlement, lost, met, settle, place_in, place, id_settled, hears, heard, id_in, fits}
+use Rattle.gc_client.specs.Rule
+use Rattle.geocom_c.specs.Feeding.{line_kind, number_in}
+use Rattle.geocom_c.specs.Settled.{StandsAt, AreListed, IsKind, HasReading, IsTold, HasOutcome, IsRecord, IsBy, AreBy}
+use Rattle.geocom_c.specs.declared.settled.GeocomSettlement.{GeocomSettlement}
+use Rattle.geocom_c.proofs.Places.{first_map}
+use Rattle.geocom_c.proofs.Items.{stands_more}
+
+-- an answer has few values
+few_values : (a : Answer) → length (answer_fields a).values ≤ 16
+few_values answer.Nothing = omega arith
+few_values (answer.Short n) = omega arith
+few_values (answer.Version a b c) = omega arith
+few_values (answer.Long n) = omega arith
+few_values (answer.Name n) = omega arith
+few_values (answer.Date d) = omega arith
+few_values (answer.Temperature t) = omega arith
+few_values (answer.Place s) = omega arith
+few_values (answer.Height h) = omega arith
+few_values (answer.Angles hz v) = omega arith
+few_values (answer.Measured hz v d) = omega arith
+few_values (answer.MeasuredMode hz v d m) = omega arith
+
+-- a reading of a reply whose text was written
+pub has_reading : (r : GeocomSettlement) (text line : List ℕ) (count : ℕ) (call : Call) (reply : ReplyFields) (reading : Reading)
+    → IsTold text count r.places line → IsReply line reply → IsReading call reply reading → IsKind reading r.reading r.code
+    → (r.reading ≡ 1 → r.items ≡ count) → ((n : ℕ) → r.reading ≡ suc (suc n) → r.items ≡ 0) → HasReading r text reply.params reading
+has_reading r text line count call reply (Value a) told is reads kind some none =
+    (kind.0, kind.1, subst (λ n. AreListed n r.places text reply.params (answer_fields a).values) (sym (some kind.0)) (told.listed reply (answer_fields a).values is (few_values a) reads.2.values))
+has_reading r text line count call reply (Refused rc) told is reads kind some none = (kind.0, kind.1, none 0 kind.0)
+has_reading r text line count call reply (ComFault rc) told is reads kind some none = (kind.0, kind.1, none 1 kind.0)
+has_reading r text line count call reply (Unreadable e) told is reads kind some none = (kind.0, kind.1, none 2 kind.0)
+
+-- a record still says so as more stands behind the text
+more_reading : (r : GeocomSettlement) (text more params : List ℕ) (reading : Reading) → HasReading r text params reading → HasReading r (text ++ more) params reading
+more_reading r text more params (Value a) has =
+    let are = has.2 in
+    (has.0, has.1, record { items = are.items; split = are.split; read = are.read; counted = are.counted; stand = first_map (StandsAt text) (StandsAt (text ++ more)) (stands_more text more) r.places are.items are.stand })
+more_reading r text more params (Refused rc) has = has
+more_reading r text more params (ComFault rc) has = has
+more_reading r text more params (Unreadable e) has = has
+
+more_outcome : (text more : List ℕ) (r : GeocomSettlement) (call : Call) (o : Rule.Outcome) → HasOutcome r text call o → HasOutcome r (text ++ more) call o
+more_outcome text more r call (Rule.Answered line) is =
+    let n = ap length is.front in
+    record {
+      answered = is.answered;
+      length = is.length;
+      front = take-append-le r.line_length text more (omega (arith, n, is.length, length-take r.line_length text)) ∙ is.front;
+      reply = is.reply;
+      is_reply = is.is_reply;
+      reading = is.reading;
+      is_reading = is.is_reading;
+      has_reading = more_reading r text more is.reply.params is.reading is.has_reading;
+    }
+more_outcome text more r call Rule.Late is = is
+more_outcome text more r call Rule.Lost is = is
+
+pub more_record : (text more : List ℕ) (r : GeocomSettlement) (s : Settlement) → IsRecord text r s → IsRecord (text ++ more) r s
+more_record text more r s is = record { target = is.target; procedure = is.procedure; outcome = more_outcome text more r s.call s.outcome is.outcome }
+
+-- no line but the one that came answers
+met_by : (p : Pending) (line : List ℕ) (b : Bool) → IsBy line (if b then Rule.Late else Rule.Answered line)
+met_by p line true = tt
+met_by p line false = refl
+
+settle_by : (k : ℕ) (line : List ℕ) (ps : List Pending) → AreBy line (settle k line ps)
+settle_by k line [] = tt
+settle_by zero line (p ∷ ps) = (met_by p line p.given_up, tt)
+settle_by (suc k) line (p ∷ ps) = (tt, settle_by k line ps)
+
+chosen_by : (c : ById) (line : List ℕ) (k : ℕ) (b : Bool) → AreBy line (id_settled c line k b).settlements
+chosen_by c line k true = settle_by k line c.waiting
+chosen_by c line k false = tt
+
+pub hears_by : (c : ById) (line : List ℕ) (id : Option ℕ) → AreBy line (hears c line id).settlements
+hears_by c line None = tt
+hears_by c line (Some id) = chosen_by c line (place_in c id) _
+
+pub by_at : (line : List ℕ) (ss : List Settlement) (k : ℕ) (s : Settlement) → AreBy line ss → slice_get ss k ≡ Some s → IsBy line s.outcome
+by_at line [] k s are e = cc
+by_at line (a ∷ ss) zero s are e = let same : a ≡ s = cc in subst (λ (x : Settlement). IsBy line x.outcome) same are.0
+by_at line (a ∷ ss) (suc k) s are e = by_at line ss k s are.1 e
+
+-- what is lost is lost
+pub lost_at : (ps : List Pending) (k : ℕ) (s : Settlement) → slice_get (map lost ps) k ≡ Some s → s.outcome ≡ Rule.Lost
+lost_at [] k s e = cc
+lost_at (p ∷ ps) zero s e = let same : lost p ≡ s = cc in sym (ap (λ (x : Settlement). x.outcome) same)
+lost_at (p ∷ ps) (suc k) s e = lost_at ps k s e
+
+-- the kinds of lines
+pub settling : (c : ById) (r : Result ReplyFields LineFault) → fits c (id_in r) ≡ true → (1 ≡ line_kind r (fits c (id_in r))) × (0 ≡ number_in r)
+settling c (Ok reply) e = (rw e refl, refl)
+settling c (Err f) e = absurd (clash e) where
+  clash : false ≡ true → ⊥
+  clash e = cc
+
+pub straying : (c : ById) (r : Result ReplyFields LineFault) → IsOk r → fits c (id_in r) ≡ false → (2 ≡ line_kind r (fits c (id_in r))) × (0 ≡ number_in r)
+straying c (Ok reply) ok e = (rw e refl, refl)
+straying c (Err f) ok e = absurd (clash ok) where
+  clash : false ≡ true → ⊥
+  clash e = cc
+
+pub unread : (c : ById) (r : Result ReplyFields LineFault) (f : LineFault) → r ≡ Err f → (3 ≡ line_kind r (fits c (id_in r))) × (fault_number f ≡ number_in r)
+unread c (Ok reply) f e = cc
+unread c (Err g) f e = (refl, let same : g ≡ f = cc in ap fault_number (sym same))

@@ -1,0 +1,35 @@
+use Rattle.std.proofs.Common.{rules, ◌≡◌, ◌∙◌, ◌++◌, ◌+◌, [], None, Some, take, sym, ap, subst}
+use Rattle.gc_lines.specs.Frames.{frame_of}
+use Rattle.gc_client.specs.Rule.{Windowed}
+use Rattle.geocom_c.specs.State.{StandsFor}
+use Rattle.geocom_c.specs.Feeding.{HasRoom, IsFed, behind}
+use Rattle.geocom_c.specs.declared.answers.GeocomHeard.{GeocomHeard}
+use Rattle.geocom_c.proofs.Clients.{from_some}
+use Rattle.geocom_c.proofs.feeding.geocom_client_feed.Goals as goal
+
+pub returns-in-Some-clause-more : goal.returns-in-Some-clause-more
+returns-in-Some-clause-more c = λ room c' rest s none.
+    let same = from_some c.in-Some.client c' (sym c.in-Some.is ∙ c.load.ensures.only c' rest s) in
+    let told = c.feed.ensures.more rest (subst (λ (d : Windowed). StandsFor c.args.state.now d rest) (sym same) s) none in
+    (told.0, subst (λ (d : Windowed). StandsFor c.feed.new.state d (rest ++ c.args.bytes.now)) same told.1)
+
+pub returns-in-Some-clause-frame : goal.returns-in-Some-clause-frame
+returns-in-Some-clause-frame c = λ room c' rest at s some.
+    let same = from_some c.in-Some.client c' (sym c.in-Some.is ∙ c.load.ensures.only c' rest s) in
+    let frame = frame_of (rest ++ take at c.args.bytes.now) in
+    let told = c.feed.ensures.frame rest at (subst (λ (d : Windowed). StandsFor c.args.state.now d rest) (sym same) s) some in
+    subst (λ (d : Windowed). (c.feed.result.used ≡ at + 1) × IsFed d frame c.feed.result c.feed.new.settlements c.feed.new.text × StandsFor c.feed.new.state (behind d frame) []) same told
+
+pub returns-in-Some-clause-astray : goal.returns-in-Some-clause-astray
+returns-in-Some-clause-astray c = (λ e. let zero : 0 ≡ 63 = sym c.feed.ensures.fault ∙ e in cc, λ both. absurd (both.1 _ _ c.in-Some.ensures.found))
+
+pub returns-in-None-clause-more : goal.returns-in-None-clause-more
+returns-in-None-clause-more c = λ room c' rest s none. let bad : None ≡ Some c' = sym c.in-None.is ∙ c.load.ensures.only c' rest s in cc
+
+pub returns-in-None-clause-frame : goal.returns-in-None-clause-frame
+returns-in-None-clause-frame c = λ room c' rest at s some. let bad : None ≡ Some c' = sym c.in-None.is ∙ c.load.ensures.only c' rest s in cc
+
+pub returns-in-None-clause-astray : goal.returns-in-None-clause-astray
+returns-in-None-clause-astray c =
+    let room : HasRoom c.args.settlements.now c.args.text.now = search (rules, c.has_room.ensures) in
+    (λ _. (room, c.load.ensures.none c.in-None.is), λ _. ap (λ (x : GeocomHeard). x.fault) c.unheard-in-None.ensures)

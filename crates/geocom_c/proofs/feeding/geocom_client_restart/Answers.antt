@@ -1,0 +1,30 @@
+use Rattle.std.proofs.Common.{◌≡◌, ◌∙◌, List, [], length, map, sym, ap, subst, arith}
+use Rattle.std.proofs.lemmas.List.{length-map}
+use Rattle.gc_client.specs.Rule.{Settlement, Windowed, restarts}
+use Rattle.gc_client.specs.Settlements.{settlement_seen}
+use Rattle.geocom_c.specs.FirstAre.{FirstAre}
+use Rattle.geocom_c.specs.State.{StandsFor}
+use Rattle.geocom_c.specs.Settled.{IsRecord}
+use Rattle.geocom_c.proofs.Clients.{from_some}
+use Rattle.geocom_c.proofs.feeding.geocom_client_restart.Goals as goal
+
+pub returns-in_default-clause-restarted : goal.returns-in_default-clause-restarted
+returns-in_default-clause-restarted c = λ room c' rest s. absurd (c.in_default.not-Some c' (c.load.ensures.only c' rest s))
+
+pub returns-in_default-clause-astray : goal.returns-in_default-clause-astray
+returns-in_default-clause-astray c = (λ _. (c.if-settlements-lt-WINDOW.false, c.load.ensures.none c.in_default.is), λ _. c.refused-in_default.ensures.fault)
+
+pub returns-clause-restarted : goal.returns-clause-restarted
+returns-clause-restarted c = λ room c' rest s.
+    let ids = c.in-Some.client.ids in
+    let are = c.restart-settled.ensures.settled.seen in
+    let seen : map settlement_seen c.as_slice.result.now ≡ (restarts ids).settlements = ap (map settlement_seen) c.as_slice.ensures.value ∙ are in
+    let n : c.counted.result.count ≡ length (restarts ids).settlements = omega (arith, c.counted.ensures.count, c.len.ensures.value, ap length are, length-map c.restart-settled.result.items settlement_seen) in
+    let stands = subst (λ (d : Windowed). StandsFor c.store.new.state d []) c.restart-settled.ensures.client (c.store.ensures.client [] c.new-state.ensures) in
+    let told = subst (λ (ss : List Settlement). FirstAre (IsRecord []) c.put_lost.new.records ss) seen c.put_lost.ensures.records in
+    subst (λ (d : Windowed). (c.counted.result.fault ≡ 0) × StandsFor c.store.new.state (record d { ids = (restarts d.ids).client }) [] × (c.counted.result.count ≡ length (restarts d.ids).settlements) × FirstAre (IsRecord []) c.put_lost.new.records (restarts d.ids).settlements)
+    (from_some c.in-Some.client c' (sym c.in-Some.is ∙ c.load.ensures.only c' rest s))
+    (c.counted.ensures.fault, stands, n, told)
+
+pub returns-clause-astray : goal.returns-clause-astray
+returns-clause-astray c = (λ e. let zero : 0 ≡ 63 = sym c.counted.ensures.fault ∙ e in cc, λ both. absurd (both.1 _ _ c.in-Some.ensures.found))

@@ -1,0 +1,14 @@
+use Rattle.std.proofs.Common.{◌≡◌, ◌+◌, ◌++◌, ℕ, List, length, take}
+use Rattle.geocom_c.specs.FirstAre.{FirstAre}
+use Rattle.geocom_c.specs.Settled.{StandsAt, total}
+use Rattle.geocom_c.proofs.listed.put_items.Given as goal
+
+-- the first k stand in the text
+abbrev pub invariant-loop-k : goal.invariant-loop-k
+invariant-loop-k l =
+    record {
+      front : (more : List ℕ) × (l.text.items ≡ l.initial.text.items ++ more);
+      places : FirstAre (StandsAt l.text.items) l.places (take l.k l.items);
+      size : length l.places ≡ length l.initial.places;
+      room : length l.text.items ≡ length l.initial.text.items + total (take l.k l.items);
+    }

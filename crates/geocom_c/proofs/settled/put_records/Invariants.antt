@@ -1,0 +1,13 @@
+use Rattle.std.proofs.Common.{◌≡◌, length, take, map}
+use Rattle.gc_client.specs.Settlements.{settlement_seen}
+use Rattle.geocom_c.specs.FirstAre.{FirstAre}
+use Rattle.geocom_c.specs.Settled.{IsRecord}
+use Rattle.geocom_c.proofs.settled.put_records.Given as goal
+
+-- the first k are written
+abbrev pub invariant-loop-k : goal.invariant-loop-k
+invariant-loop-k l =
+    record {
+      records : FirstAre (IsRecord l.told.text.items) l.records (take l.k (map settlement_seen l.settled));
+      size : length l.records ≡ length l.initial.records;
+    }

@@ -1,0 +1,66 @@
+-- What a frame is for a client, this project's own.
+use Rattle.std.specs.Prelude.{◌≡◌, ◌≤◌, ℕ, Bool, true, false, List, [], length, Result, Ok, Err}
+use Rattle.gc_lines.specs.declared.fault.LineFault.{LineFault}
+use Rattle.gc_lines.specs.Faults.{fault_number}
+use Rattle.gc_lines.specs.declared.frame.Frame.{Frame}
+use Rattle.gc_lines.specs.declared.frame.Frame.TheVariants.{Line, Cleared, Overlong, More}
+use Rattle.gc_lines.specs.Readers.{reply_at}
+use Rattle.gc_lines.specs.Replies.{ReplyFields}
+use Rattle.gc_client.specs.Rule.{Settlement, Windowed, heard, hears, fits}
+use Rattle.gc_client.specs.declared.window.TheConstants.{WINDOW}
+use Rattle.geocom_c.specs.FirstAre.{FirstAre}
+use Rattle.geocom_c.specs.Settled.{IsRecord}
+use Rattle.geocom_c.specs.declared.answers.GeocomHeard.{GeocomHeard}
+use Rattle.geocom_c.specs.declared.listed.TheConstants.{TEXT_ROOM}
+use Rattle.geocom_c.specs.declared.settled.GeocomSettlement.{GeocomSettlement}
+
+-- there is room for what a line can settle
+pub record HasRoom (settlements : List GeocomSettlement) (text : List ℕ) : Type 0 where
+  pub for_records : WINDOW ≤ length settlements
+  pub for_text : TEXT_ROOM ≤ length text
+
+-- the kind of a line that reads so, where it fits a request that waits or doesn't: 1 it settles, 2 a stray, 3 no reply
+abbrev pub line_kind : Result ReplyFields LineFault → Bool → ℕ
+line_kind (Ok reply) true = 1
+line_kind (Ok reply) false = 2
+line_kind (Err fault) fit = 3
+
+-- the number of a frame's kind: 0 none, 4 cleared, 5 overlong
+abbrev pub frame_kind : Windowed → Frame → ℕ
+frame_kind c (Line line) = line_kind (reply_at line.items) (fits c.ids (heard line.items))
+frame_kind c Cleared = 4
+frame_kind c Overlong = 5
+frame_kind c More = 0
+
+-- the number of a line's fault, where it is no reply
+abbrev pub number_in : Result ReplyFields LineFault → ℕ
+number_in (Ok reply) = 0
+number_in (Err fault) = fault_number fault
+
+abbrev pub frame_fault : Frame → ℕ
+frame_fault (Line line) = number_in (reply_at line.items)
+frame_fault Cleared = 0
+frame_fault Overlong = 0
+frame_fault More = 0
+
+-- what a frame settles
+abbrev pub settled_by : Windowed → Frame → List Settlement
+settled_by c (Line line) = (hears c.ids line.items (heard line.items)).settlements
+settled_by c Cleared = []
+settled_by c Overlong = []
+settled_by c More = []
+
+-- the client behind a frame
+abbrev pub behind : Windowed → Frame → Windowed
+behind c (Line line) = record c { ids = (hears c.ids line.items (heard line.items)).client }
+behind c Cleared = c
+behind c Overlong = c
+behind c More = c
+
+-- a frame was fed: its kind and its fault are told, and a record says of each settlement how the request ended
+pub record IsFed (c : Windowed) (frame : Frame) (r : GeocomHeard) (records : List GeocomSettlement) (text : List ℕ) : Type 0 where
+  pub fault : r.fault ≡ 0
+  pub kind : r.kind ≡ frame_kind c frame
+  pub line_fault : r.line_fault ≡ frame_fault frame
+  pub count : r.count ≡ length (settled_by c frame)
+  pub told : FirstAre (IsRecord text) records (settled_by c frame)

@@ -1,0 +1,18 @@
+-- The bytes of a line under way, this project's own: what a state keeps of those since the last line feed.
+use Rattle.std.specs.Prelude.{◌≡◌, ◌≢◌, ◌≤◌, ℕ, List, ◌++◌, take, All}
+use Rattle.gc_lines.specs.Frames.{frame_of}
+use Rattle.geocom_c.specs.declared.rest.GeocomRest.{GeocomRest}
+
+-- the bytes that are kept
+abbrev pub kept : GeocomRest → List ℕ
+kept r = take r.length r.bytes
+
+-- at most 514 bytes are kept, and no line feed among them
+pub record IsCut (r : GeocomRest) : Type 0 where
+  pub short : r.length ≤ 514
+  pub unended : All (λ b. b ≢ 10) (kept r)
+
+-- these bytes came since the last line feed: however they go on, the next line feed makes of them what it makes of those kept
+pub record IsRest (r : GeocomRest) (rest : List ℕ) : Type 0 where
+  pub cut : IsCut r
+  pub same : (more : List ℕ) → frame_of (kept r ++ more) ≡ frame_of (rest ++ more)

@@ -1,0 +1,46 @@
+-- What the bytes of a state stand for: a client, and the bytes since the last line feed. This project's own.
+use Rattle.std.specs.Prelude.{◌≡◌, ℕ, ◌<◌, ◌≤◌, List, length, take, if◌then◌else◌, None}
+use Rattle.gc_lines.specs.Requests.{RequestFields, IsRequest}
+use Rattle.gc_catalogue.specs.declared.call.Call.{Call}
+use Rattle.gc_catalogue.specs.Calls.{IsCall}
+use Rattle.gc_client.specs.declared.pending.Pending.{Pending}
+use Rattle.gc_client.specs.declared.window.TheConstants.{IDS}
+use Rattle.gc_client.specs.Rule.{Windowed, IsWidth}
+use Rattle.geocom_c.specs.FirstAre.{FirstAre}
+use Rattle.geocom_c.specs.Rest.{IsRest}
+use Rattle.geocom_c.specs.declared.state.GeocomWaiting.{GeocomWaiting}
+use Rattle.geocom_c.specs.declared.state.GeocomClient.{GeocomClient}
+
+-- a request line without an id, for this call
+pub record IsLineOf (line : List ℕ) (call : Call) : Type 0 where
+  pub fields : RequestFields
+  pub is_request : IsRequest line fields
+  pub no_id : fields.id ≡ None
+  pub is_call : IsCall fields.rpc fields.params call
+
+-- the bytes of a place are those of this request
+pub record IsPlace (w : GeocomWaiting) (p : Pending) : Type 0 where
+  pub target : w.target ≡ p.target
+  pub deadline : w.deadline ≡ p.deadline
+  pub given_up : w.given_up ≡ (if p.given_up then 1 else 0)
+  pub within : w.length ≤ 512
+  pub line : IsLineOf (take w.length w.line) p.call
+
+-- a client can have this width, this next id, and so many requests waiting
+pub record HasHead (s : GeocomClient) : Type 0 where
+  pub width : IsWidth s.width
+  pub digit : s.next < IDS
+  pub few : s.waiting ≤ s.width
+
+-- the bytes of a state are those of this client, and these came since the last line feed
+pub record StandsFor (s : GeocomClient) (c : Windowed) (rest : List ℕ) : Type 0 where
+  pub width : s.width ≡ c.width
+  pub next : s.next ≡ c.ids.next
+  pub waiting : s.waiting ≡ length c.ids.waiting
+  pub head : HasHead s
+  pub places : FirstAre IsPlace s.places c.ids.waiting
+  pub under_way : IsRest s.rest rest
+
+-- the bytes of a state are no client's
+abbrev pub IsAstray : GeocomClient → Type 0
+IsAstray s = (c : Windowed) (rest : List ℕ) → StandsFor s c rest → ⊥

@@ -1,0 +1,78 @@
+//! What a call answers, in plain fields.
+
+ghost use Rattle.std.specs.Prelude.{◌≡◌};
+
+/// A fault or 0, and how many there are of what the call gives.
+#[repr(C)]
+#[derive(Clone, Copy)]
+pub struct GeocomCount {
+    pub fault: u32,
+    pub count: u32,
+}
+
+/// A fault or 0, and the earliest deadline where `is_set` is 1.
+#[repr(C)]
+#[derive(Clone, Copy)]
+pub struct GeocomDeadline {
+    pub deadline: u64,
+    pub fault: u32,
+    pub is_set: u32,
+}
+
+/// What came of some bytes: a fault or 0, how many bytes were used, what they ended, and how many requests that settled.
+#[repr(C)]
+#[derive(Clone, Copy)]
+pub struct GeocomHeard {
+    pub used: usize,
+    pub fault: u32,
+    /// How many records were written.
+    pub count: u32,
+    /// 0 no line feed came yet, 1 a line that settled, 2 a stray, 3 a line that is no reply, 4 cleared, 5 overlong.
+    pub kind: u32,
+    /// Of a line that is no reply, the fault of its first faulty field, 1 to 5; else 0.
+    pub line_fault: u32,
+}
+
+pub(crate) fn counted(count: u32) -> GeocomCount
+    ensures fault { result.fault ≡ 0 }
+    ensures count { result.count ≡ count }
+{
+    GeocomCount { fault: 0, count }
+}
+
+pub(crate) fn refused(fault: u32) -> GeocomCount
+    ensures fault { result.fault ≡ fault }
+    ensures count { result.count ≡ 0 }
+{
+    GeocomCount { fault, count: 0 }
+}
+
+pub(crate) fn heard(kind: u32, line_fault: u32, count: u32) -> GeocomHeard
+    ensures { result ≡ record { used = 0; fault = 0; count = count; kind = kind; line_fault = line_fault } }
+{
+    GeocomHeard {
+        used: 0,
+        fault: 0,
+        count,
+        kind,
+        line_fault,
+    }
+}
+
+pub(crate) fn unheard(fault: u32) -> GeocomHeard
+    ensures { result ≡ record { used = 0; fault = fault; count = 0; kind = 0; line_fault = 0 } }
+{
+    GeocomHeard {
+        used: 0,
+        fault,
+        count: 0,
+        kind: 0,
+        line_fault: 0,
+    }
+}
+
+pub(crate) fn using(used: usize, told: GeocomHeard) -> GeocomHeard
+    ensures { result ≡ record told { used = used } }
+{
+    GeocomHeard { used, ..told }
+}

@@ -1,0 +1,124 @@
+//! The calls that need no text: a new client, a moment, the earliest deadline, and how many wait.
+
+ghost use Rattle.std.specs.Prelude.{◌≡◌, ◌≢◌, ◌↔◌, ◌<◌, ◌≤◌, ℕ, List, [], length, take, Some, None, if◌then◌else◌};
+ghost use Rattle.gc_client.specs.Rule.{Windowed, IsWidth, expires, expiring, deadlines, IsEarliest};
+ghost use Rattle.gc_client.specs.Rule;
+ghost use Rattle.geocom_c.specs.State.{StandsFor, IsAstray};
+ghost use Rattle.geocom_c.specs.Deadlines.{earliest_in};
+ghost use Rattle.geocom_c.specs.declared.faults.TheConstants.{NO_WIDTH, NO_ROOM, NO_CLIENT};
+ghost use Rattle.gc_client.specs.declared.window.TheConstants.{WINDOW};
+
+use crate::answers::{GeocomCount, GeocomDeadline, counted, refused};
+use crate::faults::{NO_CLIENT, NO_ROOM, NO_WIDTH};
+use crate::state::{GeocomClient, fresh, load, store};
+use gc_client::WINDOW;
+
+/// The version of these calls and of the structs that they take.
+#[unsafe(no_mangle)]
+pub extern "C" fn geocom_version() -> u32
+    ensures { result ≡ 1 }
+{
+    1
+}
+
+/// Makes a client that has sent nothing, and lets so many requests wait, 1 to 7.
+///
+/// Fault 61: another width; the state is as it was.
+#[unsafe(no_mangle)]
+pub extern "C" fn geocom_client_init(state: &mut GeocomClient, width: u8) -> u32
+    ensures made { IsWidth width → (result ≡ 0) × StandsFor state.new (record { width = width; ids = Rule.fresh }) [] }
+    ensures refused { (IsWidth width → ⊥) → (result ≡ NO_WIDTH) × (state.new ≡ state.old) }
+{
+    if width < 1 || width > WINDOW as u8 {
+        return NO_WIDTH;
+    }
+    *state = fresh(width);
+    0
+}
+
+// Writes targets to the front.
+fn put_targets(targets: &mut [u32], due: &[u32])
+    requires { length due.now ≤ length targets.old }
+    ensures targets { take (length due.now) targets.new ≡ due.now }
+    ensures length { length targets.new ≡ length targets.old }
+{
+    targets[..due.len()].copy_from_slice(due);
+}
+
+/// Gives up what is due at a moment, and writes the targets of what wasn't given up before, `count` of them.
+///
+/// Faults: 62, `targets` has fewer than seven places; 63, the state is no client's. After a fault nothing has changed.
+#[unsafe(no_mangle)]
+pub extern "C" fn geocom_client_expire(
+    state: &mut GeocomClient,
+    now: u64,
+    targets: &mut [u32],
+) -> GeocomCount
+    ensures expired { WINDOW ≤ length targets.old → (c : Windowed) (rest : List ℕ) → StandsFor state.old c rest
+        → (result.fault ≡ 0) × StandsFor state.new (record c { ids = expires c.ids now }) rest
+        × (result.count ≡ length (expiring now c.ids.waiting)) × (take result.count targets.new ≡ expiring now c.ids.waiting) }
+    ensures room { (result.fault ≡ NO_ROOM) ↔ (length targets.old < WINDOW) }
+    ensures astray { (result.fault ≡ NO_CLIENT) ↔ ((WINDOW ≤ length targets.old) × IsAstray state.old) }
+    ensures done { result.fault ≡ 0 → (c : Windowed) × (rest : List ℕ) × StandsFor state.old c rest }
+    ensures refused { result.fault ≢ 0 → (result.count ≡ 0) × (state.new ≡ state.old) × (targets.new ≡ targets.old) }
+    ensures few { result.count ≤ WINDOW }
+    ensures length { length targets.new ≡ length targets.old }
+{
+    if targets.len() < WINDOW {
+        return refused(NO_ROOM);
+    }
+    let Some(mut client) = load(state) else {
+        return refused(NO_CLIENT);
+    };
+    let due = client.expire(now);
+    store(state, client);
+    put_targets(targets, due.as_slice());
+    counted(due.len() as u32)
+}
+
+/// The earliest deadline of the requests that wait and aren't given up, where there is one.
+///
+/// Fault 63: the state is no client's.
+#[unsafe(no_mangle)]
+pub extern "C" fn geocom_client_next_deadline(state: &GeocomClient) -> GeocomDeadline
+    ensures earliest { (c : Windowed) (rest : List ℕ) → StandsFor state.now c rest → (result.fault ≡ 0)
+        × IsEarliest (deadlines c.ids.waiting) (earliest_in result) }
+    ensures astray { (result.fault ≡ NO_CLIENT) ↔ IsAstray state.now }
+    ensures done { result.fault ≡ 0 → (c : Windowed) × (rest : List ℕ) × StandsFor state.now c rest }
+{
+    let Some(client) = load(state) else {
+        return GeocomDeadline {
+            deadline: 0,
+            fault: NO_CLIENT,
+            is_set: 0,
+        };
+    };
+    match client.next_deadline() {
+        Some(deadline) => GeocomDeadline {
+            deadline,
+            fault: 0,
+            is_set: 1,
+        },
+        None => GeocomDeadline {
+            deadline: 0,
+            fault: 0,
+            is_set: 0,
+        },
+    }
+}
+
+/// How many requests wait, those that were given up among them.
+///
+/// Fault 63: the state is no client's.
+#[unsafe(no_mangle)]
+pub extern "C" fn geocom_client_waiting(state: &GeocomClient) -> GeocomCount
+    ensures waiting { (c : Windowed) (rest : List ℕ) → StandsFor state.now c rest → (result.fault ≡ 0)
+        × (result.count ≡ length c.ids.waiting) }
+    ensures astray { (result.fault ≡ NO_CLIENT) ↔ IsAstray state.now }
+    ensures done { result.fault ≡ 0 → (c : Windowed) × (rest : List ℕ) × StandsFor state.now c rest }
+{
+    match load(state) {
+        Some(client) => counted(client.waiting() as u32),
+        None => refused(NO_CLIENT),
+    }
+}

@@ -1,0 +1,197 @@
+//! Feeding: bytes come in any pieces, and the line that a line feed ends settles requests; so does a restart.
+
+ghost use Rattle.std.specs.Prelude.{◌≡◌, ◌≢◌, ◌↔◌, ◌<◌, ◌≤◌, ◌+◌, ◌++◌, ℕ, List, [], length, take, Some, None, IsTrue};
+ghost use Rattle.std.specs.List.{position};
+ghost use Rattle.gc_lines.specs.Frames.{is_line_feed, frame_of};
+ghost use Rattle.gc_client.specs.Rule.{Windowed, restarts};
+ghost use Rattle.gc_client.specs.declared.window.TheConstants.{WINDOW};
+ghost use Rattle.geocom_c.specs.FirstAre.{FirstAre};
+ghost use Rattle.geocom_c.specs.Rest.{IsCut, IsRest};
+ghost use Rattle.geocom_c.specs.State.{StandsFor, IsAstray};
+ghost use Rattle.geocom_c.specs.Settled.{IsRecord};
+ghost use Rattle.geocom_c.specs.Feeding.{HasRoom, IsFed, behind};
+ghost use Rattle.geocom_c.specs.declared.faults.TheConstants.{NO_ROOM, NO_CLIENT};
+
+use crate::answers::{GeocomCount, GeocomHeard, counted, heard, refused, unheard, using};
+use crate::faults::{NO_CLIENT, NO_ROOM};
+use crate::listed::{TEXT_ROOM, tell};
+use crate::rest::{GeocomRest, put};
+use crate::settled::{GeocomSettlement, put_lost, put_records};
+use crate::state::{GeocomClient, load, store};
+use gc_client::{Client, Heard, Slots, WINDOW};
+use gc_lines::{Frame, Line};
+
+// Whether there is room for what a line can settle.
+fn has_room(settlements: &[GeocomSettlement], text: &[u8]) -> bool
+    ensures { IsTrue result ↔ HasRoom settlements.now text.now }
+{
+    settlements.len() >= WINDOW && text.len() >= TEXT_ROOM
+}
+
+// Hands a line to the client, and writes what it settled.
+fn hear(
+    state: &mut GeocomClient,
+    mut client: Client<Slots>,
+    line: &Line,
+    settlements: &mut [GeocomSettlement],
+    text: &mut [u8],
+) -> GeocomHeard
+    requires { HasRoom settlements.old text.old }
+    ensures fed { IsFed client (Frame.Line line.now) result settlements.new text.new }
+    ensures state { (rest : List ℕ) → IsRest state.old.rest rest → StandsFor state.new (behind client (Frame.Line line.now)) rest }
+    ensures records { length settlements.new ≡ length settlements.old }
+    ensures text { length text.new ≡ length text.old }
+    ensures few { result.count ≤ WINDOW }
+    ensures silent { result.count ≡ 0 → (settlements.new ≡ settlements.old) × (text.new ≡ text.old) }
+{
+    let told = client.on_line(line);
+    store(state, client);
+    match told {
+        Heard::Settled(settled) => {
+            let answer = tell(line);
+            put(text, 0, answer.text.as_slice());
+            put_records(settlements, settled.as_slice(), &answer);
+            heard(1, 0, settled.len() as u32)
+        }
+        Heard::Stray => heard(2, 0, 0),
+        Heard::Unread(fault) => heard(3, u32::from(fault.number()), 0),
+    }
+}
+
+// Hands a frame to the client.
+fn feed_frame(
+    state: &mut GeocomClient,
+    client: Client<Slots>,
+    frame: &Frame,
+    settlements: &mut [GeocomSettlement],
+    text: &mut [u8],
+) -> GeocomHeard
+    requires { HasRoom settlements.old text.old }
+    ensures fed { IsFed client frame.now result settlements.new text.new }
+    ensures state { (rest : List ℕ) → StandsFor state.old client rest → StandsFor state.new (behind client frame.now) rest }
+    ensures records { length settlements.new ≡ length settlements.old }
+    ensures text { length text.new ≡ length text.old }
+    ensures few { result.count ≤ WINDOW }
+    ensures silent { result.count ≡ 0 → (settlements.new ≡ settlements.old) × (text.new ≡ text.old) }
+{
+    match frame {
+        Frame::Line(line) => hear(state, client, line, settlements, text),
+        Frame::Cleared => heard(4, 0, 0),
+        Frame::Overlong => heard(5, 0, 0),
+        Frame::More => heard(0, 0, 0),
+    }
+}
+
+// Takes bytes through the first line feed.
+fn feed(
+    state: &mut GeocomClient,
+    client: Client<Slots>,
+    bytes: &[u8],
+    settlements: &mut [GeocomSettlement],
+    text: &mut [u8],
+) -> GeocomHeard
+    requires room { HasRoom settlements.old text.old }
+    requires cut { IsCut state.old.rest }
+    ensures more { (rest : List ℕ) → StandsFor state.old client rest → position is_line_feed bytes.now ≡ None
+        → (result ≡ record { used = length bytes.now; fault = 0; count = 0; kind = 0; line_fault = 0 })
+        × StandsFor state.new client (rest ++ bytes.now) }
+    ensures frame { (rest : List ℕ) (at : ℕ) → StandsFor state.old client rest → position is_line_feed bytes.now ≡ Some at
+        → (result.used ≡ at + 1) × IsFed client (frame_of (rest ++ take at bytes.now)) result settlements.new text.new
+        × StandsFor state.new (behind client (frame_of (rest ++ take at bytes.now))) [] }
+    ensures fault { result.fault ≡ 0 }
+    ensures used { (result.used ≤ length bytes.now) × (0 < length bytes.now → 0 < result.used) }
+    ensures records { length settlements.new ≡ length settlements.old }
+    ensures text { length text.new ≡ length text.old }
+    ensures few { result.count ≤ WINDOW }
+    ensures silent { result.count ≡ 0 → (settlements.new ≡ settlements.old) × (text.new ≡ text.old) }
+{
+    let (used, frame) = state.rest.frame(bytes);
+    match frame {
+        Frame::More => {
+            state.rest.keep(bytes);
+            using(used, heard(0, 0, 0))
+        }
+        ended => {
+            state.rest = GeocomRest::new();
+            using(used, feed_frame(state, client, &ended, settlements, text))
+        }
+    }
+}
+
+/// Takes bytes as they come, through the first line feed, and writes a record for each request that the line settles.
+///
+/// `used` says how many bytes were used: those through the first line feed, or all where there is none. Call again with
+/// what is left, where something is. A line settles at most seven requests; where it settled, it stands at the front of
+/// `text`, and behind it the items of its parameters. Else nothing is written.
+///
+/// Faults: 62, `settlements` has fewer than seven places or `text` fewer than 1024 bytes; 63, the state is no client's.
+/// After a fault nothing has changed, and nothing was used.
+#[unsafe(no_mangle)]
+pub extern "C" fn geocom_client_feed(
+    state: &mut GeocomClient,
+    bytes: &[u8],
+    settlements: &mut [GeocomSettlement],
+    text: &mut [u8],
+) -> GeocomHeard
+    ensures more { HasRoom settlements.old text.old → (c : Windowed) (rest : List ℕ) → StandsFor state.old c rest
+        → position is_line_feed bytes.now ≡ None
+        → (result ≡ record { used = length bytes.now; fault = 0; count = 0; kind = 0; line_fault = 0 })
+        × StandsFor state.new c (rest ++ bytes.now) }
+    ensures frame { HasRoom settlements.old text.old → (c : Windowed) (rest : List ℕ) (at : ℕ) → StandsFor state.old c rest
+        → position is_line_feed bytes.now ≡ Some at
+        → (result.used ≡ at + 1) × IsFed c (frame_of (rest ++ take at bytes.now)) result settlements.new text.new
+        × StandsFor state.new (behind c (frame_of (rest ++ take at bytes.now))) [] }
+    ensures used { (result.used ≤ length bytes.now) × (result.fault ≡ 0 → 0 < length bytes.now → 0 < result.used) }
+    ensures room { (result.fault ≡ NO_ROOM) ↔ (HasRoom settlements.old text.old → ⊥) }
+    ensures astray { (result.fault ≡ NO_CLIENT) ↔ (HasRoom settlements.old text.old × IsAstray state.old) }
+    ensures done { result.fault ≡ 0 → (c : Windowed) × (rest : List ℕ) × StandsFor state.old c rest }
+    ensures refused { result.fault ≢ 0 → (result.used ≡ 0) × (result.count ≡ 0) × (state.new ≡ state.old) }
+    ensures few { result.count ≤ WINDOW }
+    ensures silent { result.count ≡ 0 → (settlements.new ≡ settlements.old) × (text.new ≡ text.old) }
+    ensures records { length settlements.new ≡ length settlements.old }
+    ensures text { length text.new ≡ length text.old }
+{
+    if !has_room(settlements, text) {
+        return unheard(NO_ROOM);
+    }
+    match load(state) {
+        Some(client) => feed(state, client, bytes, settlements, text),
+        None => unheard(NO_CLIENT),
+    }
+}
+
+/// Settles all that wait as lost, in order, writes a record for each, `count` of them, and begins anew at id 0 and at the
+/// start of a line. The width stays.
+///
+/// The caller vouches that no byte is under way in either direction, and that the instrument starts anew too, or keeps no
+/// replies.
+///
+/// Faults: 62, `settlements` has fewer than seven places; 63, the state is no client's. After a fault nothing has changed.
+#[unsafe(no_mangle)]
+pub extern "C" fn geocom_client_restart(
+    state: &mut GeocomClient,
+    settlements: &mut [GeocomSettlement],
+) -> GeocomCount
+    ensures restarted { WINDOW ≤ length settlements.old → (c : Windowed) (rest : List ℕ) → StandsFor state.old c rest
+        → (result.fault ≡ 0) × StandsFor state.new (record c { ids = (restarts c.ids).client }) []
+        × (result.count ≡ length (restarts c.ids).settlements)
+        × FirstAre (IsRecord []) settlements.new (restarts c.ids).settlements }
+    ensures room { (result.fault ≡ NO_ROOM) ↔ (length settlements.old < WINDOW) }
+    ensures astray { (result.fault ≡ NO_CLIENT) ↔ ((WINDOW ≤ length settlements.old) × IsAstray state.old) }
+    ensures done { result.fault ≡ 0 → (c : Windowed) × (rest : List ℕ) × StandsFor state.old c rest }
+    ensures refused { result.fault ≢ 0 → (result.count ≡ 0) × (state.new ≡ state.old) × (settlements.new ≡ settlements.old) }
+    ensures few { result.count ≤ WINDOW }
+    ensures length { length settlements.new ≡ length settlements.old }
+{
+    if settlements.len() < WINDOW {
+        return refused(NO_ROOM);
+    }
+    let Some(mut client) = load(state) else {
+        return refused(NO_CLIENT);
+    };
+    let settled = client.restart();
+    state.rest = GeocomRest::new();
+    store(state, client);
+    put_lost(settlements, settled.as_slice());
+    counted(settled.len() as u32)
+}

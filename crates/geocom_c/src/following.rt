@@ -1,0 +1,126 @@
+//! Any sequence of calls: from `geocom_client_init` on, a state stands for what the client's rule makes of the calls.
+
+ghost use Rattle.std.specs.Prelude.{◌≡◌, ◌<◌, ◌≤◌, ℕ, List, [], ◌∷◌, length, drop, slice_get, Some};
+ghost use Rattle.gc_lines.specs.Frames.{rest_behind};
+ghost use Rattle.gc_client.specs.Rule.{IsWidth};
+ghost use Rattle.gc_client.specs.OneForOne.{Course, begun, IsOneForOne};
+ghost use Rattle.geocom_c.specs.State.{StandsFor};
+ghost use Rattle.geocom_c.specs.Following.{hearing, FedTo, Follows, Reached};
+
+use crate::calls::{geocom_client_expire, geocom_client_init};
+use crate::feeding::{geocom_client_feed, geocom_client_restart};
+use crate::listed::{NOWHERE, TEXT_ROOM};
+use crate::sends::{LINE_ROOM, geocom_client_send};
+use crate::settled::GeocomSettlement;
+use crate::state::GeocomClient;
+use gc_client::WINDOW;
+use gc_values::MOST_ITEMS;
+
+/// A call on a state.
+#[derive(Clone, Copy)]
+pub enum Step<'a> {
+    Send {
+        target: u32,
+        deadline: u64,
+        procedure: u16,
+        params: &'a [u8],
+    },
+    /// Bytes of a connection, fed until all are used.
+    Feed(&'a [u8]),
+    Expire(u64),
+    Restart,
+}
+
+pub(crate) const VACANT: GeocomSettlement = GeocomSettlement {
+    target: 0,
+    procedure: 0,
+    code: 0,
+    line_length: 0,
+    items: 0,
+    places: [NOWHERE; MOST_ITEMS],
+    outcome: 0,
+    reading: 0,
+};
+
+// Feeds bytes through the first line feed, and says how many were used.
+fn feed_line(state: &mut GeocomClient, bytes: &[u8]) -> usize
+    ensures used { (result ≤ length bytes.now) × (0 < length bytes.now → 0 < result) }
+    ensures fed { (width : ℕ) (x : Course) (rest : List ℕ) → StandsFor state.old (record { width = width; ids = x.client }) rest
+        → FedTo width x rest bytes.now state.new (drop result bytes.now) }
+{
+    let mut settlements = [VACANT; WINDOW];
+    let mut text = [0; TEXT_ROOM];
+    let heard = geocom_client_feed(state, bytes, &mut settlements, &mut text);
+    if heard.fault != 0 {
+        return bytes.len();
+    }
+    heard.used
+}
+
+// The bytes from a place on.
+fn bytes_from(bytes: &[u8], at: usize) -> &[u8]
+    requires { at ≤ length bytes.now }
+    ensures { result.now ≡ drop at bytes.now }
+{
+    bytes.split_at(at).1
+}
+
+// Feeds bytes until all are used.
+fn feed_all(state: &mut GeocomClient, bytes: &[u8])
+    ensures { (width : ℕ) (x : Course) (rest : List ℕ) → StandsFor state.old (record { width = width; ids = x.client }) rest
+        → StandsFor state.new (record { width = width; ids = (hearing width x rest bytes.now).client }) (rest_behind rest bytes.now) }
+{
+    let mut left = bytes;
+    while !left.is_empty() {
+        let used = feed_line(state, left);
+        left = bytes_from(left, used);
+    }
+}
+
+// Makes a call.
+fn call(state: &mut GeocomClient, step: &Step<'_>)
+    ensures { (width : ℕ) (x : Course) (rest : List ℕ) (steps : List Step) → StandsFor state.old (record { width = width; ids = x.client }) rest
+        → Reached width x rest (step.now ∷ steps) state.new steps }
+{
+    match step {
+        Step::Send {
+            target,
+            deadline,
+            procedure,
+            params,
+        } => {
+            let mut line = [0; LINE_ROOM];
+            let _ = geocom_client_send(state, *target, *deadline, *procedure, params, &mut line);
+        }
+        Step::Feed(bytes) => feed_all(state, bytes),
+        Step::Expire(now) => {
+            let mut targets = [0; WINDOW];
+            let _ = geocom_client_expire(state, *now, &mut targets);
+        }
+        Step::Restart => {
+            let mut settlements = [VACANT; WINDOW];
+            let _ = geocom_client_restart(state, &mut settlements);
+        }
+    }
+}
+
+// The call at a place.
+fn step_at<'a>(steps: &[Step<'a>], k: usize) -> Step<'a>
+    requires { k < length steps.now }
+    ensures { slice_get steps.now k ≡ Some result }
+{
+    steps[k]
+}
+
+/// Makes a client of this width, and then these calls, each with ample room. The state stands for the client that the rule
+/// makes of these calls, whatever they are, and for the bytes that came since the last line feed: what was settled, and behind
+/// it the requests that wait, are the sends that weren't refused, in order, each once.
+pub fn follow(state: &mut GeocomClient, width: u8, steps: &[Step<'_>])
+    ensures { IsWidth width → (x : Course) × (rest : List ℕ) × Follows width begun [] steps.now x rest
+        × StandsFor state.new (record { width = width; ids = x.client }) rest × IsOneForOne x }
+{
+    let _ = geocom_client_init(state, width);
+    for k in 0..steps.len() {
+        call(state, &step_at(steps, k));
+    }
+}

@@ -1,0 +1,90 @@
+//! The text of an answer: the line at its front, and behind it the items of its parameters, each where its place says.
+
+ghost use Rattle.std.specs.Prelude.{◌≡◌, ◌≤◌, ◌+◌, ◌++◌, ℕ, List, length};
+ghost use Rattle.arrayvec.specs.ArrayVec.{array_vec_len};
+ghost use Rattle.gc_values.specs.Lists.{AreParams};
+ghost use Rattle.gc_values.specs.declared.value.Value.{Value};
+ghost use Rattle.geocom_c.specs.FirstAre.{FirstAre};
+ghost use Rattle.geocom_c.specs.Settled.{StandsAt, AreListed, total, IsTold};
+
+use arrayvec::ArrayVec;
+use gc_lines::{Line, append, read_reply};
+use gc_values::{Items, MOST_ITEMS, split};
+
+/// How much room a line and its items take: the items are parts of the line.
+pub const TEXT_ROOM: usize = 1024;
+
+/// Where an item stands in a text.
+#[repr(C)]
+#[derive(Clone, Copy)]
+pub struct GeocomItem {
+    pub offset: u16,
+    pub length: u16,
+}
+
+/// Nowhere.
+pub(crate) const NOWHERE: GeocomItem = GeocomItem {
+    offset: 0,
+    length: 0,
+};
+
+// A line with items behind it, how many items these are, and where they stand.
+#[derive(Drop)]
+pub(crate) struct Told {
+    pub text: ArrayVec<u8, TEXT_ROOM>,
+    pub items: u16,
+    pub places: [GeocomItem; MOST_ITEMS],
+}
+
+// Appends items to a text, and says where each stands.
+fn put_items(text: &mut ArrayVec<u8, TEXT_ROOM>, places: &mut [GeocomItem], items: &Items<'_>)
+    requires few { length items.now ≤ length places.old }
+    requires room { array_vec_len text.old + total items.now ≤ TEXT_ROOM }
+    ensures front { (more : List ℕ) × (text.new.items ≡ text.old.items ++ more) }
+    ensures places { FirstAre (StandsAt text.new.items) places.new items.now }
+    ensures length { length places.new ≡ length places.old }
+{
+    for k in 0..items.len() {
+        let item = items.get(k);
+        places[k] = GeocomItem {
+            offset: text.len() as u16,
+            length: item.len() as u16,
+        };
+        append(text, item);
+    }
+}
+
+// Appends the items of parameters, where they are a list.
+fn list(told: &mut Told, params: &[u8])
+    requires { array_vec_len told.old.text + length params.now ≤ TEXT_ROOM }
+    ensures front { (more : List ℕ) × (told.new.text.items ≡ told.old.text.items ++ more) }
+    ensures listed { (values : List Value) → length values ≤ 16 → AreParams params.now values
+        → AreListed told.new.items told.new.places told.new.text.items params.now values }
+{
+    match split(params) {
+        Ok(items) => {
+            put_items(&mut told.text, &mut told.places, &items);
+            told.items = items.len() as u16;
+        }
+        Err(_) => {}
+    }
+}
+
+// The text of a line.
+pub(crate) fn tell(line: &Line) -> Told
+    ensures { IsTold result.text.items result.items result.places line.now.items }
+{
+    let mut told = Told {
+        text: ArrayVec::new(),
+        items: 0,
+        places: [NOWHERE; MOST_ITEMS],
+    };
+    append(&mut told.text, line);
+    match read_reply(line) {
+        Ok(reply) => {
+            list(&mut told, reply.params);
+            told
+        }
+        Err(_) => told,
+    }
+}

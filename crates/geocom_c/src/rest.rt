@@ -1,0 +1,87 @@
+//! The bytes of a line under way: a state keeps of them what the frame of the next line feed depends on.
+
+ghost use Rattle.std.specs.Prelude.{◌≡◌, ◌≢◌, ◌<◌, ◌≤◌, ◌↔◌, All, ◌+◌, ◌++◌, ℕ, List, [], length, take, Some, None, IsTrue};
+ghost use Rattle.std.specs.List.{position};
+ghost use Rattle.gc_lines.specs.Frames.{is_line_feed, frame_of};
+ghost use Rattle.gc_lines.specs.declared.frame.Frame.{Frame};
+ghost use Rattle.geocom_c.specs.Rest.{kept, IsCut, IsRest};
+
+use gc_lines::{Assembler, Frame};
+
+// How many bytes are kept: a line of 512, its CR, and the last of those behind.
+const KEPT: usize = 514;
+
+/// The bytes since the last line feed: all of them, or of more than 514 the first 513 and the last.
+#[repr(C)]
+#[derive(Clone, Copy)]
+pub struct GeocomRest {
+    pub length: u16,
+    pub bytes: [u8; KEPT],
+}
+
+impl GeocomRest {
+    // No byte since the last line feed.
+    pub(crate) fn new() -> GeocomRest
+        ensures { IsRest result [] }
+    {
+        GeocomRest {
+            length: 0,
+            bytes: [0; KEPT],
+        }
+    }
+
+    // Whether these are bytes of a line under way.
+    pub(crate) fn is_cut(&self) -> bool
+        ensures { IsTrue result ↔ IsCut self.now }
+    {
+        let length = usize::from(self.length);
+        length <= KEPT && has_no_line_feed(&self.bytes[..length])
+    }
+
+    // What the first line feed of a piece makes of the bytes since the last one, and how many of the piece's that uses.
+    pub(crate) fn frame(&self, piece: &[u8]) -> (usize, Frame)
+        requires { IsCut self.now }
+        ensures used { (result.0 ≤ length piece.now) × (0 < length piece.now → 0 < result.0) }
+        ensures more { (rest : List ℕ) → IsRest self.now rest → position is_line_feed piece.now ≡ None
+            → (result.0 ≡ length piece.now) × (result.1 ≡ Frame.More) }
+        ensures frame { (rest : List ℕ) (at : ℕ) → IsRest self.now rest → position is_line_feed piece.now ≡ Some at
+            → (result.0 ≡ at + 1) × (result.1 ≡ frame_of (rest ++ take at piece.now)) }
+    {
+        let mut assembler = Assembler::new();
+        let _ = assembler.take(&self.bytes[..usize::from(self.length)]);
+        assembler.take(piece)
+    }
+
+    // Keeps what has to be kept of more bytes.
+    pub(crate) fn keep(&mut self, piece: &[u8])
+        requires { IsCut self.old }
+        ensures { (rest : List ℕ) → IsRest self.old rest → position is_line_feed piece.now ≡ None
+            → IsRest self.new (rest ++ piece.now) }
+    {
+        let Some(last) = piece.last() else { return };
+        let length = usize::from(self.length);
+        let fitting = piece.len().min(KEPT - length);
+        put(&mut self.bytes, length, &piece[..fitting]);
+        self.length += fitting as u16;
+        if fitting < piece.len() {
+            self.bytes[KEPT - 1] = *last;
+        }
+    }
+}
+
+// Whether no byte is a line feed.
+fn has_no_line_feed(bytes: &[u8]) -> bool
+    ensures { IsTrue result ↔ All (λ b. b ≢ 10) bytes.now }
+{
+    bytes.iter().all(|b| *b != b'\n')
+}
+
+/// Writes a text at a place.
+pub(crate) fn put(bytes: &mut [u8], at: usize, text: &[u8])
+    requires { at + length text.now ≤ length bytes.old }
+    ensures text { take (at + length text.now) bytes.new ≡ take at bytes.old ++ text.now }
+    ensures length { length bytes.new ≡ length bytes.old }
+    ensures fits { at + length text.now ≤ length bytes.new }
+{
+    bytes[at..at + text.len()].copy_from_slice(text);
+}

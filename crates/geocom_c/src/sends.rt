@@ -1,0 +1,109 @@
+//! Sending: a call's number and parameters become its request line, or are refused.
+
+ghost use Rattle.std.specs.Prelude.{◌≡◌, ◌≢◌, ◌↔◌, ◌<◌, ◌≤◌, ℕ, List, length};
+ghost use Rattle.gc_catalogue.specs.declared.call.Call.{Call};
+ghost use Rattle.gc_catalogue.specs.declared.fault.CallFault.{CallFault};
+ghost use Rattle.gc_catalogue.specs.Calls.{IsCall, IsRefusal};
+ghost use Rattle.gc_client.specs.Rule.{Windowed, sends};
+ghost use Rattle.geocom_c.specs.Rest.{IsRest};
+ghost use Rattle.geocom_c.specs.State.{StandsFor, IsAstray};
+ghost use Rattle.geocom_c.specs.Sending.{refusal_number, IsSent};
+ghost use Rattle.geocom_c.specs.declared.faults.TheConstants.{NO_ROOM, NO_CLIENT};
+
+use crate::answers::{GeocomCount, counted, refused};
+use crate::faults::{NO_CLIENT, NO_ROOM};
+use crate::rest::put;
+use crate::state::{GeocomClient, load, store};
+use gc_catalogue::{Call, CallFault, decode_call};
+use gc_client::{Client, Slots};
+use gc_lines::Request;
+
+/// How much room a request line takes with its CR LF.
+pub const LINE_ROOM: usize = 514;
+
+ghost use Rattle.geocom_c.specs.declared.sends.TheConstants.{LINE_ROOM};
+
+// The number of a refusal.
+fn number_of(fault: CallFault) -> u32
+    ensures { result ≡ refusal_number fault }
+{
+    match fault {
+        CallFault::Unknown => 21,
+        CallFault::Parameters(fault) => u32::from(fault.number()),
+    }
+}
+
+// Sends a call.
+fn send_call(
+    state: &mut GeocomClient,
+    mut client: Client<Slots>,
+    target: u32,
+    deadline: u64,
+    call: Call,
+    line: &mut [u8],
+) -> GeocomCount
+    requires { LINE_ROOM ≤ length line.old }
+    ensures sent { (rest : List ℕ) → IsRest state.old.rest rest
+        → IsSent client rest call (sends client.width client.ids target call deadline) state.old state.new line.old line.new result }
+    ensures length { length line.new ≡ length line.old }
+    ensures full { result.fault ≡ 31 → length client.ids.waiting ≡ client.width }
+    ensures done { result.fault ≡ 0 → length client.ids.waiting < client.width }
+    ensures either { (result.fault ≢ 0) → result.fault ≡ 31 }
+    ensures refused { result.fault ≢ 0 → (result.count ≡ 0) × (state.new ≡ state.old) × (line.new ≡ line.old) }
+{
+    match client.send(target, call, deadline) {
+        Ok(text) => {
+            store(state, client);
+            put(line, 0, text.as_slice());
+            put(line, text.len(), b"\r\n");
+            counted(text.len() as u32 + 2)
+        }
+        Err(full) => refused(u32::from(full.number())),
+    }
+}
+
+/// Sends a request, and writes its line with CR LF into `line`, `count` bytes of it.
+///
+/// Faults: 62, `line` has fewer than 514 bytes; 63, the state is no client's; 21, no procedure has the number; 11 to 15,
+/// the parameters don't read; 31, as many requests wait as the width allows. After a fault nothing has changed.
+#[unsafe(no_mangle)]
+pub extern "C" fn geocom_client_send(
+    state: &mut GeocomClient,
+    target: u32,
+    deadline: u64,
+    procedure: u16,
+    params: &[u8],
+    line: &mut [u8],
+) -> GeocomCount
+    ensures sent { LINE_ROOM ≤ length line.old → (c : Windowed) (rest : List ℕ) (call : Call) → StandsFor state.old c rest
+        → IsCall procedure params.now call
+        → IsSent c rest call (sends c.width c.ids target call deadline) state.old state.new line.old line.new result }
+    ensures call { LINE_ROOM ≤ length line.old → (c : Windowed) (rest : List ℕ) (e : CallFault) → StandsFor state.old c rest
+        → IsRefusal procedure params.now e → result.fault ≡ refusal_number e }
+    ensures room { (result.fault ≡ NO_ROOM) ↔ (length line.old < LINE_ROOM) }
+    ensures astray { (result.fault ≡ NO_CLIENT) ↔ ((LINE_ROOM ≤ length line.old) × IsAstray state.old) }
+    ensures full { result.fault ≡ 31 → (c : Windowed) × (rest : List ℕ) × (call : Call) × StandsFor state.old c rest
+        × IsCall procedure params.now call × (length c.ids.waiting ≡ c.width) }
+    ensures done { result.fault ≡ 0 → (c : Windowed) × (rest : List ℕ) × (call : Call) × StandsFor state.old c rest
+        × IsCall procedure params.now call × (length c.ids.waiting < c.width) }
+    ensures refusal { result.fault ≢ 0 → result.fault ≢ 31 → result.fault ≢ NO_ROOM → result.fault ≢ NO_CLIENT
+        → (e : CallFault) × IsRefusal procedure params.now e × (result.fault ≡ refusal_number e) }
+    ensures refused { result.fault ≢ 0 → (result.count ≡ 0) × (state.new ≡ state.old) × (line.new ≡ line.old) }
+    ensures length { length line.new ≡ length line.old }
+{
+    if line.len() < LINE_ROOM {
+        return refused(NO_ROOM);
+    }
+    let Some(client) = load(state) else {
+        return refused(NO_CLIENT);
+    };
+    let request = Request {
+        rpc: procedure,
+        id: None,
+        params,
+    };
+    match decode_call(&request) {
+        Ok(call) => send_call(state, client, target, deadline, call, line),
+        Err(fault) => refused(number_of(fault)),
+    }
+}

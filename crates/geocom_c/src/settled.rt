@@ -1,0 +1,142 @@
+//! The records of settlements: how a request ended, in plain fields.
+
+ghost use Rattle.std.specs.Prelude.{◌≡◌, ◌≤◌, ℕ, List, [], length, map, All};
+ghost use Rattle.gc_catalogue.specs.Calls.{call_fields};
+ghost use Rattle.gc_client.specs.declared.pending.Pending.{Pending};
+ghost use Rattle.gc_client.specs.Rule.{lost};
+ghost use Rattle.gc_client.specs.Settlements.{IsWellRead, ReadsAs, settlement_seen};
+ghost use Rattle.geocom_c.specs.FirstAre.{FirstAre};
+ghost use Rattle.geocom_c.specs.Settled.{IsTold, IsKind, IsAnswered, IsUnanswered, IsRecord, IsBy, AreBy};
+
+use crate::listed::{GeocomItem, NOWHERE, Told};
+use gc_catalogue::{Call, Reading, encode_call};
+use gc_client::{Outcome, Settlement};
+use gc_lines::{Line, read_request};
+use gc_values::MOST_ITEMS;
+
+/// How a request ended.
+#[repr(C)]
+#[derive(Clone, Copy)]
+pub struct GeocomSettlement {
+    /// Whom the request was for, as it was handed to `geocom_client_send`.
+    pub target: u32,
+    /// The procedure that was asked for.
+    pub procedure: u16,
+    /// The return code of a refusal, the communication code of a fault of communication, or the number of what is wrong
+    /// with the parameters; else 0.
+    pub code: u16,
+    /// How many bytes at the front of the text are the answer's line; 0 where there is no answer.
+    pub line_length: u16,
+    /// How many items the answer's value has.
+    pub items: u16,
+    /// Where they stand in the text.
+    pub places: [GeocomItem; MOST_ITEMS],
+    /// 1 answered, 2 late, 3 lost.
+    pub outcome: u8,
+    /// What the answer says: 0 there is none, 1 a value, 2 a refusal, 3 a fault of communication, 4 its parameters don't
+    /// read.
+    pub reading: u8,
+}
+
+// The number of a call's procedure.
+fn procedure_of(call: &Call) -> u16
+    ensures { result ≡ (call_fields call.now).number }
+{
+    match read_request(&encode_call(None, call)) {
+        Ok(request) => request.rpc,
+        Err(_) => 0,
+    }
+}
+
+// The record of a request that ended so, without an answer.
+fn unanswered(settlement: &Settlement, outcome: u8) -> GeocomSettlement
+    ensures target { result.target ≡ settlement.now.target }
+    ensures procedure { result.procedure ≡ (call_fields settlement.now.call).number }
+    ensures unanswered { IsUnanswered result outcome }
+{
+    GeocomSettlement {
+        target: settlement.target,
+        procedure: procedure_of(&settlement.call),
+        code: 0,
+        line_length: 0,
+        items: 0,
+        places: [NOWHERE; MOST_ITEMS],
+        outcome,
+        reading: 0,
+    }
+}
+
+// The kind of a reading, and its code.
+fn kind_of(reading: &Reading) -> (u8, u16)
+    ensures { IsKind reading.now result.0 result.1 }
+{
+    match reading {
+        Reading::Value(_) => (1, 0),
+        Reading::Refused(code) => (2, *code),
+        Reading::ComFault(code) => (3, *code),
+        Reading::Unreadable(fault) => (4, u16::from(fault.number())),
+    }
+}
+
+// The record of a request that was answered.
+fn answered(
+    settlement: &Settlement,
+    reading: &Reading,
+    line: &Line,
+    told: &Told,
+) -> GeocomSettlement
+    requires { IsTold told.now.text.items told.now.items told.now.places line.now.items }
+    ensures target { result.target ≡ settlement.now.target }
+    ensures procedure { result.procedure ≡ (call_fields settlement.now.call).number }
+    ensures answered { ReadsAs settlement.now.call line.now.items reading.now
+        → IsAnswered result told.now.text.items settlement.now.call line.now.items }
+{
+    let (kind, code) = kind_of(reading);
+    GeocomSettlement {
+        target: settlement.target,
+        procedure: procedure_of(&settlement.call),
+        code,
+        line_length: line.len() as u16,
+        items: if kind == 1 { told.items } else { 0 },
+        places: told.places,
+        outcome: 1,
+        reading: kind,
+    }
+}
+
+// The record of a settlement.
+fn record_of(settlement: &Settlement, told: &Told) -> GeocomSettlement
+    requires { (line : List ℕ) × IsTold told.now.text.items told.now.items told.now.places line × IsBy line (settlement_seen settlement.now).outcome }
+    ensures { IsWellRead settlement.now.call settlement.now.outcome → IsRecord told.now.text.items result (settlement_seen settlement.now) }
+{
+    match &settlement.outcome {
+        Outcome::Answered(reading, line) => answered(settlement, reading, line, told),
+        Outcome::Late => unanswered(settlement, 2),
+        Outcome::Lost => unanswered(settlement, 3),
+    }
+}
+
+// Writes the records of settlements.
+pub(crate) fn put_records(records: &mut [GeocomSettlement], settled: &[Settlement], told: &Told)
+    requires room { length settled.now ≤ length records.old }
+    requires told { (line : List ℕ) × IsTold told.now.text.items told.now.items told.now.places line × AreBy line (map settlement_seen settled.now) }
+    requires read { All (λ s. IsWellRead s.call s.outcome) settled.now }
+    ensures records { FirstAre (IsRecord told.now.text.items) records.new (map settlement_seen settled.now) }
+    ensures length { length records.new ≡ length records.old }
+{
+    for k in 0..settled.len() {
+        records[k] = record_of(&settled[k], told);
+    }
+}
+
+// Writes the records of requests that are lost.
+pub(crate) fn put_lost(records: &mut [GeocomSettlement], settled: &[Settlement])
+    requires room { length settled.now ≤ length records.old }
+    requires lost { (ps : List Pending) × (map settlement_seen settled.now ≡ map lost ps) }
+    ensures records { FirstAre (IsRecord []) records.new (map settlement_seen settled.now) }
+    ensures length { length records.new ≡ length records.old }
+{
+    for k in 0..settled.len() {
+        records[k] = unanswered(&settled[k], 3);
+    }
+}

@@ -1,0 +1,176 @@
+/*
+ * geocom: the proved GeoCOM client, from C.
+ *
+ * A client settles each request once, in the order of sending: answered, late or lost. The caller has the connection and
+ * the clock; the library opens nothing, takes no memory, starts no thread and keeps nothing between calls. All that it
+ * knows stands in a geocom_client, which is the caller's: plain bytes of a fixed size, which may be copied and kept.
+ *
+ * The order of calls:
+ *   1. geocom_client_init, once, with the width: how many requests may wait at a time, 1 to 7.
+ *   2. geocom_client_send for a request; write the line that it gives on the connection.
+ *   3. Read, waiting no longer than until geocom_client_next_deadline.
+ *   4. geocom_client_expire with the moment after the read, then geocom_client_feed with the bytes until all are used.
+ *   5. Where the connection fails, or all that wait were given up and nothing comes any more: close it, have the
+ *      instrument start anew (or know that it keeps no replies), open it anew, and geocom_client_restart.
+ *
+ * What the caller vouches for: every pointer is valid for the length behind it and not null, also where the length is 0;
+ * what two pointers of one call point at does not overlap; and one call at a time is made for each state. Calls for
+ * different states may run in different threads. No call has a condition on the bytes of a state: whatever stands there,
+ * it returns and stays within bounds.
+ *
+ * Faults (a call that answers one has changed nothing, and written nothing):
+ *   11 to 15  the parameters don't read: form, range, an open quote, more than 16, another count than the procedure has
+ *   21        no procedure has the number
+ *   31        as many requests wait as the width allows
+ *   61        the width is not 1 to 7
+ *   62        less room than the call asks for
+ *   63        the state is no client's: it was never made by geocom_client_init, or was written over
+ */
+#ifndef GEOCOM_H
+#define GEOCOM_H
+
+#include <stddef.h>
+#include <stdint.h>
+
+#ifdef __cplusplus
+extern "C" {
+#endif
+
+#define GEOCOM_VERSION 1
+
+/* How many requests wait at most, and so how many records a call writes at most. */
+#define GEOCOM_WINDOW 7
+/* The room for a request line with its CR LF. */
+#define GEOCOM_LINE_ROOM 514
+/* The room for a reply line and its items. */
+#define GEOCOM_TEXT_ROOM 1024
+/* How many items an answer has at most. */
+#define GEOCOM_MOST_ITEMS 16
+
+/* A request that waits. Its line has no id; `length` bytes of it count. */
+typedef struct geocom_waiting {
+    uint64_t deadline;
+    uint32_t target;
+    uint16_t length;
+    uint8_t given_up;
+    uint8_t line[512];
+} geocom_waiting;
+
+/* The bytes since the last line feed, as far as they count. */
+typedef struct geocom_rest {
+    uint16_t length;
+    uint8_t bytes[514];
+} geocom_rest;
+
+/* A client. Its fields are the library's: read them for a log if you like, and write none. */
+typedef struct geocom_client {
+    geocom_waiting places[GEOCOM_WINDOW];
+    geocom_rest rest;
+    uint8_t width;
+    uint8_t next;
+    uint8_t waiting;
+} geocom_client;
+
+/* Where an item stands in the text of a feed. */
+typedef struct geocom_item {
+    uint16_t offset;
+    uint16_t length;
+} geocom_item;
+
+/* How a request ended. */
+enum geocom_outcome { GEOCOM_ANSWERED = 1, GEOCOM_LATE = 2, GEOCOM_LOST = 3 };
+
+/* What an answer says: nothing where there is none; a value; the return code of a refusal; the communication code of a
+ * request that the instrument didn't take; or parameters that don't read as the procedure's. */
+enum geocom_reading {
+    GEOCOM_NONE = 0,
+    GEOCOM_VALUE = 1,
+    GEOCOM_REFUSED = 2,
+    GEOCOM_COM_FAULT = 3,
+    GEOCOM_UNREADABLE = 4
+};
+
+/* The end of a request. */
+typedef struct geocom_settlement {
+    uint32_t target;      /* as it was handed to geocom_client_send */
+    uint16_t procedure;   /* as it was handed to geocom_client_send */
+    uint16_t code;        /* the return code, the communication code, or the fault 11 to 15; 0 beside a value and where there is no answer */
+    uint16_t line_length; /* the answer's line: so many bytes at the front of the text; 0 where there is no answer */
+    uint16_t items;       /* how many values the answer has */
+    geocom_item places[GEOCOM_MOST_ITEMS]; /* where their texts stand in the text, as they came, without spaces round them */
+    uint8_t outcome;      /* enum geocom_outcome */
+    uint8_t reading;      /* enum geocom_reading */
+} geocom_settlement;
+
+/* A fault or 0, and a count. */
+typedef struct geocom_count {
+    uint32_t fault;
+    uint32_t count;
+} geocom_count;
+
+/* A fault or 0, and the earliest deadline, where is_set is 1. */
+typedef struct geocom_deadline {
+    uint64_t deadline;
+    uint32_t fault;
+    uint32_t is_set;
+} geocom_deadline;
+
+/* What bytes ended: no line feed came yet; a line that settled; a reply that no request waits for; a line that is no reply;
+ * a line feed without a CR before it, which drops what stood before it; a line of more than 512 bytes, which is dropped. */
+enum geocom_kind {
+    GEOCOM_MORE = 0,
+    GEOCOM_SETTLED = 1,
+    GEOCOM_STRAY = 2,
+    GEOCOM_UNREAD = 3,
+    GEOCOM_CLEARED = 4,
+    GEOCOM_OVERLONG = 5
+};
+
+/* What came of a feed. */
+typedef struct geocom_heard {
+    size_t used;         /* how many bytes were used: through the first line feed, or all */
+    uint32_t fault;      /* 0, 62 or 63 */
+    uint32_t count;      /* how many records were written */
+    uint32_t kind;       /* enum geocom_kind */
+    uint32_t line_fault; /* of a line that is no reply, its first faulty field, 1 to 5; else 0 */
+} geocom_heard;
+
+/* The library's version of these calls and structures: GEOCOM_VERSION, or the header is another library's. */
+uint32_t geocom_version(void);
+
+/* Makes a client that has sent nothing, and lets `width` requests wait. Answers 0, or 61 for a width that is not 1 to 7. */
+uint32_t geocom_client_init(geocom_client *state, uint8_t width);
+
+/* Sends a request for a target, a number of the caller's own that comes back with the settlement, to be answered before the
+ * deadline. The parameters are a text with commas between them, as "5000,1". Writes the request's line with CR LF into
+ * `line`, `count` bytes. Faults: 62 (line_room below GEOCOM_LINE_ROOM), 63, 21, 11 to 15, 31. */
+geocom_count geocom_client_send(geocom_client *state, uint32_t target, uint64_t deadline, uint16_t procedure,
+                                const uint8_t *params, size_t params_length, uint8_t *line, size_t line_room);
+
+/* Takes bytes as they come from a port, in any pieces, through the first line feed; call again with what is left until all
+ * are used. A line settles at most GEOCOM_WINDOW requests: `count` records are written, the oldest request's first, and the
+ * line and its items into `text`. Else neither is written. Faults: 62 (settlements_room below GEOCOM_WINDOW, or text_room
+ * below GEOCOM_TEXT_ROOM), 63. */
+geocom_heard geocom_client_feed(geocom_client *state, const uint8_t *bytes, size_t length,
+                                geocom_settlement *settlements, size_t settlements_room, uint8_t *text, size_t text_room);
+
+/* Gives up each request whose deadline is at most `now`, and writes the targets of those that weren't given up before,
+ * `count` of them. They go on waiting: a reply settles them as late. Faults: 62 (targets_room below GEOCOM_WINDOW), 63. */
+geocom_count geocom_client_expire(geocom_client *state, uint64_t now, uint32_t *targets, size_t targets_room);
+
+/* The earliest deadline of the requests that wait and aren't given up. Fault: 63. */
+geocom_deadline geocom_client_next_deadline(const geocom_client *state);
+
+/* Settles all that wait as lost, and begins anew at id 0 and at the start of a line; the width stays. The caller vouches
+ * that no byte is under way in either direction, and that the instrument starts anew too, or keeps no replies. Writes
+ * `count` records, the oldest request's first. Faults: 62 (settlements_room below GEOCOM_WINDOW), 63. */
+geocom_count geocom_client_restart(geocom_client *state, geocom_settlement *settlements, size_t settlements_room);
+
+/* How many requests wait, those that were given up among them. Fault: 63. */
+geocom_count geocom_client_waiting(const geocom_client *state);
+
+#ifdef __cplusplus
+}
+#endif
+
+#endif

@@ -1,0 +1,93 @@
+/* The client's worked examples through the library, in pieces of a given size: examples PIECE < STEPS. A step is a line:
+ * `send TARGET DEADLINE PROCEDURE [PARAMS]`, `feed TEXT` (with CR LF behind it), `hex BYTES`, `init`, `cleared TEXT` (with LF), `expire NOW`,
+ * `restart`, `next`. For each step what came of it is written as a line. */
+#include <stdio.h>
+#include <stdlib.h>
+#include <string.h>
+
+#include "geocom.h"
+
+static const char *const OUTCOMES[] = {"", "answered", "late", "lost"};
+
+static void tell(const geocom_settlement *s, uint32_t count, const uint8_t *text) {
+    for (uint32_t k = 0; k < count; k++, s++) {
+        printf(" [%u %u %s %u %u %.*s", s->target, s->procedure, OUTCOMES[s->outcome], s->reading, s->code, (int)s->line_length, (const char *)text);
+        for (uint16_t i = 0; i < s->items; i++) printf(" <%.*s>", s->places[i].length, (const char *)text + s->places[i].offset);
+        printf("]");
+    }
+}
+
+static void feed(geocom_client *client, const uint8_t *bytes, size_t length, size_t piece) {
+    geocom_settlement settlements[GEOCOM_WINDOW];
+    uint8_t text[GEOCOM_TEXT_ROOM];
+    for (size_t at = 0; at < length;) {
+        size_t end = at + piece < length ? at + piece : length;
+        while (at < end) {
+            geocom_heard heard = geocom_client_feed(client, bytes + at, end - at, settlements, GEOCOM_WINDOW, text, sizeof text);
+            if (heard.fault != 0 || heard.used == 0) { printf(" fault %u", heard.fault); return; }
+            at += heard.used;
+            if (heard.kind != GEOCOM_MORE) printf(" kind %u", heard.kind);
+            if (heard.line_fault != 0) printf(" fault %u", heard.line_fault);
+            tell(settlements, heard.count, text);
+        }
+    }
+}
+
+/* Settlements alone. */
+static void feed_quietly(geocom_client *client, const uint8_t *bytes, size_t length) {
+    geocom_settlement settlements[GEOCOM_WINDOW];
+    uint8_t text[GEOCOM_TEXT_ROOM];
+    for (size_t at = 0; at < length;) {
+        geocom_heard heard = geocom_client_feed(client, bytes + at, length - at, settlements, GEOCOM_WINDOW, text, sizeof text);
+        if (heard.fault != 0 || heard.used == 0) { printf(" fault %u", heard.fault); return; }
+        at += heard.used;
+        tell(settlements, heard.count, text);
+    }
+}
+
+int main(int count, char **words) {
+    size_t piece = count > 1 ? (size_t)atol(words[1]) : 4096;
+    uint8_t width = count > 2 ? (uint8_t)atoi(words[2]) : GEOCOM_WINDOW;
+    geocom_client client;
+    geocom_settlement settlements[GEOCOM_WINDOW];
+    char step[4096];
+    if (geocom_client_init(&client, width) != 0) return 1;
+    while (fgets(step, sizeof step, stdin) != NULL) {
+        size_t length = strcspn(step, "\n");
+        step[length] = '\0';
+        char name[16], params[4096] = "";
+        unsigned target, procedure;
+        unsigned long long moment;
+        if (sscanf(step, "send %u %llu %u %4095[^\n]", &target, &moment, &procedure, params) >= 3) {
+            uint8_t line[GEOCOM_LINE_ROOM];
+            geocom_count sent = geocom_client_send(&client, target, moment, (uint16_t)procedure, (const uint8_t *)params, strlen(params), line, sizeof line);
+            if (sent.fault != 0) printf(" fault %u", sent.fault);
+            else printf(" %.*s", (int)sent.count - 2, (const char *)line);
+        } else if (sscanf(step, "expire %llu", &moment) == 1) {
+            uint32_t targets[GEOCOM_WINDOW];
+            geocom_count due = geocom_client_expire(&client, moment, targets, GEOCOM_WINDOW);
+            for (uint32_t k = 0; k < due.count; k++) printf(" %u", targets[k]);
+        } else if (strncmp(step, "feed ", 5) == 0) {
+            memcpy(step + length, "\r\n", 2);
+            feed(&client, (const uint8_t *)step + 5, length - 5 + 2, piece);
+        } else if (strncmp(step, "hex ", 4) == 0) {
+            uint8_t bytes[2048];
+            size_t size = 0;
+            for (const char *at = step + 4; at[0] != '\0' && at[1] != '\0' && sscanf(at, "%2hhx", &bytes[size]) == 1; at += 2) size++;
+            feed_quietly(&client, bytes, size);
+        } else if (strncmp(step, "init ", 5) == 0) {
+            if (geocom_client_init(&client, (uint8_t)atoi(step + 5)) != 0) return 1;
+        } else if (strncmp(step, "cleared ", 8) == 0) {
+            step[length] = '\n';
+            feed(&client, (const uint8_t *)step + 8, length - 8 + 1, piece);
+        } else if (sscanf(step, "%15s", name) == 1 && strcmp(name, "restart") == 0) {
+            tell(settlements, geocom_client_restart(&client, settlements, GEOCOM_WINDOW).count, NULL);
+        } else if (strcmp(name, "next") == 0) {
+            geocom_deadline next = geocom_client_next_deadline(&client);
+            if (next.is_set) printf(" %llu", (unsigned long long)next.deadline);
+            else printf(" none");
+        } else return 2;
+        printf("; %u wait\n", geocom_client_waiting(&client).count);
+    }
+    return 0;
+}

@@ -1,0 +1,41 @@
+// A few of the worked examples through the C++ wrapper.
+#include <cstdio>
+#include <string>
+
+#include "geocom.hpp"
+
+#define SEE(E) if (!(E)) { std::printf("C++: not so: %s\n", #E); return 1; }
+
+int main() {
+    try {
+        geocom::client none(8);
+        return 1;
+    } catch (const geocom::fault &f) {
+        SEE(f.number == 61)
+    }
+    geocom::client client(2);
+    SEE(client.send(1, 10, 5003) == "%R1Q,5003,0:\r\n")
+    SEE(client.next_deadline() == 10)
+    SEE(client.expire(10).size() == 1 && !client.next_deadline())
+    SEE(client.send(2, 20, 2108, "5000,1") == "%R1Q,2108,1:5000,1\r\n")
+    try {
+        client.send(3, 20, 0);
+        return 1;
+    } catch (const geocom::fault &f) {
+        SEE(f.number == 31)
+    }
+    SEE(client.waiting() == 2)
+    const std::string came = "noise\n%R1P,0,0:0,123456\r\n%R1P,0,1:0,2.25,1.625,110.0625\r\n%R1P,0,9:0\r\n";
+    std::vector<geocom::settlement> all;
+    for (char byte : came)
+        for (auto &s : client.feed(std::string(1, byte))) all.push_back(s);
+    SEE(all.size() == 2 && all[0].outcome == geocom::outcome::late && all[0].target == 1)
+    SEE(all[1].reading == geocom::reading::value && all[1].items.size() == 3 && all[1].items[2] == "110.0625")
+    SEE(all[1].line == "%R1P,0,1:0,2.25,1.625,110.0625")
+    SEE(client.count(GEOCOM_CLEARED) == 1 && client.count(GEOCOM_UNREAD) == 1)
+    client.send(4, 30, 5003);
+    const auto lost = client.restart();
+    SEE(lost.size() == 1 && lost[0].target == 4 && lost[0].outcome == geocom::outcome::lost)
+    std::printf("C++: the examples hold\n");
+    return 0;
+}

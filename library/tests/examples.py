@@ -1,0 +1,58 @@
+"""As examples.c, through the Python module: examples.py PIECE WIDTH < STEPS."""
+
+import sys
+
+import geocom
+
+
+def told(settlements):
+    return "".join(
+        f" [{s.target} {s.procedure} {s.outcome} {int(s.reading)} {s.code} {s.line or ''}" + "".join(f" <{i}>" for i in s.items) + "]"
+        for s in settlements
+    )
+
+
+def feed(client, data, piece):
+    text = ""
+    for at in range(0, len(data), piece):
+        before, faults = dict(client.counts), dict(client.line_faults)
+        settled = client.feed(data[at : at + piece])
+        for kind in geocom.Kind:
+            if kind != geocom.Kind.MORE and client.counts[kind] > before.get(kind, 0):
+                text += f" kind {int(kind)}"
+        for fault, count in client.line_faults.items():
+            if count > faults.get(fault, 0):
+                text += f" fault {fault}"
+        text += told(settled)
+    return text
+
+
+def main():
+    piece, width = int(sys.argv[1]), int(sys.argv[2])
+    client = geocom.Client(width)
+    for step in sys.stdin.read().splitlines():
+        name, _, rest = step.partition(" ")
+        if name == "send":
+            target, deadline, procedure, *params = rest.split(" ", 3)
+            try:
+                line = client.send(int(target), int(deadline), int(procedure), "".join(params))
+                text = " " + line.decode("latin-1")[:-2]
+            except geocom.Fault as fault:
+                text = f" fault {fault.number}"
+        elif name == "feed":
+            text = feed(client, rest.encode("latin-1") + b"\r\n", piece)
+        elif name == "hex":
+            text = told(client.feed(bytes.fromhex(rest)))
+        elif name == "cleared":
+            text = feed(client, rest.encode("latin-1") + b"\n", piece)
+        elif name == "expire":
+            text = "".join(f" {target}" for target in client.expire(int(rest)))
+        elif name == "restart":
+            text = told(client.restart())
+        else:
+            next_deadline = client.next_deadline()
+            text = " none" if next_deadline is None else f" {next_deadline}"
+        print(f"{text}; {client.waiting} wait")
+
+
+main()

@@ -1,0 +1,24 @@
+/* The sizes and offsets that the header gives, a line each: layout. */
+#include <stdio.h>
+
+#include "geocom.h"
+
+#define SIZE(T) printf(#T " %zu\n", sizeof(T));
+#define AT(T, F) printf(#T "." #F " %zu %zu\n", offsetof(T, F), sizeof(((T *)0)->F));
+
+int main(void) {
+    SIZE(geocom_waiting) AT(geocom_waiting, deadline) AT(geocom_waiting, target) AT(geocom_waiting, length)
+    AT(geocom_waiting, given_up) AT(geocom_waiting, line)
+    SIZE(geocom_rest) AT(geocom_rest, length) AT(geocom_rest, bytes)
+    SIZE(geocom_client) AT(geocom_client, places) AT(geocom_client, rest) AT(geocom_client, width) AT(geocom_client, next)
+    AT(geocom_client, waiting)
+    SIZE(geocom_item) AT(geocom_item, offset) AT(geocom_item, length)
+    SIZE(geocom_settlement) AT(geocom_settlement, target) AT(geocom_settlement, procedure) AT(geocom_settlement, code)
+    AT(geocom_settlement, line_length) AT(geocom_settlement, items) AT(geocom_settlement, places) AT(geocom_settlement, outcome)
+    AT(geocom_settlement, reading)
+    SIZE(geocom_count) AT(geocom_count, fault) AT(geocom_count, count)
+    SIZE(geocom_deadline) AT(geocom_deadline, deadline) AT(geocom_deadline, fault) AT(geocom_deadline, is_set)
+    SIZE(geocom_heard) AT(geocom_heard, used) AT(geocom_heard, fault) AT(geocom_heard, count) AT(geocom_heard, kind)
+    AT(geocom_heard, line_fault)
+    return 0;
+}
