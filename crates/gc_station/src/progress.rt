@@ -65,7 +65,7 @@ pub(crate) struct Progress {
     pub stale: bool,
     /// The moment that was told last.
     pub moment: Moment,
-    /// The moment behind the last bytes that came or went.
+    /// The moment behind the last bytes that came or went, or at which a request was given up.
     pub since: u64,
     /// When the cycle began.
     pub began: u64,
