@@ -52,7 +52,7 @@ fn a_link_tells_what_a_socket_answers(rt: HostRuntime) -> Result<(), Fail> {
     Ok(())
 }
 
-// Runs `station` on a port with one command and no retries, and expects status 1 and this fault. What it wrote of the request
+// Runs `station` on a port with two commands and no retries, and expects status 1 and this fault. What it wrote of the first
 // stands behind the moment.
 fn expect_lost(
     rt: &(impl Abort + Net<Listener = TcpListener, Stream = TcpStream> + Clock),
@@ -78,7 +78,7 @@ fn expect_lost(
     }
     let mut written = Vec::new(alloc);
     let mut told = Vec::new(alloc);
-    let input = b"7 5003\n".as_slice();
+    let input = b"7 5003\n8 0\n".as_slice();
     let words = Ok(words.into_iter());
     let status = run_program(rt, alloc, words, input, &mut written, &mut told)?;
     assert_eq!(rt; status, ExitCode::from(1));
