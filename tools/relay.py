@@ -24,6 +24,13 @@ REQUEST = re.compile(rb"%R1Q,(\d+),(\d):")
 REPLY = re.compile(rb"%R1P,0,(\d):0(,[^\r]*)?\r\n$")
 
 
+ENDS = {signal.SIGTERM, signal.SIGINT}
+
+
+def unblock():
+    signal.pthread_sigmask(signal.SIG_UNBLOCK, ENDS)
+
+
 class Way:
     """One direction: lines that wait for their moment, in order."""
 
@@ -66,7 +73,10 @@ class Relay:
                 free.bind(("127.0.0.1", 0))
                 port = free.getsockname()[1]
             words = [self.options.geocom, "serve", str(port)]
-            self.serves.append(subprocess.Popen(words, stderr=subprocess.DEVNULL))
+            # A signal that comes meanwhile waits, or nobody would end what was just started.
+            signal.pthread_sigmask(signal.SIG_BLOCK, ENDS)
+            self.serves.append(subprocess.Popen(words, stderr=subprocess.DEVNULL, preexec_fn=unblock))
+            unblock()
             while self.serves[-1].poll() is None:
                 try:
                     far = socket.create_connection(("127.0.0.1", port), 5)
@@ -259,8 +269,8 @@ def main():
         print(" ".join(f"{k} {v}" for k, v in sorted(relay.told.items())), file=sys.stderr)
         sys.exit(0)
 
-    signal.signal(signal.SIGTERM, stop)
-    signal.signal(signal.SIGINT, stop)
+    for end in ENDS:
+        signal.signal(end, stop)
     relay.run()
 
 
