@@ -177,10 +177,7 @@ pub fn run_ask<S: Source, I: Source, O: Sink, K: Sink>(
 }
 
 /// Reads the whole command text of a source. The faults are those of `read_commands`, and `Read` where a read failed.
-pub fn read_command_text<S: Source>(
-    alloc: Global,
-    source: &mut S,
-) -> Result<Vec<Command>, RunFault>
+pub fn read_command_text<S: Source>(alloc: Global, source: &mut S) -> Result<Vec<Command>, RunFault>
     ensures found { IfOk result (λ commands. (given : List ℕ) × Consumes (S.remaining source.old) (S.remaining source.new) given
         × (S.reads source.new ≤ S.reads source.old + length given + end_reads (S.ended source.new))
         × GivesCommands given
