@@ -50,6 +50,7 @@ pub(crate) const EVENTS: &str =
   up lose K             the request behind K others on the line is lost
   up repeat K           the request behind K others on the line is there twice
   down deliver, down lose K, down repeat K   the same of the replies
+  up bytes N, down bytes N   the next N bytes of that direction go over
   expire M              the moment M is reached: requests whose deadline it is are given up
   restart client, restart instrument
 
@@ -82,8 +83,8 @@ begin with # are skipped. Each is asked once in each cycle, and each gets a line
   late      its reply came after it was given up; what it said is dropped
   lost      no reply came, and none will be taken
 
-The connection is closed and made anew where it ends or fails, and where all requests that wait are given up and nothing
-came for the quiet time. With each new connection the instrument has to start anew, as `serve` does, or keep no replies;
+The connection is closed and made anew where it ends or fails, and where all requests that wait are given up, no other
+may go out, and nothing came and nothing more was given up for the quiet time. With each new connection the instrument has to start anew, as `serve` does, or keep no replies;
 if it does neither, use --settle.
 
 Example, beside `geocom serve 4001`:

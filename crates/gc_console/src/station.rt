@@ -77,7 +77,7 @@ pub(crate) fn station_command<'a>(alloc: Global) -> Result<Command<'a>, Error> {
                 "quiet",
                 "MS",
                 "2000",
-                "Takes the line for quiet where nothing came for so many milliseconds",
+                "Takes the line for quiet where nothing came or went for so many milliseconds",
             ))?
             .arg(retries)?
             .arg(flag_of(

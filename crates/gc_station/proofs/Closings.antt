@@ -13,7 +13,7 @@ use Rattle.gc_station.specs.declared.progress.Order.TheVariants as order
 use Rattle.gc_station.specs.declared.progress.Progress.{Progress}
 use Rattle.gc_station.specs.Acts.{Act, Told, Untold, Put, Cut, Gave, Silent, Ended, Broke, Closed, Opened, Unopened}
 use Rattle.gc_station.specs.Deciding.{is_up, is_quiet, order_in}
-use Rattle.gc_station.specs.Progressing.{turned, told, begun, failing, quieted, is_finished, closed, cleared, probed, sent}
+use Rattle.gc_station.specs.Progressing.{turned, told, begun, failing, quieted, is_finished, closed, cleared, probed, sent, is_spared}
 use Rattle.gc_station.specs.Closing.{IsReasoned, Shows, ClosesForACause}
 use Rattle.gc_station.specs.Reasons.{IsFor, IsAtItsEnd}
 use Rattle.gc_station.specs.Runs.{stood}
@@ -77,7 +77,7 @@ open_shown s Ended c o e = absurd o
 open_shown s Broke c o e = absurd o
 open_shown s Closed c o e = absurd o
 open_shown s Opened c o e = cc
-open_shown s Unopened c o e = again_shown (is_finished s.progress) (s.progress.early || nat_lt 0 s.progress.tries) cause.Open c e
+open_shown s Unopened c o e = again_shown (is_finished s.progress) (is_spared cause.Open s.progress || nat_lt 0 s.progress.tries) cause.Open c e
 
 settled_phase : (b : Bool) (c : Cause) → (if b then Probing else Ready) ≡ Closing c → ⊥
 settled_phase true c e = cc

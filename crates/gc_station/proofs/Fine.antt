@@ -15,7 +15,7 @@ use Rattle.gc_station.specs.declared.progress.Phase.TheVariants.{Down, Resting, 
 use Rattle.gc_station.specs.declared.progress.Progress.{Progress}
 use Rattle.gc_station.specs.Acts.{Act, Told, Untold, Put, Cut, Gave, Silent, Ended, Broke, Closed, Opened, Unopened}
 use Rattle.gc_station.specs.Deciding.{is_up, is_quiet}
-use Rattle.gc_station.specs.Progressing.{told, begun, failing, opened, again, is_finished, quieted, silent, waiting_on, reckoned_early, gave, closed}
+use Rattle.gc_station.specs.Progressing.{told, begun, failing, opened, again, is_finished, quieted, silent, waiting_on, reckoned_early, gave, closed, is_spared}
 use Rattle.gc_station.specs.EachOnce.{IsEachOnce, requests, sent_by, of_record}
 use Rattle.gc_station.specs.Standing.{Standing, place_next, with_progress, with_moment, with_rest, line_came, lines_came, lines_behind, came, is_heard, after_tell, after_put, after_open, after_read, after_close, piece_at, with_client, with_settled, is_nil}
 use Rattle.gc_station.proofs.Each.{each_moment, each_settled, each_nothing, each_lost, each_heard, heard_fewer, sent_whole, sent_none}
@@ -162,7 +162,7 @@ fine_again plan commands s why other fine nothing =
       begun = fine.begun;
       within = λ e. let n : length s.client.waiting ≡ 0 = ap length nothing in omega (arith, n);
       idle = λ e. (refl, nothing);
-      finished = again_done why p (is_finished p) (p.early || nat_lt 0 p.tries) other refl;
+      finished = again_done why p (is_finished p) (is_spared why p || nat_lt 0 p.tries) other refl;
       each = each_nothing false (plan.cycles - p.left) (place_next commands p) s.client.waiting s.records _ nothing (each_settled p.probe (plan.cycles - p.left) (place_next commands p) s.client.waiting s.records _ nothing fine.each);
     }
 

@@ -13,7 +13,7 @@ use Rattle.gc_station.specs.declared.progress.Order.TheVariants as order
 use Rattle.gc_station.specs.declared.progress.Progress.{Progress}
 use Rattle.gc_station.specs.Acts.{Act, Told, Untold, Put, Cut, Gave, Silent, Ended, Broke, Closed, Opened, Unopened}
 use Rattle.gc_station.specs.Deciding.{is_up, is_quiet, order_in}
-use Rattle.gc_station.specs.Progressing.{turned, told, begun, failing, quieted, is_finished, closed, cleared, probed, sent}
+use Rattle.gc_station.specs.Progressing.{turned, told, begun, failing, quieted, is_finished, closed, cleared, probed, sent, is_spared}
 use Rattle.gc_station.specs.Closing.{Shows, Ends, StopsForACause}
 use Rattle.gc_station.specs.Reasons.{IsFor}
 use Rattle.gc_station.specs.Runs.{stood}
@@ -78,7 +78,7 @@ open_over s Ended c o e = absurd o
 open_over s Broke c o e = absurd o
 open_over s Closed c o e = absurd o
 open_over s Opened c o e = cc
-open_over s Unopened c o e = (refl, again_over (is_finished s.progress) (s.progress.early || nat_lt 0 s.progress.tries) cause.Open c e)
+open_over s Unopened c o e = (refl, again_over (is_finished s.progress) (is_spared cause.Open s.progress || nat_lt 0 s.progress.tries) cause.Open c e)
 
 drained_over : (b : Bool) (c : Cause) → (if b then Probing else Ready) ≡ Over c → ⊥
 drained_over true c e = cc
@@ -112,11 +112,11 @@ close_over : (why c : Cause) (p : Progress) → (closed why p).phase ≡ Over c 
 close_over cause.Done c p e = inl cc
 close_over cause.Clock c p e = inl cc
 close_over cause.Turns c p e = inl cc
-close_over cause.Silence c p e = again_over (is_finished p) (p.early || nat_lt 0 p.tries) cause.Silence c e
-close_over cause.Read c p e = again_over (is_finished p) (p.early || nat_lt 0 p.tries) cause.Read c e
-close_over cause.End c p e = again_over (is_finished p) (p.early || nat_lt 0 p.tries) cause.End c e
-close_over (cause.Write n m) c p e = again_over (is_finished p) (p.early || nat_lt 0 p.tries) (cause.Write n m) c e
-close_over cause.Open c p e = again_over (is_finished p) (p.early || nat_lt 0 p.tries) cause.Open c e
+close_over cause.Silence c p e = again_over (is_finished p) (is_spared cause.Silence p || nat_lt 0 p.tries) cause.Silence c e
+close_over cause.Read c p e = again_over (is_finished p) (is_spared cause.Read p || nat_lt 0 p.tries) cause.Read c e
+close_over cause.End c p e = again_over (is_finished p) (is_spared cause.End p || nat_lt 0 p.tries) cause.End c e
+close_over (cause.Write n m) c p e = again_over (is_finished p) (is_spared (cause.Write n m) p || nat_lt 0 p.tries) (cause.Write n m) c e
+close_over cause.Open c p e = again_over (is_finished p) (is_spared cause.Open p || nat_lt 0 p.tries) cause.Open c e
 
 first_over : (plan : Plan) (left : List Command) (s : Standing) → (asks_first plan left s).progress.phase ≡ s.progress.phase
 first_over plan [] s = refl

@@ -15,7 +15,7 @@ use Rattle.gc_station.specs.declared.progress.Progress.{Progress}
 use Rattle.gc_station.specs.Acts.{Act, Told, Untold, Put, Cut, Gave, Silent, Ended, Broke, Closed, Opened, Unopened}
 use Rattle.gc_station.specs.Deciding.{is_up, order_in, order_up}
 use Rattle.gc_station.specs.Standing.{Standing, order_at, Obeys, moved, after, asks, asks_first, with_progress, with_moment, with_rest, line_came, lines_came, lines_behind, came, after_tell, after_put, after_open, after_read, is_heard, is_hopeless, place_next}
-use Rattle.gc_station.specs.Progressing.{turned, told, begun, cleared, probed, sent, is_finished, closed}
+use Rattle.gc_station.specs.Progressing.{turned, told, begun, cleared, probed, sent, is_finished, closed, is_spared}
 
 -- no turn is taken, and no more commands are to be sent than there are
 pub record Steady (commands : List Command) (p q : Progress) : Type 0 where
@@ -142,11 +142,11 @@ pub closed_down : (cause : Cause) (p : Progress) → is_up (closed cause p).phas
 closed_down cause.Done p = refl
 closed_down cause.Clock p = refl
 closed_down cause.Turns p = refl
-closed_down cause.Silence p = again_down (is_finished p) (p.early || nat_lt 0 p.tries) cause.Silence
-closed_down cause.Read p = again_down (is_finished p) (p.early || nat_lt 0 p.tries) cause.Read
-closed_down cause.End p = again_down (is_finished p) (p.early || nat_lt 0 p.tries) cause.End
-closed_down (cause.Write n m) p = again_down (is_finished p) (p.early || nat_lt 0 p.tries) (cause.Write n m)
-closed_down cause.Open p = again_down (is_finished p) (p.early || nat_lt 0 p.tries) cause.Open
+closed_down cause.Silence p = again_down (is_finished p) (is_spared cause.Silence p || nat_lt 0 p.tries) cause.Silence
+closed_down cause.Read p = again_down (is_finished p) (is_spared cause.Read p || nat_lt 0 p.tries) cause.Read
+closed_down cause.End p = again_down (is_finished p) (is_spared cause.End p || nat_lt 0 p.tries) cause.End
+closed_down (cause.Write n m) p = again_down (is_finished p) (is_spared (cause.Write n m) p || nat_lt 0 p.tries) (cause.Write n m)
+closed_down cause.Open p = again_down (is_finished p) (is_spared cause.Open p || nat_lt 0 p.tries) cause.Open
 
 -- once all turns are used up, an act closes the connection
 up_closes : (plan : Plan) (commands : List Command) (s t : Standing) (up : Bool) (act : Act) → Obeys commands t (order_up up) act

@@ -1,5 +1,5 @@
--- Where an answer comes from, in an operator's words, this project's own: from the connection on which its request went out, behind
--- that request, and before a moment at or past its deadline was told.
+-- Where an answer comes from, in an operator's words, this project's own: from the connection on which a request for its call went
+-- out, behind that request, and before a moment at or past its deadline was told.
 use Rattle.std.specs.Prelude.{◌≡◌, ℕ, ◌<◌, List, ◌∷◌, ◌++◌}
 use Rattle.std.specs.List.{AllByRecursion}
 use Rattle.gc_catalogue.specs.declared.call.Call.{Call}

@@ -24,7 +24,7 @@ is_up phase.Ready = true
 is_up (phase.Closing cause) = true
 is_up (phase.Over cause) = false
 
--- whether the quiet time has passed since bytes came or went
+-- whether the quiet time has passed since bytes came or went, or a request was given up
 abbrev pub is_quiet : Plan → Progress → Bool
 is_quiet plan p = nat_le plan.quiet (p.moment.elapsed - p.since)
 

@@ -55,13 +55,18 @@ opened p = record p { phase = Clearing }
 abbrev pub is_finished : Progress → Bool
 is_finished p = nat_eq p.left 0 && nat_eq p.unsent 0
 
+-- a close is spared where the cycle was done before the next was due, and that hasn't begun; that none could be made isn't
+abbrev pub is_spared : Cause → Progress → Bool
+is_spared cause.Open p = false
+is_spared _ p = p.early
+
 -- where a station is that has no connection: it is done, tries again, or doesn't
 abbrev pub phase_again : Cause → Progress → Phase
-phase_again why p = if is_finished p then Over cause.Done else if p.early || nat_lt 0 p.tries then Resting else Over why
+phase_again why p = if is_finished p then Over cause.Done else if is_spared why p || nat_lt 0 p.tries then Resting else Over why
 
--- none was made, or one was closed: that takes a try, unless the cycle is done and the next isn't due
+-- none was made, or one was closed: that takes a try, unless it is spared
 abbrev pub again : Cause → Progress → Progress
-again cause p = record p { phase = phase_again cause p; probe = false; stale = true; tries = if p.early then p.tries else p.tries - 1 }
+again why p = record p { phase = phase_again why p; probe = false; stale = true; tries = if is_spared why p then p.tries else p.tries - 1 }
 
 -- the line feed went out
 abbrev pub cleared : Progress → Progress

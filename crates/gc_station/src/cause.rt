@@ -10,7 +10,8 @@ use gc_texts::RunFault;
 pub enum Cause {
     /// Each command of each cycle is settled.
     Done,
-    /// All requests that wait are given up, no other may go out, and nothing came for the quiet time.
+    /// All requests that wait are given up, no other may go out, and nothing came and nothing more was given up for the
+    /// quiet time.
     Silence,
     /// A read failed.
     Read,

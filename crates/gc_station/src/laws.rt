@@ -33,16 +33,17 @@ pub fn closes_for_a_cause()
         → Runs plan commands (opening plan turns) (earlier ++ Closed ∷ later) → ClosesForACause plan commands turns earlier }
 {}
 
-/// Each record of an answer is of a line that came on the connection on which its request had gone out, behind that
-/// request, and before a moment at or past its deadline was told: no close stands between them. So a line that came after
-/// a close is never booked for a request from before it, nor the other way round.
+/// Each record of an answer is of a line that came behind a request for its call, on the connection on which that went
+/// out, and before a moment at or past that request's deadline was told: no close stands between them. That it is the very
+/// request's is the client's rule, by which the records are made.
 pub fn answers_come_in_time()
     ensures { (plan : Plan) (commands : List Command) (turns : ℕ) (acts : List Act)
         → Runs plan commands (opening plan turns) acts → AllByRecursion (IsTrueRecord plan commands turns acts) (stood plan commands turns acts).records }
 {}
 
 /// A run stops only for a cause: all turns are used up, or the last act closed the connection for that cause, or shows that
-/// none could be made, or that a call failed while there was none; and it is done where nothing was left to be sent then.
+/// none could be made, or that a call failed while there was none; or for `Done`, behind such an act: that all is settled
+/// then is `each_command_once`.
 pub fn stops_for_a_cause()
     ensures { (plan : Plan) (commands : List Command) (turns : ℕ) (acts : List Act) (why : Cause) → Runs plan commands (opening plan turns) acts
         → order_at plan (stood plan commands turns acts) ≡ Stop why → StopsForACause plan commands turns acts why }

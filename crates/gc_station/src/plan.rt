@@ -11,10 +11,10 @@ pub struct Plan {
     pub every: u64,
     /// How many cycles are measured.
     pub cycles: u32,
-    /// How long nothing may come, and no request be given up, before the line counts as quiet.
+    /// How long nothing may come or go, and no request be given up, before the line counts as quiet.
     pub quiet: u64,
     /// How many times in a row it connects anew without a reply that settles a command's request. A connection that ends
-    /// while the next cycle isn't due takes none.
+    /// while the next cycle isn't due takes none; one that can't be made always takes one.
     pub retries: u32,
     /// Whether a null procedure has to be answered on each new connection before commands go out.
     pub settle: bool,

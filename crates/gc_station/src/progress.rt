@@ -126,7 +126,7 @@ impl Progress {
         }
     }
 
-    // Whether the quiet time has passed since bytes came or went.
+    // Whether the quiet time has passed since bytes came or went, or a request was given up.
     pub(crate) fn is_quiet(&self, plan: &Plan) -> bool
         ensures { result ≡ is_quiet plan.now self.now }
     {

@@ -1,7 +1,7 @@
 //! What each act does to how far a station is.
 
 ghost use Rattle.std.specs.Prelude.{◌≡◌};
-ghost use Rattle.gc_station.specs.Progressing.{later, turned, told, begun, failing, opened, again, is_finished, phase_again, quieted, cleared, probed, sent, gave, silent, waiting_on, reckoned_early, closed};
+ghost use Rattle.gc_station.specs.Progressing.{later, turned, told, begun, failing, opened, again, is_finished, is_spared, phase_again, quieted, cleared, probed, sent, gave, silent, waiting_on, reckoned_early, closed};
 
 use crate::cause::Cause;
 use crate::link::Moment;
@@ -84,13 +84,23 @@ impl Progress {
         self.left == 0 && self.unsent == 0
     }
 
+    // Whether it takes no try: a connection was closed while the next cycle wasn't due.
+    fn is_spared(&self, cause: Cause) -> bool
+        ensures { result ≡ is_spared cause self.now }
+    {
+        match cause {
+            Cause::Open => false,
+            _ => self.early,
+        }
+    }
+
     // Where a station is that has no connection.
     fn phase_again(&self, cause: Cause) -> Phase
         ensures { result ≡ phase_again cause self.now }
     {
         if self.is_finished() {
             Phase::Over(Cause::Done)
-        } else if self.early || self.tries > 0 {
+        } else if self.is_spared(cause) || self.tries > 0 {
             Phase::Resting
         } else {
             Phase::Over(cause)
@@ -100,10 +110,11 @@ impl Progress {
     pub(crate) fn try_again(&mut self, cause: Cause)
         ensures { self.new ≡ again cause self.old }
     {
+        let spared = self.is_spared(cause);
         self.phase = self.phase_again(cause);
         self.probe = false;
         self.stale = true;
-        if !self.early {
+        if !spared {
             self.tries = self.tries.saturating_sub(1);
         }
     }
