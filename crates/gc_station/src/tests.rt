@@ -1,5 +1,7 @@
 //! Worked runs over a link that plays a script: what is put on it, and what is written down.
 
+mod drills;
+mod places;
 mod script;
 
 use crate::plan::Plan;

@@ -7,12 +7,13 @@ use gc_client::{Outcome, Settlement};
 use gc_lines::PortFailed;
 
 // What a read comes to, so many milliseconds after it began.
-#[derive(Clone, Copy)]
+#[derive(Clone, Copy, Default)]
 pub(super) enum Step {
     Line(&'static [u8], u64),
     Silence(u64),
     // The clock goes back.
     Back(u64),
+    #[default]
     End,
     Failure,
     NoMoment,
@@ -28,6 +29,9 @@ pub(super) struct Script<'a> {
     // The call of `put` that is cut after one byte, counted from 1.
     pub(super) cut: usize,
     puts: usize,
+    // The call that fails, counted from 0; `close` isn't counted.
+    pub(super) failing: usize,
+    calls: usize,
     clock: u64,
     // Whether the clock can't be read.
     pub(super) blind: bool,
@@ -42,6 +46,8 @@ impl<'a> Script<'a> {
             closed_doors: 0,
             cut: 0,
             puts: 0,
+            failing: usize::MAX,
+            calls: 0,
             clock: 1000,
             blind: false,
             text: ArrayVec::new(),
@@ -50,6 +56,13 @@ impl<'a> Script<'a> {
 
     fn note(&mut self, text: &[u8]) {
         let _ = self.text.try_extend_from_slice(text);
+    }
+
+    // Counts a call, and says whether it fails.
+    fn is_failing(&mut self) -> bool {
+        let call = self.calls;
+        self.calls = self.calls.saturating_add(1);
+        call == self.failing
     }
 
     fn moment(&mut self, later: u64) -> Moment {
@@ -67,13 +80,16 @@ impl<'a> Link for Script<'a> {
     ghost acts = { λ _. None };
 
     fn now(&mut self) -> Result<Moment, PortFailed> {
-        if self.blind {
+        if self.is_failing() || self.blind {
             return Err(PortFailed);
         }
         Ok(self.moment(0))
     }
 
     fn read(&mut self, buf: &mut [u8], millis: u64) -> Came {
+        if self.is_failing() {
+            return Came::Failure;
+        }
         let Some(step) = self.steps.get(self.at).copied() else {
             return Came::Silence(self.moment(millis));
         };
@@ -104,7 +120,7 @@ impl<'a> Link for Script<'a> {
 
     fn put(&mut self, bytes: &[u8]) -> Result<(), usize> {
         self.puts = self.puts.saturating_add(1);
-        if self.puts == self.cut {
+        if self.is_failing() || self.puts == self.cut {
             self.note(b"cut ");
             return Err(0);
         }
@@ -123,6 +139,10 @@ impl<'a> Link for Script<'a> {
     }
 
     fn open(&mut self) -> Result<(), PortFailed> {
+        if self.is_failing() {
+            self.note(b"shut ");
+            return Err(PortFailed);
+        }
         if self.closed_doors > 0 {
             self.closed_doors = self.closed_doors.saturating_sub(1);
             self.note(b"shut ");
