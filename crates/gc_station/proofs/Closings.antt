@@ -20,7 +20,8 @@ use Rattle.gc_station.specs.Runs.{stood}
 use Rattle.gc_station.specs.Standing.{Standing, opening, order_at, place_next, with_progress, with_moment, is_heard, is_hopeless, asks, asks_first, after_tell, after_put, after_open, after_read, Puts, IsTelling, IsOpening, IsReading, Obeys, moved, after, after_all, Runs}
 use Rattle.gc_station.proofs.Facts.{order_for}
 use Rattle.gc_station.proofs.Going.{after_all-append}
-use Rattle.gc_station.proofs.Turns.{came_progress, closed_down}
+use Rattle.gc_station.proofs.Counts.{came_progress}
+use Rattle.gc_station.proofs.Turns.{closed_down}
 
 fail_closes : (up : Bool) (why c : Cause) → (if up then Closing why else Over why) ≡ Closing c → why ≡ c
 fail_closes true why c e = cc
@@ -44,22 +45,22 @@ tell_shown f s Closed c o same e = absurd o
 tell_shown f s Opened c o same e = absurd o
 tell_shown f s Unopened c o same e = absurd o
 
-put_shown : (commands : List Command) (bytes : List ℕ) (f : Standing → Standing) (s : Standing) (act : Act) (c : Cause) → Puts bytes act → ((f s).progress.phase ≡ Closing c → s.progress.phase ≡ Closing c) → (after_put commands f s act).progress.phase ≡ Closing c
+put_shown : (requests : ℕ) (bytes : List ℕ) (f : Standing → Standing) (s : Standing) (act : Act) (c : Cause) → Puts bytes act → ((f s).progress.phase ≡ Closing c → s.progress.phase ≡ Closing c) → (after_put requests f s act).progress.phase ≡ Closing c
     → Shows c act ⊎ (s.progress.phase ≡ Closing c)
-put_shown commands bytes f s (Told m) c o back e = absurd o
-put_shown commands bytes f s Untold c o back e = absurd o
-put_shown commands bytes f s (Put out) c o back e = inr (back e)
-put_shown commands bytes f s (Cut out n) c o back e = cut_shown (failed (f s) (cause.Write (place_next commands s.progress) n) c (Cut out n) (out, refl) e) where
+put_shown requests bytes f s (Told m) c o back e = absurd o
+put_shown requests bytes f s Untold c o back e = absurd o
+put_shown requests bytes f s (Put out) c o back e = inr (back e)
+put_shown requests bytes f s (Cut out n) c o back e = cut_shown (failed (f s) (cause.Write requests n) c (Cut out n) (out, refl) e) where
   cut_shown : (Shows c (Cut out n) ⊎ ((f s).progress.phase ≡ Closing c)) → Shows c (Cut out n) ⊎ (s.progress.phase ≡ Closing c)
   cut_shown (inl shows) = inl shows
   cut_shown (inr phase) = inr (back phase)
-put_shown commands bytes f s (Gave out m) c o back e = absurd o
-put_shown commands bytes f s (Silent m) c o back e = absurd o
-put_shown commands bytes f s Ended c o back e = absurd o
-put_shown commands bytes f s Broke c o back e = absurd o
-put_shown commands bytes f s Closed c o back e = absurd o
-put_shown commands bytes f s Opened c o back e = absurd o
-put_shown commands bytes f s Unopened c o back e = absurd o
+put_shown requests bytes f s (Gave out m) c o back e = absurd o
+put_shown requests bytes f s (Silent m) c o back e = absurd o
+put_shown requests bytes f s Ended c o back e = absurd o
+put_shown requests bytes f s Broke c o back e = absurd o
+put_shown requests bytes f s Closed c o back e = absurd o
+put_shown requests bytes f s Opened c o back e = absurd o
+put_shown requests bytes f s Unopened c o back e = absurd o
 
 again_shown : (done some : Bool) (why c : Cause) → (if done then Over cause.Done else if some then Resting else Over why) ≡ Closing c → ⊥
 again_shown true some why c e = cc
@@ -118,10 +119,10 @@ moved_shown : (plan : Plan) (commands : List Command) (order : Order) (s : Stand
 moved_shown plan commands order.Tell s act c o e = tell_shown told s act c o (λ m. refl) e
 moved_shown plan commands order.Begin s act c o e = tell_shown (begun plan (length commands)) s act c o (λ m. refl) e
 moved_shown plan commands order.Open s act c o e = absurd (open_shown s act c o e)
-moved_shown plan commands order.Clear s act c o e = put_shown commands (10 ∷ []) (with_progress cleared) s act c o (λ g. cc) e
-moved_shown plan commands order.Probe s act c o e = put_shown commands _ (λ (x : Standing). with_progress probed (asks plan 0 NullProc x)) s act c o (λ g. cc) e
+moved_shown plan commands order.Clear s act c o e = put_shown _ (10 ∷ []) (with_progress cleared) s act c o (λ g. cc) e
+moved_shown plan commands order.Probe s act c o e = put_shown _ _ (λ (x : Standing). with_progress probed (asks plan 0 NullProc x)) s act c o (λ g. cc) e
 moved_shown plan commands order.Send s act c o e =
-    put_shown commands _ (λ (x : Standing). with_progress sent (asks_first plan (drop (place_next commands x.progress) commands) x)) s act c o
+    put_shown _ _ (λ (x : Standing). with_progress sent (asks_first plan (drop (place_next commands x.progress) commands) x)) s act c o
     (λ g. sym (first_phase plan (drop (place_next commands s.progress) commands) s) ∙ g) e
 moved_shown plan commands order.Read s act c o e = read_shown plan commands false s act c o e
 moved_shown plan commands order.Rest s act c o e = read_shown plan commands true s act c o e
@@ -175,7 +176,7 @@ last_of (x ∷ xs) = on (last_of xs) where
   on (inl none) = inr ([], x, ap (λ ys. x ∷ ys) none)
   on (inr some) = inr (x ∷ some.0, some.1, ap (λ ys. x ∷ ys) some.2)
 
-closes_only : (commands : List Command) (s : Standing) (next : Order) → Obeys commands s next Closed → (why : Cause) × (next ≡ order.Close why)
+pub closes_only : (commands : List Command) (s : Standing) (next : Order) → Obeys commands s next Closed → (why : Cause) × (next ≡ order.Close why)
 closes_only commands s order.Tell o = absurd o
 closes_only commands s order.Begin o = absurd o
 closes_only commands s order.Open o = absurd o

@@ -111,12 +111,12 @@ fine_moved plan commands s h order.Begin act fine is =
     fine_tell plan commands (begun plan (length commands)) t act at (λ m. fine_begun plan commands t m at is.0 is.2 (nil_from_length s.client.waiting is.3) is.4)
 fine_moved plan commands s h order.Open act fine is = fine_open plan commands (with_progress turned s) act (fine_turned plan commands s fine) is
 fine_moved plan commands s h order.Clear act fine is =
-    let t = with_progress turned s in fine_put plan commands (with_progress cleared) t act (fine_cleared plan commands t (fine_turned plan commands s fine) is)
+    let t = with_progress turned s in fine_put plan commands _ (with_progress cleared) t act (fine_cleared plan commands t (fine_turned plan commands s fine) is)
 fine_moved plan commands s h order.Probe act fine is =
-    let t = with_progress turned s in fine_put plan commands (λ (x : Standing). with_progress probed (asks plan 0 NullProc x)) t act (fine_probed plan commands t (fine_turned plan commands s fine) is.0)
+    let t = with_progress turned s in fine_put plan commands _ (λ (x : Standing). with_progress probed (asks plan 0 NullProc x)) t act (fine_probed plan commands t (fine_turned plan commands s fine) is.0)
 fine_moved plan commands s h order.Send act fine is =
     let t = with_progress turned s in
-    fine_put plan commands (λ (x : Standing). with_progress sent (asks_first plan (drop (place_next commands x.progress) commands) x)) t act
+    fine_put plan commands _ (λ (x : Standing). with_progress sent (asks_first plan (drop (place_next commands x.progress) commands) x)) t act
     (fine_sent plan commands t (fine_turned plan commands s fine) is.0 is.1 is.2 is.3)
 fine_moved plan commands s h order.Read act fine is = fine_read plan commands false (with_progress turned s) act (fine_turned plan commands s fine)
 fine_moved plan commands s h order.Rest act fine is = fine_read plan commands true (with_progress turned s) act (fine_turned plan commands s fine)

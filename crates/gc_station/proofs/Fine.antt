@@ -373,18 +373,18 @@ fine_tell plan commands f s Closed fine ok = fine_fail plan commands s cause.Clo
 fine_tell plan commands f s Opened fine ok = fine_fail plan commands s cause.Clock refl fine
 fine_tell plan commands f s Unopened fine ok = fine_fail plan commands s cause.Clock refl fine
 
-pub fine_put : (plan : Plan) (commands : List Command) (f : Standing → Standing) (s : Standing) (act : Act) → Fine plan commands (f s) → Fine plan commands (after_put commands f s act)
-fine_put plan commands f s (Told m) fine = fine
-fine_put plan commands f s Untold fine = fine
-fine_put plan commands f s (Put bytes) fine = fine
-fine_put plan commands f s (Cut bytes n) fine = fine_fail plan commands (f s) (cause.Write (place_next commands s.progress) n) refl fine
-fine_put plan commands f s (Gave bytes m) fine = fine
-fine_put plan commands f s (Silent m) fine = fine
-fine_put plan commands f s Ended fine = fine
-fine_put plan commands f s Broke fine = fine
-fine_put plan commands f s Closed fine = fine
-fine_put plan commands f s Opened fine = fine
-fine_put plan commands f s Unopened fine = fine
+pub fine_put : (plan : Plan) (commands : List Command) (requests : ℕ) (f : Standing → Standing) (s : Standing) (act : Act) → Fine plan commands (f s) → Fine plan commands (after_put requests f s act)
+fine_put plan commands requests f s (Told m) fine = fine
+fine_put plan commands requests f s Untold fine = fine
+fine_put plan commands requests f s (Put bytes) fine = fine
+fine_put plan commands requests f s (Cut bytes n) fine = fine_fail plan commands (f s) (cause.Write requests n) refl fine
+fine_put plan commands requests f s (Gave bytes m) fine = fine
+fine_put plan commands requests f s (Silent m) fine = fine
+fine_put plan commands requests f s Ended fine = fine
+fine_put plan commands requests f s Broke fine = fine
+fine_put plan commands requests f s Closed fine = fine
+fine_put plan commands requests f s Opened fine = fine
+fine_put plan commands requests f s Unopened fine = fine
 
 pub fine_opened : (plan : Plan) (commands : List Command) (s : Standing) → Fine plan commands s → s.progress.phase ≡ Down → Fine plan commands (with_progress opened s)
 fine_opened plan commands s fine is =

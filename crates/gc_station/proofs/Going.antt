@@ -16,7 +16,8 @@ use Rattle.gc_station.specs.Runs.{stood, BrokeAt, closing}
 use Rattle.gc_station.specs.Standing.{Standing, opening, order_at, Obeys, after, after_all, moved, Runs, with_progress}
 use Rattle.gc_station.specs.Stations.{Stands, Does, Breaks, OnCall}
 use Rattle.gc_station.proofs.Hearing.{tells_more}
-use Rattle.gc_station.proofs.Turns.{left_to_do, less_to_do, moved_steady}
+use Rattle.gc_station.proofs.Counts.{unsent_within}
+use Rattle.gc_station.proofs.Turns.{left_to_do, less_to_do}
 
 -- what was done so far
 pub record Went (plan : Plan) (commands : List Command) (turns : ℕ) (text : Record → List ℕ) (told told' : Option (List Act)) (taken taken' : Option (List ℕ)) (station : Station) : Type 0 where
@@ -143,7 +144,7 @@ went_nearer plan commands turns text told told' told'' taken taken' taken'' stat
     let next : new.progress ≡ (after plan commands s does.act).progress = one.1.progress ∙ ap (λ (o : Order). (moved plan commands o (with_progress turned s) does.act).progress) is in
     let below : s.progress.unsent ≤ length commands = subst (λ (p : Progress). p.unsent ≤ length commands) w.stands.progress within in
     record {
-      within = subst (λ (p : Progress). p.unsent ≤ length commands) (sym next) ((moved_steady plan commands (order_at plan s) (with_progress turned s) does.act).unsent below);
+      within = subst (λ (p : Progress). p.unsent ≤ length commands) (sym next) (unsent_within plan commands (order_at plan s) (with_progress turned s) does.act below);
       less = subst (λ (p : Progress). left_to_do p < left_to_do station.progress) (sym next)
           (subst (λ (p : Progress). left_to_do (after plan commands s does.act).progress < left_to_do p) (sym w.stands.progress) (less_to_do plan commands s does.act obeys));
     }

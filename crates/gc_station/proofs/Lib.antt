@@ -1,12 +1,15 @@
 mod Answers
 mod Closings
+mod Counts
 mod Each
 mod EachRun
 mod Facts
 mod Fine
+mod Further
 mod Going
 mod Hearing
 mod Orders
 mod Records
+mod Sides
 mod Stops
 mod Turns

@@ -21,7 +21,7 @@ use Rattle.gc_station.specs.Standing.{Standing, opening, order_at, place_next, w
 use Rattle.gc_station.proofs.Closings.{runs_split, last_of, obeys_turned}
 use Rattle.gc_station.proofs.Facts.{order_for}
 use Rattle.gc_station.proofs.Going.{after_all-append}
-use Rattle.gc_station.proofs.Turns.{came_progress}
+use Rattle.gc_station.proofs.Counts.{came_progress}
 
 fail_over : (up : Bool) (why c : Cause) → (if up then Closing why else Over why) ≡ Over c → why ≡ c
 fail_over true why c e = cc
@@ -45,22 +45,22 @@ tell_over f s Closed c o same e = absurd o
 tell_over f s Opened c o same e = absurd o
 tell_over f s Unopened c o same e = absurd o
 
-put_over : (commands : List Command) (bytes : List ℕ) (f : Standing → Standing) (s : Standing) (act : Act) (c : Cause) → Puts bytes act → ((f s).progress.phase ≡ Over c → s.progress.phase ≡ Over c) → (after_put commands f s act).progress.phase ≡ Over c
+put_over : (requests : ℕ) (bytes : List ℕ) (f : Standing → Standing) (s : Standing) (act : Act) (c : Cause) → Puts bytes act → ((f s).progress.phase ≡ Over c → s.progress.phase ≡ Over c) → (after_put requests f s act).progress.phase ≡ Over c
     → Shows c act ⊎ (s.progress.phase ≡ Over c)
-put_over commands bytes f s (Told m) c o back e = absurd o
-put_over commands bytes f s Untold c o back e = absurd o
-put_over commands bytes f s (Put out) c o back e = inr (back e)
-put_over commands bytes f s (Cut out n) c o back e = cut_over (failed (f s) (cause.Write (place_next commands s.progress) n) c (Cut out n) (out, refl) e) where
+put_over requests bytes f s (Told m) c o back e = absurd o
+put_over requests bytes f s Untold c o back e = absurd o
+put_over requests bytes f s (Put out) c o back e = inr (back e)
+put_over requests bytes f s (Cut out n) c o back e = cut_over (failed (f s) (cause.Write requests n) c (Cut out n) (out, refl) e) where
   cut_over : (Shows c (Cut out n) ⊎ ((f s).progress.phase ≡ Over c)) → Shows c (Cut out n) ⊎ (s.progress.phase ≡ Over c)
   cut_over (inl shows) = inl shows
   cut_over (inr phase) = inr (back phase)
-put_over commands bytes f s (Gave heard m) c o back e = absurd o
-put_over commands bytes f s (Silent m) c o back e = absurd o
-put_over commands bytes f s Ended c o back e = absurd o
-put_over commands bytes f s Broke c o back e = absurd o
-put_over commands bytes f s Closed c o back e = absurd o
-put_over commands bytes f s Opened c o back e = absurd o
-put_over commands bytes f s Unopened c o back e = absurd o
+put_over requests bytes f s (Gave heard m) c o back e = absurd o
+put_over requests bytes f s (Silent m) c o back e = absurd o
+put_over requests bytes f s Ended c o back e = absurd o
+put_over requests bytes f s Broke c o back e = absurd o
+put_over requests bytes f s Closed c o back e = absurd o
+put_over requests bytes f s Opened c o back e = absurd o
+put_over requests bytes f s Unopened c o back e = absurd o
 
 again_over : (done some : Bool) (why c : Cause) → (if done then Over cause.Done else if some then Resting else Over why) ≡ Over c → (c ≡ why) ⊎ (c ≡ cause.Done)
 again_over true some why c e = inr cc
@@ -138,10 +138,10 @@ moved_over : (plan : Plan) (commands : List Command) (next : Order) (s : Standin
 moved_over plan commands order.Tell s act c o e = shown order.Tell c act _ (tell_over told s act c o (λ m. refl) e)
 moved_over plan commands order.Begin s act c o e = shown order.Begin c act _ (tell_over (begun plan (length commands)) s act c o (λ m. refl) e)
 moved_over plan commands order.Open s act c o e = inl (inr (inl (open_over s act c o e)))
-moved_over plan commands order.Clear s act c o e = shown order.Clear c act _ (put_over commands (10 ∷ []) (with_progress cleared) s act c o (λ g. cc) e)
-moved_over plan commands order.Probe s act c o e = shown order.Probe c act _ (put_over commands _ (λ (x : Standing). with_progress probed (asks plan 0 NullProc x)) s act c o (λ g. cc) e)
+moved_over plan commands order.Clear s act c o e = shown order.Clear c act _ (put_over _ (10 ∷ []) (with_progress cleared) s act c o (λ g. cc) e)
+moved_over plan commands order.Probe s act c o e = shown order.Probe c act _ (put_over _ _ (λ (x : Standing). with_progress probed (asks plan 0 NullProc x)) s act c o (λ g. cc) e)
 moved_over plan commands order.Send s act c o e =
-    shown order.Send c act _ (put_over commands _ (λ (x : Standing). with_progress sent (asks_first plan (drop (place_next commands x.progress) commands) x)) s act c o
+    shown order.Send c act _ (put_over _ _ (λ (x : Standing). with_progress sent (asks_first plan (drop (place_next commands x.progress) commands) x)) s act c o
     (λ g. sym (first_over plan (drop (place_next commands s.progress) commands) s) ∙ g) e)
 moved_over plan commands order.Read s act c o e = shown order.Read c act _ (read_over plan commands false s act c o e)
 moved_over plan commands order.Rest s act c o e = shown order.Rest c act _ (read_over plan commands true s act c o e)

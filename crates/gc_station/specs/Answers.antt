@@ -1,17 +1,18 @@
--- Where an answer comes from, in an operator's words, this project's own: from the connection on which a request for its call went
--- out, behind that request, and before a moment at or past its deadline was told.
-use Rattle.std.specs.Prelude.{◌≡◌, ℕ, ◌<◌, List, ◌∷◌, ◌++◌}
+-- Where an answer comes from, in an operator's words, this project's own: its own request went out on that connection, and the line came
+-- behind it, with its id, before a moment at or past its deadline was told.
+use Rattle.std.specs.Prelude.{◌≡◌, ◌⊎◌, ℕ, ◌<◌, List, [], ◌∷◌, ◌++◌, Some}
 use Rattle.std.specs.List.{AllByRecursion}
-use Rattle.gc_catalogue.specs.declared.call.Call.{Call}
-use Rattle.gc_client.specs.Rule.{Answered}
+use Rattle.gc_client.specs.Rule.{Answered, fresh, heard}
 use Rattle.gc_texts.specs.declared.commands.Command.{Command}
 use Rattle.gc_station.specs.declared.link.Moment.{Moment}
 use Rattle.gc_station.specs.declared.plan.Plan.{Plan}
+use Rattle.gc_station.specs.declared.progress.Order.TheVariants.{Send}
 use Rattle.gc_station.specs.Acts.{Act, Told, Gave, Silent, Closed}
+use Rattle.gc_station.specs.EachOnce.{cycles_begun}
 use Rattle.gc_station.specs.Progressing.{later}
 use Rattle.gc_station.specs.Records.{Record}
 use Rattle.gc_station.specs.Runs.{stood}
-use Rattle.gc_station.specs.Standing.{Puts, request_text, lines_behind}
+use Rattle.gc_station.specs.Standing.{Standing, Puts, order_at, place_next, request_text, lines_behind}
 
 -- an act closes nothing, and tells no moment at or past this one
 abbrev pub IsBefore : ℕ → Act → Type 0
@@ -25,9 +26,9 @@ IsBefore deadline _ = Unit {0}
 abbrev pub deadline_behind : Plan → List Command → ℕ → List Act → ℕ
 deadline_behind plan commands turns acts = later (stood plan commands turns acts).progress.moment.elapsed plan.deadline
 
--- among these acts the request for a call was put; then none closed the connection or told its deadline; then a piece came, also before
--- that, and with it this line
-pub record IsAnsweredIn (plan : Plan) (commands : List Command) (turns : ℕ) (acts : List Act) (call : Call) (line : List ℕ) : Type 0 where
+-- among these acts the request of a record, of its cycle and place, was put; then none closed the connection or told its deadline; then
+-- a piece came, also before that, and with it this line with the request's id; and this act wrote the record down
+pub record IsAnsweredIn (plan : Plan) (commands : List Command) (turns : ℕ) (acts : List Act) (r : Record) (line : List ℕ) : Type 0 where
   pub before : List Act
   pub request : Act
   pub between : List Act
@@ -35,13 +36,30 @@ pub record IsAnsweredIn (plan : Plan) (commands : List Command) (turns : ℕ) (a
   pub moment : Moment
   pub behind : List Act
   pub order : acts ≡ before ++ request ∷ (between ++ Gave piece moment ∷ behind)
-  pub put : Puts (request_text (stood plan commands turns before).client call) request
+  pub sends : order_at plan (stood plan commands turns before) ≡ Send
+  pub cycle : r.cycle ≡ cycles_begun plan (stood plan commands turns before)
+  pub place : r.place ≡ place_next commands (stood plan commands turns before).progress
+  pub put : Puts (request_text (stood plan commands turns before).client r.settlement.call) request
   pub waits : AllByRecursion (IsBefore (deadline_behind plan commands turns before)) between
   pub in_time : moment.elapsed < deadline_behind plan commands turns before
   pub front : List (List ℕ)
   pub others : List (List ℕ)
   pub came : lines_behind (stood plan commands turns (before ++ request ∷ between)).rest piece ≡ front ++ line ∷ others
+  pub id : heard line ≡ Some (stood plan commands turns before).client.next
+  pub earlier : List Record
+  pub later : List Record
+  pub written : (stood plan commands turns (before ++ request ∷ (between ++ Gave piece moment ∷ []))).records
+      ≡ (stood plan commands turns (before ++ request ∷ between)).records ++ (earlier ++ r ∷ later)
 
 -- a record of an answer is of such a line
 abbrev pub IsTrueRecord : Plan → List Command → ℕ → List Act → Record → Type 0
-IsTrueRecord plan commands turns acts r = (line : List ℕ) → r.settlement.outcome ≡ Answered line → IsAnsweredIn plan commands turns acts r.settlement.call line
+IsTrueRecord plan commands turns acts r = (line : List ℕ) → r.settlement.outcome ≡ Answered line → IsAnsweredIn plan commands turns acts r line
+
+-- an answer and its request stand on one side of a close that follows these acts: both behind it, or both before it
+abbrev pub IsOnOneSide : {plan : Plan} {commands : List Command} {turns : ℕ} {acts : List Act} {r : Record} {line : List ℕ} → List Act → IsAnsweredIn plan commands turns acts r line → Type 0
+IsOnOneSide earlier a =
+    ((mid : List Act) × (a.before ≡ earlier ++ Closed ∷ mid)) ⊎ ((mid : List Act) × (earlier ≡ a.before ++ a.request ∷ (a.between ++ Gave a.piece a.moment ∷ mid)))
+
+-- nothing waits, ids begin anew, and no bytes of a line are kept
+abbrev pub IsAnew : Standing → Type 0
+IsAnew s = (s.client ≡ fresh) × (s.rest ≡ [])

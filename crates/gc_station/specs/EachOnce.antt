@@ -1,6 +1,6 @@
 -- Each command once, this project's own: the records of a run, and behind them the requests that wait, are the commands that were
 -- sent, cycle by cycle and in order, each once.
-use Rattle.std.specs.Prelude.{◌≡◌, ℕ, zero, suc, ◌+◌, ◌-◌, List, [], ◌∷◌, ◌++◌, length, take, map, if◌then◌else◌}
+use Rattle.std.specs.Prelude.{◌≡◌, ◌⊎◌, ◌<◌, ℕ, zero, suc, ◌+◌, ◌-◌, List, [], ◌∷◌, ◌++◌, length, take, map, if◌then◌else◌}
 use Rattle.gc_client.specs.OneForOne.{Asked, of_settled, of_pending}
 use Rattle.gc_texts.specs.declared.commands.Command.{Command}
 use Rattle.gc_station.specs.declared.plan.Plan.{Plan}
@@ -62,3 +62,8 @@ pub record EachOnce (plan : Plan) (commands : List Command) (turns : ℕ) (acts 
   pub settled : (cause : Cause) → order_at plan (stood plan commands turns acts) ≡ Stop cause
       → map of_record (stood plan commands turns acts).records ≡ sent_by commands (cycles_begun plan (stood plan commands turns acts)) (place_next commands (stood plan commands turns acts).progress)
   pub done : order_at plan (stood plan commands turns acts) ≡ Stop Done → map of_record (stood plan commands turns acts).records ≡ all_cycles commands plan.cycles
+
+-- a station is further than it was: in a later cycle, or at a later place in the same
+abbrev pub IsFurther : Plan → List Command → Standing → Standing → Type 0
+IsFurther plan commands s t =
+    (cycles_begun plan s < cycles_begun plan t) ⊎ ((cycles_begun plan s ≡ cycles_begun plan t) × (place_next commands s.progress < place_next commands t.progress))

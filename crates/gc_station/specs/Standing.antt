@@ -1,6 +1,6 @@
 -- What a station is after the acts of its link, this project's own: the client's rule over what really happened, and how far
 -- the station is. Each act is the one that the station was to make next.
-use Rattle.std.specs.Prelude.{◌≡◌, ℕ, ◌-◌, ◌<◌, Bool, true, false, List, [], ◌∷◌, ◌++◌, length, drop, Option, Some, None, if◌then◌else◌, not}
+use Rattle.std.specs.Prelude.{◌≡◌, ℕ, ◌-◌, ◌<◌, Bool, true, false, List, [], ◌∷◌, ◌++◌, length, drop, Option, Some, None, if◌then◌else◌, nat_eq, not}
 use Rattle.std.specs.List.{filter_map}
 use Rattle.gc_lines.specs.Frames.{line_in, rest_behind}
 use Rattle.gc_lines.specs.Lines.{with_end}
@@ -51,6 +51,10 @@ order_at plan s = order_of plan s.progress (length s.client.waiting) (is_hopeles
 -- a command of the cycle, counted from 0
 abbrev pub place_next : List Command → Progress → ℕ
 place_next commands p = length commands - p.unsent
+
+-- how many requests of the cycle went out: none before the first cycle
+abbrev pub requests_out : Plan → List Command → Progress → ℕ
+requests_out plan commands p = if nat_eq p.left plan.cycles then 0 else place_next commands p
 
 -- a request line with its CR LF
 abbrev pub request_text : ById → Call → List ℕ
@@ -192,10 +196,10 @@ abbrev pub after_tell : (Moment → Progress → Progress) → Standing → Act 
 after_tell f s (Told m) = with_moment m (with_progress (f m) s)
 after_tell f s _ = with_progress (failing cause.Clock) s
 
--- bytes were put, which does this; where they were cut, the connection is to be closed
-abbrev pub after_put : List Command → (Standing → Standing) → Standing → Act → Standing
-after_put commands f s (Cut bytes count) = with_progress (failing (cause.Write (place_next commands s.progress) count)) (f s)
-after_put commands f s _ = f s
+-- bytes were put, which does this; where they were cut, the connection is to be closed, behind so many requests
+abbrev pub after_put : ℕ → (Standing → Standing) → Standing → Act → Standing
+after_put requests f s (Cut bytes count) = with_progress (failing (cause.Write requests count)) (f s)
+after_put requests f s _ = f s
 
 -- a connection was asked for
 abbrev pub after_open : Standing → Act → Standing
@@ -213,9 +217,9 @@ abbrev pub moved : Plan → List Command → Order → Standing → Act → Stan
 moved plan commands Tell s act = after_tell told s act
 moved plan commands Begin s act = after_tell (begun plan (length commands)) s act
 moved plan commands Open s act = after_open s act
-moved plan commands Clear s act = after_put commands (with_progress cleared) s act
-moved plan commands Probe s act = after_put commands (λ (s : Standing). with_progress probed (asks plan 0 NullProc s)) s act
-moved plan commands Send s act = after_put commands (λ (s : Standing). with_progress sent (asks_first plan (drop (place_next commands s.progress) commands) s)) s act
+moved plan commands Clear s act = after_put (requests_out plan commands s.progress) (with_progress cleared) s act
+moved plan commands Probe s act = after_put (requests_out plan commands s.progress) (λ (s : Standing). with_progress probed (asks plan 0 NullProc s)) s act
+moved plan commands Send s act = after_put (requests_out plan commands s.progress) (λ (s : Standing). with_progress sent (asks_first plan (drop (place_next commands s.progress) commands) s)) s act
 moved plan commands Read s act = after_read plan commands false s act
 moved plan commands Rest s act = after_read plan commands true s act
 moved plan commands (Close cause) s act = after_close plan commands cause s

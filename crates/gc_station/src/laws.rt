@@ -4,12 +4,13 @@ ghost use Rattle.std.specs.Prelude.{◌≡◌, ℕ, List, [], ◌∷◌, ◌++�
 ghost use Rattle.std.specs.List.{AllByRecursion};
 ghost use Rattle.gc_texts.specs.declared.commands.Command.{Command};
 ghost use Rattle.gc_station.specs.declared.cause.Cause.{Cause};
-ghost use Rattle.gc_station.specs.declared.progress.Order.TheVariants.{Stop};
+ghost use Rattle.gc_station.specs.declared.progress.Order.TheVariants.{Send, Stop};
 ghost use Rattle.gc_station.specs.declared.plan.Plan.{Plan};
 ghost use Rattle.gc_station.specs.Acts.{Act, Closed};
-ghost use Rattle.gc_station.specs.Answers.{IsTrueRecord};
+ghost use Rattle.gc_station.specs.Answers.{IsAnsweredIn, IsTrueRecord, IsOnOneSide, IsAnew};
 ghost use Rattle.gc_station.specs.Closing.{IsReasoned, ClosesForACause, StopsForACause};
-ghost use Rattle.gc_station.specs.EachOnce.{EachOnce};
+ghost use Rattle.gc_station.specs.EachOnce.{EachOnce, IsFurther};
+ghost use Rattle.gc_station.specs.Records.{Record};
 ghost use Rattle.gc_station.specs.Runs.{stood};
 ghost use Rattle.gc_station.specs.Standing.{opening, order_at, Runs};
 
@@ -33,12 +34,33 @@ pub fn closes_for_a_cause()
         → Runs plan commands (opening plan turns) (earlier ++ Closed ∷ later) → ClosesForACause plan commands turns earlier }
 {}
 
-/// Each record of an answer is of a line that came behind a request for its call, on the connection on which that went
-/// out, and before a moment at or past that request's deadline was told: no close stands between them. That it is the very
-/// request's is the client's rule, by which the records are made.
+/// Of two requests of commands that were put, the later one is of a later place in its cycle, or of a later cycle: no command
+/// goes out twice in its cycle.
+pub fn each_send_goes_on()
+    ensures { (plan : Plan) (commands : List Command) (turns : ℕ) (earlier later : List Act) (act : Act)
+        → order_at plan (stood plan commands turns earlier) ≡ Send
+        → IsFurther plan commands (stood plan commands turns earlier) (stood plan commands turns (earlier ++ act ∷ later)) }
+{}
+
+/// Each record of an answer is of a line that came with the id of its very request, of the same cycle and place: behind it,
+/// on the connection on which it went out, and before a moment at or past its deadline was told. No close stands between
+/// them, and the act that brought the line is the one at which the record was written.
 pub fn answers_come_in_time()
     ensures { (plan : Plan) (commands : List Command) (turns : ℕ) (acts : List Act)
         → Runs plan commands (opening plan turns) acts → AllByRecursion (IsTrueRecord plan commands turns acts) (stood plan commands turns acts).records }
+{}
+
+/// A line that came after a close is never booked for a request from before it, nor the other way round: whatever answer
+/// `answers_come_in_time` speaks of, its request and its line stand on one side of each close.
+pub fn no_answer_crosses_a_close()
+    ensures { (plan : Plan) (commands : List Command) (turns : ℕ) (earlier later : List Act) (r : Record) (line : List ℕ)
+        (a : IsAnsweredIn plan commands turns (earlier ++ Closed ∷ later) r line) → IsOnOneSide earlier a }
+{}
+
+/// Behind a close nothing waits, ids begin anew, and no bytes of a line are kept.
+pub fn each_connection_begins_anew()
+    ensures { (plan : Plan) (commands : List Command) (turns : ℕ) (earlier : List Act)
+        → Runs plan commands (opening plan turns) (earlier ++ Closed ∷ []) → IsAnew (stood plan commands turns (earlier ++ Closed ∷ [])) }
 {}
 
 /// A run stops only for a cause: all turns are used up, or the last act closed the connection for that cause, or shows that

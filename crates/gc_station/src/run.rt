@@ -50,10 +50,9 @@ pub(crate) fn run<L: Link, B: Book>(
 ///
 /// `Ok`: each command of each cycle is settled, and the tally counts how. Where it connects no more, `Read` comes where a
 /// read or the clock failed or the line was dead, `Write` where a write was cut, with the cycle's requests that had gone
-/// out (before the first cycle the number of commands, though none had), `LinkClosed` where the other end closed the
-/// connection, and `Socket` where no connection could be made. `TooManyReads` comes where `max_turns` acts were made. In all
-/// of these the connection is closed, and what waited is written as lost. `Output` comes where the book failed; the
-/// connection is closed then too.
+/// out (0 before the first cycle), `LinkClosed` where the other end closed the connection, and `Socket` where no connection
+/// could be made. `TooManyReads` comes where `max_turns` acts were made. In all of these the connection is closed, and what
+/// waited is written as lost. `Output` comes where the book failed; the connection is closed then too.
 pub fn run_station<L: Link, B: Book>(
     link: &mut L,
     book: &mut B,

@@ -13,7 +13,7 @@ ghost use Rattle.gc_station.specs.Acts.{Tells, put_as, IsPart};
 ghost use Rattle.gc_station.specs.Deciding.{width_of};
 ghost use Rattle.gc_station.specs.Progressing.{later};
 ghost use Rattle.gc_station.specs.Records.{Record, records_from, texts_of, WritesAll};
-ghost use Rattle.gc_station.specs.Standing.{Standing, opening, order_at, place_next, request_text, client_sent, is_heard, lines_came, piece_came, came, piece_at};
+ghost use Rattle.gc_station.specs.Standing.{Standing, opening, order_at, place_next, requests_out, request_text, client_sent, is_heard, lines_came, piece_came, came, piece_at};
 ghost use Rattle.gc_station.specs.Stations.{Stands, Does, Obeyed, OnCall, Follows, HasRoom, cut_progress, read_order};
 ghost use Rattle.gc_station.specs.Tallies.{none_yet, tallied};
 ghost use Rattle.gc_station.specs.declared.progress.Order.TheVariants.{Tell, Begin, Open, Clear, Probe, Send, Close};
@@ -94,6 +94,16 @@ impl Station {
         ensures { result ≡ place_next commands.now self.now.progress }
     {
         commands.len().saturating_sub(self.progress.unsent)
+    }
+
+    // How many requests of the cycle went out: none before the first cycle.
+    fn requests_out(&self, plan: &Plan, commands: &[Command]) -> usize
+        ensures { result ≡ requests_out plan.now commands.now self.now.progress }
+    {
+        if self.progress.left == plan.cycles {
+            return 0;
+        }
+        self.place(commands)
     }
 
     // The stamp of the oldest request of the cycle that waits.
@@ -188,11 +198,11 @@ impl Station {
     }
 
     // Sends a lone line feed.
-    fn clear<L: Link>(&mut self, link: &mut L, commands: &[Command])
-        ensures { (plan : Plan) (text : Record → List ℕ) (known : Option (List ℕ))
-            → Does plan commands.now Clear text (L.acts link.old) (L.acts link.new) known known self.old self.new }
+    fn clear<L: Link>(&mut self, link: &mut L, plan: &Plan, commands: &[Command])
+        ensures { (text : Record → List ℕ) (known : Option (List ℕ))
+            → Does plan.now commands.now Clear text (L.acts link.old) (L.acts link.new) known known self.old self.new }
     {
-        let requests = self.place(commands);
+        let requests = self.requests_out(plan, commands);
         let put = link.put(b"\n");
         self.progress.clear();
         self.cut(put, requests);
@@ -233,7 +243,7 @@ impl Station {
         ensures { (text : Record → List ℕ) (known : Option (List ℕ))
             → Does plan.now commands.now Probe text (L.acts link.old) (L.acts link.new) known known self.old self.new }
     {
-        let requests = self.place(commands);
+        let requests = self.requests_out(plan, commands);
         let put = self.ask(link, plan, 0, &Call::NullProc);
         self.progress.probe();
         self.cut(put, requests);
@@ -247,11 +257,11 @@ impl Station {
         ensures { (text : Record → List ℕ) (known : Option (List ℕ))
             → Does plan.now commands.now Send text (L.acts link.old) (L.acts link.new) known known self.old self.new }
     {
-        let place = self.place(commands);
-        let command = &commands[place];
+        let requests = self.requests_out(plan, commands);
+        let command = &commands[self.place(commands)];
         let put = self.ask(link, plan, command.target, &command.call);
         self.progress.send();
-        self.cut(put, place);
+        self.cut(put, requests);
     }
 
     // Writes down what was settled, unless it is the null procedure's end.
@@ -460,7 +470,7 @@ impl Station {
                 Ok(())
             }
             Order::Clear => {
-                self.clear(link, commands);
+                self.clear(link, plan, commands);
                 Ok(())
             }
             Order::Probe => {

@@ -327,6 +327,18 @@ fn cut_writes(rt: HostRuntime) -> Result<(), Fail> {
     );
     runs_to(
         &rt,
+        "a cut line feed, and no new try",
+        once,
+        failing([].as_slice(), 0, 1, false),
+        b"open cut close ",
+        b"",
+        Some(RunFault::Write {
+            replies: 0,
+            bytes: 0,
+        }),
+    );
+    runs_to(
+        &rt,
         "a cut request",
         plan(),
         failing([QUIET, QUIET, QUIET, FIRST].as_slice(), 0, 2, false),
