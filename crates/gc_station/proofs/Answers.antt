@@ -22,7 +22,7 @@ use Rattle.gc_station.specs.Acts.{Act, Told, Untold, Put, Cut, Gave, Silent, End
 use Rattle.gc_station.specs.Answers.{IsBefore, deadline_behind, IsAnsweredIn, IsTrueRecord, IsOnOneSide, IsAnew}
 use Rattle.gc_station.specs.Deciding.{width_of}
 use Rattle.gc_station.specs.EachOnce.{cycles_begun}
-use Rattle.gc_station.specs.Progressing.{turned, told, begun, cleared, probed, sent}
+use Rattle.gc_station.specs.Progressing.{turned, told, reckoned_early, begun, cleared, probed, sent}
 use Rattle.gc_station.specs.Reasons.{IsFor}
 use Rattle.gc_station.specs.Records.{Record, records_from}
 use Rattle.gc_station.specs.Runs.{stood}
@@ -600,7 +600,7 @@ put_honest plan commands turns acts requests f t Unopened h = h
 -- Each order.
 
 tell_honest : (plan : Plan) (commands : List Command) (turns : ℕ) (acts : List Act) (act : Act) → IsHonest plan commands turns acts (stood plan commands turns acts) → IsTelling act
-    → IsHonest plan commands turns (acts ++ act ∷ []) (after_tell told (with_progress turned (stood plan commands turns acts)) act)
+    → IsHonest plan commands turns (acts ++ act ∷ []) (after_tell (λ m p. reckoned_early plan (length (stood plan commands turns acts).client.waiting) (told m p)) (with_progress turned (stood plan commands turns acts)) act)
 tell_honest plan commands turns acts (Told m) h o = moment_told plan commands turns acts (Told m) m.elapsed _ _ _ _ _ (λ d low. low) h
 tell_honest plan commands turns acts Untold h o = still plan commands turns acts Untold _ _ _ _ _ (λ d. tt) h
 tell_honest plan commands turns acts (Put out) h o = absurd o
@@ -630,7 +630,7 @@ begin_honest plan commands turns acts Opened h o none = absurd o
 begin_honest plan commands turns acts Unopened h o none = absurd o
 
 open_honest : (plan : Plan) (commands : List Command) (turns : ℕ) (acts : List Act) (act : Act) → IsHonest plan commands turns acts (stood plan commands turns acts) → IsOpening act → (stood plan commands turns acts).client.waiting ≡ []
-    → IsHonest plan commands turns (acts ++ act ∷ []) (after_open (with_progress turned (stood plan commands turns acts)) act)
+    → IsHonest plan commands turns (acts ++ act ∷ []) (after_open plan (with_progress turned (stood plan commands turns acts)) act)
 open_honest plan commands turns acts (Told m) h o none = absurd o
 open_honest plan commands turns acts Untold h o none = absurd o
 open_honest plan commands turns acts (Put out) h o none = absurd o

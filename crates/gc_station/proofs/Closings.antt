@@ -13,7 +13,7 @@ use Rattle.gc_station.specs.declared.progress.Order.TheVariants as order
 use Rattle.gc_station.specs.declared.progress.Progress.{Progress}
 use Rattle.gc_station.specs.Acts.{Act, Told, Untold, Put, Cut, Gave, Silent, Ended, Broke, Closed, Opened, Unopened}
 use Rattle.gc_station.specs.Deciding.{is_up, is_quiet, order_in}
-use Rattle.gc_station.specs.Progressing.{turned, told, begun, failing, quieted, is_finished, closed, cleared, probed, sent, is_spared}
+use Rattle.gc_station.specs.Progressing.{turned, told, begun, failing, quieted, waited, reckoned_early, is_finished, is_resting, closed, cleared, probed, sent, is_spared}
 use Rattle.gc_station.specs.Closing.{IsReasoned, Shows, ClosesForACause}
 use Rattle.gc_station.specs.Reasons.{IsFor, IsAtItsEnd}
 use Rattle.gc_station.specs.Runs.{stood}
@@ -67,33 +67,34 @@ again_shown true some why c e = cc
 again_shown false true why c e = cc
 again_shown false false why c e = cc
 
-open_shown : (s : Standing) (act : Act) (c : Cause) → IsOpening act → (after_open s act).progress.phase ≡ Closing c → ⊥
-open_shown s (Told m) c o e = absurd o
-open_shown s Untold c o e = absurd o
-open_shown s (Put bytes) c o e = absurd o
-open_shown s (Cut bytes n) c o e = absurd o
-open_shown s (Gave bytes m) c o e = absurd o
-open_shown s (Silent m) c o e = absurd o
-open_shown s Ended c o e = absurd o
-open_shown s Broke c o e = absurd o
-open_shown s Closed c o e = absurd o
-open_shown s Opened c o e = cc
-open_shown s Unopened c o e = again_shown (is_finished s.progress) (is_spared cause.Open s.progress || nat_lt 0 s.progress.tries) cause.Open c e
+open_shown : (plan : Plan) (s : Standing) (act : Act) (c : Cause) → IsOpening act → (after_open plan s act).progress.phase ≡ Closing c → ⊥
+open_shown plan s (Told m) c o e = absurd o
+open_shown plan s Untold c o e = absurd o
+open_shown plan s (Put bytes) c o e = absurd o
+open_shown plan s (Cut bytes n) c o e = absurd o
+open_shown plan s (Gave bytes m) c o e = absurd o
+open_shown plan s (Silent m) c o e = absurd o
+open_shown plan s Ended c o e = absurd o
+open_shown plan s Broke c o e = absurd o
+open_shown plan s Closed c o e = absurd o
+open_shown plan s Opened c o e = cc
+open_shown plan s Unopened c o e = again_shown (is_finished s.progress) (is_spared plan cause.Open s.progress || nat_lt 0 s.progress.tries) cause.Open c e
 
 settled_phase : (b : Bool) (c : Cause) → (if b then Probing else Ready) ≡ Closing c → ⊥
 settled_phase true c e = cc
 settled_phase false c e = cc
 
-quiet_shown : (plan : Plan) (phase : Phase) (b : Bool) (c : Cause) → (if b then quieted plan phase else phase) ≡ Closing c → phase ≡ Closing c
-quiet_shown plan phase false c e = e
-quiet_shown plan Down true c e = e
-quiet_shown plan Resting true c e = cc
-quiet_shown plan Clearing true c e = e
-quiet_shown plan Draining true c e = absurd (settled_phase plan.settle c e)
-quiet_shown plan Probing true c e = e
-quiet_shown plan Ready true c e = e
-quiet_shown plan (Closing why) true c e = e
-quiet_shown plan (Over why) true c e = e
+quiet_shown : (plan : Plan) (resting : Bool) (phase : Phase) (b : Bool) (c : Cause) → (if b then quieted plan resting phase else phase) ≡ Closing c → phase ≡ Closing c
+quiet_shown plan resting phase false c e = e
+quiet_shown plan resting Down true c e = e
+quiet_shown plan true Resting true c e = e
+quiet_shown plan false Resting true c e = cc
+quiet_shown plan resting Clearing true c e = e
+quiet_shown plan resting Draining true c e = absurd (settled_phase plan.settle c e)
+quiet_shown plan resting Probing true c e = e
+quiet_shown plan resting Ready true c e = e
+quiet_shown plan resting (Closing why) true c e = e
+quiet_shown plan resting (Over why) true c e = e
 
 read_shown : (plan : Plan) (commands : List Command) (rested : Bool) (s : Standing) (act : Act) (c : Cause) → IsReading act → (after_read plan commands rested s act).progress.phase ≡ Closing c → Shows c act ⊎ (s.progress.phase ≡ Closing c)
 read_shown plan commands rested s (Told m) c o e = absurd o
@@ -101,7 +102,7 @@ read_shown plan commands rested s Untold c o e = failed s cause.Clock c Untold r
 read_shown plan commands rested s (Put bytes) c o e = absurd o
 read_shown plan commands rested s (Cut bytes n) c o e = absurd o
 read_shown plan commands rested s (Gave bytes m) c o e = inr (sym (ap (λ p. p.phase) (came_progress (is_heard s.progress.phase) plan commands bytes (with_moment m (with_progress (told m) s)))) ∙ e)
-read_shown plan commands rested s (Silent m) c o e = inr (quiet_shown plan s.progress.phase (is_quiet plan (record s.progress { moment = m; since = min s.progress.since m.elapsed; stale = false })) c e)
+read_shown plan commands rested s (Silent m) c o e = inr (quiet_shown plan (is_resting plan (waited rested m s.progress)) s.progress.phase (is_quiet plan (waited rested m s.progress)) c e)
 read_shown plan commands rested s Ended c o e = failed s cause.End c Ended refl e
 read_shown plan commands rested s Broke c o e = failed s cause.Read c Broke refl e
 read_shown plan commands rested s Closed c o e = absurd o
@@ -116,9 +117,9 @@ up_clash : (phase : Phase) (c : Cause) → is_up phase ≡ false → phase ≡ C
 up_clash phase c down e = let up : is_up phase ≡ true = ap is_up e in cc
 
 moved_shown : (plan : Plan) (commands : List Command) (order : Order) (s : Standing) (act : Act) (c : Cause) → Obeys commands s order act → (moved plan commands order s act).progress.phase ≡ Closing c → Shows c act ⊎ (s.progress.phase ≡ Closing c)
-moved_shown plan commands order.Tell s act c o e = tell_shown told s act c o (λ m. refl) e
+moved_shown plan commands order.Tell s act c o e = tell_shown (λ (m : Moment) (p : Progress). reckoned_early plan (length s.client.waiting) (told m p)) s act c o (λ m. refl) e
 moved_shown plan commands order.Begin s act c o e = tell_shown (begun plan (length commands)) s act c o (λ m. refl) e
-moved_shown plan commands order.Open s act c o e = absurd (open_shown s act c o e)
+moved_shown plan commands order.Open s act c o e = absurd (open_shown plan s act c o e)
 moved_shown plan commands order.Clear s act c o e = put_shown _ (10 ∷ []) (with_progress cleared) s act c o (λ g. cc) e
 moved_shown plan commands order.Probe s act c o e = put_shown _ _ (λ (x : Standing). with_progress probed (asks plan 0 NullProc x)) s act c o (λ g. cc) e
 moved_shown plan commands order.Send s act c o e =
@@ -126,7 +127,7 @@ moved_shown plan commands order.Send s act c o e =
     (λ g. sym (first_phase plan (drop (place_next commands s.progress) commands) s) ∙ g) e
 moved_shown plan commands order.Read s act c o e = read_shown plan commands false s act c o e
 moved_shown plan commands order.Rest s act c o e = read_shown plan commands true s act c o e
-moved_shown plan commands (order.Close why) s act c o e = absurd (up_clash (closed why s.progress).phase c (closed_down why s.progress) e)
+moved_shown plan commands (order.Close why) s act c o e = absurd (up_clash (closed plan why s.progress).phase c (closed_down plan why s.progress) e)
 moved_shown plan commands (order.Stop why) s act c o e = absurd o
 
 closing_closes : (plan : Plan) (s : Standing) (c : Cause) → s.progress.phase ≡ Closing c → order_at plan s ≡ order.Close c
@@ -153,7 +154,7 @@ after_shown plan commands s act c o e = by_order (order_at plan s) refl (moved_s
   by_order next is (inr phase) =
       let closes = closing_closes plan s c phase in
       let gone : (moved plan commands (order.Close c) (with_progress turned s) act).progress.phase ≡ Closing c = subst (λ (o : Order). (moved plan commands o (with_progress turned s) act).progress.phase ≡ Closing c) closes e in
-      absurd (up_clash (closed c (turned s.progress)).phase c (closed_down c (turned s.progress)) gone)
+      absurd (up_clash (closed plan c (turned s.progress)).phase c (closed_down plan c (turned s.progress)) gone)
 
 pub runs_split : (plan : Plan) (commands : List Command) (s : Standing) (earlier later : List Act) (act : Act) → Runs plan commands s (earlier ++ act ∷ later)
     → Runs plan commands s earlier × Obeys commands (after_all plan commands s earlier) (order_at plan (after_all plan commands s earlier)) act

@@ -12,7 +12,7 @@ use Rattle.gc_station.specs.declared.progress.Order.TheVariants.{Tell, Begin, Op
 use Rattle.gc_station.specs.declared.progress.Progress.{Progress}
 use Rattle.gc_station.specs.Acts.{Act, Told, Untold, Put, Cut, Gave, Silent, Ended, Broke, Closed, Opened, Unopened}
 use Rattle.gc_station.specs.Standing.{Standing, moved, asks, asks_first, with_progress, with_moment, with_rest, line_came, lines_came, lines_behind, came, after_tell, after_put, after_open, after_read, is_heard, place_next}
-use Rattle.gc_station.specs.Progressing.{told, begun, cleared, probed, sent, closed}
+use Rattle.gc_station.specs.Progressing.{told, begun, cleared, probed, sent, reckoned_early, closed}
 
 -- the counts are the same
 pub record Kept (p q : Progress) : Type 0 where
@@ -44,15 +44,15 @@ pub came_progress : (heard : Bool) (plan : Plan) (commands : List Command) (piec
 came_progress true plan commands piece s = lines_progress plan commands (with_rest (rest_behind s.rest piece) s) (lines_behind s.rest piece)
 came_progress false plan commands piece s = refl
 
-closed_kept : (why : Cause) (p : Progress) → Kept p (closed why p)
-closed_kept cause.Done p = kept p _ refl refl refl
-closed_kept cause.Clock p = kept p _ refl refl refl
-closed_kept cause.Turns p = kept p _ refl refl refl
-closed_kept cause.Silence p = kept p _ refl refl refl
-closed_kept cause.Read p = kept p _ refl refl refl
-closed_kept cause.End p = kept p _ refl refl refl
-closed_kept (cause.Write n m) p = kept p _ refl refl refl
-closed_kept cause.Open p = kept p _ refl refl refl
+closed_kept : (plan : Plan) (why : Cause) (p : Progress) → Kept p (closed plan why p)
+closed_kept plan cause.Done p = kept p _ refl refl refl
+closed_kept plan cause.Clock p = kept p _ refl refl refl
+closed_kept plan cause.Turns p = kept p _ refl refl refl
+closed_kept plan cause.Silence p = kept p _ refl refl refl
+closed_kept plan cause.Read p = kept p _ refl refl refl
+closed_kept plan cause.End p = kept p _ refl refl refl
+closed_kept plan (cause.Write n m) p = kept p _ refl refl refl
+closed_kept plan cause.Open p = kept p _ refl refl refl
 
 read_kept : (plan : Plan) (commands : List Command) (rested : Bool) (s : Standing) (act : Act) → Kept s.progress (after_read plan commands rested s act).progress
 read_kept plan commands rested s (Told m) = kept s.progress _ refl refl refl
@@ -69,18 +69,18 @@ read_kept plan commands rested s Closed = kept s.progress _ refl refl refl
 read_kept plan commands rested s Opened = kept s.progress _ refl refl refl
 read_kept plan commands rested s Unopened = kept s.progress _ refl refl refl
 
-tell_kept : (s : Standing) (act : Act) → Kept s.progress (after_tell told s act).progress
-tell_kept s (Told m) = kept s.progress _ refl refl refl
-tell_kept s Untold = kept s.progress _ refl refl refl
-tell_kept s (Put bytes) = kept s.progress _ refl refl refl
-tell_kept s (Cut bytes n) = kept s.progress _ refl refl refl
-tell_kept s (Gave bytes m) = kept s.progress _ refl refl refl
-tell_kept s (Silent m) = kept s.progress _ refl refl refl
-tell_kept s Ended = kept s.progress _ refl refl refl
-tell_kept s Broke = kept s.progress _ refl refl refl
-tell_kept s Closed = kept s.progress _ refl refl refl
-tell_kept s Opened = kept s.progress _ refl refl refl
-tell_kept s Unopened = kept s.progress _ refl refl refl
+tell_kept : (plan : Plan) (waiting : ℕ) (s : Standing) (act : Act) → Kept s.progress (after_tell (λ m p. reckoned_early plan waiting (told m p)) s act).progress
+tell_kept plan waiting s (Told m) = kept s.progress _ refl refl refl
+tell_kept plan waiting s Untold = kept s.progress _ refl refl refl
+tell_kept plan waiting s (Put bytes) = kept s.progress _ refl refl refl
+tell_kept plan waiting s (Cut bytes n) = kept s.progress _ refl refl refl
+tell_kept plan waiting s (Gave bytes m) = kept s.progress _ refl refl refl
+tell_kept plan waiting s (Silent m) = kept s.progress _ refl refl refl
+tell_kept plan waiting s Ended = kept s.progress _ refl refl refl
+tell_kept plan waiting s Broke = kept s.progress _ refl refl refl
+tell_kept plan waiting s Closed = kept s.progress _ refl refl refl
+tell_kept plan waiting s Opened = kept s.progress _ refl refl refl
+tell_kept plan waiting s Unopened = kept s.progress _ refl refl refl
 
 begin_counts : (plan : Plan) (count : ℕ) (s : Standing) (act : Act) → Counts count Begin s.progress (after_tell (begun plan count) s act).progress
 begin_counts plan count s (Told m) = inr (kept (counted_begun count s.progress) _ refl refl refl)
@@ -108,27 +108,27 @@ put_kept p requests f s Closed is = is
 put_kept p requests f s Opened is = is
 put_kept p requests f s Unopened is = is
 
-open_kept : (s : Standing) (act : Act) → Kept s.progress (after_open s act).progress
-open_kept s (Told m) = kept s.progress _ refl refl refl
-open_kept s Untold = kept s.progress _ refl refl refl
-open_kept s (Put bytes) = kept s.progress _ refl refl refl
-open_kept s (Cut bytes n) = kept s.progress _ refl refl refl
-open_kept s (Gave bytes m) = kept s.progress _ refl refl refl
-open_kept s (Silent m) = kept s.progress _ refl refl refl
-open_kept s Ended = kept s.progress _ refl refl refl
-open_kept s Broke = kept s.progress _ refl refl refl
-open_kept s Closed = kept s.progress _ refl refl refl
-open_kept s Opened = kept s.progress _ refl refl refl
-open_kept s Unopened = kept s.progress _ refl refl refl
+open_kept : (plan : Plan) (s : Standing) (act : Act) → Kept s.progress (after_open plan s act).progress
+open_kept plan s (Told m) = kept s.progress _ refl refl refl
+open_kept plan s Untold = kept s.progress _ refl refl refl
+open_kept plan s (Put bytes) = kept s.progress _ refl refl refl
+open_kept plan s (Cut bytes n) = kept s.progress _ refl refl refl
+open_kept plan s (Gave bytes m) = kept s.progress _ refl refl refl
+open_kept plan s (Silent m) = kept s.progress _ refl refl refl
+open_kept plan s Ended = kept s.progress _ refl refl refl
+open_kept plan s Broke = kept s.progress _ refl refl refl
+open_kept plan s Closed = kept s.progress _ refl refl refl
+open_kept plan s Opened = kept s.progress _ refl refl refl
+open_kept plan s Unopened = kept s.progress _ refl refl refl
 
 sent_kept : (plan : Plan) (left : List Command) (s : Standing) → Kept (counted_sent s.progress) (with_progress sent (asks_first plan left s)).progress
 sent_kept plan [] s = kept (counted_sent s.progress) _ refl refl refl
 sent_kept plan (command ∷ others) s = kept (counted_sent s.progress) _ refl refl refl
 
 pub moved_counts : (plan : Plan) (commands : List Command) (order : Order) (s : Standing) (act : Act) → Counts (length commands) order s.progress (moved plan commands order s act).progress
-moved_counts plan commands Tell s act = tell_kept s act
+moved_counts plan commands Tell s act = tell_kept plan (length s.client.waiting) s act
 moved_counts plan commands Begin s act = begin_counts plan (length commands) s act
-moved_counts plan commands Open s act = open_kept s act
+moved_counts plan commands Open s act = open_kept plan s act
 moved_counts plan commands Clear s act = put_kept s.progress _ (with_progress cleared) s act (kept s.progress _ refl refl refl)
 moved_counts plan commands Probe s act = put_kept s.progress _ (λ (x : Standing). with_progress probed (asks plan 0 NullProc x)) s act (kept s.progress _ refl refl refl)
 moved_counts plan commands Send s act =
@@ -136,7 +136,7 @@ moved_counts plan commands Send s act =
     (sent_kept plan (drop (place_next commands s.progress) commands) s)
 moved_counts plan commands Read s act = read_kept plan commands false s act
 moved_counts plan commands Rest s act = read_kept plan commands true s act
-moved_counts plan commands (Close why) s act = let c = closed_kept why s.progress in kept s.progress _ c.turns c.left c.unsent
+moved_counts plan commands (Close why) s act = let c = closed_kept plan why s.progress in kept s.progress _ c.turns c.left c.unsent
 moved_counts plan commands (Stop why) s act = kept s.progress _ refl refl refl
 
 -- no turn is taken

@@ -15,7 +15,7 @@ use Rattle.gc_station.specs.declared.progress.Order.{Order}
 use Rattle.gc_station.specs.declared.progress.Order.TheVariants as order
 use Rattle.gc_station.specs.Acts.{Act}
 use Rattle.gc_station.specs.Deciding.{width_of, is_up}
-use Rattle.gc_station.specs.Progressing.{later, turned, told, begun, cleared, probed, sent}
+use Rattle.gc_station.specs.Progressing.{later, turned, told, reckoned_early, begun, cleared, probed, sent}
 use Rattle.gc_station.specs.EachOnce.{EachOnce, sent_by, of_record, all_cycles}
 use Rattle.gc_station.specs.Reasons.{IsFor}
 use Rattle.gc_station.specs.Runs.{stood}
@@ -104,7 +104,7 @@ close_done plan commands s h cause.Turns fine for_it is = cc
 fine_moved : (plan : Plan) (commands : List Command) (s : Standing) (h : Bool) (order : Order) (act : Act) → Fine plan commands s → IsFor plan s.progress (length s.client.waiting) h order
     → Fine plan commands (moved plan commands order (with_progress turned s) act)
 fine_moved plan commands s h order.Tell act fine is =
-    let t = with_progress turned s in fine_tell plan commands told t act (fine_turned plan commands s fine) (λ m. fine_told plan commands t m (fine_turned plan commands s fine))
+    let t = with_progress turned s in fine_tell plan commands (λ m p. reckoned_early plan (length t.client.waiting) (told m p)) t act (fine_turned plan commands s fine) (λ m. fine_told plan commands t m (reckoned_early plan (length t.client.waiting) (told m t.progress)).early (fine_turned plan commands s fine))
 fine_moved plan commands s h order.Begin act fine is =
     let t = with_progress turned s in
     let at = fine_turned plan commands s fine in

@@ -15,7 +15,7 @@ use Rattle.gc_station.specs.declared.progress.Phase.TheVariants.{Down, Resting, 
 use Rattle.gc_station.specs.declared.progress.Progress.{Progress}
 use Rattle.gc_station.specs.Acts.{Act, Told, Untold, Put, Cut, Gave, Silent, Ended, Broke, Closed, Opened, Unopened}
 use Rattle.gc_station.specs.Deciding.{is_up, is_quiet}
-use Rattle.gc_station.specs.Progressing.{told, begun, failing, opened, again, is_finished, quieted, silent, waiting_on, reckoned_early, gave, closed, is_spared}
+use Rattle.gc_station.specs.Progressing.{told, begun, failing, opened, again, is_finished, quieted, waited, silent, is_resting, waiting_on, reckoned_early, gave, closed, is_spared}
 use Rattle.gc_station.specs.EachOnce.{IsEachOnce, requests, sent_by, of_record}
 use Rattle.gc_station.specs.Standing.{Standing, place_next, with_progress, with_moment, with_rest, line_came, lines_came, lines_behind, came, is_heard, after_tell, after_put, after_open, after_read, after_close, piece_at, with_client, with_settled, is_nil}
 use Rattle.gc_station.proofs.Each.{each_moment, each_settled, each_nothing, each_lost, each_heard, heard_fewer, sent_whole, sent_none}
@@ -111,10 +111,10 @@ fine_fail plan commands s why not_done fine =
       clash : (b : Bool) → b ≡ true → b ≡ false → ⊥
       clash b e g = cc
 
-pub fine_told : (plan : Plan) (commands : List Command) (s : Standing) (m : Moment) → Fine plan commands s → Fine plan commands (with_moment m (with_progress (told m) s))
-fine_told plan commands s m fine =
+pub fine_told : (plan : Plan) (commands : List Command) (s : Standing) (m : Moment) (early : Bool) → Fine plan commands s → Fine plan commands (with_moment m (with_progress (λ p. record (told m p) { early = early }) s))
+fine_told plan commands s m early fine =
     let p = s.progress in
-    fine_moment plan commands (with_progress (told m) s) m (fine_at plan commands s p.phase false m m.elapsed (min p.began m.elapsed) p.early p.tries p.turns s.rest fine (λ e. e) fine.finished)
+    fine_moment plan commands (with_progress (λ p. record (told m p) { early = early }) s) m (fine_at plan commands s p.phase false m m.elapsed (min p.began m.elapsed) early p.tries p.turns s.rest fine (λ e. e) fine.finished)
 
 -- a cycle begins
 pub fine_begun : (plan : Plan) (commands : List Command) (s : Standing) (m : Moment) → Fine plan commands s → s.progress.phase ≡ Ready → s.progress.unsent ≡ 0 → s.client.waiting ≡ [] → 0 < s.progress.left
@@ -153,7 +153,7 @@ again_done why p true some other is e = both (nat_eq p.left 0) (nat_eq p.unsent 
 again_done why p false true other is e = cc
 again_done why p false false other is e = cc
 
-pub fine_again : (plan : Plan) (commands : List Command) (s : Standing) (why : Cause) → is_done why ≡ false → Fine plan commands s → s.client.waiting ≡ [] → Fine plan commands (with_progress (again why) s)
+pub fine_again : (plan : Plan) (commands : List Command) (s : Standing) (why : Cause) → is_done why ≡ false → Fine plan commands s → s.client.waiting ≡ [] → Fine plan commands (with_progress (again plan why) s)
 fine_again plan commands s why other fine nothing =
     let p = s.progress in
     record {
@@ -162,7 +162,7 @@ fine_again plan commands s why other fine nothing =
       begun = fine.begun;
       within = λ e. let n : length s.client.waiting ≡ 0 = ap length nothing in omega (arith, n);
       idle = λ e. (refl, nothing);
-      finished = again_done why p (is_finished p) (is_spared why p || nat_lt 0 p.tries) other refl;
+      finished = again_done why p (is_finished p) (is_spared plan why p || nat_lt 0 p.tries) other refl;
       each = each_nothing false (plan.cycles - p.left) (place_next commands p) s.client.waiting s.records _ nothing (each_settled p.probe (plan.cycles - p.left) (place_next commands p) s.client.waiting s.records _ nothing fine.each);
     }
 
@@ -189,28 +189,15 @@ over plan commands s why fine done =
     let p = s.progress in
     fine_at plan commands (lost_at plan commands s) (Over why) p.stale p.moment p.since p.began p.early p.tries p.turns [] (fine_lost plan commands s fine) (λ e. refl) done
 
--- apart from whether it was done early
-abbrev shut : Plan → List Command → Cause → Standing → Standing
-shut plan commands why s =
-    let x = restarts s.client in
-    with_progress (closed why) (with_rest [] (with_client x.client (with_settled plan commands x.settlements s)))
-
-fine_shut : (plan : Plan) (commands : List Command) (s : Standing) (why : Cause) → Fine plan commands s → (why ≡ cause.Done → (s.progress.left ≡ 0) × (s.progress.unsent ≡ 0)) → Fine plan commands (shut plan commands why s)
-fine_shut plan commands s cause.Done fine done = over plan commands s cause.Done fine (λ e. done refl)
-fine_shut plan commands s cause.Clock fine done = over plan commands s cause.Clock fine (λ e. cc)
-fine_shut plan commands s cause.Turns fine done = over plan commands s cause.Turns fine (λ e. cc)
-fine_shut plan commands s cause.Silence fine done = fine_again plan commands (lost_at plan commands s) cause.Silence refl (fine_lost plan commands s fine) refl
-fine_shut plan commands s cause.Read fine done = fine_again plan commands (lost_at plan commands s) cause.Read refl (fine_lost plan commands s fine) refl
-fine_shut plan commands s cause.End fine done = fine_again plan commands (lost_at plan commands s) cause.End refl (fine_lost plan commands s fine) refl
-fine_shut plan commands s (cause.Write n m) fine done = fine_again plan commands (lost_at plan commands s) (cause.Write n m) refl (fine_lost plan commands s fine) refl
-fine_shut plan commands s cause.Open fine done = fine_again plan commands (lost_at plan commands s) cause.Open refl (fine_lost plan commands s fine) refl
-
 pub fine_close : (plan : Plan) (commands : List Command) (s : Standing) (why : Cause) → Fine plan commands s → (why ≡ cause.Done → (s.progress.left ≡ 0) × (s.progress.unsent ≡ 0)) → Fine plan commands (after_close plan commands why s)
-fine_close plan commands s why fine done =
-    let x = shut plan commands why s in
-    let p = x.progress in
-    let so = fine_shut plan commands s why fine done in
-    fine_at plan commands x p.phase p.stale p.moment p.since p.began (reckoned_early plan 0 p).early p.tries p.turns x.rest so (λ e. e) so.finished
+fine_close plan commands s cause.Done fine done = over plan commands s cause.Done fine (λ e. done refl)
+fine_close plan commands s cause.Clock fine done = over plan commands s cause.Clock fine (λ e. cc)
+fine_close plan commands s cause.Turns fine done = over plan commands s cause.Turns fine (λ e. cc)
+fine_close plan commands s cause.Silence fine done = fine_again plan commands (lost_at plan commands s) cause.Silence refl (fine_lost plan commands s fine) refl
+fine_close plan commands s cause.Read fine done = fine_again plan commands (lost_at plan commands s) cause.Read refl (fine_lost plan commands s fine) refl
+fine_close plan commands s cause.End fine done = fine_again plan commands (lost_at plan commands s) cause.End refl (fine_lost plan commands s fine) refl
+fine_close plan commands s (cause.Write n m) fine done = fine_again plan commands (lost_at plan commands s) (cause.Write n m) refl (fine_lost plan commands s fine) refl
+fine_close plan commands s cause.Open fine done = fine_again plan commands (lost_at plan commands s) cause.Open refl (fine_lost plan commands s fine) refl
 
 pub never_idle : (phase : Phase) → phase ≡ Ready → is_idle phase ≡ true → ⊥
 never_idle phase is e = let other : is_idle phase ≡ false = ap is_idle is in cc
@@ -302,50 +289,51 @@ fine_gave plan commands s rested bytes m fine =
     let x : Standing = came (is_heard s.progress.phase) plan commands bytes mid in
     let p : Progress = gave plan rested (length s.client.waiting) (length x.client.waiting) x.progress in
     reckon plan commands x (reckoned_early plan (length x.client.waiting) p).early p.tries x.progress.probe (nat_eq (length x.client.waiting) 0) refl refl
-    (fine_came plan commands mid (is_heard s.progress.phase) bytes (fine_told plan commands s m fine) refl)
+    (fine_came plan commands mid (is_heard s.progress.phase) bytes (fine_told plan commands s m s.progress.early fine) refl)
 
-pub quiet_idle : (plan : Plan) (phase : Phase) (b : Bool) → is_idle (if b then quieted plan phase else phase) ≡ true → is_idle phase ≡ true
-quiet_idle plan Down b e = refl
-quiet_idle plan Resting b e = refl
-quiet_idle plan Clearing b e = refl
-quiet_idle plan Draining b e = refl
-quiet_idle plan Probing b e = refl
-quiet_idle plan Ready true e = e
-quiet_idle plan Ready false e = e
-quiet_idle plan (Closing why) true e = e
-quiet_idle plan (Closing why) false e = e
-quiet_idle plan (Over why) b e = refl
+pub quiet_idle : (plan : Plan) (resting : Bool) (phase : Phase) (b : Bool) → is_idle (if b then quieted plan resting phase else phase) ≡ true → is_idle phase ≡ true
+quiet_idle plan resting Down b e = refl
+quiet_idle plan resting Resting b e = refl
+quiet_idle plan resting Clearing b e = refl
+quiet_idle plan resting Draining b e = refl
+quiet_idle plan resting Probing b e = refl
+quiet_idle plan resting Ready true e = e
+quiet_idle plan resting Ready false e = e
+quiet_idle plan resting (Closing why) true e = e
+quiet_idle plan resting (Closing why) false e = e
+quiet_idle plan resting (Over why) b e = refl
 
 pub drained_done : (settle : Bool) → says_done (if settle then Probing else Ready) ≡ false
 drained_done true = refl
 drained_done false = refl
 
-pub quiet_done : (plan : Plan) (phase : Phase) (b : Bool) → says_done (if b then quieted plan phase else phase) ≡ true → says_done phase ≡ true
-quiet_done plan Draining true e = let other : says_done (if plan.settle then Probing else Ready) ≡ false = drained_done plan.settle in cc
-quiet_done plan Draining false e = e
-quiet_done plan Down true e = e
-quiet_done plan Down false e = e
-quiet_done plan Resting true e = e
-quiet_done plan Resting false e = e
-quiet_done plan Clearing true e = e
-quiet_done plan Clearing false e = e
-quiet_done plan Probing true e = e
-quiet_done plan Probing false e = e
-quiet_done plan Ready true e = e
-quiet_done plan Ready false e = e
-quiet_done plan (Closing why) true e = e
-quiet_done plan (Closing why) false e = e
-quiet_done plan (Over why) true e = e
-quiet_done plan (Over why) false e = e
+pub quiet_done : (plan : Plan) (resting : Bool) (phase : Phase) (b : Bool) → says_done (if b then quieted plan resting phase else phase) ≡ true → says_done phase ≡ true
+quiet_done plan resting Draining true e = let other : says_done (if plan.settle then Probing else Ready) ≡ false = drained_done plan.settle in cc
+quiet_done plan resting Draining false e = e
+quiet_done plan resting Down true e = e
+quiet_done plan resting Down false e = e
+quiet_done plan true Resting true e = e
+quiet_done plan false Resting true e = e
+quiet_done plan resting Resting false e = e
+quiet_done plan resting Clearing true e = e
+quiet_done plan resting Clearing false e = e
+quiet_done plan resting Probing true e = e
+quiet_done plan resting Probing false e = e
+quiet_done plan resting Ready true e = e
+quiet_done plan resting Ready false e = e
+quiet_done plan resting (Closing why) true e = e
+quiet_done plan resting (Closing why) false e = e
+quiet_done plan resting (Over why) true e = e
+quiet_done plan resting (Over why) false e = e
 
 pub fine_silent : (plan : Plan) (commands : List Command) (s : Standing) (rested gave_up : Bool) (m : Moment) → Fine plan commands s → Fine plan commands (with_moment m (with_progress (λ p. waiting_on gave_up m (silent plan rested m p)) s))
 fine_silent plan commands s rested gave_up m fine =
     let p = s.progress in
-    let q : Progress = record p { moment = m; since = min p.since m.elapsed; stale = false } in
-    let phase : Phase = if is_quiet plan q then quieted plan p.phase else p.phase in
+    let q = waited rested m p in
+    let phase : Phase = if is_quiet plan q then quieted plan (is_resting plan q) p.phase else p.phase in
     fine_moment plan commands (with_progress (λ p. waiting_on gave_up m (silent plan rested m p)) s) m
     (fine_at plan commands s phase false m (if gave_up then m.elapsed else min p.since m.elapsed) (min p.began m.elapsed) (if rested then true else p.early) p.tries p.turns s.rest fine
-    (quiet_idle plan p.phase (is_quiet plan q)) (λ e. fine.finished (quiet_done plan p.phase (is_quiet plan q) e)))
+    (quiet_idle plan (is_resting plan q) p.phase (is_quiet plan q)) (λ e. fine.finished (quiet_done plan (is_resting plan q) p.phase (is_quiet plan q) e)))
 
 pub fine_read : (plan : Plan) (commands : List Command) (rested : Bool) (s : Standing) (act : Act) → Fine plan commands s → Fine plan commands (after_read plan commands rested s act)
 fine_read plan commands rested s (Told m) fine = fine_fail plan commands s cause.Clock refl fine
@@ -391,7 +379,7 @@ fine_opened plan commands s fine is =
     let p = s.progress in
     fine_at plan commands s Clearing p.stale p.moment p.since p.began p.early p.tries p.turns s.rest fine (λ e. ap is_idle is) (λ e. cc)
 
-pub fine_open : (plan : Plan) (commands : List Command) (s : Standing) (act : Act) → Fine plan commands s → s.progress.phase ≡ Down → Fine plan commands (after_open s act)
+pub fine_open : (plan : Plan) (commands : List Command) (s : Standing) (act : Act) → Fine plan commands s → s.progress.phase ≡ Down → Fine plan commands (after_open plan s act)
 fine_open plan commands s (Told m) fine is = fine_again plan commands s cause.Open refl fine (fine.idle (ap is_idle is)).1
 fine_open plan commands s Untold fine is = fine_again plan commands s cause.Open refl fine (fine.idle (ap is_idle is)).1
 fine_open plan commands s (Put bytes) fine is = fine_again plan commands s cause.Open refl fine (fine.idle (ap is_idle is)).1

@@ -42,6 +42,17 @@ went_nothing plan commands turns text told taken station stands = record {
   took = Appends-nil taken;
 }
 
+-- a book that took nothing more
+pub went_same : (plan : Plan) (commands : List Command) (turns : ℕ) (text : Record → List ℕ) (told told' : Option (List Act)) (taken taken' taken'' : Option (List ℕ)) (station : Station) → taken'' ≡ taken'
+    → Went plan commands turns text told told' taken taken' station → Went plan commands turns text told told' taken taken'' station
+went_same plan commands turns text told told' taken taken' taken'' station same w = record {
+  acts = w.acts;
+  tells = w.tells;
+  runs = w.runs;
+  stands = w.stands;
+  took = subst (λ (t : Option (List ℕ)). Appends taken t (texts_of text (stood plan commands turns w.acts).records)) (sym same) w.took;
+}
+
 pub after_all-append : (plan : Plan) (commands : List Command) (s : Standing) (xs ys : List Act) → after_all plan commands s (xs ++ ys) ≡ after_all plan commands (after_all plan commands s xs) ys
 after_all-append plan commands s [] ys = refl
 after_all-append plan commands s (x ∷ xs) ys = after_all-append plan commands (after plan commands s x) xs ys

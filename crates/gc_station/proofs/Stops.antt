@@ -13,7 +13,7 @@ use Rattle.gc_station.specs.declared.progress.Order.TheVariants as order
 use Rattle.gc_station.specs.declared.progress.Progress.{Progress}
 use Rattle.gc_station.specs.Acts.{Act, Told, Untold, Put, Cut, Gave, Silent, Ended, Broke, Closed, Opened, Unopened}
 use Rattle.gc_station.specs.Deciding.{is_up, is_quiet, order_in}
-use Rattle.gc_station.specs.Progressing.{turned, told, begun, failing, quieted, is_finished, closed, cleared, probed, sent, is_spared}
+use Rattle.gc_station.specs.Progressing.{turned, told, begun, failing, quieted, waited, reckoned_early, is_finished, is_resting, closed, cleared, probed, sent, is_spared}
 use Rattle.gc_station.specs.Closing.{Shows, Ends, StopsForACause}
 use Rattle.gc_station.specs.Reasons.{IsFor}
 use Rattle.gc_station.specs.Runs.{stood}
@@ -67,33 +67,34 @@ again_over true some why c e = inr cc
 again_over false true why c e = cc
 again_over false false why c e = inl cc
 
-open_over : (s : Standing) (act : Act) (c : Cause) → IsOpening act → (after_open s act).progress.phase ≡ Over c → (act ≡ Unopened) × ((c ≡ cause.Open) ⊎ (c ≡ cause.Done))
-open_over s (Told m) c o e = absurd o
-open_over s Untold c o e = absurd o
-open_over s (Put out) c o e = absurd o
-open_over s (Cut out n) c o e = absurd o
-open_over s (Gave bytes m) c o e = absurd o
-open_over s (Silent m) c o e = absurd o
-open_over s Ended c o e = absurd o
-open_over s Broke c o e = absurd o
-open_over s Closed c o e = absurd o
-open_over s Opened c o e = cc
-open_over s Unopened c o e = (refl, again_over (is_finished s.progress) (is_spared cause.Open s.progress || nat_lt 0 s.progress.tries) cause.Open c e)
+open_over : (plan : Plan) (s : Standing) (act : Act) (c : Cause) → IsOpening act → (after_open plan s act).progress.phase ≡ Over c → (act ≡ Unopened) × ((c ≡ cause.Open) ⊎ (c ≡ cause.Done))
+open_over plan s (Told m) c o e = absurd o
+open_over plan s Untold c o e = absurd o
+open_over plan s (Put out) c o e = absurd o
+open_over plan s (Cut out n) c o e = absurd o
+open_over plan s (Gave bytes m) c o e = absurd o
+open_over plan s (Silent m) c o e = absurd o
+open_over plan s Ended c o e = absurd o
+open_over plan s Broke c o e = absurd o
+open_over plan s Closed c o e = absurd o
+open_over plan s Opened c o e = cc
+open_over plan s Unopened c o e = (refl, again_over (is_finished s.progress) (is_spared plan cause.Open s.progress || nat_lt 0 s.progress.tries) cause.Open c e)
 
 drained_over : (b : Bool) (c : Cause) → (if b then Probing else Ready) ≡ Over c → ⊥
 drained_over true c e = cc
 drained_over false c e = cc
 
-quiet_over : (plan : Plan) (phase : Phase) (b : Bool) (c : Cause) → (if b then quieted plan phase else phase) ≡ Over c → phase ≡ Over c
-quiet_over plan phase false c e = e
-quiet_over plan Down true c e = e
-quiet_over plan Resting true c e = cc
-quiet_over plan Clearing true c e = e
-quiet_over plan Draining true c e = absurd (drained_over plan.settle c e)
-quiet_over plan Probing true c e = e
-quiet_over plan Ready true c e = e
-quiet_over plan (Closing why) true c e = e
-quiet_over plan (Over why) true c e = e
+quiet_over : (plan : Plan) (resting : Bool) (phase : Phase) (b : Bool) (c : Cause) → (if b then quieted plan resting phase else phase) ≡ Over c → phase ≡ Over c
+quiet_over plan resting phase false c e = e
+quiet_over plan resting Down true c e = e
+quiet_over plan true Resting true c e = e
+quiet_over plan false Resting true c e = cc
+quiet_over plan resting Clearing true c e = e
+quiet_over plan resting Draining true c e = absurd (drained_over plan.settle c e)
+quiet_over plan resting Probing true c e = e
+quiet_over plan resting Ready true c e = e
+quiet_over plan resting (Closing why) true c e = e
+quiet_over plan resting (Over why) true c e = e
 
 read_over : (plan : Plan) (commands : List Command) (rested : Bool) (s : Standing) (act : Act) (c : Cause) → IsReading act → (after_read plan commands rested s act).progress.phase ≡ Over c → Shows c act ⊎ (s.progress.phase ≡ Over c)
 read_over plan commands rested s (Told m) c o e = absurd o
@@ -101,22 +102,22 @@ read_over plan commands rested s Untold c o e = failed s cause.Clock c Untold re
 read_over plan commands rested s (Put out) c o e = absurd o
 read_over plan commands rested s (Cut out n) c o e = absurd o
 read_over plan commands rested s (Gave bytes m) c o e = inr (sym (ap (λ p. p.phase) (came_progress (is_heard s.progress.phase) plan commands bytes (with_moment m (with_progress (told m) s)))) ∙ e)
-read_over plan commands rested s (Silent m) c o e = inr (quiet_over plan s.progress.phase (is_quiet plan (record s.progress { moment = m; since = min s.progress.since m.elapsed; stale = false })) c e)
+read_over plan commands rested s (Silent m) c o e = inr (quiet_over plan (is_resting plan (waited rested m s.progress)) s.progress.phase (is_quiet plan (waited rested m s.progress)) c e)
 read_over plan commands rested s Ended c o e = failed s cause.End c Ended refl e
 read_over plan commands rested s Broke c o e = failed s cause.Read c Broke refl e
 read_over plan commands rested s Closed c o e = absurd o
 read_over plan commands rested s Opened c o e = absurd o
 read_over plan commands rested s Unopened c o e = absurd o
 
-close_over : (why c : Cause) (p : Progress) → (closed why p).phase ≡ Over c → (c ≡ why) ⊎ (c ≡ cause.Done)
-close_over cause.Done c p e = inl cc
-close_over cause.Clock c p e = inl cc
-close_over cause.Turns c p e = inl cc
-close_over cause.Silence c p e = again_over (is_finished p) (is_spared cause.Silence p || nat_lt 0 p.tries) cause.Silence c e
-close_over cause.Read c p e = again_over (is_finished p) (is_spared cause.Read p || nat_lt 0 p.tries) cause.Read c e
-close_over cause.End c p e = again_over (is_finished p) (is_spared cause.End p || nat_lt 0 p.tries) cause.End c e
-close_over (cause.Write n m) c p e = again_over (is_finished p) (is_spared (cause.Write n m) p || nat_lt 0 p.tries) (cause.Write n m) c e
-close_over cause.Open c p e = again_over (is_finished p) (is_spared cause.Open p || nat_lt 0 p.tries) cause.Open c e
+close_over : (plan : Plan) (why c : Cause) (p : Progress) → (closed plan why p).phase ≡ Over c → (c ≡ why) ⊎ (c ≡ cause.Done)
+close_over plan cause.Done c p e = inl cc
+close_over plan cause.Clock c p e = inl cc
+close_over plan cause.Turns c p e = inl cc
+close_over plan cause.Silence c p e = again_over (is_finished p) (is_spared plan cause.Silence p || nat_lt 0 p.tries) cause.Silence c e
+close_over plan cause.Read c p e = again_over (is_finished p) (is_spared plan cause.Read p || nat_lt 0 p.tries) cause.Read c e
+close_over plan cause.End c p e = again_over (is_finished p) (is_spared plan cause.End p || nat_lt 0 p.tries) cause.End c e
+close_over plan (cause.Write n m) c p e = again_over (is_finished p) (is_spared plan (cause.Write n m) p || nat_lt 0 p.tries) (cause.Write n m) c e
+close_over plan cause.Open c p e = again_over (is_finished p) (is_spared plan cause.Open p || nat_lt 0 p.tries) cause.Open c e
 
 first_over : (plan : Plan) (left : List Command) (s : Standing) → (asks_first plan left s).progress.phase ≡ s.progress.phase
 first_over plan [] s = refl
@@ -135,9 +136,9 @@ closes_over why c act is (inl same) = inl (is, inl (ap order.Close (sym same)))
 closes_over why c act is (inr done) = inl (is, inr done)
 
 moved_over : (plan : Plan) (commands : List Command) (next : Order) (s : Standing) (act : Act) (c : Cause) → Obeys commands s next act → (moved plan commands next s act).progress.phase ≡ Over c → EndsBy next c act ⊎ (s.progress.phase ≡ Over c)
-moved_over plan commands order.Tell s act c o e = shown order.Tell c act _ (tell_over told s act c o (λ m. refl) e)
+moved_over plan commands order.Tell s act c o e = shown order.Tell c act _ (tell_over (λ (m : Moment) (p : Progress). reckoned_early plan (length s.client.waiting) (told m p)) s act c o (λ m. refl) e)
 moved_over plan commands order.Begin s act c o e = shown order.Begin c act _ (tell_over (begun plan (length commands)) s act c o (λ m. refl) e)
-moved_over plan commands order.Open s act c o e = inl (inr (inl (open_over s act c o e)))
+moved_over plan commands order.Open s act c o e = inl (inr (inl (open_over plan s act c o e)))
 moved_over plan commands order.Clear s act c o e = shown order.Clear c act _ (put_over _ (10 ∷ []) (with_progress cleared) s act c o (λ g. cc) e)
 moved_over plan commands order.Probe s act c o e = shown order.Probe c act _ (put_over _ _ (λ (x : Standing). with_progress probed (asks plan 0 NullProc x)) s act c o (λ g. cc) e)
 moved_over plan commands order.Send s act c o e =
@@ -145,7 +146,7 @@ moved_over plan commands order.Send s act c o e =
     (λ g. sym (first_over plan (drop (place_next commands s.progress) commands) s) ∙ g) e)
 moved_over plan commands order.Read s act c o e = shown order.Read c act _ (read_over plan commands false s act c o e)
 moved_over plan commands order.Rest s act c o e = shown order.Rest c act _ (read_over plan commands true s act c o e)
-moved_over plan commands (order.Close why) s act c o e = inl (closes_over why c act o (close_over why c s.progress e))
+moved_over plan commands (order.Close why) s act c o e = inl (closes_over why c act o (close_over plan why c s.progress e))
 moved_over plan commands (order.Stop why) s act c o e = absurd o
 
 over_stops : (plan : Plan) (s : Standing) (c : Cause) → s.progress.phase ≡ Over c → order_at plan s ≡ order.Stop c

@@ -32,15 +32,15 @@ again_down false true why = refl
 again_down false false why = refl
 
 -- a connection that is closed is not up
-pub closed_down : (cause : Cause) (p : Progress) → is_up (closed cause p).phase ≡ false
-closed_down cause.Done p = refl
-closed_down cause.Clock p = refl
-closed_down cause.Turns p = refl
-closed_down cause.Silence p = again_down (is_finished p) (is_spared cause.Silence p || nat_lt 0 p.tries) cause.Silence
-closed_down cause.Read p = again_down (is_finished p) (is_spared cause.Read p || nat_lt 0 p.tries) cause.Read
-closed_down cause.End p = again_down (is_finished p) (is_spared cause.End p || nat_lt 0 p.tries) cause.End
-closed_down (cause.Write n m) p = again_down (is_finished p) (is_spared (cause.Write n m) p || nat_lt 0 p.tries) (cause.Write n m)
-closed_down cause.Open p = again_down (is_finished p) (is_spared cause.Open p || nat_lt 0 p.tries) cause.Open
+pub closed_down : (plan : Plan) (cause : Cause) (p : Progress) → is_up (closed plan cause p).phase ≡ false
+closed_down plan cause.Done p = refl
+closed_down plan cause.Clock p = refl
+closed_down plan cause.Turns p = refl
+closed_down plan cause.Silence p = again_down (is_finished p) (is_spared plan cause.Silence p || nat_lt 0 p.tries) cause.Silence
+closed_down plan cause.Read p = again_down (is_finished p) (is_spared plan cause.Read p || nat_lt 0 p.tries) cause.Read
+closed_down plan cause.End p = again_down (is_finished p) (is_spared plan cause.End p || nat_lt 0 p.tries) cause.End
+closed_down plan (cause.Write n m) p = again_down (is_finished p) (is_spared plan (cause.Write n m) p || nat_lt 0 p.tries) (cause.Write n m)
+closed_down plan cause.Open p = again_down (is_finished p) (is_spared plan cause.Open p || nat_lt 0 p.tries) cause.Open
 
 -- once all turns are used up, an act closes the connection
 up_closes : (plan : Plan) (commands : List Command) (s t : Standing) (up : Bool) (act : Act) → Obeys commands t (order_up up) act
@@ -62,7 +62,7 @@ phase_closes plan commands s t p phase.Clearing n b act none is obeys = let c = 
 phase_closes plan commands s t p phase.Draining n b act none is obeys = let c = on_closes plan commands s t p n b (nat_eq p.turns 0) act _ none obeys in (ap is_up (sym is) ∙ c.0, c.1)
 phase_closes plan commands s t p phase.Probing n b act none is obeys = let c = on_closes plan commands s t p n b (nat_eq p.turns 0) act _ none obeys in (ap is_up (sym is) ∙ c.0, c.1)
 phase_closes plan commands s t p phase.Ready n b act none is obeys = let c = on_closes plan commands s t p n b (nat_eq p.turns 0) act _ none obeys in (ap is_up (sym is) ∙ c.0, c.1)
-phase_closes plan commands s t p (phase.Closing cause) n b act none is obeys = (refl, closed_down cause s.progress)
+phase_closes plan commands s t p (phase.Closing cause) n b act none is obeys = (refl, closed_down plan cause s.progress)
 phase_closes plan commands s t p (phase.Over cause) n b act none is obeys = absurd obeys
 
 less : (t t' : ℕ) (u u' : Bool) → t' ≡ t - 1 → (nat_eq t 0 ≡ true → (u ≡ true) × (u' ≡ false)) → 2 * t' + up_count u' < 2 * t + up_count u

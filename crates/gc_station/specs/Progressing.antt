@@ -55,18 +55,22 @@ opened p = record p { phase = Clearing }
 abbrev pub is_finished : Progress → Bool
 is_finished p = nat_eq p.left 0 && nat_eq p.unsent 0
 
--- a close is spared where the cycle was done before the next was due, and that hasn't begun; that none could be made isn't
-abbrev pub is_spared : Cause → Progress → Bool
-is_spared cause.Open p = false
-is_spared _ p = p.early
+-- the cycle was done before the next was due, and that isn't due yet: no connection is wanted
+abbrev pub is_resting : Plan → Progress → Bool
+is_resting plan p = p.early && not (is_due plan p)
+
+-- a close is spared where no connection is wanted; that none could be made isn't
+abbrev pub is_spared : Plan → Cause → Progress → Bool
+is_spared plan cause.Open p = false
+is_spared plan _ p = is_resting plan p
 
 -- where a station is that has no connection: it is done, tries again, or doesn't
-abbrev pub phase_again : Cause → Progress → Phase
-phase_again why p = if is_finished p then Over cause.Done else if is_spared why p || nat_lt 0 p.tries then Resting else Over why
+abbrev pub phase_again : Plan → Cause → Progress → Phase
+phase_again plan why p = if is_finished p then Over cause.Done else if is_spared plan why p || nat_lt 0 p.tries then Resting else Over why
 
 -- none was made, or one was closed: that takes a try, unless it is spared
-abbrev pub again : Cause → Progress → Progress
-again why p = record p { phase = phase_again why p; probe = false; stale = true; tries = if is_spared why p then p.tries else p.tries - 1 }
+abbrev pub again : Plan → Cause → Progress → Progress
+again plan why p = record p { phase = phase_again plan why p; probe = false; stale = true; tries = if is_spared plan why p then p.tries else p.tries - 1 }
 
 -- the line feed went out
 abbrev pub cleared : Progress → Progress
@@ -85,17 +89,21 @@ abbrev pub gave : Plan → Bool → ℕ → ℕ → Progress → Progress
 gave plan rested before after p =
     record p { probe = p.probe && not (nat_eq after 0); early = if rested then true else p.early; tries = if nat_lt after before && not p.probe then plan.retries else p.tries }
 
--- where a station is once the line is quiet
-abbrev pub quieted : Plan → Phase → Phase
-quieted plan Resting = Down
-quieted plan Draining = if plan.settle then Probing else Ready
-quieted plan phase = phase
+-- where a station is once the line is quiet: it connects anew where a connection is wanted
+abbrev pub quieted : Plan → Bool → Phase → Phase
+quieted plan resting Resting = if resting then Resting else Down
+quieted plan resting Draining = if plan.settle then Probing else Ready
+quieted plan resting phase = phase
 
--- nothing came. Where the clock went back, the time of quiet, and the cycle, began now at the latest
+-- the moment was told behind a read that gave nothing. Where the clock went back, the time of quiet, and the cycle, began now at the latest
+abbrev pub waited : Bool → Moment → Progress → Progress
+waited rested m p = record p { moment = m; since = min p.since m.elapsed; began = min p.began m.elapsed; stale = false; early = if rested then true else p.early }
+
+-- nothing came
 abbrev pub silent : Plan → Bool → Moment → Progress → Progress
 silent plan rested m p =
-    let q : Progress = record p { moment = m; since = min p.since m.elapsed; began = min p.began m.elapsed; stale = false; early = if rested then true else p.early } in
-    record q { phase = if is_quiet plan q then quieted plan q.phase else q.phase }
+    let q = waited rested m p in
+    record q { phase = if is_quiet plan q then quieted plan (is_resting plan q) q.phase else q.phase }
 
 -- a moment gave requests up, or didn't: for the replies that are a little late the time of quiet begins anew
 abbrev pub waiting_on : Bool → Moment → Progress → Progress
@@ -106,8 +114,8 @@ abbrev pub reckoned_early : Plan → ℕ → Progress → Progress
 reckoned_early plan waiting p = record p { early = p.early || (nat_eq waiting 0 && nat_eq p.unsent 0 && not (is_due plan p)) }
 
 -- the connection was closed: after these causes for good, and else to be made anew
-abbrev pub closed : Cause → Progress → Progress
-closed cause.Done p = record p { phase = Over cause.Done; probe = false }
-closed cause.Clock p = record p { phase = Over cause.Clock; probe = false }
-closed cause.Turns p = record p { phase = Over cause.Turns; probe = false }
-closed cause p = again cause p
+abbrev pub closed : Plan → Cause → Progress → Progress
+closed plan cause.Done p = record p { phase = Over cause.Done; probe = false }
+closed plan cause.Clock p = record p { phase = Over cause.Clock; probe = false }
+closed plan cause.Turns p = record p { phase = Over cause.Turns; probe = false }
+closed plan cause p = again plan cause p

@@ -202,21 +202,21 @@ after_put requests f s (Cut bytes count) = with_progress (failing (cause.Write r
 after_put requests f s _ = f s
 
 -- a connection was asked for
-abbrev pub after_open : Standing → Act → Standing
-after_open s Opened = with_progress opened s
-after_open s _ = with_progress (again cause.Open) s
+abbrev pub after_open : Plan → Standing → Act → Standing
+after_open plan s Opened = with_progress opened s
+after_open plan s _ = with_progress (again plan cause.Open) s
 
 -- the connection was closed: what waits is lost, and ids and lines begin anew
 abbrev pub after_close : Plan → List Command → Cause → Standing → Standing
 after_close plan commands cause s =
     let x = restarts s.client in
-    with_progress (λ p. reckoned_early plan 0 (closed cause p)) (with_rest [] (with_client x.client (with_settled plan commands x.settlements s)))
+    with_progress (closed plan cause) (with_rest [] (with_client x.client (with_settled plan commands x.settlements s)))
 
 -- what an act of this order does, apart from the turn
 abbrev pub moved : Plan → List Command → Order → Standing → Act → Standing
-moved plan commands Tell s act = after_tell told s act
+moved plan commands Tell s act = after_tell (λ m p. reckoned_early plan (length s.client.waiting) (told m p)) s act
 moved plan commands Begin s act = after_tell (begun plan (length commands)) s act
-moved plan commands Open s act = after_open s act
+moved plan commands Open s act = after_open plan s act
 moved plan commands Clear s act = after_put (requests_out plan commands s.progress) (with_progress cleared) s act
 moved plan commands Probe s act = after_put (requests_out plan commands s.progress) (λ (s : Standing). with_progress probed (asks plan 0 NullProc s)) s act
 moved plan commands Send s act = after_put (requests_out plan commands s.progress) (λ (s : Standing). with_progress sent (asks_first plan (drop (place_next commands s.progress) commands) s)) s act

@@ -1,7 +1,7 @@
 //! What each act does to how far a station is.
 
 ghost use Rattle.std.specs.Prelude.{◌≡◌};
-ghost use Rattle.gc_station.specs.Progressing.{later, turned, told, begun, failing, opened, again, is_finished, is_spared, phase_again, quieted, cleared, probed, sent, gave, silent, waiting_on, reckoned_early, closed};
+ghost use Rattle.gc_station.specs.Progressing.{later, turned, told, begun, failing, opened, again, is_finished, is_spared, phase_again, is_resting, quieted, cleared, probed, sent, gave, waited, silent, waiting_on, reckoned_early, closed};
 
 use crate::cause::Cause;
 use crate::link::Moment;
@@ -16,12 +16,12 @@ pub(crate) fn later(moment: u64, wait: u64) -> u64
 }
 
 impl Phase {
-    // Where a station is once the line is quiet.
-    fn quieted(self, plan: &Plan) -> Phase
-        ensures { result ≡ quieted plan.now self }
+    // Where a station is once the line is quiet: it connects anew where a connection is wanted.
+    fn quieted(self, plan: &Plan, resting: bool) -> Phase
+        ensures { result ≡ quieted plan.now resting self }
     {
         match self {
-            Phase::Resting => Phase::Down,
+            Phase::Resting => { if resting { Phase::Resting } else { Phase::Down } }
             Phase::Draining => {
                 if plan.settle {
                     Phase::Probing
@@ -84,34 +84,41 @@ impl Progress {
         self.left == 0 && self.unsent == 0
     }
 
-    // Whether it takes no try: a connection was closed while the next cycle wasn't due.
-    fn is_spared(&self, cause: Cause) -> bool
-        ensures { result ≡ is_spared cause self.now }
+    // Whether no connection is wanted: the cycle was done before the next was due, and that isn't due yet.
+    pub(crate) fn is_resting(&self, plan: &Plan) -> bool
+        ensures { result ≡ is_resting plan.now self.now }
+    {
+        self.early && !self.is_due(plan)
+    }
+
+    // Whether it takes no try: a connection was closed while none is wanted.
+    fn is_spared(&self, plan: &Plan, cause: Cause) -> bool
+        ensures { result ≡ is_spared plan.now cause self.now }
     {
         match cause {
             Cause::Open => false,
-            _ => self.early,
+            _ => self.is_resting(plan),
         }
     }
 
     // Where a station is that has no connection.
-    fn phase_again(&self, cause: Cause) -> Phase
-        ensures { result ≡ phase_again cause self.now }
+    fn phase_again(&self, plan: &Plan, cause: Cause) -> Phase
+        ensures { result ≡ phase_again plan.now cause self.now }
     {
         if self.is_finished() {
             Phase::Over(Cause::Done)
-        } else if self.is_spared(cause) || self.tries > 0 {
+        } else if self.is_spared(plan, cause) || self.tries > 0 {
             Phase::Resting
         } else {
             Phase::Over(cause)
         }
     }
 
-    pub(crate) fn try_again(&mut self, cause: Cause)
-        ensures { self.new ≡ again cause self.old }
+    pub(crate) fn try_again(&mut self, plan: &Plan, cause: Cause)
+        ensures { self.new ≡ again plan.now cause self.old }
     {
-        let spared = self.is_spared(cause);
-        self.phase = self.phase_again(cause);
+        let spared = self.is_spared(plan, cause);
+        self.phase = self.phase_again(plan, cause);
         self.probe = false;
         self.stale = true;
         if !spared {
@@ -153,8 +160,8 @@ impl Progress {
         }
     }
 
-    pub(crate) fn be_silent(&mut self, plan: &Plan, rested: bool, moment: Moment)
-        ensures { self.new ≡ silent plan.now rested moment self.old }
+    fn wait(&mut self, rested: bool, moment: Moment)
+        ensures { self.new ≡ waited rested moment self.old }
     {
         self.moment = moment;
         self.since = self.since.min(moment.elapsed);
@@ -163,8 +170,14 @@ impl Progress {
         if rested {
             self.early = true;
         }
+    }
+
+    pub(crate) fn be_silent(&mut self, plan: &Plan, rested: bool, moment: Moment)
+        ensures { self.new ≡ silent plan.now rested moment self.old }
+    {
+        self.wait(rested, moment);
         if self.is_quiet(plan) {
-            self.phase = self.phase.quieted(plan);
+            self.phase = self.phase.quieted(plan, self.is_resting(plan));
         }
     }
 
@@ -182,15 +195,15 @@ impl Progress {
         self.early = self.early || (waiting == 0 && self.unsent == 0 && !self.is_due(plan));
     }
 
-    pub(crate) fn close(&mut self, cause: Cause)
-        ensures { self.new ≡ closed cause self.old }
+    pub(crate) fn close(&mut self, plan: &Plan, cause: Cause)
+        ensures { self.new ≡ closed plan.now cause self.old }
     {
         match cause {
             Cause::Done | Cause::Clock | Cause::Turns => {
                 self.phase = Phase::Over(cause);
                 self.probe = false;
             }
-            _ => self.try_again(cause),
+            _ => self.try_again(plan, cause),
         }
     }
 }

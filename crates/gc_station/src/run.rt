@@ -28,11 +28,14 @@ pub(crate) fn run<L: Link, B: Book>(
     ensures fails { FailsWith result (B.failed book.old) (B.failed book.new) }
 {
     let mut station = Station::new(plan, max_turns);
+    // The last cycle of which it was told that it wasn't done when the next was due.
+    let mut told = 0;
     loop {
         let order = station.order(plan);
         if let Order::Stop(cause) = order {
             return Ok((cause, station.tally));
         }
+        told = station.tell_overrun(book, plan, order, told);
         station.progress.turn();
         if let Err(failed) = station.obey(link, book, plan, commands, order) {
             return Err(failed);

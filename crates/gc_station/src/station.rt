@@ -123,10 +123,13 @@ impl Station {
     // How many milliseconds to wait for bytes. Nothing rests on it.
     fn patience(&self, plan: &Plan, rested: bool) -> u64 {
         let quiet = later(self.progress.since, plan.quiet);
+        let due = later(self.progress.began, plan.every);
         let until = match self.client.next_deadline() {
             Some(deadline) => deadline,
             None => if rested {
-                later(self.progress.began, plan.every)
+                due
+            } else if !self.progress.phase.is_up() && self.progress.is_resting(plan) {
+                quiet.max(due)
             } else {
                 quiet
             },
@@ -138,38 +141,53 @@ impl Station {
     }
 
     // Reads the clock.
-    fn tell<L: Link>(&mut self, link: &mut L)
-        ensures { (plan : Plan) (commands : List Command) (text : Record → List ℕ) (known : Option (List ℕ))
-            → Does plan commands Tell text (L.acts link.old) (L.acts link.new) known known self.old self.new }
+    fn tell<L: Link>(&mut self, link: &mut L, plan: &Plan)
+        ensures { (commands : List Command) (text : Record → List ℕ) (known : Option (List ℕ))
+            → Does plan.now commands Tell text (L.acts link.old) (L.acts link.new) known known self.old self.new }
     {
         match link.now() {
             Ok(moment) => {
                 self.progress.tell(moment);
+                self.progress.reckon_early(plan, self.client.waiting());
                 self.client.expire(moment.elapsed);
             }
             Err(_) => self.progress.fail(Cause::Clock),
         }
     }
 
-    // Reads the clock, and begins a cycle.
-    fn begin<L: Link, B: Book>(
-        &mut self,
-        link: &mut L,
+    // Tells a book that the cycle wasn't done when the next was due, once: behind the moment at which that is, or where it was done
+    // at a moment behind that. The cycle that was told last.
+    pub(crate) fn tell_overrun<B: Book>(
+        &self,
         book: &mut B,
         plan: &Plan,
-        commands: &[Command],
-    )
-        ensures does { (text : Record → List ℕ) (known : Option (List ℕ))
-            → Does plan.now commands.now Begin text (L.acts link.old) (L.acts link.new) known known self.old self.new }
+        order: Order,
+        told: u32,
+    ) -> u32
         ensures taken { B.taken book.new ≡ B.taken book.old }
         ensures failed { B.failed book.new ≡ B.failed book.old }
     {
+        let progress = &self.progress;
+        let cycle = plan.cycles.saturating_sub(progress.left);
+        let waits = self.client.waiting() > 0 && !progress.probe;
+        let late = match order {
+            Order::Begin => !progress.early,
+            _ => (progress.unsent > 0 || waits) && progress.is_due(plan),
+        };
+        if late && cycle > told && progress.left > 0 && plan.every > 0 {
+            book.overran(cycle);
+            return cycle;
+        }
+        told
+    }
+
+    // Reads the clock, and begins a cycle.
+    fn begin<L: Link>(&mut self, link: &mut L, plan: &Plan, commands: &[Command])
+        ensures { (text : Record → List ℕ) (known : Option (List ℕ))
+            → Does plan.now commands.now Begin text (L.acts link.old) (L.acts link.new) known known self.old self.new }
+    {
         match link.now() {
             Ok(moment) => {
-                let cycle = plan.cycles.saturating_sub(self.progress.left);
-                if cycle > 0 && plan.every > 0 && !self.progress.early {
-                    book.overran(cycle);
-                }
                 self.progress.begin(plan, commands.len(), moment);
                 self.client.expire(moment.elapsed);
             }
@@ -178,13 +196,13 @@ impl Station {
     }
 
     // Makes a connection.
-    fn open<L: Link>(&mut self, link: &mut L)
-        ensures { (plan : Plan) (commands : List Command) (text : Record → List ℕ) (known : Option (List ℕ))
-            → Does plan commands Open text (L.acts link.old) (L.acts link.new) known known self.old self.new }
+    fn open<L: Link>(&mut self, link: &mut L, plan: &Plan)
+        ensures { (commands : List Command) (text : Record → List ℕ) (known : Option (List ℕ))
+            → Does plan.now commands Open text (L.acts link.old) (L.acts link.new) known known self.old self.new }
     {
         match link.open() {
             Ok(()) => self.progress.open(),
-            Err(_) => self.progress.try_again(Cause::Open),
+            Err(_) => self.progress.try_again(plan, Cause::Open),
         }
     }
 
@@ -436,8 +454,7 @@ impl Station {
             return Err(failed);
         }
         self.assembler = Assembler::new();
-        self.progress.close(cause);
-        self.progress.reckon_early(plan, 0);
+        self.progress.close(plan, cause);
         Ok(())
     }
 
@@ -458,15 +475,15 @@ impl Station {
     {
         match order {
             Order::Tell => {
-                self.tell(link);
+                self.tell(link, plan);
                 Ok(())
             }
             Order::Begin => {
-                self.begin(link, book, plan, commands);
+                self.begin(link, plan, commands);
                 Ok(())
             }
             Order::Open => {
-                self.open(link);
+                self.open(link, plan);
                 Ok(())
             }
             Order::Clear => {

@@ -1,7 +1,7 @@
 use Rattle.std.proofs.Common.{ap, ◌∙◌, refl}
 use Rattle.gc_client.specs.Rule.{restarts}
 use Rattle.gc_station.specs.Acts.{Closed}
-use Rattle.gc_station.specs.Progressing.{closed, reckoned_early}
+use Rattle.gc_station.specs.Progressing.{closed}
 use Rattle.gc_station.proofs.Hearing.{settles_ok}
 use Rattle.gc_station.proofs.station.Station.close.Goals as goal
 
@@ -22,7 +22,7 @@ returns-clause-does g c = record {
       (c.in_default.ensures.wrote start s.records so) c.in_default.ensures.tally in (
         refl,
         record {
-          progress = c.reckon_early.ensures ∙ ap (reckoned_early c.args.plan.now 0) c.close-2.ensures ∙ ap (λ p. reckoned_early c.args.plan.now 0 (closed c.args.cause p)) t.0.progress;
+          progress = c.close-2.ensures ∙ ap (closed c.args.plan.now c.args.cause) t.0.progress;
           ids = t.0.ids;
           width = t.0.width;
           assembles = c.new-self.ensures;
