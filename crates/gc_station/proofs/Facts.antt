@@ -1,6 +1,6 @@
 -- What has to hold where an order is next.
 use Rattle.std.proofs.Common.{◌≡◌, ℕ, ◌<◌, ◌&&◌, Bool, true, false, if◌then◌else◌, nat_lt, nat_eq, refl, ap, inl, inr, arith}
-use Rattle.std.proofs.lemmas.Bool.{ltb-true, eqb-true}
+use Rattle.std.proofs.lemmas.Bool.{ltb-true, ltb-false, eqb-true}
 use Rattle.std.proofs.lemmas.Bool.Decides.{nat_tests}
 use Rattle.gc_station.specs.declared.plan.Plan.{Plan}
 use Rattle.gc_station.specs.declared.cause.Cause.TheVariants as cause
@@ -8,7 +8,7 @@ use Rattle.gc_station.specs.declared.progress.Phase.{Phase}
 use Rattle.gc_station.specs.declared.progress.Phase.TheVariants.{Down, Resting, Clearing, Draining, Probing, Ready, Closing, Over}
 use Rattle.gc_station.specs.declared.progress.Order.TheVariants as order
 use Rattle.gc_station.specs.declared.progress.Progress.{Progress}
-use Rattle.gc_station.specs.Reasons.{IsFor}
+use Rattle.gc_station.specs.Reasons.{IsFor, NoOtherMayGo}
 use Rattle.gc_station.specs.Deciding.{width_of, is_up, is_quiet, is_due, order_of, order_in, order_on, order_told, order_ready, order_waiting, order_up}
 
 -- what holds of both holds of the one that a test takes
@@ -27,27 +27,29 @@ none_left n e = grind (arith, nat_tests, e)
 some_left : (n : ℕ) → nat_eq n 0 ≡ false → 0 < n
 some_left n e = grind (arith, nat_tests, e)
 
-waits : (plan : Plan) (p : Progress) (n : ℕ) (h : Bool) → is_up p.phase ≡ true → IsFor plan p n h (order_waiting plan p h)
-waits plan p n h up = either (IsFor plan p n h) (order.Close cause.Silence) order.Read (h && is_quiet plan p) (λ e. (up, inr (both_true h (is_quiet plan p) e))) (λ e. tt)
+waits : (plan : Plan) (p : Progress) (n : ℕ) (h : Bool) → is_up p.phase ≡ true → NoOtherMayGo plan p n → IsFor plan p n h (order_waiting plan p h)
+waits plan p n h up none =
+    either (IsFor plan p n h) (order.Close cause.Silence) order.Read (h && is_quiet plan p)
+    (λ e. let dead = both_true h (is_quiet plan p) e in (up, inr (dead.0, none, dead.1))) (λ e. tt)
 
 ready : (plan : Plan) (p : Progress) (n : ℕ) (h : Bool) → p.phase ≡ Ready → IsFor plan p n h (order_ready plan p n h)
 ready plan p n h is =
     let P = IsFor plan p n h in
     let up : is_up p.phase ≡ true = ap is_up is in
     let wait = waits plan p n h up in
-    either P _ _ p.probe (λ e. wait) (λ probe. either P _ _ (nat_lt 0 p.unsent)
-    (λ some. either P order.Send _ (nat_lt n (width_of plan)) (λ room. (is, probe, ltb-true 0 p.unsent some, ltb-true n (width_of plan) room)) (λ e. wait))
+    either P _ _ p.probe (λ probe. wait (inl probe)) (λ probe. either P _ _ (nat_lt 0 p.unsent)
+    (λ some. either P order.Send _ (nat_lt n (width_of plan)) (λ room. (is, probe, ltb-true 0 p.unsent some, ltb-true n (width_of plan) room)) (λ full. wait (inr (inl (ltb-false n (width_of plan) full)))))
     (λ none. either P _ _ (nat_eq n 0)
     (λ nothing. either P (order.Close cause.Done) _ (nat_eq p.left 0) (λ last. (up, inr (eqb-true p.left 0 last, none_left p.unsent none, eqb-true n 0 nothing)))
     (λ more. either P order.Begin order.Rest (is_due plan p) (λ e. (is, probe, none_left p.unsent none, eqb-true n 0 nothing, some_left p.left more)) (λ e. tt)))
-    (λ e. wait)))
+    (λ some. wait (inr (inr (none_left p.unsent none, some_left n some))))))
 
 told_for : (plan : Plan) (phase : Phase) (p : Progress) (n : ℕ) (h : Bool) → p.phase ≡ phase → IsFor plan p n h (order_told plan phase p n h)
 told_for plan Down p n h is = is
 told_for plan Resting p n h is = tt
 told_for plan Clearing p n h is = is
 told_for plan Draining p n h is = tt
-told_for plan Probing p n h is = either (IsFor plan p n h) order.Probe _ (nat_lt n (width_of plan)) (λ room. (is, ltb-true n (width_of plan) room)) (λ e. waits plan p n h (ap is_up is))
+told_for plan Probing p n h is = either (IsFor plan p n h) order.Probe _ (nat_lt n (width_of plan)) (λ room. (is, ltb-true n (width_of plan) room)) (λ full. waits plan p n h (ap is_up is) (inr (inl (ltb-false n (width_of plan) full))))
 told_for plan Ready p n h is = ready plan p n h is
 told_for plan (Closing cause) p n h is = (ap is_up is, inl is)
 told_for plan (Over cause) p n h is = (ap is_up is, inl is)
