@@ -1,5 +1,6 @@
--- A connection is closed only for a cause.
-use Rattle.std.proofs.Common.{◌≡◌, ℕ, ◌⊎◌, inl, inr, Bool, true, false, List, [], ◌∷◌, ◌++◌, length, drop, if◌then◌else◌, nat_lt, refl, sym, ap, ◌∙◌, subst, ◌||◌, min}
+-- A connection is closed, and a run stops, only for a cause: whatever decides the end, the act that did it shows.
+use Rattle.std.proofs.Common.{◌≡◌, ℕ, ◌⊎◌, inl, inr, ◌&&◌, ◌||◌, Bool, true, false, List, [], ◌∷◌, ◌++◌, length, drop, Option, Some, None, if◌then◌else◌, nat_lt, nat_eq, refl, sym, ap, ◌∙◌, subst, arith}
+use Rattle.std.proofs.lemmas.Bool.Decides.{nat_tests}
 use Rattle.gc_catalogue.specs.declared.call.Call.TheVariants.{NullProc}
 use Rattle.gc_texts.specs.declared.commands.Command.{Command}
 use Rattle.gc_station.specs.declared.plan.Plan.{Plan}
@@ -7,154 +8,151 @@ use Rattle.gc_station.specs.declared.cause.Cause.{Cause}
 use Rattle.gc_station.specs.declared.cause.Cause.TheVariants as cause
 use Rattle.gc_station.specs.declared.link.Moment.{Moment}
 use Rattle.gc_station.specs.declared.progress.Phase.{Phase}
-use Rattle.gc_station.specs.declared.progress.Phase.TheVariants.{Down, Resting, Clearing, Draining, Probing, Ready, Closing, Over}
+use Rattle.gc_station.specs.declared.progress.Phase.TheVariants.{Resting, Draining, Probing, Ready, Closing, Over}
 use Rattle.gc_station.specs.declared.progress.Order.{Order}
 use Rattle.gc_station.specs.declared.progress.Order.TheVariants as order
 use Rattle.gc_station.specs.declared.progress.Progress.{Progress}
 use Rattle.gc_station.specs.Acts.{Act, Told, Untold, Put, Cut, Gave, Silent, Ended, Broke, Closed, Opened, Unopened}
 use Rattle.gc_station.specs.Deciding.{is_up, is_quiet, order_in}
 use Rattle.gc_station.specs.Progressing.{turned, told, begun, failing, quieted, waited, reckoned_early, is_finished, is_resting, closed, cleared, probed, sent, is_spared}
-use Rattle.gc_station.specs.Closing.{IsReasoned, Shows, ClosesForACause}
+use Rattle.gc_station.specs.Closing.{IsReasoned, Shows, ClosesForACause, EndsDone, EndsBehind, EndsGone, Ends, StopsForACause}
 use Rattle.gc_station.specs.Reasons.{IsFor, IsAtItsEnd}
 use Rattle.gc_station.specs.Runs.{stood}
 use Rattle.gc_station.specs.Standing.{Standing, opening, order_at, place_next, with_progress, with_moment, is_heard, is_hopeless, asks, asks_first, after_tell, after_put, after_open, after_read, Puts, IsTelling, IsOpening, IsReading, Obeys, moved, after, after_all, Runs}
 use Rattle.gc_station.proofs.Facts.{order_for}
+use Rattle.gc_station.proofs.Fine.{says_done}
+use Rattle.gc_station.proofs.EachRun.{fine_stood}
 use Rattle.gc_station.proofs.Going.{after_all-append}
 use Rattle.gc_station.proofs.Counts.{came_progress}
 use Rattle.gc_station.proofs.Turns.{closed_down}
 
-fail_closes : (up : Bool) (why c : Cause) → (if up then Closing why else Over why) ≡ Closing c → why ≡ c
-fail_closes true why c e = cc
-fail_closes false why c e = cc
+-- the end that a phase has decided
+abbrev end_of : Phase → Option Cause
+end_of (Closing why) = Some why
+end_of (Over why) = Some why
+end_of _ = None
+
+-- an act shows that a call failed, and where there is no connection behind it, there was none before
+abbrev Failed : Phase → Phase → Cause → Act → Type 0
+Failed before behind why act = (is_up behind ≡ false → is_up before ≡ false) × Shows why act
+
+-- the end is decided: a call failed, or it came otherwise, or the phase is still the same
+abbrev Decides : Type 0 → Phase → Phase → Cause → Act → Type 0
+Decides Other before behind why act = Failed before behind why act ⊎ (Other ⊎ (behind ≡ before))
 
 -- a call failed
-failed : (s : Standing) (why c : Cause) (act : Act) → Shows why act → (with_progress (failing why) s).progress.phase ≡ Closing c → Shows c act ⊎ (s.progress.phase ≡ Closing c)
-failed s why c act shows e = inl (subst (λ (x : Cause). Shows x act) (fail_closes (is_up s.progress.phase) why c e) shows)
+fail_decides : {Other : Type 0} (before at : Phase) (up : Bool) (why c : Cause) (act : Act) → is_up at ≡ up → Shows why act → (is_up at ≡ false → is_up before ≡ false) → end_of (if up then Closing why else Over why) ≡ Some c
+    → Decides Other before (if up then Closing why else Over why) c act
+fail_decides before at true why c act is shows down e = let same : why ≡ c = cc in inl (λ d. cc, subst (λ (x : Cause). Shows x act) same shows)
+fail_decides before at false why c act is shows down e = let same : why ≡ c = cc in inl (λ d. down is, subst (λ (x : Cause). Shows x act) same shows)
 
-tell_shown : (f : Moment → Progress → Progress) (s : Standing) (act : Act) (c : Cause) → IsTelling act → ((m : Moment) → (f m s.progress).phase ≡ s.progress.phase) → (after_tell f s act).progress.phase ≡ Closing c
-    → Shows c act ⊎ (s.progress.phase ≡ Closing c)
-tell_shown f s (Told m) c o same e = inr (sym (same m) ∙ e)
-tell_shown f s Untold c o same e = failed s cause.Clock c Untold refl e
-tell_shown f s (Put bytes) c o same e = absurd o
-tell_shown f s (Cut bytes n) c o same e = absurd o
-tell_shown f s (Gave bytes m) c o same e = absurd o
-tell_shown f s (Silent m) c o same e = absurd o
-tell_shown f s Ended c o same e = absurd o
-tell_shown f s Broke c o same e = absurd o
-tell_shown f s Closed c o same e = absurd o
-tell_shown f s Opened c o same e = absurd o
-tell_shown f s Unopened c o same e = absurd o
+failed : {Other : Type 0} (s : Standing) (why c : Cause) (act : Act) → Shows why act → end_of (with_progress (failing why) s).progress.phase ≡ Some c → Decides Other s.progress.phase (with_progress (failing why) s).progress.phase c act
+failed s why c act shows e = fail_decides s.progress.phase s.progress.phase (is_up s.progress.phase) why c act refl shows (λ d. d) e
 
-put_shown : (requests : ℕ) (bytes : List ℕ) (f : Standing → Standing) (s : Standing) (act : Act) (c : Cause) → Puts bytes act → ((f s).progress.phase ≡ Closing c → s.progress.phase ≡ Closing c) → (after_put requests f s act).progress.phase ≡ Closing c
-    → Shows c act ⊎ (s.progress.phase ≡ Closing c)
-put_shown requests bytes f s (Told m) c o back e = absurd o
-put_shown requests bytes f s Untold c o back e = absurd o
-put_shown requests bytes f s (Put out) c o back e = inr (back e)
-put_shown requests bytes f s (Cut out n) c o back e = cut_shown (failed (f s) (cause.Write requests n) c (Cut out n) (out, refl) e) where
-  cut_shown : (Shows c (Cut out n) ⊎ ((f s).progress.phase ≡ Closing c)) → Shows c (Cut out n) ⊎ (s.progress.phase ≡ Closing c)
-  cut_shown (inl shows) = inl shows
-  cut_shown (inr phase) = inr (back phase)
-put_shown requests bytes f s (Gave out m) c o back e = absurd o
-put_shown requests bytes f s (Silent m) c o back e = absurd o
-put_shown requests bytes f s Ended c o back e = absurd o
-put_shown requests bytes f s Broke c o back e = absurd o
-put_shown requests bytes f s Closed c o back e = absurd o
-put_shown requests bytes f s Opened c o back e = absurd o
-put_shown requests bytes f s Unopened c o back e = absurd o
+tell_decides : {Other : Type 0} (f : Moment → Progress → Progress) (s : Standing) (act : Act) (c : Cause) → IsTelling act → ((m : Moment) → (f m s.progress).phase ≡ s.progress.phase) → end_of (after_tell f s act).progress.phase ≡ Some c
+    → Decides Other s.progress.phase (after_tell f s act).progress.phase c act
+tell_decides f s (Told m) c o same e = inr (inr (same m))
+tell_decides f s Untold c o same e = failed s cause.Clock c Untold refl e
+tell_decides f s act c o same e = absurd o
 
-again_shown : (done some : Bool) (why c : Cause) → (if done then Over cause.Done else if some then Resting else Over why) ≡ Closing c → ⊥
-again_shown true some why c e = cc
-again_shown false true why c e = cc
-again_shown false false why c e = cc
+put_decides : {Other : Type 0} (requests : ℕ) (bytes : List ℕ) (f : Standing → Standing) (s : Standing) (act : Act) (c : Cause) → Puts bytes act
+    → (end_of (f s).progress.phase ≡ Some c → (f s).progress.phase ≡ s.progress.phase) → (is_up (f s).progress.phase ≡ false → is_up s.progress.phase ≡ false) → end_of (after_put requests f s act).progress.phase ≡ Some c
+    → Decides Other s.progress.phase (after_put requests f s act).progress.phase c act
+put_decides requests bytes f s (Put out) c o same down e = inr (inr (same e))
+put_decides requests bytes f s (Cut out n) c o same down e = fail_decides s.progress.phase (f s).progress.phase (is_up (f s).progress.phase) (cause.Write requests n) c (Cut out n) refl (out, refl) down e
+put_decides requests bytes f s act c o same down e = absurd o
 
-open_shown : (plan : Plan) (s : Standing) (act : Act) (c : Cause) → IsOpening act → (after_open plan s act).progress.phase ≡ Closing c → ⊥
-open_shown plan s (Told m) c o e = absurd o
-open_shown plan s Untold c o e = absurd o
-open_shown plan s (Put bytes) c o e = absurd o
-open_shown plan s (Cut bytes n) c o e = absurd o
-open_shown plan s (Gave bytes m) c o e = absurd o
-open_shown plan s (Silent m) c o e = absurd o
-open_shown plan s Ended c o e = absurd o
-open_shown plan s Broke c o e = absurd o
-open_shown plan s Closed c o e = absurd o
-open_shown plan s Opened c o e = cc
-open_shown plan s Unopened c o e = again_shown (is_finished s.progress) (is_spared plan cause.Open s.progress || nat_lt 0 s.progress.tries) cause.Open c e
+drained : (b : Bool) (c : Cause) → end_of (if b then Probing else Ready) ≡ Some c → ⊥
+drained true c e = cc
+drained false c e = cc
 
-settled_phase : (b : Bool) (c : Cause) → (if b then Probing else Ready) ≡ Closing c → ⊥
-settled_phase true c e = cc
-settled_phase false c e = cc
+quiet_same : (plan : Plan) (resting : Bool) (phase : Phase) (b : Bool) (c : Cause) → end_of (if b then quieted plan resting phase else phase) ≡ Some c → (if b then quieted plan resting phase else phase) ≡ phase
+quiet_same plan resting phase false c e = refl
+quiet_same plan true Resting true c e = refl
+quiet_same plan false Resting true c e = cc
+quiet_same plan resting Draining true c e = absurd (drained plan.settle c e)
+quiet_same plan resting phase true c e = refl
 
-quiet_shown : (plan : Plan) (resting : Bool) (phase : Phase) (b : Bool) (c : Cause) → (if b then quieted plan resting phase else phase) ≡ Closing c → phase ≡ Closing c
-quiet_shown plan resting phase false c e = e
-quiet_shown plan resting Down true c e = e
-quiet_shown plan true Resting true c e = e
-quiet_shown plan false Resting true c e = cc
-quiet_shown plan resting Clearing true c e = e
-quiet_shown plan resting Draining true c e = absurd (settled_phase plan.settle c e)
-quiet_shown plan resting Probing true c e = e
-quiet_shown plan resting Ready true c e = e
-quiet_shown plan resting (Closing why) true c e = e
-quiet_shown plan resting (Over why) true c e = e
+read_decides : {Other : Type 0} (plan : Plan) (commands : List Command) (rested : Bool) (s : Standing) (act : Act) (c : Cause) → IsReading act → end_of (after_read plan commands rested s act).progress.phase ≡ Some c
+    → Decides Other s.progress.phase (after_read plan commands rested s act).progress.phase c act
+read_decides plan commands rested s Untold c o e = failed s cause.Clock c Untold refl e
+read_decides plan commands rested s (Gave bytes m) c o e = inr (inr (ap (λ p. p.phase) (came_progress (is_heard s.progress.phase) plan commands bytes (with_moment m (with_progress (told m) s)))))
+read_decides plan commands rested s (Silent m) c o e = inr (inr (quiet_same plan (is_resting plan (waited rested m s.progress)) s.progress.phase (is_quiet plan (waited rested m s.progress)) c e))
+read_decides plan commands rested s Ended c o e = failed s cause.End c Ended refl e
+read_decides plan commands rested s Broke c o e = failed s cause.Read c Broke refl e
+read_decides plan commands rested s act c o e = absurd o
 
-read_shown : (plan : Plan) (commands : List Command) (rested : Bool) (s : Standing) (act : Act) (c : Cause) → IsReading act → (after_read plan commands rested s act).progress.phase ≡ Closing c → Shows c act ⊎ (s.progress.phase ≡ Closing c)
-read_shown plan commands rested s (Told m) c o e = absurd o
-read_shown plan commands rested s Untold c o e = failed s cause.Clock c Untold refl e
-read_shown plan commands rested s (Put bytes) c o e = absurd o
-read_shown plan commands rested s (Cut bytes n) c o e = absurd o
-read_shown plan commands rested s (Gave bytes m) c o e = inr (sym (ap (λ p. p.phase) (came_progress (is_heard s.progress.phase) plan commands bytes (with_moment m (with_progress (told m) s)))) ∙ e)
-read_shown plan commands rested s (Silent m) c o e = inr (quiet_shown plan (is_resting plan (waited rested m s.progress)) s.progress.phase (is_quiet plan (waited rested m s.progress)) c e)
-read_shown plan commands rested s Ended c o e = failed s cause.End c Ended refl e
-read_shown plan commands rested s Broke c o e = failed s cause.Read c Broke refl e
-read_shown plan commands rested s Closed c o e = absurd o
-read_shown plan commands rested s Opened c o e = absurd o
-read_shown plan commands rested s Unopened c o e = absurd o
+none_left : (a b : ℕ) → nat_eq a 0 && nat_eq b 0 ≡ true → (a ≡ 0) × (b ≡ 0)
+none_left a b e = grind (arith, nat_tests, e)
+
+no_try : (spared : Bool) (tries : ℕ) → spared || nat_lt 0 tries ≡ false → (spared ≡ false) × (tries ≡ 0)
+no_try true tries e = cc
+no_try false tries e = (refl, grind (arith, nat_tests, e))
+
+-- what a run ends for where no connection is made anew
+again_ends : (plan : Plan) (other c : Cause) (p : Progress) (done some : Bool) → is_finished p ≡ done → (is_spared plan other p || nat_lt 0 p.tries) ≡ some
+    → end_of (if done then Over cause.Done else if some then Resting else Over other) ≡ Some c
+    → EndsDone p c ⊎ ((c ≡ other) × (is_finished p ≡ false) × (is_spared plan other p ≡ false) × (p.tries ≡ 0))
+again_ends plan other c p true some finished tries e = let none = none_left p.left p.unsent finished in inl (cc, none.0, none.1)
+again_ends plan other c p false true finished tries e = cc
+again_ends plan other c p false false finished tries e = let none = no_try (is_spared plan other p) p.tries tries in inr (cc, finished, none.0, none.1)
+
+-- and where one was closed
+closed_ends : (plan : Plan) (other c : Cause) (p : Progress) → (other ≡ cause.Done → (p.left ≡ 0) × (p.unsent ≡ 0)) → end_of (closed plan other (turned p)).phase ≡ Some c → EndsBehind plan p other c
+closed_ends plan cause.Done c p done e = (cc, (done refl).0, (done refl).1)
+closed_ends plan cause.Clock c p done e = cc
+closed_ends plan cause.Turns c p done e = cc
+closed_ends plan other c p done e = again_ends plan other c p (is_finished p) (is_spared plan other p || nat_lt 0 p.tries) refl refl e
+
+-- there is no connection behind an act that closed it, or made none, and no other is made
+abbrev Gone : Plan → Progress → Order → Phase → Cause → Act → Type 0
+Gone plan p next behind c act = (is_up behind ≡ false) × EndsGone plan p next c act
+
+open_decides : (plan : Plan) (s : Standing) (act : Act) (c : Cause) → IsOpening act → end_of (after_open plan (with_progress turned s) act).progress.phase ≡ Some c
+    → Decides (Gone plan s.progress order.Open (after_open plan (with_progress turned s) act).progress.phase c act) s.progress.phase (after_open plan (with_progress turned s) act).progress.phase c act
+open_decides plan s Opened c o e = cc
+open_decides plan s Unopened c o e = inr (inl (closed_down plan cause.Open (turned s.progress), (cause.Open, inr (refl, refl), closed_ends plan cause.Open c s.progress (λ is. cc) e)))
+open_decides plan s act c o e = absurd o
 
 first_phase : (plan : Plan) (left : List Command) (s : Standing) → (asks_first plan left s).progress.phase ≡ s.progress.phase
 first_phase plan [] s = refl
 first_phase plan (command ∷ others) s = refl
 
-up_clash : (phase : Phase) (c : Cause) → is_up phase ≡ false → phase ≡ Closing c → ⊥
-up_clash phase c down e = let up : is_up phase ≡ true = ap is_up e in cc
+moved_decides : (plan : Plan) (commands : List Command) (next : Order) (s : Standing) (act : Act) (c : Cause) → Obeys commands s next act → (next ≡ order.Close cause.Done → (s.progress.left ≡ 0) × (s.progress.unsent ≡ 0))
+    → end_of (moved plan commands next (with_progress turned s) act).progress.phase ≡ Some c
+    → Decides (Gone plan s.progress next (moved plan commands next (with_progress turned s) act).progress.phase c act) s.progress.phase (moved plan commands next (with_progress turned s) act).progress.phase c act
+moved_decides plan commands order.Tell s act c o done e = tell_decides (λ (m : Moment) (p : Progress). reckoned_early plan (length s.client.waiting) (told m p)) (with_progress turned s) act c o (λ m. refl) e
+moved_decides plan commands order.Begin s act c o done e = tell_decides (begun plan (length commands)) (with_progress turned s) act c o (λ m. refl) e
+moved_decides plan commands order.Open s act c o done e = open_decides plan s act c o e
+moved_decides plan commands order.Clear s act c o done e = put_decides _ (10 ∷ []) (with_progress cleared) (with_progress turned s) act c o (λ g. cc) (λ d. cc) e
+moved_decides plan commands order.Probe s act c o done e = put_decides _ _ (λ (x : Standing). with_progress probed (asks plan 0 NullProc x)) (with_progress turned s) act c o (λ g. cc) (λ d. cc) e
+moved_decides plan commands order.Send s act c o done e =
+    let same = first_phase plan (drop (place_next commands s.progress) commands) (with_progress turned s) in
+    put_decides _ _ (λ (x : Standing). with_progress sent (asks_first plan (drop (place_next commands x.progress) commands) x)) (with_progress turned s) act c o (λ g. same) (λ d. sym (ap is_up same) ∙ d) e
+moved_decides plan commands order.Read s act c o done e = read_decides plan commands false (with_progress turned s) act c o e
+moved_decides plan commands order.Rest s act c o done e = read_decides plan commands true (with_progress turned s) act c o e
+moved_decides plan commands (order.Close why) s act c o done e =
+    inr (inl (closed_down plan why (turned s.progress), (why, inl (o, refl), closed_ends plan why c s.progress (λ is. done (ap order.Close is)) e)))
+moved_decides plan commands (order.Stop why) s act c o done e = absurd o
 
-moved_shown : (plan : Plan) (commands : List Command) (order : Order) (s : Standing) (act : Act) (c : Cause) → Obeys commands s order act → (moved plan commands order s act).progress.phase ≡ Closing c → Shows c act ⊎ (s.progress.phase ≡ Closing c)
-moved_shown plan commands order.Tell s act c o e = tell_shown (λ (m : Moment) (p : Progress). reckoned_early plan (length s.client.waiting) (told m p)) s act c o (λ m. refl) e
-moved_shown plan commands order.Begin s act c o e = tell_shown (begun plan (length commands)) s act c o (λ m. refl) e
-moved_shown plan commands order.Open s act c o e = absurd (open_shown plan s act c o e)
-moved_shown plan commands order.Clear s act c o e = put_shown _ (10 ∷ []) (with_progress cleared) s act c o (λ g. cc) e
-moved_shown plan commands order.Probe s act c o e = put_shown _ _ (λ (x : Standing). with_progress probed (asks plan 0 NullProc x)) s act c o (λ g. cc) e
-moved_shown plan commands order.Send s act c o e =
-    put_shown _ _ (λ (x : Standing). with_progress sent (asks_first plan (drop (place_next commands x.progress) commands) x)) s act c o
-    (λ g. sym (first_phase plan (drop (place_next commands s.progress) commands) s) ∙ g) e
-moved_shown plan commands order.Read s act c o e = read_shown plan commands false s act c o e
-moved_shown plan commands order.Rest s act c o e = read_shown plan commands true s act c o e
-moved_shown plan commands (order.Close why) s act c o e = absurd (up_clash (closed plan why s.progress).phase c (closed_down plan why s.progress) e)
-moved_shown plan commands (order.Stop why) s act c o e = absurd o
+-- where the end is decided, no act leaves the phase: a connection is closed, and without one no act is made
+not_twice : (plan : Plan) (commands : List Command) (s : Standing) (act : Act) (c : Cause) (phase : Phase) → s.progress.phase ≡ phase → end_of phase ≡ Some c → Obeys commands s (order_in phase plan s.progress (length s.client.waiting) (is_hopeless s.client)) act
+    → (moved plan commands (order_in phase plan s.progress (length s.client.waiting) (is_hopeless s.client)) (with_progress turned s) act).progress.phase ≡ phase → ⊥
+not_twice plan commands s act c (Closing why) is e o same = let down : true ≡ false = sym (ap is_up same) ∙ closed_down plan why (turned s.progress) in cc
+not_twice plan commands s act c (Over why) is e o same = absurd o
+not_twice plan commands s act c phase is e o same = cc
 
-closing_closes : (plan : Plan) (s : Standing) (c : Cause) → s.progress.phase ≡ Closing c → order_at plan s ≡ order.Close c
-closing_closes plan s c e = ap (λ (phase : Phase). order_in phase plan s.progress (length s.client.waiting) (is_hopeless s.client)) e
+-- what an act by which the end was decided shows
+abbrev Decided : Plan → Standing → Phase → Cause → Act → Type 0
+Decided plan s behind c act = Failed s.progress.phase behind c act ⊎ Gone plan s.progress (order_at plan s) behind c act
 
--- an order is obeyed by the same acts, whatever the turn
-pub obeys_turned : (commands : List Command) (order : Order) (s : Standing) (act : Act) → Obeys commands s order act → Obeys commands (with_progress turned s) order act
-obeys_turned commands order.Tell s act o = o
-obeys_turned commands order.Begin s act o = o
-obeys_turned commands order.Open s act o = o
-obeys_turned commands order.Clear s act o = o
-obeys_turned commands order.Probe s act o = o
-obeys_turned commands order.Send s act o = o
-obeys_turned commands order.Read s act o = o
-obeys_turned commands order.Rest s act o = o
-obeys_turned commands (order.Close why) s act o = o
-obeys_turned commands (order.Stop why) s act o = o
-
--- the act behind which a connection is to be closed shows the cause
-after_shown : (plan : Plan) (commands : List Command) (s : Standing) (act : Act) (c : Cause) → Obeys commands s (order_at plan s) act → (after plan commands s act).progress.phase ≡ Closing c → Shows c act
-after_shown plan commands s act c o e = by_order (order_at plan s) refl (moved_shown plan commands (order_at plan s) (with_progress turned s) act c (obeys_turned commands (order_at plan s) s act o) e) where
-  by_order : (next : Order) → order_at plan s ≡ next → (Shows c act ⊎ (s.progress.phase ≡ Closing c)) → Shows c act
-  by_order next is (inl shows) = shows
-  by_order next is (inr phase) =
-      let closes = closing_closes plan s c phase in
-      let gone : (moved plan commands (order.Close c) (with_progress turned s) act).progress.phase ≡ Closing c = subst (λ (o : Order). (moved plan commands o (with_progress turned s) act).progress.phase ≡ Closing c) closes e in
-      absurd (up_clash (closed plan c (turned s.progress)).phase c (closed_down plan c (turned s.progress)) gone)
+after_decided : (plan : Plan) (commands : List Command) (s : Standing) (act : Act) (c : Cause) → Obeys commands s (order_at plan s) act → (order_at plan s ≡ order.Close cause.Done → (s.progress.left ≡ 0) × (s.progress.unsent ≡ 0))
+    → end_of (after plan commands s act).progress.phase ≡ Some c → Decided plan s (after plan commands s act).progress.phase c act
+after_decided plan commands s act c o done e = pick (moved_decides plan commands (order_at plan s) s act c o done e) where
+  pick : Decides (Gone plan s.progress (order_at plan s) (after plan commands s act).progress.phase c act) s.progress.phase (after plan commands s act).progress.phase c act → Decided plan s (after plan commands s act).progress.phase c act
+  pick (inl shows) = inl shows
+  pick (inr (inl gone)) = inr gone
+  pick (inr (inr same)) = absurd (not_twice plan commands s act c s.progress.phase refl (ap end_of (sym same) ∙ e) o same)
 
 pub runs_split : (plan : Plan) (commands : List Command) (s : Standing) (earlier later : List Act) (act : Act) → Runs plan commands s (earlier ++ act ∷ later)
     → Runs plan commands s earlier × Obeys commands (after_all plan commands s earlier) (order_at plan (after_all plan commands s earlier)) act
@@ -170,7 +168,7 @@ act_reasoned plan commands turns earlier later act runs =
     }
 
 -- the last of some acts
-pub last_of : (acts : List Act) → (acts ≡ []) ⊎ ((earlier : List Act) × (last : Act) × (acts ≡ earlier ++ last ∷ []))
+last_of : (acts : List Act) → (acts ≡ []) ⊎ ((earlier : List Act) × (last : Act) × (acts ≡ earlier ++ last ∷ []))
 last_of [] = inl refl
 last_of (x ∷ xs) = on (last_of xs) where
   on : ((xs ≡ []) ⊎ ((earlier : List Act) × (last : Act) × (xs ≡ earlier ++ last ∷ []))) → (x ∷ xs ≡ []) ⊎ ((earlier : List Act) × (last : Act) × (x ∷ xs ≡ earlier ++ last ∷ []))
@@ -178,42 +176,76 @@ last_of (x ∷ xs) = on (last_of xs) where
   on (inr some) = inr (x ∷ some.0, some.1, ap (λ ys. x ∷ ys) some.2)
 
 pub closes_only : (commands : List Command) (s : Standing) (next : Order) → Obeys commands s next Closed → (why : Cause) × (next ≡ order.Close why)
-closes_only commands s order.Tell o = absurd o
-closes_only commands s order.Begin o = absurd o
-closes_only commands s order.Open o = absurd o
-closes_only commands s order.Clear o = absurd o
-closes_only commands s order.Probe o = absurd o
-closes_only commands s order.Send o = absurd o
-closes_only commands s order.Read o = absurd o
-closes_only commands s order.Rest o = absurd o
 closes_only commands s (order.Close why) o = (why, refl)
-closes_only commands s (order.Stop why) o = absurd o
+closes_only commands s next o = absurd o
+
+-- what an order that is next needs
+needs_of : (plan : Plan) (s : Standing) (next : Order) → order_at plan s ≡ next → IsFor plan s.progress (length s.client.waiting) (is_hopeless s.client) next
+needs_of plan s next is = subst (λ (o : Order). IsFor plan s.progress (length s.client.waiting) (is_hopeless s.client) o) is (order_for plan s.progress (length s.client.waiting) (is_hopeless s.client))
+
+-- a connection is closed for being done where nothing is left to be sent
+done_sent : (plan : Plan) (commands : List Command) (turns : ℕ) (acts : List Act) → order_at plan (stood plan commands turns acts) ≡ order.Close cause.Done
+    → ((stood plan commands turns acts).progress.left ≡ 0) × ((stood plan commands turns acts).progress.unsent ≡ 0)
+done_sent plan commands turns acts is = by_needs (needs_of plan (stood plan commands turns acts) (order.Close cause.Done) is).1 where
+  by_needs : (((stood plan commands turns acts).progress.phase ≡ Closing cause.Done) ⊎ IsAtItsEnd plan (stood plan commands turns acts).progress (length (stood plan commands turns acts).client.waiting) (is_hopeless (stood plan commands turns acts).client) cause.Done)
+      → ((stood plan commands turns acts).progress.left ≡ 0) × ((stood plan commands turns acts).progress.unsent ≡ 0)
+  by_needs (inl phase) = (fine_stood plan commands turns acts).finished (ap says_done phase)
+  by_needs (inr end) = (end.0, end.1)
+
+-- the last act of a run whose end is decided shows by what
+decided_last : (plan : Plan) (commands : List Command) (turns : ℕ) (acts : List Act) (c : Cause) → Runs plan commands (opening plan turns) acts → end_of (stood plan commands turns acts).progress.phase ≡ Some c
+    → (earlier : List Act) × (last : Act) × (acts ≡ earlier ++ last ∷ []) × Decided plan (stood plan commands turns earlier) (stood plan commands turns acts).progress.phase c last
+decided_last plan commands turns acts c runs e = by_last (last_of acts) where
+  by_last : ((acts ≡ []) ⊎ ((earlier : List Act) × (last : Act) × (acts ≡ earlier ++ last ∷ []))) → (earlier : List Act) × (last : Act) × (acts ≡ earlier ++ last ∷ []) × Decided plan (stood plan commands turns earlier) (stood plan commands turns acts).progress.phase c last
+  by_last (inl none) = let down : None ≡ Some c = sym (ap (λ (xs : List Act). end_of (stood plan commands turns xs).progress.phase) none) ∙ e in cc
+  by_last (inr some) =
+      let earlier = some.0 in
+      let last = some.1 in
+      let s = stood plan commands turns earlier in
+      let split = runs_split plan commands (opening plan turns) earlier [] last (subst (λ (xs : List Act). Runs plan commands (opening plan turns) xs) some.2 runs) in
+      let behind : (stood plan commands turns acts).progress.phase ≡ (after plan commands s last).progress.phase =
+      ap (λ (xs : List Act). (stood plan commands turns xs).progress.phase) some.2 ∙ ap (λ (x : Standing). x.progress.phase) (after_all-append plan commands (opening plan turns) earlier (last ∷ [])) in (
+        earlier,
+        last,
+        some.2,
+        subst (λ (phase : Phase). Decided plan s phase c last) (sym behind)
+            (after_decided plan commands s last c split.1 (done_sent plan commands turns earlier) (ap end_of (sym behind) ∙ e)),
+      )
 
 pub closed_for : (plan : Plan) (commands : List Command) (turns : ℕ) (acts later : List Act) → Runs plan commands (opening plan turns) (acts ++ Closed ∷ later) → ClosesForACause plan commands turns acts
 closed_for plan commands turns acts later runs =
     let s = stood plan commands turns acts in
     let split = runs_split plan commands (opening plan turns) acts later Closed runs in
     let it = closes_only commands s (order_at plan s) split.1 in
-    let needs = subst (λ (o : Order). IsFor plan s.progress (length s.client.waiting) (is_hopeless s.client) o) it.1 (order_for plan s.progress (length s.client.waiting) (is_hopeless s.client)) in
     record {
       why = it.0;
       closes = it.1;
-      shown = by_needs it.0 needs.1 split.0;
+      shown = by_needs it.0 (needs_of plan s (order.Close it.0) it.1).1 split.0;
     } where
-      by_last : (why : Cause) → (stood plan commands turns acts).progress.phase ≡ Closing why → Runs plan commands (opening plan turns) acts → ((acts ≡ []) ⊎ ((earlier : List Act) × (last : Act) × (acts ≡ earlier ++ last ∷ [])))
-          → (earlier : List Act) × (last : Act) × (acts ≡ earlier ++ last ∷ []) × Shows why last
-      by_last why phase runs (inl none) = let down : Down ≡ Closing why = sym (ap (λ (xs : List Act). (stood plan commands turns xs).progress.phase) none) ∙ phase in cc
-      by_last why phase runs (inr some) =
-          let earlier = some.0 in
-          let last = some.1 in
-          let split = runs_split plan commands (opening plan turns) earlier [] last (subst (λ (xs : List Act). Runs plan commands (opening plan turns) xs) some.2 runs) in
-          let behind : (after plan commands (stood plan commands turns earlier) last).progress.phase ≡ Closing why =
-          sym (ap (λ (x : Standing). x.progress.phase) (after_all-append plan commands (opening plan turns) earlier (last ∷ []))) ∙ sym (ap (λ (xs : List Act). (stood plan commands turns xs).progress.phase) some.2) ∙ phase in
-          (earlier, last, some.2, after_shown plan commands (stood plan commands turns earlier) last why split.1 behind)
+      shows : (why : Cause) (before : Standing) (last : Act) → (stood plan commands turns acts).progress.phase ≡ Closing why → Decided plan before (stood plan commands turns acts).progress.phase why last → Shows why last
+      shows why before last phase (inl failed) = failed.1
+      shows why before last phase (inr gone) = let up : true ≡ false = sym (ap is_up phase) ∙ gone.0 in cc
 
       by_needs : (why : Cause) → (((stood plan commands turns acts).progress.phase ≡ Closing why) ⊎ IsAtItsEnd plan (stood plan commands turns acts).progress (length (stood plan commands turns acts).client.waiting) (is_hopeless (stood plan commands turns acts).client) why)
           → Runs plan commands (opening plan turns) acts
           → IsAtItsEnd plan (stood plan commands turns acts).progress (length (stood plan commands turns acts).client.waiting) (is_hopeless (stood plan commands turns acts).client) why
           ⊎ ((earlier : List Act) × (last : Act) × (acts ≡ earlier ++ last ∷ []) × Shows why last)
-      by_needs why (inl phase) runs = inr (by_last why phase runs (last_of acts))
+      by_needs why (inl phase) runs = let d = decided_last plan commands turns acts why runs (ap end_of phase) in inr (d.0, d.1, d.2, shows why (stood plan commands turns d.0) d.1 phase d.3)
       by_needs why (inr end) runs = inl end
+
+pub stopped_for : (plan : Plan) (commands : List Command) (turns : ℕ) (acts : List Act) (why : Cause) → Runs plan commands (opening plan turns) acts → order_at plan (stood plan commands turns acts) ≡ order.Stop why → StopsForACause plan commands turns acts why
+stopped_for plan commands turns acts why runs stop =
+    let needs = needs_of plan (stood plan commands turns acts) (order.Stop why) stop in
+    record {
+      down = needs.0;
+      shown = by_needs needs.1;
+    } where
+      ends : (before : Standing) (last : Act) → (stood plan commands turns acts).progress.phase ≡ Over why → Decided plan before (stood plan commands turns acts).progress.phase why last → Ends plan before why last
+      ends before last phase (inl failed) = inl (failed.0 (ap is_up phase), failed.1)
+      ends before last phase (inr gone) = inr gone.1
+
+      by_needs : (((stood plan commands turns acts).progress.phase ≡ Over why) ⊎ ((why ≡ cause.Turns) × ((stood plan commands turns acts).progress.turns ≡ 0)))
+          → ((why ≡ cause.Turns) × ((stood plan commands turns acts).progress.turns ≡ 0))
+          ⊎ ((earlier : List Act) × (last : Act) × (acts ≡ earlier ++ last ∷ []) × Ends plan (stood plan commands turns earlier) why last)
+      by_needs (inl phase) = let d = decided_last plan commands turns acts why runs (ap end_of phase) in inr (d.0, d.1, d.2, ends (stood plan commands turns d.0) d.1 phase d.3)
+      by_needs (inr none) = inl none

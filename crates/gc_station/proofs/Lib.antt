@@ -11,5 +11,4 @@ mod Hearing
 mod Orders
 mod Records
 mod Sides
-mod Stops
 mod Turns

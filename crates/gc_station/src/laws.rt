@@ -27,8 +27,9 @@ pub fn each_act_is_due()
         → Runs plan commands (opening plan turns) (earlier ++ act ∷ later) → IsReasoned plan commands (stood plan commands turns earlier) act }
 {}
 
-/// A connection is closed only for a cause: nothing was left to be done, or the line was dead, or all turns were used up;
-/// or the act before it shows that a call failed or that the other end closed.
+/// A connection is closed only for a cause: nothing was left to be done; or the line was dead, that is, all that waited was
+/// given up, no other request could go out, and it was quiet; or all turns were used up; or the act before it shows that a call
+/// failed or that the other end closed.
 pub fn closes_for_a_cause()
     ensures { (plan : Plan) (commands : List Command) (turns : ℕ) (earlier later : List Act)
         → Runs plan commands (opening plan turns) (earlier ++ Closed ∷ later) → ClosesForACause plan commands turns earlier }
@@ -63,9 +64,10 @@ pub fn each_connection_begins_anew()
         → Runs plan commands (opening plan turns) (earlier ++ Closed ∷ []) → IsAnew (stood plan commands turns (earlier ++ Closed ∷ [])) }
 {}
 
-/// A run stops only for a cause: all turns are used up, or the last act closed the connection for that cause, or shows that
-/// none could be made, or that a call failed while there was none; or for `Done`, behind such an act: that all is settled
-/// then is `each_command_once`.
+/// A run stops without a connection, and only for a cause: all turns are used up, or what the last act shows. Either a call
+/// failed while there was no connection; or the connection was closed, or none could be made, and no other is made: for `Done`
+/// where nothing was left to be sent; for the clock and the turns at once; and for another cause where something was left, a
+/// connection anew would take a try, and no try was left. That all is settled then is `each_command_once`.
 pub fn stops_for_a_cause()
     ensures { (plan : Plan) (commands : List Command) (turns : ℕ) (acts : List Act) (why : Cause) → Runs plan commands (opening plan turns) acts
         → order_at plan (stood plan commands turns acts) ≡ Stop why → StopsForACause plan commands turns acts why }

@@ -1,4 +1,4 @@
-use Rattle.gc_station.proofs.Stops.{stopped_for}
+use Rattle.gc_station.proofs.Closings.{stopped_for}
 use Rattle.gc_station.proofs.laws.stops_for_a_cause.Goals as goal
 
 pub returns : goal.returns
