@@ -30,7 +30,7 @@ use Rattle.gc_station.specs.Standing.{Standing, opening, order_at, is_hopeless, 
 use Rattle.gc_station.proofs.Counts.{lines_progress}
 use Rattle.gc_station.proofs.EachRun.{fine_stood}
 use Rattle.gc_station.proofs.Facts.{order_for}
-use Rattle.gc_station.proofs.Fine.{Fine, is_idle}
+use Rattle.gc_station.proofs.Fine.{Fine, is_idle, none_waits}
 use Rattle.gc_station.proofs.Going.{after_all-append}
 use Rattle.gc_station.proofs.Hearing.{lines_records}
 
@@ -332,7 +332,7 @@ records_all Q R utc cycle place base j (x ∷ xs) is step all =
 id_back : (next count id : ℕ) → next < 8 → count ≤ 7 → id < 8 → id_at next count (place_behind next count id) ≡ id
 id_back next count id digit few below = omega arith
 
-id_digit : (line : List ℕ) (id : ℕ) → heard line ≡ Some id → id < 8
+pub id_digit : (line : List ℕ) (id : ℕ) → heard line ≡ Some id → id < 8
 id_digit line id e = let it = (heard_by_grammar line).only id e in subst (λ (o : Option ℕ). IfSome o (λ n. n < 8)) it.2 it.1.is_id
 
 regroup : (start news front : List Record) (r : Record) (back more : List Record) → ((start ++ news) ++ (front ++ r ∷ back)) ++ more ≡ start ++ ((news ++ front) ++ r ∷ (back ++ more))
@@ -444,7 +444,7 @@ behind_piece plan commands turns acts piece m x h = record {
   written = h.written;
 }
 
-abbrev piece_before : Moment → Standing → Standing
+abbrev pub piece_before : Moment → Standing → Standing
 piece_before m s = with_moment m (with_progress (told m) (with_progress turned s))
 
 piece_honest : (plan : Plan) (commands : List Command) (turns : ℕ) (acts : List Act) (piece : List ℕ) (m : Moment) (b : Bool)
@@ -492,10 +492,10 @@ puts_still bytes Opened o d = absurd o
 puts_still bytes Unopened o d = absurd o
 
 -- where the window has room
-abbrev with_sent : ById → ℕ → Call → ℕ → ById
+abbrev pub with_sent : ById → ℕ → Call → ℕ → ById
 with_sent c target call deadline = record { next = (c.next + 1) % 8; waiting = c.waiting ++ pending_of target call deadline ∷ [] }
 
-client_is : (plan : Plan) (c : ById) (target : ℕ) (call : Call) (deadline : ℕ) → length c.waiting < width_of plan → client_sent c (sends (width_of plan) c target call deadline) ≡ with_sent c target call deadline
+pub client_is : (plan : Plan) (c : ById) (target : ℕ) (call : Call) (deadline : ℕ) → length c.waiting < width_of plan → client_sent c (sends (width_of plan) c target call deadline) ≡ with_sent c target call deadline
 client_is plan c target call deadline room = ap (λ (b : Bool). client_sent c (id_send c target call deadline b)) (not_full (length c.waiting) (width_of plan) room) where
   not_full : (n w : ℕ) → n < w → nat_eq n w ≡ false
   not_full n w low = grind (arith, nat_tests, low)
@@ -686,7 +686,7 @@ moved_honest : (plan : Plan) (commands : List Command) (turns : ℕ) (acts : Lis
     → IsHonest plan commands turns (acts ++ act ∷ []) (moved plan commands order (with_progress turned (stood plan commands turns acts)) act)
 moved_honest plan commands turns acts orders.Tell act h fine is needs o next = tell_honest plan commands turns acts act h o
 moved_honest plan commands turns acts orders.Begin act h fine is needs o next = begin_honest plan commands turns acts act h o (nil_from_length (stood plan commands turns acts).client.waiting needs.3)
-moved_honest plan commands turns acts orders.Open act h fine is needs o next = open_honest plan commands turns acts act h o (fine.idle (ap is_idle needs)).1
+moved_honest plan commands turns acts orders.Open act h fine is needs o next = open_honest plan commands turns acts act h o (none_waits (stood plan commands turns acts).client (fine.idle (ap is_idle needs)).1)
 moved_honest plan commands turns acts orders.Clear act h fine is needs o next =
     let s = stood plan commands turns acts in
     put_honest plan commands turns (acts ++ act ∷ []) _ (with_progress cleared) (with_progress turned s) act (still plan commands turns acts act _ _ _ _ _ (puts_still (10 ∷ []) act o) h)

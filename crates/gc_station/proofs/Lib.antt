@@ -9,6 +9,7 @@ mod Further
 mod Going
 mod Hearing
 mod Orders
+mod Probing
 mod Records
 mod Sides
 mod Stops
