@@ -163,9 +163,9 @@ alone_along plan commands turns before done (act ∷ left) w runs keeps sends =
 
       on : Goes (stood plan commands turns (before ++ done)) act (after plan commands (stood plan commands turns (before ++ done)) act)
           → (WaitsAlone (stood plan commands turns (before ++ (done ++ act ∷ []))).progress.probe (stood plan commands turns (before ++ (done ++ act ∷ []))).client
-              → Runs plan commands (stood plan commands turns (before ++ (done ++ act ∷ []))) left
-              → order_at plan (stood plan commands turns ((before ++ (done ++ act ∷ [])) ++ left)) ≡ orders.Send
-              → IsAnsweredWithin plan commands turns before ((done ++ act ∷ []) ++ left))
+          → Runs plan commands (stood plan commands turns (before ++ (done ++ act ∷ []))) left
+          → order_at plan (stood plan commands turns ((before ++ (done ++ act ∷ [])) ++ left)) ≡ orders.Send
+          → IsAnsweredWithin plan commands turns before ((done ++ act ∷ []) ++ left))
           → IsAnsweredWithin plan commands turns before (done ++ act ∷ left)
       on (inl (piece, m, is, c)) again = record {
         first = done;
