@@ -8,9 +8,13 @@ mod Fine
 mod Further
 mod Going
 mod Hearing
+mod Lists
+mod Meets
 mod Orders
+mod Pieces
 mod Probing
 mod Records
 mod Sides
 mod Stops
 mod Turns
+mod Waiting

@@ -1,17 +1,14 @@
 -- No command goes out before the null procedure was answered.
-use Rattle.std.proofs.Common.{◌≡◌, ℕ, ◌+◌, ◌-◌, ◌%◌, ◌<◌, ◌&&◌, ◌⊎◌, inl, inr, Bool, true, false, not, List, [], ◌∷◌, ◌++◌, length, map, Option, Some, None, nat_lt, nat_eq, refl, sym, ap, ◌∙◌, subst, arith, append_assoc, append-nil}
+use Rattle.std.proofs.Common.{◌≡◌, ℕ, ◌+◌, ◌-◌, ◌<◌, ◌&&◌, ◌⊎◌, inl, inr, Bool, true, false, not, List, [], ◌∷◌, ◌++◌, length, Option, Some, None, nat_lt, nat_eq, refl, sym, ap, ◌∙◌, subst, arith, append_assoc, append-nil}
 use Rattle.std.specs.List.{AllByRecursion}
 use Rattle.std.proofs.lemmas.Bool.{ltb-true}
 use Rattle.std.proofs.lemmas.List.{length-map}
 use Rattle.gc_lines.specs.Frames.{rest_behind}
 use Rattle.gc_catalogue.specs.declared.call.Call.TheVariants.{NullProc}
-use Rattle.gc_client.specs.declared.pending.Pending.{Pending}
 use Rattle.gc_client.specs.Rule.{ById, fresh, place, place_in, expired, expires, heard, hears, id_settled}
 use Rattle.gc_texts.specs.declared.commands.Command.{Command}
 use Rattle.gc_station.specs.declared.plan.Plan.{Plan}
-use Rattle.gc_station.specs.declared.cause.Cause.{Cause}
 use Rattle.gc_station.specs.declared.link.Moment.{Moment}
-use Rattle.gc_station.specs.declared.progress.Phase.{Phase}
 use Rattle.gc_station.specs.declared.progress.Order.{Order}
 use Rattle.gc_station.specs.declared.progress.Order.TheVariants as orders
 use Rattle.gc_station.specs.declared.progress.Progress.{Progress}
@@ -21,10 +18,9 @@ use Rattle.gc_station.specs.Progressing.{later, turned, told, reckoned_early, pr
 use Rattle.gc_station.specs.Reasons.{IsFor}
 use Rattle.gc_station.specs.Runs.{stood}
 use Rattle.gc_station.specs.Standing.{Standing, opening, order_at, is_hopeless, with_progress, with_rest, line_came, lines_came, lines_behind, came, is_heard, asks, after_tell, after_put, after_read, IsTelling, IsReading, Obeys, moved, after, after_all, Runs}
-use Rattle.gc_station.proofs.Answers.{with_sent, client_is, id_digit, piece_before}
-use Rattle.gc_station.proofs.Closings.{runs_split}
-use Rattle.gc_station.proofs.Counts.{came_progress}
-use Rattle.gc_station.proofs.EachRun.{fine_stood, down_idle}
+use Rattle.gc_station.proofs.Answers.{with_sent, client_is}
+use Rattle.gc_station.proofs.Pieces.{id_digit, piece_before}
+use Rattle.gc_station.proofs.EachRun.{fine_stood}
 use Rattle.gc_station.proofs.Facts.{order_for}
 use Rattle.gc_station.proofs.Fine.{Fine, is_idle}
 use Rattle.gc_station.proofs.Going.{after_all-append}
