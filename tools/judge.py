@@ -1,5 +1,5 @@
 """Judges what `geocom station --csv` wrote over a bad line: each command of a cycle has one row, in order; every answer is the
-right one for its request; and the counts at the end are those of the rows.
+right one for its request; the counts at the end are those of the rows; and a cycle that wasn't done in time is told once, in order.
 
     judge.py WRITTEN MESSAGES LOG CYCLES COMMANDS VALUES
 
@@ -9,6 +9,7 @@ which request it answers; then the values are such numbers. It prints the counts
 
 import collections
 import csv
+import re
 import sys
 
 written, messages, log, cycles, commands, values = sys.argv[1:]
@@ -55,7 +56,11 @@ counts = f"answered {count['answered']} late {count['late']} lost {count['lost']
 lines = open(messages).read().splitlines()
 if not lines or lines[-1] != counts:
     faults.append(f"the counts are {counts}, and told is {lines[-1:]}")
+overran = [re.fullmatch(r"geocom: cycle (\d+) was not done when the next was due", line) for line in lines[:-1]]
+late_cycles = [int(m.group(1)) if m else 0 for m in overran]
+if late_cycles != sorted(set(late_cycles)) or any(not 0 < cycle < cycles for cycle in late_cycles):
+    faults.append(f"told besides: {lines[:-1]}")
 for fault in faults[:10]:
     print(fault)
-print(f"{counts}, {len(faults)} faults")
+print(f"{counts}, {len(late_cycles)} cycles not done in time, {len(faults)} faults")
 sys.exit(1 if faults else 0)

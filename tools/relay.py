@@ -1,5 +1,5 @@
 """A bad line between `geocom station` and `geocom serve`, by a seed: it loses, delays, repeats and cuts lines, hands them over
-in pieces, kills connections, refuses them for a while, and stalls. It keeps order, as the protocol wants of a line.
+in pieces, kills connections, closes idle ones, refuses them for a while, and stalls. It keeps order, as the protocol wants of a line.
 
 For each connection of the station it starts `geocom serve` and makes a connection to it. What was under way on the last
 connection may still come on the new one, at once.
@@ -147,6 +147,7 @@ class Relay:
         owed = collections.deque()
         self.remain(up, down, far, owed)
         dead_until = 0.0
+        heard = time.monotonic()
         alive = True
         while alive:
             now = time.monotonic()
@@ -154,12 +155,16 @@ class Relay:
                 alive = self.deliver(up, far, owed) and self.deliver(down, near, owed)
             soonest = min([w.queue[0][0] for w in (up, down) if w.queue], default=now + 1)
             wait = max(0.0, max(soonest, dead_until) - now)
+            if self.options.idle and now - heard > self.options.idle / 1000:
+                self.told["idle"] += 1
+                alive = False
             for end in select.select([near, far], [], [], min(wait, 1))[0] if alive else []:
                 try:
                     data = end.recv(65536)
                 except OSError:
                     data = b""
                 alive = alive and bool(data)
+                heard = time.monotonic()
                 if end is near:
                     self.from_station(up, data)
                 else:
@@ -258,6 +263,7 @@ def main():
     words.add_argument("--delay", type=int, default=8, help="milliseconds of a line, at most")
     words.add_argument("--bad", type=float, default=1, help="0: a good line")
     words.add_argument("--kill", action="store_true")
+    words.add_argument("--idle", type=int, default=0, help="milliseconds after which a connection that carries nothing is closed; 0: none is")
     words.add_argument("--leftovers", choices=["", "replies", "both"], default="")
     words.add_argument("--tag", action="store_true")
     words.add_argument("--log", required=True)

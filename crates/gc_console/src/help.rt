@@ -84,8 +84,9 @@ begin with # are skipped. Each is asked once in each cycle, and each gets a line
   lost      no reply came, and none will be taken
 
 The connection is closed and made anew where it ends or fails, and where all requests that wait are given up, no other
-may go out, and nothing came and nothing more was given up for the quiet time. With each new connection the instrument has to start anew, as `serve` does, or keep no replies;
-if it does neither, use --settle.
+may go out, and nothing came and nothing more was given up for the quiet time. With each new connection the instrument
+has to start anew, as `serve` does, or keep no replies; if it does neither, use --settle. The quiet time has to be longer
+than the instrument's slowest answer.
 
 Example, beside `geocom serve 4001`:
   printf '7 5003\\n8 2026\\n' | geocom station 4001

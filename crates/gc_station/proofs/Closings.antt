@@ -15,13 +15,13 @@ use Rattle.gc_station.specs.declared.progress.Progress.{Progress}
 use Rattle.gc_station.specs.Acts.{Act, Told, Untold, Put, Cut, Gave, Silent, Ended, Broke, Closed, Opened, Unopened}
 use Rattle.gc_station.specs.Deciding.{is_up, is_quiet, order_in}
 use Rattle.gc_station.specs.Progressing.{turned, told, begun, failing, quieted, waited, reckoned_early, is_finished, is_resting, closed, cleared, probed, sent, is_spared}
-use Rattle.gc_station.specs.Closing.{IsReasoned, Shows, ClosesForACause, EndsDone, EndsBehind, EndsGone, Ends, StopsForACause}
+use Rattle.gc_station.specs.Closing.{IsAlone, IsReasoned, Shows, ClosesForACause, EndsDone, EndsBehind, EndsGone, Ends, StopsForACause}
 use Rattle.gc_station.specs.Reasons.{IsFor, IsAtItsEnd}
 use Rattle.gc_station.specs.Runs.{stood}
 use Rattle.gc_station.specs.Standing.{Standing, opening, order_at, place_next, with_progress, with_moment, is_heard, is_hopeless, asks, asks_first, after_tell, after_put, after_open, after_read, Puts, IsTelling, IsOpening, IsReading, Obeys, moved, after, after_all, Runs}
-use Rattle.gc_station.proofs.Facts.{order_for}
-use Rattle.gc_station.proofs.Fine.{says_done}
 use Rattle.gc_station.proofs.EachRun.{fine_stood}
+use Rattle.gc_station.proofs.Facts.{order_for}
+use Rattle.gc_station.proofs.Fine.{Fine, is_idle, says_done}
 use Rattle.gc_station.proofs.Going.{after_all-append}
 use Rattle.gc_station.proofs.Counts.{came_progress}
 use Rattle.gc_station.proofs.Turns.{closed_down}
@@ -159,12 +159,19 @@ pub runs_split : (plan : Plan) (commands : List Command) (s : Standing) (earlier
 runs_split plan commands s [] later act runs = (tt, runs.0)
 runs_split plan commands s (x ∷ xs) later act runs = let r = runs_split plan commands (after plan commands s x) xs later act runs.1 in ((runs.0, r.0), r.1)
 
+-- what clears and settles a connection goes out where nothing waits
+goes_alone : (plan : Plan) (commands : List Command) (s : Standing) (next : Order) → Fine plan commands s → IsFor plan s.progress (length s.client.waiting) (is_hopeless s.client) next → IsAlone next s.client
+goes_alone plan commands s order.Clear fine needs = (fine.idle (ap is_idle needs)).1
+goes_alone plan commands s order.Probe fine needs = (fine.idle (ap is_idle needs.0)).1
+goes_alone plan commands s next fine needs = tt
+
 pub act_reasoned : (plan : Plan) (commands : List Command) (turns : ℕ) (earlier later : List Act) (act : Act) → Runs plan commands (opening plan turns) (earlier ++ act ∷ later) → IsReasoned plan commands (stood plan commands turns earlier) act
 act_reasoned plan commands turns earlier later act runs =
     let s = stood plan commands turns earlier in
     record {
       obeys = (runs_split plan commands (opening plan turns) earlier later act runs).1;
       needs = order_for plan s.progress (length s.client.waiting) (is_hopeless s.client);
+      alone = goes_alone plan commands s (order_at plan s) (fine_stood plan commands turns earlier) (order_for plan s.progress (length s.client.waiting) (is_hopeless s.client));
     }
 
 -- the last of some acts

@@ -22,7 +22,7 @@ use Rattle.gc_station.specs.Runs.{stood}
 use Rattle.gc_station.specs.Standing.{Standing, opening, order_at, place_next, with_progress, is_hopeless, client_sent, asks, asks_first, moved, after, after_all}
 use Rattle.gc_station.proofs.Each.{EachIs, each_settled, each_probe, each_sent, sent_whole}
 use Rattle.gc_station.proofs.Facts.{order_for}
-use Rattle.gc_station.proofs.Fine.{is_idle, says_done, Fine, fine_at, fine_told, fine_begun, fine_close, fine_read, fine_tell, fine_put, fine_open, never_idle, never_done}
+use Rattle.gc_station.proofs.Fine.{is_idle, says_done, none_waits, Fine, fine_at, fine_told, fine_begun, fine_close, fine_read, fine_tell, fine_put, fine_open, never_idle, never_done}
 
 room_left : (n w : ℕ) → n < w → nat_eq n w ≡ false
 room_left n w room = grind (arith, nat_tests, room)
@@ -69,7 +69,7 @@ fine_sent plan commands s fine ready probe some room =
 fine_probed : (plan : Plan) (commands : List Command) (s : Standing) → Fine plan commands s → s.progress.phase ≡ Probing → Fine plan commands (with_progress probed (asks plan 0 NullProc s))
 fine_probed plan commands s fine is =
     let p = s.progress in
-    let nothing = (fine.idle (ap is_idle is)).1 in
+    let nothing = none_waits s.client (fine.idle (ap is_idle is)).1 in
     record {
       unsent = fine.unsent;
       left = fine.left;
@@ -147,7 +147,7 @@ fine_opening plan commands turns =
 pub fine_stood : (plan : Plan) (commands : List Command) (turns : ℕ) (acts : List Act) → Fine plan commands (stood plan commands turns acts)
 fine_stood plan commands turns acts = fine_all plan commands (opening plan turns) acts (fine_opening plan commands turns)
 
-down_idle : (phase : Phase) → is_up phase ≡ false → is_idle phase ≡ true
+pub down_idle : (phase : Phase) → is_up phase ≡ false → is_idle phase ≡ true
 down_idle Down e = refl
 down_idle Resting e = refl
 down_idle Clearing e = cc
@@ -163,7 +163,7 @@ pub stopped : (plan : Plan) (commands : List Command) (s : Standing) (why : Caus
 stopped plan commands s why fine stop =
     let p = s.progress in
     let is : IsFor plan p (length s.client.waiting) (is_hopeless s.client) (order.Stop why) = subst (λ (o : Order). IsFor plan p (length s.client.waiting) (is_hopeless s.client) o) stop (order_for plan p (length s.client.waiting) (is_hopeless s.client)) in
-    let nothing = (fine.idle (down_idle p.phase is.0)).1 in (
+    let nothing = none_waits s.client (fine.idle (down_idle p.phase is.0)).1 in (
       nothing,
       each_settled p.probe (plan.cycles - p.left) (place_next commands p) s.client.waiting s.records _ nothing fine.each,
       by_reason is.1,

@@ -3,7 +3,7 @@ use Rattle.std.proofs.Common.{◌≡◌, ℕ, suc, ◌-◌, ◌<◌, ◌≤◌, 
 use Rattle.std.proofs.lemmas.Bool.{eqb-true}
 use Rattle.std.proofs.lemmas.List.{length-map, nil_from_length}
 use Rattle.gc_lines.specs.Frames.{rest_behind}
-use Rattle.gc_client.specs.Rule.{expired, fresh, heard, expiring, restarts}
+use Rattle.gc_client.specs.Rule.{ById, expires, expired, fresh, heard, expiring, restarts}
 use Rattle.gc_client.specs.OneForOne.{of_pending}
 use Rattle.gc_texts.specs.declared.commands.Command.{Command}
 use Rattle.gc_station.specs.declared.plan.Plan.{Plan}
@@ -20,7 +20,7 @@ use Rattle.gc_station.specs.EachOnce.{IsEachOnce, requests, sent_by, of_record}
 use Rattle.gc_station.specs.Standing.{Standing, place_next, with_progress, with_moment, with_rest, line_came, lines_came, lines_behind, came, is_heard, after_tell, after_put, after_open, after_read, after_close, piece_at, with_client, with_settled, is_nil}
 use Rattle.gc_station.proofs.Each.{each_moment, each_settled, each_nothing, each_lost, each_heard, heard_fewer, sent_whole, sent_none}
 
--- nothing waits there
+-- nothing waits there, and ids begin anew
 abbrev pub is_idle : Phase → Bool
 is_idle Down = true
 is_idle Resting = true
@@ -52,13 +52,16 @@ says_done Ready = false
 says_done (Closing why) = is_done why
 says_done (Over why) = is_done why
 
+pub none_waits : (c : ById) → c ≡ fresh → c.waiting ≡ []
+none_waits c anew = ap (λ d. d.waiting) anew
+
 -- what every run keeps
 pub record Fine (plan : Plan) (commands : List Command) (s : Standing) : Type 0 where
   pub unsent : s.progress.unsent ≤ length commands
   pub left : s.progress.left ≤ plan.cycles
   pub begun : 0 < s.progress.unsent → s.progress.left < plan.cycles
   pub within : s.progress.probe ≡ false → length s.client.waiting ≤ place_next commands s.progress
-  pub idle : is_idle s.progress.phase ≡ true → (s.progress.probe ≡ false) × (s.client.waiting ≡ [])
+  pub idle : is_idle s.progress.phase ≡ true → (s.progress.probe ≡ false) × (s.client ≡ fresh)
   pub finished : says_done s.progress.phase ≡ true → (s.progress.left ≡ 0) × (s.progress.unsent ≡ 0)
   pub each : IsEachOnce plan commands s
 
@@ -83,7 +86,7 @@ fine_moment plan commands s m fine = record {
   left = fine.left;
   begun = fine.begun;
   within = λ e. let n : length (map (expired m.elapsed) s.client.waiting) ≡ length s.client.waiting = length-map s.client.waiting (expired m.elapsed) in omega (arith, n, fine.within e);
-  idle = λ e. let i = fine.idle e in (i.0, ap (λ ws. map (expired m.elapsed) ws) i.1);
+  idle = λ e. let i = fine.idle e in (i.0, ap (λ c. expires c m.elapsed) i.1);
   finished = fine.finished;
   each = each_moment s.progress.probe (plan.cycles - s.progress.left) (place_next commands s.progress) s.client.waiting s.records (sent_by commands (plan.cycles - s.progress.left) (place_next commands s.progress)) m.elapsed fine.each;
 }
@@ -153,15 +156,16 @@ again_done why p true some other is e = both (nat_eq p.left 0) (nat_eq p.unsent 
 again_done why p false true other is e = cc
 again_done why p false false other is e = cc
 
-pub fine_again : (plan : Plan) (commands : List Command) (s : Standing) (why : Cause) → is_done why ≡ false → Fine plan commands s → s.client.waiting ≡ [] → Fine plan commands (with_progress (again plan why) s)
-fine_again plan commands s why other fine nothing =
+pub fine_again : (plan : Plan) (commands : List Command) (s : Standing) (why : Cause) → is_done why ≡ false → Fine plan commands s → s.client ≡ fresh → Fine plan commands (with_progress (again plan why) s)
+fine_again plan commands s why other fine anew =
+    let nothing = none_waits s.client anew in
     let p = s.progress in
     record {
       unsent = fine.unsent;
       left = fine.left;
       begun = fine.begun;
       within = λ e. let n : length s.client.waiting ≡ 0 = ap length nothing in omega (arith, n);
-      idle = λ e. (refl, nothing);
+      idle = λ e. (refl, anew);
       finished = again_done why p (is_finished p) (is_spared plan why p || nat_lt 0 p.tries) other refl;
       each = each_nothing false (plan.cycles - p.left) (place_next commands p) s.client.waiting s.records _ nothing (each_settled p.probe (plan.cycles - p.left) (place_next commands p) s.client.waiting s.records _ nothing fine.each);
     }
@@ -265,7 +269,7 @@ reckon plan commands s early tries true true is e fine =
       left = fine.left;
       begun = fine.begun;
       within = λ g. omega (arith, none);
-      idle = λ g. (refl, nothing);
+      idle = λ g. (refl, (fine.idle g).1);
       finished = fine.finished;
       each = each_nothing false (plan.cycles - p.left) (place_next commands p) s.client.waiting s.records _ nothing (each_settled p.probe (plan.cycles - p.left) (place_next commands p) s.client.waiting s.records _ nothing fine.each);
     }

@@ -11,7 +11,7 @@ use Rattle.gc_station.specs.Progressing.{turned}
 use Rattle.gc_station.specs.Reasons.{IsFor}
 use Rattle.gc_station.specs.Runs.{stood}
 use Rattle.gc_station.specs.Standing.{Standing, opening, order_at, is_hopeless, with_progress, moved, after, after_all}
-use Rattle.gc_station.proofs.Counts.{Kept, Counts, counted_sent, moved_counts}
+use Rattle.gc_station.proofs.Counts.{Kept, Counts, moved_counts}
 use Rattle.gc_station.proofs.EachRun.{fine_stood}
 use Rattle.gc_station.proofs.Facts.{order_for}
 use Rattle.gc_station.proofs.Fine.{Fine}

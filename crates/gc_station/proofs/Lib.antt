@@ -8,7 +8,12 @@ mod Fine
 mod Further
 mod Going
 mod Hearing
+mod Lists
+mod Meets
 mod Orders
+mod Pieces
+mod Probing
 mod Records
 mod Sides
 mod Turns
+mod Waiting

@@ -1,9 +1,8 @@
 -- A close stands between what was before it and what comes behind.
-use Rattle.std.proofs.Common.{◌≡◌, ◌⊎◌, inl, inr, ℕ, List, [], ◌∷◌, ◌++◌, refl, sym, ap, ◌∙◌, subst}
+use Rattle.std.proofs.Common.{◌≡◌, inl, inr, ℕ, List, [], ◌∷◌, ◌++◌, sym, ap, ◌∙◌, subst}
 use Rattle.std.specs.List.{AllByRecursion}
 use Rattle.gc_texts.specs.declared.commands.Command.{Command}
 use Rattle.gc_station.specs.declared.plan.Plan.{Plan}
-use Rattle.gc_station.specs.declared.cause.Cause.{Cause}
 use Rattle.gc_station.specs.declared.progress.Order.{Order}
 use Rattle.gc_station.specs.declared.progress.Order.TheVariants.{Close}
 use Rattle.gc_station.specs.Acts.{Act, Gave, Closed}
@@ -11,7 +10,7 @@ use Rattle.gc_station.specs.Answers.{IsBefore, deadline_behind, IsAnsweredIn, Is
 use Rattle.gc_station.specs.Progressing.{turned}
 use Rattle.gc_station.specs.Records.{Record}
 use Rattle.gc_station.specs.Runs.{stood}
-use Rattle.gc_station.specs.Standing.{Standing, Puts, opening, order_at, request_text, with_progress, after, moved, Runs}
+use Rattle.gc_station.specs.Standing.{Standing, Puts, opening, order_at, request_text, with_progress, moved, Runs}
 use Rattle.gc_station.proofs.Closings.{runs_split, closes_only}
 use Rattle.gc_station.proofs.Going.{after_all-append}
 

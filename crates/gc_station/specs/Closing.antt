@@ -1,11 +1,12 @@
 -- Why each act is made, and why a connection is closed: this project's own.
 use Rattle.std.specs.Prelude.{◌≡◌, ◌⊎◌, ℕ, false, List, [], ◌∷◌, ◌++◌, length}
+use Rattle.gc_client.specs.Rule.{ById, fresh}
 use Rattle.gc_texts.specs.declared.commands.Command.{Command}
 use Rattle.gc_station.specs.declared.cause.Cause.{Cause}
 use Rattle.gc_station.specs.declared.cause.Cause.TheVariants as cause
 use Rattle.gc_station.specs.declared.plan.Plan.{Plan}
 use Rattle.gc_station.specs.declared.progress.Order.{Order}
-use Rattle.gc_station.specs.declared.progress.Order.TheVariants.{Close}
+use Rattle.gc_station.specs.declared.progress.Order.TheVariants.{Clear, Probe, Close}
 use Rattle.gc_station.specs.declared.progress.Progress.{Progress}
 use Rattle.gc_station.specs.Acts.{Act, Untold, Cut, Ended, Broke, Closed, Unopened}
 use Rattle.gc_station.specs.Deciding.{is_up}
@@ -14,10 +15,17 @@ use Rattle.gc_station.specs.Reasons.{IsFor, IsAtItsEnd}
 use Rattle.gc_station.specs.Runs.{stood}
 use Rattle.gc_station.specs.Standing.{Standing, order_at, is_hopeless, Obeys}
 
+-- the clearing line feed and the null procedure go out where nothing waits and ids begin anew: the null procedure has id 0
+abbrev pub IsAlone : Order → ById → Type 0
+IsAlone Clear client = client ≡ fresh
+IsAlone Probe client = client ≡ fresh
+IsAlone _ client = Unit {0}
+
 -- an act is that of the order that is next, and what that order needs is so
 pub record IsReasoned (plan : Plan) (commands : List Command) (s : Standing) (act : Act) : Type 0 where
   pub obeys : Obeys commands s (order_at plan s) act
   pub needs : IsFor plan s.progress (length s.client.waiting) (is_hopeless s.client) (order_at plan s)
+  pub alone : IsAlone (order_at plan s) s.client
 
 -- an act shows a cause: the other end closed, a read failed, the clock couldn't be read, or a write was cut
 abbrev pub Shows : Cause → Act → Type 0

@@ -10,4 +10,5 @@ pub mod EachOnce
 pub mod Reasons
 pub mod Closing
 pub mod Answers
+pub mod Probing
 pub mod Stations

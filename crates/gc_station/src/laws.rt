@@ -4,13 +4,14 @@ ghost use Rattle.std.specs.Prelude.{◌≡◌, ℕ, List, [], ◌∷◌, ◌++�
 ghost use Rattle.std.specs.List.{AllByRecursion};
 ghost use Rattle.gc_texts.specs.declared.commands.Command.{Command};
 ghost use Rattle.gc_station.specs.declared.cause.Cause.{Cause};
-ghost use Rattle.gc_station.specs.declared.progress.Order.TheVariants.{Send, Stop};
+ghost use Rattle.gc_station.specs.declared.progress.Order.TheVariants.{Probe, Send, Stop};
 ghost use Rattle.gc_station.specs.declared.plan.Plan.{Plan};
 ghost use Rattle.gc_station.specs.Acts.{Act, Closed};
 ghost use Rattle.gc_station.specs.Answers.{IsAnsweredIn, IsTrueRecord, IsOnOneSide, IsAnew};
 ghost use Rattle.gc_station.specs.Closing.{IsReasoned, ClosesForACause, StopsForACause};
 ghost use Rattle.gc_station.specs.EachOnce.{EachOnce, IsFurther};
 ghost use Rattle.gc_station.specs.Records.{Record};
+ghost use Rattle.gc_station.specs.Probing.{KeepsOpen, IsAnsweredWithin};
 ghost use Rattle.gc_station.specs.Runs.{stood};
 ghost use Rattle.gc_station.specs.Standing.{opening, order_at, Runs};
 
@@ -21,7 +22,8 @@ pub fn each_command_once()
 {}
 
 /// Each act of a run is that of the order that was next, and what that order needs was so: where a command was sent, the
-/// window had room, and its bytes are the line of the next command of the cycle.
+/// window had room, and its bytes are the line of the next command of the cycle; where the line feed or the null procedure
+/// went out, nothing waited, and the null procedure had id 0.
 pub fn each_act_is_due()
     ensures { (plan : Plan) (commands : List Command) (turns : ℕ) (earlier later : List Act) (act : Act)
         → Runs plan commands (opening plan turns) (earlier ++ act ∷ later) → IsReasoned plan commands (stood plan commands turns earlier) act }
@@ -56,6 +58,16 @@ pub fn answers_come_in_time()
 pub fn no_answer_crosses_a_close()
     ensures { (plan : Plan) (commands : List Command) (turns : ℕ) (earlier later : List Act) (r : Record) (line : List ℕ)
         (a : IsAnsweredIn plan commands turns (earlier ++ Closed ∷ later) r line) → IsOnOneSide earlier a }
+{}
+
+/// Where the null procedure goes out on a new connection (`settle`), no command follows on that connection before a line came
+/// with the null procedure's id.
+pub fn null_procedure_is_answered_first()
+    ensures { (plan : Plan) (commands : List Command) (turns : ℕ) (earlier between : List Act) (act : Act)
+        → Runs plan commands (opening plan turns) ((earlier ++ act ∷ []) ++ between)
+        → order_at plan (stood plan commands turns earlier) ≡ Probe → AllByRecursion KeepsOpen between
+        → order_at plan (stood plan commands turns ((earlier ++ act ∷ []) ++ between)) ≡ Send
+        → IsAnsweredWithin plan commands turns (earlier ++ act ∷ []) between }
 {}
 
 /// Behind a close nothing waits, ids begin anew, and no bytes of a line are kept.

@@ -14,7 +14,8 @@ pub struct Plan {
     /// How long nothing may come or go, and no request be given up, before the line counts as quiet.
     pub quiet: u64,
     /// How many times in a row it connects anew without a reply that settles a command's request. A connection that ends
-    /// while the next cycle isn't due takes none; one that can't be made always takes one.
+    /// once a cycle is done and before the next is due takes none, and the next is made when that cycle is due; one that
+    /// can't be made always takes one.
     pub retries: u32,
     /// Whether a null procedure has to be answered on each new connection before commands go out.
     pub settle: bool,

@@ -46,16 +46,18 @@ pub(crate) fn run<L: Link, B: Book>(
 /// Sends the commands over a link, in cycles, as the plan has it, and writes into a book how each request ended.
 ///
 /// What it does next is a function of what the link told: `order_at`. It connects, sends a lone line feed, and drops what
-/// comes until nothing came for the quiet time; with `settle` a null procedure is sent then, and has to be answered. Then
-/// the commands of a cycle go out, each once, as long as the window has room. A moment gives up what has reached its
-/// deadline before the bytes that came before that moment are heard. A connection that failed, ended or is dead is closed,
-/// which loses what waits, and after the quiet time it connects anew. A command is never sent again in its cycle.
+/// comes until nothing came for the quiet time; with `settle` a null procedure is sent then, and a line with its id has to
+/// come, in time or late. Then the commands of a cycle go out, each once, as long as the window has room. A moment gives up
+/// what has reached its deadline before the bytes that came before that moment are heard. A connection that failed, ended
+/// or is dead is closed, which loses what waits. It connects anew after the quiet time, and once a cycle is done not before
+/// the next is due. A command is never sent again in its cycle.
 ///
-/// `Ok`: each command of each cycle is settled, and the tally counts how. Where it connects no more, `Read` comes where a
-/// read or the clock failed or the line was dead, `Write` where a write was cut, with the cycle's requests that had gone
-/// out (0 before the first cycle), `LinkClosed` where the other end closed the connection, and `Socket` where no connection
-/// could be made. `TooManyReads` comes where `max_turns` acts were made. In all of these the connection is closed, and what
-/// waited is written as lost. `Output` comes where the book failed; the connection is closed then too.
+/// `Ok`: each command of each cycle is settled, and the tally counts how. Where the clock can't be read it is over, and
+/// where no try is left: `Read` comes where the clock or a read failed or the line was dead, `Write` where a write was cut,
+/// with the cycle's requests that had gone out (0 before the first cycle), `LinkClosed` where the other end closed the
+/// connection, and `Socket` where no connection could be made. `TooManyReads` comes where `max_turns` acts were made; a
+/// connection that stands then is closed by one more. In all of these the connection is closed, and what waited is written
+/// as lost. `Output` comes where the book failed; the connection is closed then too, and what waited isn't written.
 pub fn run_station<L: Link, B: Book>(
     link: &mut L,
     book: &mut B,

@@ -120,26 +120,6 @@ impl Station {
         }
     }
 
-    // How many milliseconds to wait for bytes. Nothing rests on it.
-    fn patience(&self, plan: &Plan, rested: bool) -> u64 {
-        let quiet = later(self.progress.since, plan.quiet);
-        let due = later(self.progress.began, plan.every);
-        let until = match self.client.next_deadline() {
-            Some(deadline) => deadline,
-            None => if rested {
-                due
-            } else if !self.progress.phase.is_up() && self.progress.is_resting(plan) {
-                quiet.max(due)
-            } else {
-                quiet
-            },
-        };
-        until
-            .saturating_sub(self.progress.moment.elapsed)
-            .max(1)
-            .min(60_000)
-    }
-
     // Reads the clock.
     fn tell<L: Link>(&mut self, link: &mut L, plan: &Plan)
         ensures { (commands : List Command) (text : Record → List ℕ) (known : Option (List ℕ))
@@ -153,32 +133,6 @@ impl Station {
             }
             Err(_) => self.progress.fail(Cause::Clock),
         }
-    }
-
-    // Tells a book that the cycle wasn't done when the next was due, once: behind the moment at which that is, or where it was done
-    // at a moment behind that. The cycle that was told last.
-    pub(crate) fn tell_overrun<B: Book>(
-        &self,
-        book: &mut B,
-        plan: &Plan,
-        order: Order,
-        told: u32,
-    ) -> u32
-        ensures taken { B.taken book.new ≡ B.taken book.old }
-        ensures failed { B.failed book.new ≡ B.failed book.old }
-    {
-        let progress = &self.progress;
-        let cycle = plan.cycles.saturating_sub(progress.left);
-        let waits = self.client.waiting() > 0 && !progress.probe;
-        let late = match order {
-            Order::Begin => !progress.early,
-            _ => (progress.unsent > 0 || waits) && progress.is_due(plan),
-        };
-        if late && cycle > told && progress.left > 0 && plan.every > 0 {
-            book.overran(cycle);
-            return cycle;
-        }
-        told
     }
 
     // Reads the clock, and begins a cycle.

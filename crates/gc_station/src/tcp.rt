@@ -1,5 +1,4 @@
-//! A link over a real connection to a port of 127.0.0.1: what a socket answers is told as an act, and nothing of it waits for
-//! ever.
+//! A link over a real connection to a port of 127.0.0.1. None of its calls waits for ever.
 
 ghost use Rattle.std.specs.Prelude.{ℕ, List, None};
 ghost use Rattle.gc_station.specs.Acts.{IsWithin};
@@ -11,8 +10,8 @@ use std::net::{Net, SocketAddr, TcpListener, TcpStream};
 use std::thread;
 use std::time::{Clock, Duration, Instant, SystemTime, UNIX_EPOCH};
 
-// How long one write, and the making of a connection, may wait for the other end, in milliseconds. A radio modem takes a
-// request line in less than a second.
+// How long one write of the system, and the making of a connection, may wait for the other end, in milliseconds. A radio
+// modem takes a request line in less than a second; a put whose line goes out in parts may wait so long for each.
 const PATIENCE: u64 = 10_000;
 
 // How often one put is tried again where it was interrupted.

@@ -2,6 +2,7 @@
 
 mod drills;
 mod places;
+mod rests;
 mod script;
 
 use crate::plan::Plan;

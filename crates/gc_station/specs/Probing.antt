@@ -1,0 +1,27 @@
+-- The null procedure, this project's own: on its connection no command goes out before it was answered.
+use Rattle.std.specs.Prelude.{◌≡◌, ℕ, List, ◌∷◌, ◌++◌, Some}
+use Rattle.gc_client.specs.Rule.{heard}
+use Rattle.gc_texts.specs.declared.commands.Command.{Command}
+use Rattle.gc_station.specs.declared.link.Moment.{Moment}
+use Rattle.gc_station.specs.declared.plan.Plan.{Plan}
+use Rattle.gc_station.specs.Acts.{Act, Gave, Closed}
+use Rattle.gc_station.specs.Runs.{stood}
+use Rattle.gc_station.specs.Standing.{lines_behind}
+
+-- an act doesn't close the connection
+abbrev pub KeepsOpen : Act → Type 0
+KeepsOpen Closed = ⊥
+KeepsOpen _ = Unit {0}
+
+-- among these acts, which follow others, a line came with the null procedure's id
+pub record IsAnsweredWithin (plan : Plan) (commands : List Command) (turns : ℕ) (before between : List Act) : Type 0 where
+  pub first : List Act
+  pub piece : List ℕ
+  pub moment : Moment
+  pub behind : List Act
+  pub order : between ≡ first ++ Gave piece moment ∷ behind
+  pub front : List (List ℕ)
+  pub line : List ℕ
+  pub others : List (List ℕ)
+  pub came : lines_behind (stood plan commands turns (before ++ first)).rest piece ≡ front ++ line ∷ others
+  pub id : heard line ≡ Some 0
