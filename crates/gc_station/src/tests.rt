@@ -4,6 +4,7 @@ mod drills;
 mod places;
 mod rests;
 mod script;
+mod stalls;
 
 use crate::plan::Plan;
 use crate::run::run_station;
@@ -26,11 +27,12 @@ fn plan() -> Plan {
     }
 }
 
+fn command(target: u32, call: Call) -> Command {
+    Command { target, call }
+}
+
 fn null(target: u32) -> Command {
-    Command {
-        target,
-        call: Call::NullProc,
-    }
+    command(target, Call::NullProc)
 }
 
 // What two commands come to over a script: what was put, what was written, and the end.
@@ -87,15 +89,6 @@ fn replies(rt: HostRuntime) -> Result<(), Fail> {
     );
     runs_to(
         &rt,
-        "the moment after a piece gives up first",
-        plan(),
-        Script::new([QUIET, Step::Line(b"%R1P,0,0:0\r\n", 100), SECOND].as_slice()),
-        BOTH,
-        b"10l 11a ",
-        None,
-    );
-    runs_to(
-        &rt,
         "late",
         hasty(),
         Script::new([
@@ -116,6 +109,41 @@ fn replies(rt: HostRuntime) -> Result<(), Fail> {
         Script::new([QUIET, SECOND].as_slice()),
         BOTH,
         b"10x 11a ",
+        None,
+    );
+    Ok(())
+}
+
+// How the first request ends whose reply comes in a piece so many milliseconds after it was sent.
+const MOMENTS: &[(u64, &[u8])] = &[(99, b"10a 11a "), (100, b"10l 11a "), (101, b"10l 11a ")];
+
+// The moment after a piece gives up first.
+#[test]
+fn deadlines(rt: HostRuntime) -> Result<(), Fail> {
+    for row in MOMENTS {
+        runs_to(
+            &rt,
+            "a reply about the deadline",
+            plan(),
+            Script::new([QUIET, Step::Line(b"%R1P,0,0:0\r\n", row.0), SECOND].as_slice()),
+            BOTH,
+            row.1,
+            None,
+        );
+    }
+    runs_to(
+        &rt,
+        "the front of a reply in time, and its end late",
+        plan(),
+        Script::new([
+            QUIET,
+            Step::Line(b"%R1P,0,0:", 99),
+            Step::Line(b"0\r\n", 1),
+            SECOND,
+        ]
+        .as_slice()),
+        BOTH,
+        b"10l 11a ",
         None,
     );
     Ok(())

@@ -1,5 +1,7 @@
 //! A link that plays a script, and a book that keeps a letter for each outcome.
 
+ghost use Rattle.gc_station.specs.Acts.{IsWithin};
+
 use crate::book::{Book, Stamp};
 use crate::link::{Came, Link, Moment};
 use arrayvec::ArrayVec;
@@ -11,8 +13,12 @@ use gc_lines::PortFailed;
 pub(super) enum Step {
     Line(&'static [u8], u64),
     Silence(u64),
+    // The reply to the last request that went out, with its number among all of them, counted from 1.
+    Reply(u64),
     // The clock goes back.
     Back(u64),
+    // Nothing comes any more, until the connection is closed.
+    Dead,
     #[default]
     End,
     Failure,
@@ -26,9 +32,14 @@ pub(super) struct Script<'a> {
     at: usize,
     // The first so many opens fail.
     pub(super) closed_doors: usize,
-    // The call of `put` that is cut after one byte, counted from 1.
+    // The call of `put` that is cut, counted from 1.
     pub(super) cut: usize,
+    // How many bytes of it go out.
+    pub(super) kept: usize,
     puts: usize,
+    // How many requests went out, and the id of the last, which has no parameters.
+    requests: u8,
+    id: u8,
     // The call that fails, counted from 0; `close` isn't counted.
     pub(super) failing: usize,
     calls: usize,
@@ -45,7 +56,10 @@ impl<'a> Script<'a> {
             at: 0,
             closed_doors: 0,
             cut: 0,
+            kept: 0,
             puts: 0,
+            requests: 0,
+            id: b'0',
             failing: usize::MAX,
             calls: 0,
             clock: 1000,
@@ -72,6 +86,22 @@ impl<'a> Script<'a> {
             utc: self.clock,
         }
     }
+
+    // These bytes come, if there are any.
+    fn bring(&mut self, buf: &mut [u8], line: &[u8], later: u64) -> Came
+        ensures { IsWithin result buf.new }
+    {
+        let moment = self.moment(later);
+        let mut n: usize = 0;
+        for (place, byte) in buf.iter_mut().zip(line) {
+            *place = *byte;
+            n = n.saturating_add(1);
+        }
+        if n == 0 || n > buf.len() {
+            return Came::Silence(moment);
+        }
+        Came::Bytes(n, moment)
+    }
 }
 
 impl<'a> Link for Script<'a> {
@@ -95,19 +125,18 @@ impl<'a> Link for Script<'a> {
         };
         self.at = self.at.saturating_add(1);
         match step {
-            Step::Line(line, later) => {
-                let moment = self.moment(later);
-                let mut n: usize = 0;
-                for (place, byte) in buf.iter_mut().zip(line) {
-                    *place = *byte;
-                    n = n.saturating_add(1);
-                }
-                if n == 0 || n > buf.len() {
-                    return Came::Silence(moment);
-                }
-                Came::Bytes(n, moment)
+            Step::Line(line, later) => self.bring(buf, line, later),
+            Step::Reply(later) => {
+                let mut line = *b"%R1P,0,0:0,0\r\n";
+                line[7] = self.id;
+                line[11] = b'0'.wrapping_add(self.requests);
+                self.bring(buf, &line, later)
             }
             Step::Silence(later) => Came::Silence(self.moment(later)),
+            Step::Dead => {
+                self.at = self.at.saturating_sub(1);
+                Came::Silence(self.moment(millis))
+            }
             Step::Back(earlier) => {
                 self.clock = self.clock.saturating_sub(earlier);
                 Came::Silence(self.moment(0))
@@ -121,8 +150,10 @@ impl<'a> Link for Script<'a> {
     fn put(&mut self, bytes: &[u8]) -> Result<(), usize> {
         self.puts = self.puts.saturating_add(1);
         if self.is_failing() || self.puts == self.cut {
+            let n = self.kept.min(bytes.len().saturating_sub(1));
+            self.note(&bytes[..n]);
             self.note(b"cut ");
-            return Err(0);
+            return Err(n);
         }
         if bytes == b"\n".as_slice() {
             self.note(b"lf ");
@@ -130,12 +161,19 @@ impl<'a> Link for Script<'a> {
             let end = bytes.len().saturating_sub(2);
             self.note(&bytes[..end]);
             self.note(b" ");
+            self.requests = self.requests.wrapping_add(1);
+            if end > 1 {
+                self.id = bytes[end - 2];
+            }
         }
         Ok(())
     }
 
     fn close(&mut self) {
         self.note(b"close ");
+        if let Some(Step::Dead) = self.steps.get(self.at).copied() {
+            self.at = self.at.saturating_add(1);
+        }
     }
 
     fn open(&mut self) -> Result<(), PortFailed> {
@@ -153,7 +191,8 @@ impl<'a> Link for Script<'a> {
     }
 }
 
-// A book that keeps a letter for each outcome behind cycle and place, and fails at one of its writes.
+// A book that keeps a letter for each outcome behind cycle and place, and the values of an answer behind it, and fails at
+// one of its writes.
 #[derive(Drop)]
 pub(super) struct Ends {
     pub(super) text: ArrayVec<u8, 256>,
@@ -168,6 +207,10 @@ impl Ends {
             writes: 0,
             fails: 0,
         }
+    }
+
+    fn note(&mut self, text: &[u8]) {
+        let _ = self.text.try_extend_from_slice(text);
     }
 
     fn digit(&mut self, n: u64) {
@@ -191,19 +234,22 @@ impl Book for Ends {
         }
         self.digit(u64::from(stamp.cycle));
         self.digit(stamp.place as u64);
-        let letter = match &settlement.outcome {
-            Outcome::Answered(_, _) => b'a',
-            Outcome::Late => b'l',
-            Outcome::Lost => b'x',
-        };
-        let _ = self.text.try_push(letter);
-        let _ = self.text.try_push(b' ');
+        match &settlement.outcome {
+            Outcome::Answered(_, line) => {
+                self.note(b"a");
+                if line.len() > 11 {
+                    self.note(&line[11..]);
+                }
+            }
+            Outcome::Late => self.note(b"l"),
+            Outcome::Lost => self.note(b"x"),
+        }
+        self.note(b" ");
         Ok(())
     }
 
     fn overran(&mut self, cycle: u32) {
         self.digit(u64::from(cycle));
-        let _ = self.text.try_push(b'!');
-        let _ = self.text.try_push(b' ');
+        self.note(b"! ");
     }
 }
