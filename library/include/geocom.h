@@ -18,6 +18,9 @@
  * different states may run in different threads. No call has a condition on the bytes of a state: whatever stands there,
  * it returns and stays within bounds.
  *
+ * A call writes `count` places of the room that it is given, and leaves those behind them as they are (but for the text of
+ * a feed).
+ *
  * Faults (a call that answers one has changed nothing, and written nothing):
  *   11 to 15  the parameters don't read: form, range, an open quote, more than 16, another count than the procedure has
  *   21        no procedure has the number
@@ -102,13 +105,13 @@ typedef struct geocom_settlement {
     uint8_t reading;      /* enum geocom_reading */
 } geocom_settlement;
 
-/* A fault or 0, and a count. */
+/* A fault or 0, and a count, which is 0 beside a fault. */
 typedef struct geocom_count {
     uint32_t fault;
     uint32_t count;
 } geocom_count;
 
-/* A fault or 0, and the earliest deadline, where is_set is 1. */
+/* A fault or 0, and the earliest deadline, where is_set is 1; else is_set and deadline are 0. */
 typedef struct geocom_deadline {
     uint64_t deadline;
     uint32_t fault;
@@ -126,7 +129,7 @@ enum geocom_kind {
     GEOCOM_OVERLONG = 5
 };
 
-/* What came of a feed. */
+/* What came of a feed; beside a fault all else is 0. */
 typedef struct geocom_heard {
     size_t used;         /* how many bytes were used: through the first line feed, or all */
     uint32_t fault;      /* 0, 62 or 63 */

@@ -1,7 +1,8 @@
 //! The reading of a text, whole, into memory: how long a text may be is said here.
 
-ghost use Rattle.std.specs.Prelude.{◌≡◌, ℕ, ◌+◌, ◌<◌, ◌≤◌, List, length, true, OnOk, IfOk, IfErr, MatchResult};
+ghost use Rattle.std.specs.Prelude.{◌≡◌, ℕ, ◌+◌, ◌<◌, ◌≤◌, List, length, true, false, Err, OnOk, IfOk, IfErr, MatchResult};
 ghost use Rattle.std.specs.Io.KnownBytes.{Consumes, IsAtEnd};
+ghost use Rattle.gc_texts.specs.declared.fault.RunFault.{RunFault};
 ghost use Rattle.gc_texts.specs.declared.text.TheConstants.{TEXT_LIMIT};
 ghost use Rattle.gc_texts.specs.Texts.{IsReadFault, read_failed, end_reads};
 
@@ -15,13 +16,14 @@ pub const TEXT_LIMIT: usize = 65536;
 /// Reads a text until the input ends. It reads 65,537 bytes at most, which are too many.
 ///
 /// `Read` comes where the source failed, `InputTooLong` where it gave more than 65,536 bytes, and `Memory` only where a
-/// growth was refused.
+/// growth was refused: behind a read that gave bytes.
 pub fn read_text<S: Source>(alloc: Global, source: &mut S) -> Result<Vec<u8>, RunFault>
     ensures found { IfOk result (λ text. Consumes (S.remaining source.old) (S.remaining source.new) text.items × (length text.items ≤ TEXT_LIMIT)
         × (S.reads source.new ≤ S.reads source.old + length text.items + end_reads (S.ended source.new))) }
     ensures whole { OnOk result (IsAtEnd (S.remaining source.new) × (S.ended source.new ≡ true) × (S.reads source.old < S.reads source.new)) }
     ensures fault { IfErr result (λ e. (given : List ℕ) × Consumes (S.remaining source.old) (S.remaining source.new) given × IsReadFault given e
         × (S.reads source.new ≤ S.reads source.old + length given + end_reads (S.ended source.new))) }
+    ensures memory { result ≡ Err RunFault.Memory → (S.ended source.new ≡ false) × (S.reads source.old < S.reads source.new) }
     ensures bounded { S.reads source.new ≤ S.reads source.old + (TEXT_LIMIT + 1) }
     ensures failed { MatchResult result (λ _. S.failed source.new ≡ S.failed source.old) (λ e. S.failed source.new ≡ read_failed e (S.failed source.old)) }
 {

@@ -1,6 +1,6 @@
 -- Clients and the states that stand for them.
-use Rattle.std.proofs.Common.{◌≡◌, ◌≢◌, ◌≤◌, ℕ, List, ◌++◌, Some, Ok, Err, length, take, ◌∙◌, ap, arith}
-use Rattle.std.proofs.lemmas.List.{take_all, take-append-le}
+use Rattle.std.proofs.Common.{◌≡◌, ◌≢◌, ◌≤◌, ℕ, List, ◌+◌, ◌++◌, Some, Ok, Err, length, take, drop, ◌∙◌, sym, ap, arith}
+use Rattle.std.proofs.lemmas.List.{take_all, take-append-le, drop-drop}
 use Rattle.gc_values.specs.declared.fault.ValueFault.TheVariants.{Spelling, Range, OpenQuote, TooMany, Count}
 use Rattle.gc_catalogue.specs.declared.fault.CallFault.{CallFault}
 use Rattle.gc_catalogue.specs.declared.fault.CallFault.TheVariants.{Unknown, Parameters}
@@ -32,6 +32,11 @@ no_refusal_63 e f = absurd (omega (arith, f, refusal_below e))
 
 pub never_ok : {A E : Type 0} (e : E) (x : A) → Err e ≡ Ok x → ⊥
 never_ok e x f = cc
+
+-- what two writes, one behind the other, leave as it was
+pub twice_untouched : (old between new : List ℕ) (n k count : ℕ) → count ≡ n + k → drop n between ≡ drop n old → drop (n + k) new ≡ drop (n + k) between → drop count new ≡ drop count old
+twice_untouched old between new n k count e f g =
+    ap (λ m. drop m new) e ∙ g ∙ sym (drop-drop k n between) ∙ ap (drop k) f ∙ drop-drop k n old ∙ ap (λ m. drop m old) (sym e)
 
 -- what stands in front
 pub front_of : (line t u more : List ℕ) → t ≡ line → u ≡ t ++ more → take (length line) u ≡ line

@@ -1,5 +1,5 @@
 -- Frames that are fed.
-use Rattle.std.proofs.Common.{◌≡◌, ℕ, ◌-◌, List, Bool, true, false, length, take, ap, ◌∙◌, subst}
+use Rattle.std.proofs.Common.{◌≡◌, ℕ, ◌-◌, List, Bool, true, false, length, take, sym, ap, ◌∙◌, subst}
 use Rattle.std.specs.Prelude.{if◌then◌else◌, nat_lt}
 use Rattle.gc_lines.specs.declared.frame.Frame.{Frame}
 use Rattle.gc_lines.specs.declared.frame.Frame.TheVariants.{Line, Cleared, Overlong, More}
@@ -7,7 +7,7 @@ use Rattle.gc_lines.specs.Frames.{frame_of, ends_in_return}
 use Rattle.gc_client.specs.Rule.{Windowed}
 use Rattle.geocom_c.specs.Rest.{IsRest}
 use Rattle.geocom_c.specs.State.{StandsFor}
-use Rattle.geocom_c.specs.Feeding.{IsFed}
+use Rattle.geocom_c.specs.Feeding.{IsFed, IsInFront}
 use Rattle.geocom_c.specs.declared.answers.GeocomHeard.{GeocomHeard}
 use Rattle.geocom_c.specs.declared.rest.GeocomRest.{GeocomRest}
 use Rattle.geocom_c.specs.declared.settled.GeocomSettlement.{GeocomSettlement}
@@ -43,4 +43,5 @@ fed_used c f g r q records text used e same is =
       line_fault = ap (λ (x : GeocomHeard). x.line_fault) same ∙ is.line_fault;
       count = ap (λ (x : GeocomHeard). x.count) same ∙ is.count;
       told = is.told;
+      front = subst (λ (n : ℕ). IsInFront f n text) (sym (ap (λ (x : GeocomHeard). x.count) same)) is.front;
     })

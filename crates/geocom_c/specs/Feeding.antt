@@ -1,5 +1,5 @@
 -- What a frame is for a client, this project's own.
-use Rattle.std.specs.Prelude.{◌≡◌, ◌≤◌, ℕ, Bool, true, false, List, [], length, Result, Ok, Err}
+use Rattle.std.specs.Prelude.{◌≡◌, ◌<◌, ◌≤◌, ℕ, Bool, true, false, List, [], length, take, Result, Ok, Err}
 use Rattle.gc_lines.specs.declared.fault.LineFault.{LineFault}
 use Rattle.gc_lines.specs.Faults.{fault_number}
 use Rattle.gc_lines.specs.declared.frame.Frame.{Frame}
@@ -57,10 +57,19 @@ behind c Cleared = c
 behind c Overlong = c
 behind c More = c
 
--- a frame was fed: its kind and its fault are told, and a record says of each settlement how the request ended
+-- where a line settled so many requests, and there is one at least, it stands at the front of the text
+abbrev pub IsInFront : Frame → ℕ → List ℕ → Type 0
+IsInFront (Line line) count text = 0 < count → take (length line.items) text ≡ line.items
+IsInFront Cleared count text = Unit {0}
+IsInFront Overlong count text = Unit {0}
+IsInFront More count text = Unit {0}
+
+-- a frame was fed: its kind and its fault are told, a record says of each settlement how the request ended, and the line that
+-- settled stands in front
 pub record IsFed (c : Windowed) (frame : Frame) (r : GeocomHeard) (records : List GeocomSettlement) (text : List ℕ) : Type 0 where
   pub fault : r.fault ≡ 0
   pub kind : r.kind ≡ frame_kind c frame
   pub line_fault : r.line_fault ≡ frame_fault frame
   pub count : r.count ≡ length (settled_by c frame)
   pub told : FirstAre (IsRecord text) records (settled_by c frame)
+  pub front : IsInFront frame r.count text

@@ -1,6 +1,6 @@
 //! The calls that need no text: a new client, a moment, the earliest deadline, and how many wait.
 
-ghost use Rattle.std.specs.Prelude.{◌≡◌, ◌≢◌, ◌↔◌, ◌<◌, ◌≤◌, ℕ, List, [], length, take, Some, None, if◌then◌else◌};
+ghost use Rattle.std.specs.Prelude.{◌≡◌, ◌≢◌, ◌↔◌, ◌<◌, ◌≤◌, ℕ, List, [], length, take, drop, Some, None, if◌then◌else◌};
 ghost use Rattle.gc_client.specs.Rule.{Windowed, IsWidth, expires, expiring, deadlines, IsEarliest};
 ghost use Rattle.gc_client.specs.Rule;
 ghost use Rattle.geocom_c.specs.State.{StandsFor, IsAstray};
@@ -12,6 +12,13 @@ use crate::answers::{GeocomCount, GeocomDeadline, counted, refused};
 use crate::faults::{NO_CLIENT, NO_ROOM, NO_WIDTH};
 use crate::state::{GeocomClient, fresh, load, store};
 use gc_client::WINDOW;
+
+// No deadline.
+const UNSET: GeocomDeadline = GeocomDeadline {
+    deadline: 0,
+    fault: 0,
+    is_set: 0,
+};
 
 /// The version of these calls and of the structs that they take.
 #[unsafe(no_mangle)]
@@ -40,12 +47,14 @@ pub extern "C" fn geocom_client_init(state: &mut GeocomClient, width: u8) -> u32
 fn put_targets(targets: &mut [u32], due: &[u32])
     requires { length due.now ≤ length targets.old }
     ensures targets { take (length due.now) targets.new ≡ due.now }
+    ensures untouched { drop (length due.now) targets.new ≡ drop (length due.now) targets.old }
     ensures length { length targets.new ≡ length targets.old }
 {
     targets[..due.len()].copy_from_slice(due);
 }
 
-/// Gives up what is due at a moment, and writes the targets of what wasn't given up before, `count` of them.
+/// Gives up what is due at a moment, and writes the targets of what wasn't given up before, `count` of them. What stands
+/// behind these stays.
 ///
 /// Faults: 62, `targets` has fewer than seven places; 63, the state is no client's. After a fault nothing has changed.
 #[unsafe(no_mangle)]
@@ -62,6 +71,7 @@ pub extern "C" fn geocom_client_expire(
     ensures done { result.fault ≡ 0 → (c : Windowed) × (rest : List ℕ) × StandsFor state.old c rest }
     ensures refused { result.fault ≢ 0 → (result.count ≡ 0) × (state.new ≡ state.old) × (targets.new ≡ targets.old) }
     ensures few { result.count ≤ WINDOW }
+    ensures untouched { drop result.count targets.new ≡ drop result.count targets.old }
     ensures length { length targets.new ≡ length targets.old }
 {
     if targets.len() < WINDOW {
@@ -76,7 +86,8 @@ pub extern "C" fn geocom_client_expire(
     counted(due.len() as u32)
 }
 
-/// The earliest deadline of the requests that wait and aren't given up, where there is one.
+/// The earliest deadline of the requests that wait and aren't given up, where there is one; else `is_set` and `deadline`
+/// are 0.
 ///
 /// Fault 63: the state is no client's.
 #[unsafe(no_mangle)]
@@ -85,12 +96,13 @@ pub extern "C" fn geocom_client_next_deadline(state: &GeocomClient) -> GeocomDea
         × IsEarliest (deadlines c.ids.waiting) (earliest_in result) }
     ensures astray { (result.fault ≡ NO_CLIENT) ↔ IsAstray state.now }
     ensures done { result.fault ≡ 0 → (c : Windowed) × (rest : List ℕ) × StandsFor state.now c rest }
+    ensures refused { result.fault ≢ 0 → result.is_set ≡ 0 }
+    ensures unset { result.is_set ≢ 1 → (result.is_set ≡ 0) × (result.deadline ≡ 0) }
 {
     let Some(client) = load(state) else {
         return GeocomDeadline {
-            deadline: 0,
             fault: NO_CLIENT,
-            is_set: 0,
+            ..UNSET
         };
     };
     match client.next_deadline() {
@@ -99,11 +111,7 @@ pub extern "C" fn geocom_client_next_deadline(state: &GeocomClient) -> GeocomDea
             fault: 0,
             is_set: 1,
         },
-        None => GeocomDeadline {
-            deadline: 0,
-            fault: 0,
-            is_set: 0,
-        },
+        None => UNSET,
     }
 }
 
@@ -116,6 +124,7 @@ pub extern "C" fn geocom_client_waiting(state: &GeocomClient) -> GeocomCount
         × (result.count ≡ length c.ids.waiting) }
     ensures astray { (result.fault ≡ NO_CLIENT) ↔ IsAstray state.now }
     ensures done { result.fault ≡ 0 → (c : Windowed) × (rest : List ℕ) × StandsFor state.now c rest }
+    ensures refused { result.fault ≢ 0 → result.count ≡ 0 }
 {
     match load(state) {
         Some(client) => counted(client.waiting() as u32),

@@ -1,6 +1,6 @@
 //! Feeding: bytes come in any pieces, and the line that a line feed ends settles requests; so does a restart.
 
-ghost use Rattle.std.specs.Prelude.{◌≡◌, ◌≢◌, ◌↔◌, ◌<◌, ◌≤◌, ◌+◌, ◌++◌, ℕ, List, [], length, take, Some, None, IsTrue};
+ghost use Rattle.std.specs.Prelude.{◌≡◌, ◌≢◌, ◌↔◌, ◌<◌, ◌≤◌, ◌+◌, ◌++◌, ℕ, List, [], length, take, drop, Some, None, IsTrue};
 ghost use Rattle.std.specs.List.{position};
 ghost use Rattle.gc_lines.specs.Frames.{is_line_feed, frame_of};
 ghost use Rattle.gc_client.specs.Rule.{Windowed, restarts};
@@ -39,6 +39,7 @@ fn hear(
     requires { HasRoom settlements.old text.old }
     ensures fed { IsFed client (Frame.Line line.now) result settlements.new text.new }
     ensures state { (rest : List ℕ) → IsRest state.old.rest rest → StandsFor state.new (behind client (Frame.Line line.now)) rest }
+    ensures untouched { drop result.count settlements.new ≡ drop result.count settlements.old }
     ensures records { length settlements.new ≡ length settlements.old }
     ensures text { length text.new ≡ length text.old }
     ensures few { result.count ≤ WINDOW }
@@ -69,6 +70,7 @@ fn feed_frame(
     requires { HasRoom settlements.old text.old }
     ensures fed { IsFed client frame.now result settlements.new text.new }
     ensures state { (rest : List ℕ) → StandsFor state.old client rest → StandsFor state.new (behind client frame.now) rest }
+    ensures untouched { drop result.count settlements.new ≡ drop result.count settlements.old }
     ensures records { length settlements.new ≡ length settlements.old }
     ensures text { length text.new ≡ length text.old }
     ensures few { result.count ≤ WINDOW }
@@ -100,6 +102,7 @@ fn feed(
         × StandsFor state.new (behind client (frame_of (rest ++ take at bytes.now))) [] }
     ensures fault { result.fault ≡ 0 }
     ensures used { (result.used ≤ length bytes.now) × (0 < length bytes.now → 0 < result.used) }
+    ensures untouched { drop result.count settlements.new ≡ drop result.count settlements.old }
     ensures records { length settlements.new ≡ length settlements.old }
     ensures text { length text.new ≡ length text.old }
     ensures few { result.count ≤ WINDOW }
@@ -122,7 +125,7 @@ fn feed(
 ///
 /// `used` says how many bytes were used: those through the first line feed, or all where there is none. Call again with
 /// what is left, where something is. A line settles at most seven requests; where it settled, it stands at the front of
-/// `text`, and behind it the items of its parameters. Else nothing is written.
+/// `text`, and behind it the items of its parameters. Else nothing is written; and behind the `count` records never.
 ///
 /// Faults: 62, `settlements` has fewer than seven places or `text` fewer than 1024 bytes; 63, the state is no client's.
 /// After a fault nothing has changed, and nothing was used.
@@ -145,9 +148,11 @@ pub extern "C" fn geocom_client_feed(
     ensures room { (result.fault ≡ NO_ROOM) ↔ (HasRoom settlements.old text.old → ⊥) }
     ensures astray { (result.fault ≡ NO_CLIENT) ↔ (HasRoom settlements.old text.old × IsAstray state.old) }
     ensures done { result.fault ≡ 0 → (c : Windowed) × (rest : List ℕ) × StandsFor state.old c rest }
-    ensures refused { result.fault ≢ 0 → (result.used ≡ 0) × (result.count ≡ 0) × (state.new ≡ state.old) }
+    ensures refused { result.fault ≢ 0 → (result.used ≡ 0) × (result.count ≡ 0) × (result.kind ≡ 0) × (result.line_fault ≡ 0)
+        × (state.new ≡ state.old) }
     ensures few { result.count ≤ WINDOW }
     ensures silent { result.count ≡ 0 → (settlements.new ≡ settlements.old) × (text.new ≡ text.old) }
+    ensures untouched { drop result.count settlements.new ≡ drop result.count settlements.old }
     ensures records { length settlements.new ≡ length settlements.old }
     ensures text { length text.new ≡ length text.old }
 {
@@ -160,8 +165,8 @@ pub extern "C" fn geocom_client_feed(
     }
 }
 
-/// Settles all that wait as lost, in order, writes a record for each, `count` of them, and begins anew at id 0 and at the
-/// start of a line. The width stays.
+/// Settles all that wait as lost, in order, writes a record for each, `count` of them and nothing behind these, and begins
+/// anew at id 0 and at the start of a line. The width stays.
 ///
 /// The caller vouches that no byte is under way in either direction, and that the instrument starts anew too, or keeps no
 /// replies.
@@ -181,6 +186,7 @@ pub extern "C" fn geocom_client_restart(
     ensures done { result.fault ≡ 0 → (c : Windowed) × (rest : List ℕ) × StandsFor state.old c rest }
     ensures refused { result.fault ≢ 0 → (result.count ≡ 0) × (state.new ≡ state.old) × (settlements.new ≡ settlements.old) }
     ensures few { result.count ≤ WINDOW }
+    ensures untouched { drop result.count settlements.new ≡ drop result.count settlements.old }
     ensures length { length settlements.new ≡ length settlements.old }
 {
     if settlements.len() < WINDOW {

@@ -1,6 +1,6 @@
 //! The bytes of a line under way: a state keeps of them what the frame of the next line feed depends on.
 
-ghost use Rattle.std.specs.Prelude.{◌≡◌, ◌≢◌, ◌<◌, ◌≤◌, ◌↔◌, All, ◌+◌, ◌++◌, ℕ, List, [], length, take, Some, None, IsTrue};
+ghost use Rattle.std.specs.Prelude.{◌≡◌, ◌≢◌, ◌<◌, ◌≤◌, ◌↔◌, All, ◌+◌, ◌++◌, ℕ, List, [], length, take, drop, Some, None, IsTrue};
 ghost use Rattle.std.specs.List.{position};
 ghost use Rattle.gc_lines.specs.Frames.{is_line_feed, frame_of};
 ghost use Rattle.gc_lines.specs.declared.frame.Frame.{Frame};
@@ -80,6 +80,7 @@ fn has_no_line_feed(bytes: &[u8]) -> bool
 pub(crate) fn put(bytes: &mut [u8], at: usize, text: &[u8])
     requires { at + length text.now ≤ length bytes.old }
     ensures text { take (at + length text.now) bytes.new ≡ take at bytes.old ++ text.now }
+    ensures untouched { drop (at + length text.now) bytes.new ≡ drop (at + length text.now) bytes.old }
     ensures length { length bytes.new ≡ length bytes.old }
     ensures fits { at + length text.now ≤ length bytes.new }
 {

@@ -1,6 +1,6 @@
 //! Sending: a call's number and parameters become its request line, or are refused.
 
-ghost use Rattle.std.specs.Prelude.{◌≡◌, ◌≢◌, ◌↔◌, ◌<◌, ◌≤◌, ℕ, List, length};
+ghost use Rattle.std.specs.Prelude.{◌≡◌, ◌≢◌, ◌↔◌, ◌<◌, ◌≤◌, ℕ, List, length, drop};
 ghost use Rattle.gc_catalogue.specs.declared.call.Call.{Call};
 ghost use Rattle.gc_catalogue.specs.declared.fault.CallFault.{CallFault};
 ghost use Rattle.gc_catalogue.specs.Calls.{IsCall, IsRefusal};
@@ -45,6 +45,7 @@ fn send_call(
     requires { LINE_ROOM ≤ length line.old }
     ensures sent { (rest : List ℕ) → IsRest state.old.rest rest
         → IsSent client rest call (sends client.width client.ids target call deadline) state.old state.new line.old line.new result }
+    ensures untouched { drop result.count line.new ≡ drop result.count line.old }
     ensures length { length line.new ≡ length line.old }
     ensures full { result.fault ≡ 31 → length client.ids.waiting ≡ client.width }
     ensures done { result.fault ≡ 0 → length client.ids.waiting < client.width }
@@ -62,7 +63,7 @@ fn send_call(
     }
 }
 
-/// Sends a request, and writes its line with CR LF into `line`, `count` bytes of it.
+/// Sends a request, and writes its line with CR LF into `line`, `count` bytes of it and nothing behind these.
 ///
 /// Faults: 62, `line` has fewer than 514 bytes; 63, the state is no client's; 21, no procedure has the number; 11 to 15,
 /// the parameters don't read; 31, as many requests wait as the width allows. After a fault nothing has changed.
@@ -89,6 +90,7 @@ pub extern "C" fn geocom_client_send(
     ensures refusal { result.fault ≢ 0 → result.fault ≢ 31 → result.fault ≢ NO_ROOM → result.fault ≢ NO_CLIENT
         → (e : CallFault) × IsRefusal procedure params.now e × (result.fault ≡ refusal_number e) }
     ensures refused { result.fault ≢ 0 → (result.count ≡ 0) × (state.new ≡ state.old) × (line.new ≡ line.old) }
+    ensures untouched { drop result.count line.new ≡ drop result.count line.old }
     ensures length { length line.new ≡ length line.old }
 {
     if line.len() < LINE_ROOM {

@@ -1,6 +1,6 @@
 //! The records of settlements: how a request ended, in plain fields.
 
-ghost use Rattle.std.specs.Prelude.{◌≡◌, ◌≤◌, ℕ, List, [], length, map, All};
+ghost use Rattle.std.specs.Prelude.{◌≡◌, ◌≤◌, ℕ, List, [], length, drop, map, All};
 ghost use Rattle.gc_catalogue.specs.Calls.{call_fields};
 ghost use Rattle.gc_client.specs.declared.pending.Pending.{Pending};
 ghost use Rattle.gc_client.specs.Rule.{lost};
@@ -122,6 +122,7 @@ pub(crate) fn put_records(records: &mut [GeocomSettlement], settled: &[Settlemen
     requires told { (line : List ℕ) × IsTold told.now.text.items told.now.items told.now.places line × AreBy line (map settlement_seen settled.now) }
     requires read { All (λ s. IsWellRead s.call s.outcome) settled.now }
     ensures records { FirstAre (IsRecord told.now.text.items) records.new (map settlement_seen settled.now) }
+    ensures untouched { drop (length settled.now) records.new ≡ drop (length settled.now) records.old }
     ensures length { length records.new ≡ length records.old }
 {
     for k in 0..settled.len() {
@@ -134,6 +135,7 @@ pub(crate) fn put_lost(records: &mut [GeocomSettlement], settled: &[Settlement])
     requires room { length settled.now ≤ length records.old }
     requires lost { (ps : List Pending) × (map settlement_seen settled.now ≡ map lost ps) }
     ensures records { FirstAre (IsRecord []) records.new (map settlement_seen settled.now) }
+    ensures untouched { drop (length settled.now) records.new ≡ drop (length settled.now) records.old }
     ensures length { length records.new ≡ length records.old }
 {
     for k in 0..settled.len() {

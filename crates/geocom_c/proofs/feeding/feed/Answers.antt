@@ -1,4 +1,4 @@
-use Rattle.std.proofs.Common.{◌≡◌, ◌∙◌, ◌++◌, [], take, length, arith, sym, ap, subst}
+use Rattle.std.proofs.Common.{◌≡◌, ◌∙◌, ◌++◌, ℕ, [], take, drop, length, arith, sym, ap, subst}
 use Rattle.gc_lines.specs.Frames.{frame_of}
 use Rattle.gc_lines.specs.declared.frame.Frame.{Frame}
 use Rattle.geocom_c.specs.State.{StandsFor}
@@ -37,5 +37,6 @@ returns-in_default c =
       records = c.feed_frame.ensures.records;
       text = c.feed_frame.ensures.text;
       few = omega (arith, ap (λ (x : GeocomHeard). x.count) c.using-in_default.ensures, c.feed_frame.ensures.few);
+      untouched = subst (λ (n : ℕ). drop n c.feed_frame.new.settlements ≡ drop n c.args.settlements.now) (sym (ap (λ (x : GeocomHeard). x.count) c.using-in_default.ensures)) c.feed_frame.ensures.untouched;
       silent = λ none. c.feed_frame.ensures.silent (sym (ap (λ (x : GeocomHeard). x.count) c.using-in_default.ensures) ∙ none);
     }

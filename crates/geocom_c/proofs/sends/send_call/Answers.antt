@@ -1,9 +1,9 @@
-use Rattle.std.proofs.Common.{rules, ◌≡◌, ◌++◌, ◌∷◌, [], Some, sym, ap, subst, arith, length, take, length-append}
+use Rattle.std.proofs.Common.{rules, ◌≡◌, ◌+◌, ◌++◌, ◌∷◌, [], ℕ, Some, sym, ap, subst, arith, length, take, drop, length-append}
 use Rattle.gc_catalogue.specs.Texts.{request_line}
 use Rattle.gc_client.specs.Rule.{Windowed}
 use Rattle.geocom_c.specs.State.{StandsFor}
 use Rattle.geocom_c.specs.Sending.{IsSent}
-use Rattle.geocom_c.proofs.Clients.{same_width}
+use Rattle.geocom_c.proofs.Clients.{same_width, twice_untouched}
 use Rattle.geocom_c.proofs.sends.send_call.Goals as goal
 
 pub returns-in-Ok-clause-sent : goal.returns-in-Ok-clause-sent
@@ -19,3 +19,10 @@ returns-in-Ok-clause-sent c = λ rest is.
     let count : c.counted.result.count ≡ length (line ++ 13 ∷ 10 ∷ []) = omega (arith, c.counted.ensures.count, n, c.len-in-Ok.ensures.value, length-append line (13 ∷ 10 ∷ [])) in
     let text : take c.counted.result.count after ≡ line ++ 13 ∷ 10 ∷ [] = search rules in
     subst (λ o. IsSent old rest c.args.call o c.args.state.now c.store.new.state c.args.line.now after c.counted.result) (sym rule.0) (c.counted.ensures.fault, stands, count, text)
+
+pub returns-in-Ok-clause-untouched : goal.returns-in-Ok-clause-untouched
+returns-in-Ok-clause-untouched c =
+    let same : 0 + length c.as_slice.result.now ≡ c.len.result = omega (arith, ap length c.as_slice.ensures.value, c.len.ensures.value) in
+    let count : c.counted.result.count ≡ c.len.result + 2 = omega (arith, c.counted.ensures.count, c.len.ensures.value, c.len-in-Ok.ensures.value) in
+    twice_untouched c.args.line.now c.put.new.bytes c.put-in-Ok.new.bytes c.len.result 2 c.counted.result.count count
+    (subst (λ (n : ℕ). drop n c.put.new.bytes ≡ drop n c.args.line.now) same c.put.ensures.untouched) c.put-in-Ok.ensures.untouched

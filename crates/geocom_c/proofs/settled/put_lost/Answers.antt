@@ -1,6 +1,7 @@
-use Rattle.std.proofs.Common.{◌≡◌, ◌+◌, ◌∙◌, List, [], Some, suc, map, take, sym, ap, subst, arith, length-set}
+use Rattle.std.proofs.Common.{◌≡◌, ◌+◌, ◌∙◌, List, [], Some, length, suc, map, take, sym, ap, subst, arith, length-set}
 use Rattle.std.specs.Prelude.{slice_get, slice_set}
 use Rattle.std.specs.Option.{option_map}
+use Rattle.std.proofs.lemmas.List.{drop-set-lt}
 use Rattle.std.proofs.lemmas.Option.{slice_get-map, slice_get-get_or}
 use Rattle.gc_client.specs.Rule.{Settlement}
 use Rattle.gc_client.specs.Rule
@@ -31,4 +32,5 @@ loop-k-preserved c =
       records = subst (λ m. FirstAre (IsRecord []) (slice_set c.loop-k.records k r) (take m seen)) next
           (first_written (IsRecord []) c.loop-k.records seen k r (settlement_seen s) c.loop-k.invariant.records (omega (arith, c.loop-k-test.true, c.requires.room, c.loop-k.invariant.size)) here is);
       size = length-set c.loop-k.records k r ∙ c.loop-k.invariant.size;
+      untouched = drop-set-lt (length settled) c.loop-k.records k r c.loop-k-test.true ∙ c.loop-k.invariant.untouched;
     }

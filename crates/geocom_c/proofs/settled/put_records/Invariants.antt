@@ -1,4 +1,4 @@
-use Rattle.std.proofs.Common.{◌≡◌, length, take, map}
+use Rattle.std.proofs.Common.{◌≡◌, length, take, drop, map}
 use Rattle.gc_client.specs.Settlements.{settlement_seen}
 use Rattle.geocom_c.specs.FirstAre.{FirstAre}
 use Rattle.geocom_c.specs.Settled.{IsRecord}
@@ -10,4 +10,5 @@ invariant-loop-k l =
     record {
       records : FirstAre (IsRecord l.told.text.items) l.records (take l.k (map settlement_seen l.settled));
       size : length l.records ≡ length l.initial.records;
+      untouched : drop (length l.settled) l.records ≡ drop (length l.settled) l.initial.records;
     }
