@@ -1,3 +1,4 @@
 mod Shown
 mod Checked
+mod Measured
 mod OneVerdict

@@ -2,3 +2,4 @@ pub mod Drill
 pub mod Verdicts
 pub mod Checking
 pub mod Laws
+pub mod Measuring

@@ -1,18 +1,22 @@
-//! `geocom station`: its words, the books that it writes, and its run over connections to a port.
+//! `geocom station`: its words, and its run over connections to a port.
 
-ghost use Rattle.std.specs.Prelude.{◌≤◌, IfOk};
+ghost use Rattle.std.specs.Prelude.{◌≡◌, ◌≤◌, ◌↔◌, ◌⊎◌, ℕ, List, Option, None, Result, Ok, Err, IfOk};
+ghost use Rattle.std.specs.Io.KnownBytes.{Consumes};
 ghost use Rattle.std.specs.Process.{exit_status};
-ghost use Rattle.gc_texts.specs.Records.{record_text};
-ghost use Rattle.gc_texts.specs.declared.record.Form.TheVariants as form;
+ghost use Rattle.gc_ask.specs.AskRuns.{GivesCommands};
+ghost use Rattle.gc_console.specs.Measuring.{Places, Measures, RunsBehind, TellsCounts};
+ghost use Rattle.gc_station.specs.Runs.{FailsAtOutput};
+ghost use Rattle.gc_station.specs.declared.tally.Tally.{Tally};
+ghost use Rattle.gc_texts.specs.declared.commands.Command.{Command as CommandOf};
+ghost use Rattle.gc_texts.specs.declared.fault.RunFault.{RunFault};
 
 use crate::help::STATION;
+use crate::measure::run_station_text;
 use crate::program::{port_of, refuse_numbers};
 use clap::{Arg, ArgAction, ArgMatches, Command, Error, value_parser};
-use gc_ask::read_command_text;
-use gc_client::Settlement;
-use gc_lines::{PortFailed, Sink, Source};
-use gc_station::{Book, Plan, Stamp, Tally, TcpLink, run_station};
-use gc_texts::{Form, RunFault, write_head, write_record};
+use gc_lines::{Sink, Source};
+use gc_station::{Link, Plan, Tally, TcpLink};
+use gc_texts::{Form, RunFault};
 use std::alloc::Global;
 use std::io::{self, Write};
 use std::net::{Net, TcpListener, TcpStream};
@@ -135,7 +139,8 @@ pub(crate) fn station_of(matches: &ArgMatches) -> Station {
     }
 }
 
-/// Measures on a port, and tells how it ended: the counts, or the fault's line.
+/// Measures on a port, and tells how it ended: the counts, or the fault's line. `Read` comes too where the clock can't be
+/// read.
 pub(crate) fn run_station_port<
     R: Net<Listener = TcpListener, Stream = TcpStream> + Clock,
     S: Source,
@@ -149,12 +154,98 @@ pub(crate) fn run_station_port<
     sink: K,
     messages: &mut E,
 ) -> io::Result<ExitCode>
-    ensures { IfOk result (λ status. exit_status status ≤ 2) }
+    // Status 2 exactly where the port is 0.
+    ensures port { IfOk result (λ status. (exit_status status ≡ 2) ↔ (station.port ≡ 0)) }
+
+    // Else the status and the messages tell how it ended: what the text was, and what of its commands was measured; or that
+    // the clock couldn't be read, and then nothing was read or written.
+    ensures told { IfOk result (λ status. 1 ≤ station.port → (end : Result Tally RunFault) × (after : Places)
+        × TellsCounts end (exit_status status) after.messages (E.contents messages.new)
+        × (((given : List ℕ) × Consumes (S.remaining source.old) (S.remaining source.new) given
+        × Measures given
+        (record { remaining = S.remaining source.old; reads = S.reads source.old; ended = S.ended source.old; failed = S.failed source.old })
+        (record { remaining = S.remaining source.new; reads = S.reads source.new; ended = S.ended source.new; failed = S.failed source.new })
+        station.form station.plan 18446744073709551615
+        (record { acts = None; taken = K.taken sink; messages = E.contents messages.old })
+        after end)
+        ⊎ ((end ≡ Err RunFault.Read) × (S.reads source.new ≡ S.reads source.old)
+        × (after ≡ record { acts = None; taken = K.taken sink; messages = E.contents messages.old })))) }
+
+    // Status 0 only where the source gave a command text to its end, and the run over its commands is done.
+    ensures done { IfOk result (λ status. exit_status status ≡ 0 → (given : List ℕ) × Consumes (S.remaining source.old) (S.remaining source.new) given
+        × ((commands : List CommandOf) × (tally : Tally) × (after : Places)
+        × GivesCommands given
+        (record { remaining = S.remaining source.old; reads = S.reads source.old; ended = S.ended source.old; failed = S.failed source.old })
+        (record { remaining = S.remaining source.new; reads = S.reads source.new; ended = S.ended source.new; failed = S.failed source.new })
+        commands
+        × RunsBehind station.form station.plan commands 18446744073709551615
+        (record { acts = None; taken = K.taken sink; messages = E.contents messages.old })
+        after (Ok tally))) }
+    ensures bound { IfOk result (λ status. exit_status status ≤ 2) }
 {
     if station.port == 0 {
         return refuse_numbers(messages);
     }
-    match measure(rt, alloc, station, source, sink, messages) {
+    let Ok(mut link) = TcpLink::new(rt, station.port) else {
+        return tell_counts(Err(RunFault::Read), messages);
+    };
+    measure_over(alloc, &mut link, station, source, sink, messages).1
+}
+
+// Measures over a link, and tells how it ended. The sink is handed back.
+fn measure_over<L: Link, S: Source, K: Sink, E: Write>(
+    alloc: Global,
+    link: &mut L,
+    station: Station,
+    source: &mut S,
+    sink: K,
+    messages: &mut E,
+) -> (K, io::Result<ExitCode>)
+    // What the text was, what of its commands was measured, and that the messages and the status tell how that ended.
+    ensures told { IfOk result.1 (λ status. (end : Result Tally RunFault) × (told : Option (List ℕ))
+        × ((given : List ℕ) × Consumes (S.remaining source.old) (S.remaining source.new) given
+        × Measures given
+        (record { remaining = S.remaining source.old; reads = S.reads source.old; ended = S.ended source.old; failed = S.failed source.old })
+        (record { remaining = S.remaining source.new; reads = S.reads source.new; ended = S.ended source.new; failed = S.failed source.new })
+        station.form station.plan 18446744073709551615
+        (record { acts = L.acts link.old; taken = K.taken sink; messages = E.contents messages.old })
+        (record { acts = L.acts link.new; taken = K.taken result.0; messages = told })
+        end)
+        × FailsAtOutput (K.failed sink) (K.failed result.0) end
+        × TellsCounts end (exit_status status) told (E.contents messages.new)) }
+
+    // Status 0 only where the source gave a command text to its end, and the run over its commands is done.
+    ensures done { IfOk result.1 (λ status. exit_status status ≡ 0 → (given : List ℕ) × Consumes (S.remaining source.old) (S.remaining source.new) given
+        × ((commands : List CommandOf) × (tally : Tally) × (told : Option (List ℕ))
+        × GivesCommands given
+        (record { remaining = S.remaining source.old; reads = S.reads source.old; ended = S.ended source.old; failed = S.failed source.old })
+        (record { remaining = S.remaining source.new; reads = S.reads source.new; ended = S.ended source.new; failed = S.failed source.new })
+        commands
+        × RunsBehind station.form station.plan commands 18446744073709551615
+        (record { acts = L.acts link.old; taken = K.taken sink; messages = E.contents messages.old })
+        (record { acts = L.acts link.new; taken = K.taken result.0; messages = told })
+        (Ok tally))) }
+    ensures bound { IfOk result.1 (λ status. exit_status status ≤ 1) }
+{
+    let (sink, end) = run_station_text(
+        alloc,
+        link,
+        station.form,
+        &station.plan,
+        source,
+        sink,
+        messages,
+        u64::MAX,
+    );
+    (sink, tell_counts(end, messages))
+}
+
+// Tells how a run ended: the status, and the counts, or the fault's line.
+fn tell_counts<E: Write>(end: Result<Tally, RunFault>, messages: &mut E) -> io::Result<ExitCode>
+    ensures told { IfOk result (λ status. TellsCounts end (exit_status status) (E.contents messages.old) (E.contents messages.new)) }
+    ensures bound { IfOk result (λ status. exit_status status ≤ 1) }
+{
+    match end {
         Ok(
             Tally {
                 answered,
@@ -170,120 +261,4 @@ pub(crate) fn run_station_port<
             Ok(ExitCode::from(1))
         }
     }
-}
-
-// Reads the whole command text of a source, writes what stands in front of the records, and measures.
-fn measure<
-    R: Net<Listener = TcpListener, Stream = TcpStream> + Clock,
-    S: Source,
-    K: Sink + Drop,
-    E: Write,
->(
-    rt: &R,
-    alloc: Global,
-    station: Station,
-    source: &mut S,
-    mut sink: K,
-    messages: &mut E,
-) -> Result<Tally, RunFault> {
-    let commands = read_command_text(alloc, source)?;
-    if write_head(&mut sink, station.form).is_err() {
-        return Err(RunFault::Output);
-    }
-    let Ok(mut link) = TcpLink::new(rt, station.port) else {
-        return Err(RunFault::Read);
-    };
-    match station.form {
-        Form::Lines => run_station(
-            &mut link,
-            &mut Lines { sink, messages },
-            commands.as_slice(),
-            &station.plan,
-            u64::MAX,
-        ),
-        Form::Csv => run_station(
-            &mut link,
-            &mut Rows { sink, messages },
-            commands.as_slice(),
-            &station.plan,
-            u64::MAX,
-        ),
-    }
-}
-
-// A book of lines, and where cycles that were not done in time are told.
-#[derive(Drop)]
-struct Lines<'a, K, E> {
-    sink: K,
-    messages: &'a mut E,
-}
-
-impl<'a, K: Sink, E: Write> Book for Lines<'a, K, E> {
-    ghost text = { λ r. record_text form.Lines r.utc r.cycle r.place r.settlement };
-
-    ghost taken = { λ book. K.taken book.sink };
-
-    ghost failed = { λ book. K.failed book.sink };
-
-    fn write(&mut self, stamp: Stamp, settlement: &Settlement) -> Result<(), PortFailed> {
-        let taken = write_record(
-            &mut self.sink,
-            Form::Lines,
-            stamp.utc,
-            stamp.cycle,
-            stamp.place,
-            settlement,
-        );
-        match taken {
-            Ok(()) => Ok(()),
-            Err(_) => Err(PortFailed),
-        }
-    }
-
-    fn overran(&mut self, cycle: u32) {
-        tell_overrun(self.messages, cycle);
-    }
-}
-
-// A book of rows of comma-separated values, and where cycles that were not done in time are told.
-#[derive(Drop)]
-struct Rows<'a, K, E> {
-    sink: K,
-    messages: &'a mut E,
-}
-
-impl<'a, K: Sink, E: Write> Book for Rows<'a, K, E> {
-    ghost text = { λ r. record_text form.Csv r.utc r.cycle r.place r.settlement };
-
-    ghost taken = { λ book. K.taken book.sink };
-
-    ghost failed = { λ book. K.failed book.sink };
-
-    fn write(&mut self, stamp: Stamp, settlement: &Settlement) -> Result<(), PortFailed> {
-        let taken = write_record(
-            &mut self.sink,
-            Form::Csv,
-            stamp.utc,
-            stamp.cycle,
-            stamp.place,
-            settlement,
-        );
-        match taken {
-            Ok(()) => Ok(()),
-            Err(_) => Err(PortFailed),
-        }
-    }
-
-    fn overran(&mut self, cycle: u32) {
-        tell_overrun(self.messages, cycle);
-    }
-}
-
-// Says that a cycle was not done when the next was due. Where that can't be written the station measures on: what it writes
-// of each request doesn't depend on it.
-fn tell_overrun<E: Write>(messages: &mut E, cycle: u32) {
-    let _ = writeln!(
-        messages,
-        "geocom: cycle {cycle} was not done when the next was due"
-    );
 }

@@ -5,5 +5,6 @@ mod check;
 mod drill;
 mod exec;
 mod failing;
+mod measure;
 mod program;
 mod station;
