@@ -3,7 +3,7 @@ use Rattle.std.proofs.Common.{◌≡◌, ℕ, suc, ◌-◌, ◌<◌, ◌≤◌, 
 use Rattle.std.proofs.lemmas.Bool.{eqb-true}
 use Rattle.std.proofs.lemmas.List.{length-map, nil_from_length}
 use Rattle.gc_lines.specs.Frames.{rest_behind}
-use Rattle.gc_client.specs.Rule.{ById, expires, expired, fresh, heard, expiring, restarts}
+use Rattle.gc_client.specs.Rule.{ById, expires, expired, fresh, heard, expiring}
 use Rattle.gc_client.specs.OneForOne.{of_pending}
 use Rattle.gc_texts.specs.declared.commands.Command.{Command}
 use Rattle.gc_station.specs.declared.plan.Plan.{Plan}
@@ -15,9 +15,9 @@ use Rattle.gc_station.specs.declared.progress.Phase.TheVariants.{Down, Resting, 
 use Rattle.gc_station.specs.declared.progress.Progress.{Progress}
 use Rattle.gc_station.specs.Acts.{Act, Told, Untold, Put, Cut, Gave, Silent, Ended, Broke, Closed, Opened, Unopened}
 use Rattle.gc_station.specs.Deciding.{is_up, is_quiet}
-use Rattle.gc_station.specs.Progressing.{told, begun, failing, opened, again, is_finished, quieted, waited, silent, is_resting, waiting_on, reckoned_early, gave, closed, is_spared}
+use Rattle.gc_station.specs.Progressing.{told, begun, failing, opened, again, is_finished, quieted, waited, silent, is_resting, waiting_on, reckoned_early, gave, is_spared}
 use Rattle.gc_station.specs.EachOnce.{IsEachOnce, requests, sent_by, of_record}
-use Rattle.gc_station.specs.Standing.{Standing, place_next, with_progress, with_moment, with_rest, line_came, lines_came, lines_behind, came, is_heard, after_tell, after_put, after_open, after_read, after_close, piece_at, with_client, with_settled, is_nil}
+use Rattle.gc_station.specs.Standing.{Standing, place_next, with_progress, with_moment, with_rest, line_came, lines_came, lines_behind, came, is_heard, after_tell, after_put, after_open, after_read, after_close, piece_at, is_nil}
 use Rattle.gc_station.proofs.Each.{each_moment, each_settled, each_nothing, each_lost, each_heard, heard_fewer, sent_whole, sent_none}
 
 -- nothing waits there, and ids begin anew

@@ -12,7 +12,6 @@ use Rattle.gc_texts.specs.declared.commands.Command.{Command}
 use Rattle.gc_station.specs.declared.plan.Plan.{Plan}
 use Rattle.gc_station.specs.Acts.{Act}
 use Rattle.gc_station.specs.Records.{Record, records_from}
-use Rattle.gc_station.specs.Standing.{asks}
 use Rattle.gc_station.proofs.Lists.{AllAt, at_on, at_drop}
 use Rattle.gc_station.proofs.Waiting.{WaitsAt, sent_as}
 

@@ -1,17 +1,19 @@
 -- A close stands between what was before it and what comes behind.
-use Rattle.std.proofs.Common.{◌≡◌, inl, inr, ℕ, List, [], ◌∷◌, ◌++◌, sym, ap, ◌∙◌, subst}
+use Rattle.std.proofs.Common.{◌≡◌, ◌⊎◌, inl, inr, ℕ, List, [], ◌∷◌, ◌++◌, sym, ap, ◌∙◌, subst}
 use Rattle.std.specs.List.{AllByRecursion}
 use Rattle.gc_texts.specs.declared.commands.Command.{Command}
 use Rattle.gc_station.specs.declared.plan.Plan.{Plan}
 use Rattle.gc_station.specs.declared.progress.Order.{Order}
 use Rattle.gc_station.specs.declared.progress.Order.TheVariants.{Close}
 use Rattle.gc_station.specs.Acts.{Act, Gave, Closed}
-use Rattle.gc_station.specs.Answers.{IsBefore, deadline_behind, IsAnsweredIn, IsOnOneSide, IsAnew}
+use Rattle.gc_station.specs.Answers.{IsBefore, deadline_behind, IsAnsweredIn, IsTrueRecord, IsBehind, IsAhead, IsOnOneSide, IsAnew}
 use Rattle.gc_station.specs.Progressing.{turned}
 use Rattle.gc_station.specs.Records.{Record}
 use Rattle.gc_station.specs.Runs.{stood}
 use Rattle.gc_station.specs.Standing.{Standing, Puts, opening, order_at, request_text, with_progress, moved, Runs}
+use Rattle.gc_station.proofs.Answers.{answers_true}
 use Rattle.gc_station.proofs.Closings.{runs_split, closes_only}
+use Rattle.gc_station.proofs.Lists.{all_on}
 use Rattle.gc_station.proofs.Going.{after_all-append}
 
 -- two places of one list: one stands behind the other, they are one, or it stands before it
@@ -35,17 +37,23 @@ no_close : (d : ℕ) (mid others : List Act) → AllByRecursion (IsBefore d) (mi
 no_close d [] others all = all.0
 no_close d (act ∷ mid) others all = no_close d mid others all.1
 
-pub on_one_side : (plan : Plan) (commands : List Command) (turns : ℕ) (earlier later : List Act) (r : Record) (line : List ℕ) (a : IsAnsweredIn plan commands turns (earlier ++ Closed ∷ later) r line) → IsOnOneSide earlier a
-on_one_side plan commands turns earlier later r line a = request_at (meet earlier a.before later (a.between ++ Gave a.piece a.moment ∷ a.behind) Closed a.request a.order) where
-  line_at : (mid : List Act) → earlier ≡ a.before ++ a.request ∷ mid → Meet mid a.between Closed (Gave a.piece a.moment) later a.behind → IsOnOneSide earlier a
+side_of : (plan : Plan) (commands : List Command) (turns : ℕ) (earlier later : List Act) (r : Record) (line : List ℕ) (a : IsAnsweredIn plan commands turns (earlier ++ Closed ∷ later) r line) → IsBehind earlier a ⊎ IsAhead earlier a
+side_of plan commands turns earlier later r line a = request_at (meet earlier a.before later (a.between ++ Gave a.piece a.moment ∷ a.behind) Closed a.request a.order) where
+  line_at : (mid : List Act) → earlier ≡ a.before ++ a.request ∷ mid → Meet mid a.between Closed (Gave a.piece a.moment) later a.behind → IsBehind earlier a ⊎ IsAhead earlier a
   line_at mid is (Later others at) = absurd (no_close (deadline_behind plan commands turns a.before) mid others (subst (λ (xs : List Act). AllByRecursion (IsBefore (deadline_behind plan commands turns a.before)) xs) at a.waits))
   line_at mid is (Same at) = cc
   line_at mid is (Sooner others at left) = inr (others, is ∙ ap (λ (xs : List Act). a.before ++ a.request ∷ xs) at)
 
-  request_at : Meet earlier a.before Closed a.request later (a.between ++ Gave a.piece a.moment ∷ a.behind) → IsOnOneSide earlier a
+  request_at : Meet earlier a.before Closed a.request later (a.between ++ Gave a.piece a.moment ∷ a.behind) → IsBehind earlier a ⊎ IsAhead earlier a
   request_at (Later mid is) = inl (mid, is)
   request_at (Same is) = absurd (subst (λ (act : Act). Puts (request_text (stood plan commands turns a.before).client r.settlement.call) act) (sym is) a.put)
   request_at (Sooner mid is left) = line_at mid is (meet mid a.between later a.behind Closed (Gave a.piece a.moment) (sym left))
+
+pub on_one_side : (plan : Plan) (commands : List Command) (turns : ℕ) (earlier later : List Act) → Runs plan commands (opening plan turns) (earlier ++ Closed ∷ later)
+    → AllByRecursion (IsOnOneSide plan commands turns earlier later) (stood plan commands turns (earlier ++ Closed ∷ later)).records
+on_one_side plan commands turns earlier later runs =
+    all_on (IsTrueRecord plan commands turns (earlier ++ Closed ∷ later)) (IsOnOneSide plan commands turns earlier later) (stood plan commands turns (earlier ++ Closed ∷ later)).records
+    (λ r is line e. let a = is line e in (a, side_of plan commands turns earlier later r line a)) (answers_true plan commands turns (earlier ++ Closed ∷ later) runs)
 
 pub begins_anew : (plan : Plan) (commands : List Command) (turns : ℕ) (earlier : List Act) → Runs plan commands (opening plan turns) (earlier ++ Closed ∷ []) → IsAnew (stood plan commands turns (earlier ++ Closed ∷ []))
 begins_anew plan commands turns earlier runs =

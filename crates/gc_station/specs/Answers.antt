@@ -55,10 +55,17 @@ pub record IsAnsweredIn (plan : Plan) (commands : List Command) (turns : ℕ) (a
 abbrev pub IsTrueRecord : Plan → List Command → ℕ → List Act → Record → Type 0
 IsTrueRecord plan commands turns acts r = (line : List ℕ) → r.settlement.outcome ≡ Answered line → IsAnsweredIn plan commands turns acts r line
 
--- an answer and its request stand on one side of a close that follows these acts: both behind it, or both before it
-abbrev pub IsOnOneSide : {plan : Plan} {commands : List Command} {turns : ℕ} {acts : List Act} {r : Record} {line : List ℕ} → List Act → IsAnsweredIn plan commands turns acts r line → Type 0
-IsOnOneSide earlier a =
-    ((mid : List Act) × (a.before ≡ earlier ++ Closed ∷ mid)) ⊎ ((mid : List Act) × (earlier ≡ a.before ++ a.request ∷ (a.between ++ Gave a.piece a.moment ∷ mid)))
+-- the request and the line of an answer stand both behind a close, or both before it
+abbrev pub IsBehind : {plan : Plan} {commands : List Command} {turns : ℕ} {acts : List Act} {r : Record} {line : List ℕ} → List Act → IsAnsweredIn plan commands turns acts r line → Type 0
+IsBehind earlier a = (mid : List Act) × (a.before ≡ earlier ++ Closed ∷ mid)
+
+abbrev pub IsAhead : {plan : Plan} {commands : List Command} {turns : ℕ} {acts : List Act} {r : Record} {line : List ℕ} → List Act → IsAnsweredIn plan commands turns acts r line → Type 0
+IsAhead earlier a = (mid : List Act) × (earlier ≡ a.before ++ a.request ∷ (a.between ++ Gave a.piece a.moment ∷ mid))
+
+-- a record of an answer stands on one side of a close between these acts
+abbrev pub IsOnOneSide : Plan → List Command → ℕ → List Act → List Act → Record → Type 0
+IsOnOneSide plan commands turns earlier later r = (line : List ℕ) → r.settlement.outcome ≡ Answered line
+    → (a : IsAnsweredIn plan commands turns (earlier ++ Closed ∷ later) r line) × (IsBehind earlier a ⊎ IsAhead earlier a)
 
 -- nothing waits, ids begin anew, and no bytes of a line are kept
 abbrev pub IsAnew : Standing → Type 0

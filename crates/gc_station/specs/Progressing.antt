@@ -38,10 +38,16 @@ turned p = record p { turns = p.turns - 1 }
 abbrev pub told : Moment → Progress → Progress
 told m p = record p { moment = m; since = m.elapsed; began = min p.began m.elapsed; stale = false }
 
--- a cycle of so many commands began: when it was due where the one before it was done by then, and else now
+-- when a cycle begins that begins at this moment: when it was due, where the one before it was done by then and the next after it
+-- isn't due yet; and else now
+abbrev pub beginning : Plan → Moment → Progress → ℕ
+beginning plan m p =
+    let due = later p.began plan.every in
+    if p.early && nat_lt m.elapsed (later due plan.every) then due else m.elapsed
+
+-- a cycle of so many commands began
 abbrev pub begun : Plan → ℕ → Moment → Progress → Progress
-begun plan count m p =
-    record p { moment = m; since = m.elapsed; stale = false; began = if p.early then later p.began plan.every else m.elapsed; early = false; left = p.left - 1; unsent = count }
+begun plan count m p = record p { moment = m; since = m.elapsed; stale = false; began = beginning plan m p; early = false; left = p.left - 1; unsent = count }
 
 -- it can't go on so: the connection is to be closed, if there is one
 abbrev pub failing : Cause → Progress → Progress

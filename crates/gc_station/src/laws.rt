@@ -7,10 +7,9 @@ ghost use Rattle.gc_station.specs.declared.cause.Cause.{Cause};
 ghost use Rattle.gc_station.specs.declared.progress.Order.TheVariants.{Probe, Send, Stop};
 ghost use Rattle.gc_station.specs.declared.plan.Plan.{Plan};
 ghost use Rattle.gc_station.specs.Acts.{Act, Closed};
-ghost use Rattle.gc_station.specs.Answers.{IsAnsweredIn, IsTrueRecord, IsOnOneSide, IsAnew};
+ghost use Rattle.gc_station.specs.Answers.{IsTrueRecord, IsOnOneSide, IsAnew};
 ghost use Rattle.gc_station.specs.Closing.{IsReasoned, ClosesForACause, StopsForACause};
 ghost use Rattle.gc_station.specs.EachOnce.{EachOnce, IsFurther};
-ghost use Rattle.gc_station.specs.Records.{Record};
 ghost use Rattle.gc_station.specs.Probing.{KeepsOpen, IsAnsweredWithin};
 ghost use Rattle.gc_station.specs.Runs.{stood};
 ghost use Rattle.gc_station.specs.Standing.{opening, order_at, Runs};
@@ -47,17 +46,18 @@ pub fn each_send_goes_on()
 
 /// Each record of an answer is of a line that came with the id of its very request, of the same cycle and place: behind it,
 /// on the connection on which it went out, and before a moment at or past its deadline was told. No close stands between
-/// them, and the act that brought the line is the one at which the record was written.
+/// them, and the act that brought the line is the one at which the record was written. Its target is that of its command by
+/// `each_command_once`.
 pub fn answers_come_in_time()
     ensures { (plan : Plan) (commands : List Command) (turns : ℕ) (acts : List Act)
         → Runs plan commands (opening plan turns) acts → AllByRecursion (IsTrueRecord plan commands turns acts) (stood plan commands turns acts).records }
 {}
 
-/// A line that came after a close is never booked for a request from before it, nor the other way round: whatever answer
-/// `answers_come_in_time` speaks of, its request and its line stand on one side of each close.
+/// A line that came after a close is never booked for a request from before it, nor the other way round: of each record of
+/// an answer, the request and the line stand on one side of each close.
 pub fn no_answer_crosses_a_close()
-    ensures { (plan : Plan) (commands : List Command) (turns : ℕ) (earlier later : List Act) (r : Record) (line : List ℕ)
-        (a : IsAnsweredIn plan commands turns (earlier ++ Closed ∷ later) r line) → IsOnOneSide earlier a }
+    ensures { (plan : Plan) (commands : List Command) (turns : ℕ) (earlier later : List Act) → Runs plan commands (opening plan turns) (earlier ++ Closed ∷ later)
+        → AllByRecursion (IsOnOneSide plan commands turns earlier later) (stood plan commands turns (earlier ++ Closed ∷ later)).records }
 {}
 
 /// Where the null procedure goes out on a new connection (`settle`), no command follows on that connection before a line came

@@ -5,7 +5,7 @@ ghost use Rattle.gc_station.specs.Acts.{Closed, Tells, told_as, put_as, came_as,
 
 use gc_lines::PortFailed;
 
-/// A moment, on two clocks. Either may go back.
+/// A moment, on two clocks. Either may go back; a request's deadline is then as far away as it was told.
 #[derive(Clone, Copy, Debug, PartialEq, Eq)]
 pub struct Moment {
     /// Milliseconds since some start, for deadlines.
@@ -19,7 +19,7 @@ pub struct Moment {
 pub enum Came {
     /// So many bytes.
     Bytes(usize, Moment),
-    /// None in the time that was allowed. The link is as good as before.
+    /// None in the time that was allowed, and none had come until this moment. The link is as good as before.
     Silence(Moment),
     /// The other end closed the connection.
     End,

@@ -5,7 +5,6 @@ ghost use Rattle.std.specs.Prelude.{◌≡◌};
 
 use crate::book::Book;
 use crate::plan::Plan;
-use crate::progress::Order;
 use crate::progressing::later;
 use crate::station::Station;
 
@@ -30,25 +29,14 @@ impl Station {
             .min(60_000)
     }
 
-    // Tells a book that the cycle wasn't done when the next was due, once: behind the moment at which that is, or where it was done
-    // at a moment behind that. The cycle that was told last.
-    pub(crate) fn tell_overrun<B: Book>(
-        &self,
-        book: &mut B,
-        plan: &Plan,
-        order: Order,
-        told: u32,
-    ) -> u32
+    // Tells a book that the cycle that began last wasn't done when the next was due, once. The cycle that was told last.
+    pub(crate) fn tell_overrun<B: Book>(&self, book: &mut B, plan: &Plan, told: u32) -> u32
         ensures taken { B.taken book.new ≡ B.taken book.old }
         ensures failed { B.failed book.new ≡ B.failed book.old }
     {
         let progress = &self.progress;
         let cycle = plan.cycles.saturating_sub(progress.left);
-        let waits = self.client.waiting() > 0 && !progress.probe;
-        let late = match order {
-            Order::Begin => !progress.early,
-            _ => (progress.unsent > 0 || waits) && progress.is_due(plan),
-        };
+        let late = !progress.early && progress.is_due(plan);
         if late && cycle > told && progress.left > 0 && plan.every > 0 {
             book.overran(cycle);
             return cycle;

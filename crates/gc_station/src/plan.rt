@@ -7,7 +7,8 @@ pub struct Plan {
     pub width: u8,
     /// How long a request waits before it is given up.
     pub deadline: u64,
-    /// How far apart the cycles begin. 0: each begins when the one before it is done.
+    /// How far apart the cycles begin. 0: each begins when the one before it is done. One that waited for a connection, and
+    /// less than a cycle, counts as begun when it was due.
     pub every: u64,
     /// How many cycles are measured.
     pub cycles: u32,

@@ -1,7 +1,7 @@
 //! What each act does to how far a station is.
 
 ghost use Rattle.std.specs.Prelude.{◌≡◌};
-ghost use Rattle.gc_station.specs.Progressing.{later, turned, told, begun, failing, opened, again, is_finished, is_spared, phase_again, is_resting, quieted, cleared, probed, sent, gave, waited, silent, waiting_on, reckoned_early, closed};
+ghost use Rattle.gc_station.specs.Progressing.{later, turned, told, beginning, begun, failing, opened, again, is_finished, is_spared, phase_again, is_resting, quieted, cleared, probed, sent, gave, waited, silent, waiting_on, reckoned_early, closed};
 
 use crate::cause::Cause;
 use crate::link::Moment;
@@ -50,12 +50,24 @@ impl Progress {
         self.stale = false;
     }
 
+    // When a cycle begins that begins at this moment: when it was due, or now.
+    fn beginning(&self, plan: &Plan, moment: Moment) -> u64
+        ensures { result ≡ beginning plan.now moment self.now }
+    {
+        let due = later(self.began, plan.every);
+        if self.early && moment.elapsed < later(due, plan.every) {
+            due
+        } else {
+            moment.elapsed
+        }
+    }
+
     pub(crate) fn begin(&mut self, plan: &Plan, count: usize, moment: Moment)
         ensures { self.new ≡ begun plan.now count moment self.old }
     {
-        let due = later(self.began, plan.every);
+        let began = self.beginning(plan, moment);
         self.tell(moment);
-        self.began = if self.early { due } else { moment.elapsed };
+        self.began = began;
         self.early = false;
         self.left = self.left.saturating_sub(1);
         self.unsent = count;

@@ -35,7 +35,7 @@ pub(crate) fn run<L: Link, B: Book>(
         if let Order::Stop(cause) = order {
             return Ok((cause, station.tally));
         }
-        told = station.tell_overrun(book, plan, order, told);
+        told = station.tell_overrun(book, plan, told);
         station.progress.turn();
         if let Err(failed) = station.obey(link, book, plan, commands, order) {
             return Err(failed);

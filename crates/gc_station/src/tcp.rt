@@ -1,6 +1,6 @@
 //! A link over a real connection to a port of 127.0.0.1. None of its calls waits for ever.
 
-ghost use Rattle.std.specs.Prelude.{ℕ, List, None};
+ghost use Rattle.std.specs.Prelude.{ℕ, ◌≤◌, List, length, None, IfOk, IfSome};
 ghost use Rattle.gc_station.specs.Acts.{IsWithin};
 
 use crate::link::{Came, Link, Moment};
@@ -59,6 +59,50 @@ impl<'a, R: Net<Listener = TcpListener, Stream = TcpStream> + Clock> TcpLink<'a,
         self.silence()
     }
 
+    // Reads for so many milliseconds. `None`: nothing came, or the read was interrupted.
+    fn read_for(&mut self, buf: &mut [u8], millis: u64) -> io::Result<Option<usize>>
+        ensures { IfOk result (λ read. IfSome read (λ n. n ≤ length buf.new)) }
+    {
+        let Some(stream) = &mut self.stream else {
+            return Ok(None);
+        };
+        // A time of zero would be an error, and none would wait for ever.
+        stream.set_read_timeout(Some(Duration::from_millis(millis.max(1))))?;
+        match stream.read(buf) {
+            Ok(n) => Ok(Some(n)),
+            Err(error) if is_silence(error.kind()) => Ok(None),
+            Err(error) => Err(error),
+        }
+    }
+
+    // A read gave so many bytes; none: the other end closed the connection.
+    fn came(&self, n: usize) -> Came
+        ensures { (buf : List ℕ) → n ≤ length buf → IsWithin result buf }
+    {
+        if n == 0 {
+            return Came::End;
+        }
+        match self.moment() {
+            Ok(moment) => Came::Bytes(n, moment),
+            Err(_) => Came::NoMoment,
+        }
+    }
+
+    // Reads once more where a read gave nothing: while this program was stopped bytes may have come, which lie unread. So the
+    // moment is told first, and it is a silence where nothing had come until then.
+    fn read_again(&mut self, buf: &mut [u8]) -> Came
+        ensures { IsWithin result buf.new }
+    {
+        let Ok(moment) = self.moment() else {
+            return Came::NoMoment;
+        };
+        match self.read_for(buf, 1) {
+            Ok(Some(n)) => self.came(n),
+            Ok(None) => Came::Silence(moment),
+            Err(_) => Came::Failure,
+        }
+    }
+
     // That nothing came until now.
     fn silence(&self) -> Came
         ensures { (buf : List ℕ) → IsWithin result buf }
@@ -104,21 +148,12 @@ impl<'a, R: Net<Listener = TcpListener, Stream = TcpStream> + Clock> Link for Tc
     }
 
     fn read(&mut self, buf: &mut [u8], millis: u64) -> Came {
-        let Some(stream) = &mut self.stream else {
+        if self.stream.is_none() {
             return self.wait(millis);
-        };
-        // A time of zero would be an error, and none would wait for ever.
-        let patience = Some(Duration::from_millis(millis.max(1)));
-        if stream.set_read_timeout(patience).is_err() {
-            return Came::Failure;
         }
-        match stream.read(buf) {
-            Ok(0) => Came::End,
-            Ok(n) => match self.moment() {
-                Ok(moment) => Came::Bytes(n, moment),
-                Err(_) => Came::NoMoment,
-            },
-            Err(error) if is_silence(error.kind()) => self.silence(),
+        match self.read_for(buf, millis) {
+            Ok(Some(n)) => self.came(n),
+            Ok(None) => self.read_again(buf),
             Err(_) => Came::Failure,
         }
     }
