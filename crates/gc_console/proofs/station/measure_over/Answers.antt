@@ -8,6 +8,6 @@ returns-clause-done g c =
     let m = c.run_station_text-sink.ensures.measures in
     IfOk-weaker c.tell_counts.result _ _
     (λ status told zero.
-      let d = done_at_0 m.0 _ _ _ _ _ _ _ _ (exit_status status) _ _ m.3 told zero in
-      (m.0, m.1, (d.0, d.1, _, d.2, d.3)))
+    let d = done_at_0 m.0 _ _ _ _ _ _ _ _ (exit_status status) _ _ m.3 told zero in
+    (m.0, m.1, (d.0, d.1, _, d.2, d.3)))
     c.tell_counts.ensures.told

@@ -13,6 +13,6 @@ pub returns-clause-done : goal.returns-clause-done
 returns-clause-done g c =
     IfOk-weaker c.measure_over.result.1 _ _
     (λ status d zero.
-      let r = d zero in
-      (r.0, r.1, (r.2.0, r.2.1, record { acts = None; taken = g.K.Sink.taken c.measure_over.result.0; messages = r.2.2 }, r.2.3, r.2.4)))
+    let r = d zero in
+    (r.0, r.1, (r.2.0, r.2.1, record { acts = None; taken = g.K.Sink.taken c.measure_over.result.0; messages = r.2.2 }, r.2.3, r.2.4)))
     c.measure_over.ensures.done
