@@ -47,7 +47,7 @@ all_texts_one done c =
     ap all_of (texts_one 0 done c ∙ ap (λ n. request_texts 0 done ++ request_text n c ∷ []) place) ∙ all_of-append (request_texts 0 done) (request_text (length done) c ∷ [])
     ∙ ap (λ t. all_of (request_texts 0 done) ++ t) (append-nil (request_text (length done) c))
 
-lines_last : (settled : List Settlement) (k : ℕ) (next : Settlement) → length settled ≡ k → settlement_lines (settled ++ next ∷ []) ≡ settlement_lines settled ++ lines_from k (next ∷ [])
+pub lines_last : (settled : List Settlement) (k : ℕ) (next : Settlement) → length settled ≡ k → settlement_lines (settled ++ next ∷ []) ≡ settlement_lines settled ++ lines_from k (next ∷ [])
 lines_last settled k next is =
     let place : 0 + length settled ≡ k = omega (arith, is) in
     lines_one 0 settled next ∙ ap (λ n. settlement_lines settled ++ settlement_line n next) place ∙ ap (λ t. settlement_lines settled ++ t) (sym (append-nil (settlement_line k next)))
@@ -95,7 +95,7 @@ course_start kept client link sink s is = record {
 }
 
 -- what is asked of all that came, where no further command is
-asked_so : (done : List Command) (given left : List ℕ) (kept : Kept) (client : ById) (a b c d : Option (List ℕ)) (more : List ℕ) (at : Course done given left kept client a b c d) → asked done (given ++ more) ≡ at.settled
+pub asked_so : (done : List Command) (given left : List ℕ) (kept : Kept) (client : ById) (a b c d : Option (List ℕ)) (more : List ℕ) (at : Course done given left kept client a b c d) → asked done (given ++ more) ≡ at.settled
 asked_so done given left kept client a b c d more at =
     let came = lines_behind at.now (left ++ more) in
     ap (λ xs. asked_from 0 xs (lines (given ++ more))) (sym (append-nil done)) ∙ ap (asked_from 0 (done ++ [])) (more_came given left more at.now at.looked at.seen at.rests).0

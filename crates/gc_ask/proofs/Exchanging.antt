@@ -10,7 +10,7 @@ use Rattle.gc_client.specs.declared.settlement.Settlement.{Settlement}
 use Rattle.gc_client.specs.Rule.{ById, met, restarts}
 use Rattle.gc_client.specs.Rule
 use Rattle.gc_client.specs.Settlements.{AreSettlements, settlement_seen}
-use Rattle.gc_ask.specs.Asking.{idle, asked_for, waiting_for, request_text, lost_of, Asks, AskEnds}
+use Rattle.gc_ask.specs.Asking.{idle, asked_for, waiting_for, request_text, lost_of, Asks, AskEnds, LinkEnds}
 use Rattle.gc_texts.specs.declared.commands.Command.{Command}
 use Rattle.gc_texts.specs.declared.fault.RunFault.{RunFault}
 use Rattle.gc_texts.specs.declared.fault.RunFault.TheVariants.{Read, Write, TooManyReads, LinkClosed, Schedule, Memory, InputTooLong, Socket, Output}
@@ -157,17 +157,30 @@ going_on old mid new x y z before after g grows ends = record {
   sink = ends.1 ∙ g.sink;
 }
 
+-- so the link's ports, a command later
+link_on : (old mid new : Ports) (x y : Bool) (before after : ℕ) (r : Result (Unit {0}) RunFault) → Going old mid x y → mid.reads ≤ new.reads → ExchangeEnds mid new before after r → LinkEnds old new r
+link_on old mid new x y before after (Ok u) g grows ends = (still_going old mid new x y g grows ends.0.0 ends.0.1, ends.0.2 ∙ g.source, ends.1 ∙ g.link)
+link_on old mid new x y before after (Err Read) g grows ends = (still_going old mid new x y g grows ends.0.0 ends.0.1, ends.0.3, ends.1 ∙ g.link)
+link_on old mid new x y before after (Err (Write count part)) g grows ends =
+    (still_going old mid new x y g grows (λ some. absurd (omega (arith, some, ends.0))) (λ _. ends.1), ends.2 ∙ g.source, ends.3)
+link_on old mid new x y before after (Err TooManyReads) g grows ends = (still_going old mid new x y g grows ends.0.0 ends.0.1, ends.0.3 ∙ g.source, ends.1 ∙ g.link)
+link_on old mid new x y before after (Err LinkClosed) g grows ends = (omega (arith, g.grows, ends.0.0), ends.0.1, ends.0.2 ∙ g.source, ends.1 ∙ g.link)
+link_on old mid new x y before after (Err (Schedule n)) g grows ends = absurd ends.0
+link_on old mid new x y before after (Err Memory) g grows ends = absurd ends.0
+link_on old mid new x y before after (Err InputTooLong) g grows ends = absurd ends.0
+link_on old mid new x y before after (Err Socket) g grows ends = absurd ends.0
+link_on old mid new x y before after (Err Output) g grows ends = absurd ends.0
+
 pub going_fault : (old mid new : Ports) (x y z : Bool) (before after : ℕ) (e : RunFault) → Going old mid x y → mid.reads ≤ new.reads → AskOneEnds mid new before after y z (Err e) → AskEnds old new x z (Err e)
-going_fault old mid new x y z before after Read g grows ends = (still_going old mid new x y g grows ends.0.0.0 ends.0.0.1, ends.0.0.3, ends.0.1 ∙ g.link, ends.1 ∙ g.sink)
-going_fault old mid new x y z before after (Write count part) g grows ends =
-    (still_going old mid new x y g grows (λ some. absurd (omega (arith, some, ends.0.0))) (λ _. ends.0.1), ends.0.2 ∙ g.source, ends.0.3, ends.1 ∙ g.sink)
-going_fault old mid new x y z before after TooManyReads g grows ends = (still_going old mid new x y g grows ends.0.0.0 ends.0.0.1, ends.0.0.3 ∙ g.source, ends.0.1 ∙ g.link, ends.1 ∙ g.sink)
-going_fault old mid new x y z before after LinkClosed g grows ends = (omega (arith, g.grows, ends.0.0.0), ends.0.0.1, ends.0.0.2 ∙ g.source, ends.0.1 ∙ g.link, ends.1 ∙ g.sink)
+going_fault old mid new x y z before after Read g grows ends = (link_on old mid new x y before after (Err Read) g grows ends.0, ends.1 ∙ g.sink)
+going_fault old mid new x y z before after (Write count part) g grows ends = (link_on old mid new x y before after (Err (Write count part)) g grows ends.0, ends.1 ∙ g.sink)
+going_fault old mid new x y z before after TooManyReads g grows ends = (link_on old mid new x y before after (Err TooManyReads) g grows ends.0, ends.1 ∙ g.sink)
+going_fault old mid new x y z before after LinkClosed g grows ends = (link_on old mid new x y before after (Err LinkClosed) g grows ends.0, ends.1 ∙ g.sink)
 going_fault old mid new x y z before after (Schedule n) g grows ends = absurd ends.0.0
 going_fault old mid new x y z before after Memory g grows ends = absurd ends.0.0
 going_fault old mid new x y z before after InputTooLong g grows ends = absurd ends.0.0
 going_fault old mid new x y z before after Socket g grows ends = absurd ends.0.0
-going_fault old mid new x y z before after Output g grows ends = ends
+going_fault old mid new x y z before after Output g grows ends = (ends.0, (ends.1.0, link_on old mid new x y before after ends.1.0 g grows ends.1.1))
 
 -- one more command was asked
 pub course_next : (commands done later : List Command) (command : Command) (place : ℕ) (given left more left' : List ℕ) (kept kept' : Kept) (client to : ById) (a b b' c d d' : Option (List ℕ))

@@ -2,3 +2,5 @@ mod FirstReplies
 mod Asked
 mod Exchanging
 mod ById
+mod Refusing
+mod Looping

@@ -1,9 +1,9 @@
 -- A command text that is read whole and asked: this project's own.
-use Rattle.std.specs.Prelude.{◌≡◌, ℕ, ◌+◌, ◌*◌, ◌-◌, ◌<◌, ◌≤◌, ◌⊎◌, Bool, true, List, length, Option, Result, Err}
+use Rattle.std.specs.Prelude.{◌≡◌, ℕ, ◌+◌, ◌*◌, ◌-◌, ◌<◌, ◌≤◌, ◌⊎◌, Bool, true, false, List, length, Option, Result, Err}
 use Rattle.std.specs.Io.KnownBytes.{Consumes, IsAtEnd}
 use Rattle.gc_lines.specs.Answering.{Ports}
 use Rattle.gc_ask.specs.Asking.{Asks, AskEnds}
-use Rattle.gc_texts.specs.Commands.{IsCommands, IsFirstFaultyCommand}
+use Rattle.gc_texts.specs.Commands.{IsCommands, IsFirstFaultyCommand, IsBehindACommand}
 use Rattle.gc_texts.specs.declared.commands.Command.{Command}
 use Rattle.gc_texts.specs.declared.text.TheConstants.{TEXT_LIMIT}
 use Rattle.gc_texts.specs.declared.fault.RunFault.{RunFault}
@@ -18,14 +18,17 @@ pub record Input : Type 0 where
   pub failed : Bool
 
 -- the text that a source gave is no list of commands, or wasn't read: why, and whether the source has failed; a line is faulty
--- only in a text that was read to its end
+-- only in a text that was read to its end; memory is wanted only where something was to be kept: bytes that came, of a text that wasn't
+-- read to its end, or a command, of one that was
 abbrev pub RefusesText : List ℕ → Input → Input → RunFault → Type 0
 RefusesText given old new Read = (length given ≤ TEXT_LIMIT) × (new.failed ≡ true)
 RefusesText given old new InputTooLong = (length given ≡ TEXT_LIMIT + 1) × (new.failed ≡ old.failed)
 RefusesText given old new (Schedule n) =
     (length given ≤ TEXT_LIMIT) × IsFirstFaultyCommand given n × IsAtEnd new.remaining × (new.ended ≡ true) × (old.reads < new.reads)
     × (new.failed ≡ old.failed)
-RefusesText given old new Memory = (length given ≤ TEXT_LIMIT) × (new.failed ≡ old.failed)
+RefusesText given old new Memory =
+    (0 < length given) × (length given ≤ TEXT_LIMIT) × (new.failed ≡ old.failed)
+    × ((new.ended ≡ false) ⊎ (IsBehindACommand given × IsAtEnd new.remaining × (new.ended ≡ true)))
 RefusesText given old new _ = ⊥
 
 -- a source gave a command text, to its end

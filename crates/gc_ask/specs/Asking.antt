@@ -118,12 +118,19 @@ Asks commands given link_old link_new sink_old sink_new (Err (Write count bytes)
 Asks commands given link_old link_new sink_old sink_new (Err Output) = TellsPart commands given link_old link_new sink_old sink_new
 Asks commands given link_old link_new sink_old sink_new (Err _) = ⊥
 
--- why asking ended, and what the link's ports and the sink then are
+-- what the two ports of an end of a link are once they were used, with this end: whether the last read was the end of the input, and
+-- which of them has failed
+abbrev pub LinkEnds : Ports → Ports → Result (Unit {0}) RunFault → Type 0
+LinkEnds old new (Ok _) = (old.reads < new.reads → new.ended ≡ false) × (new.source_failed ≡ old.source_failed) × (new.sink_failed ≡ old.sink_failed)
+LinkEnds old new (Err Read) = (old.reads < new.reads → new.ended ≡ false) × (new.source_failed ≡ true) × (new.sink_failed ≡ old.sink_failed)
+LinkEnds old new (Err (Write _ _)) = (old.reads < new.reads → new.ended ≡ false) × (new.source_failed ≡ old.source_failed) × (new.sink_failed ≡ true)
+LinkEnds old new (Err TooManyReads) = (old.reads < new.reads → new.ended ≡ false) × (new.source_failed ≡ old.source_failed) × (new.sink_failed ≡ old.sink_failed)
+LinkEnds old new (Err LinkClosed) = (old.reads < new.reads) × (new.ended ≡ true) × (new.source_failed ≡ old.source_failed) × (new.sink_failed ≡ old.sink_failed)
+LinkEnds old new (Err _) = ⊥
+
+-- why asking ended, and what the link's ports and the sink then are: the sink failed exactly where that is the fault, and then the link
+-- ended as it would have without it
 abbrev pub AskEnds : Ports → Ports → Bool → Bool → Result (Unit {0}) RunFault → Type 0
-AskEnds old new sink_old sink_new (Ok _) = (old.reads < new.reads → new.ended ≡ false) × (new.source_failed ≡ old.source_failed) × (new.sink_failed ≡ old.sink_failed) × (sink_new ≡ sink_old)
-AskEnds old new sink_old sink_new (Err Read) = (old.reads < new.reads → new.ended ≡ false) × (new.source_failed ≡ true) × (new.sink_failed ≡ old.sink_failed) × (sink_new ≡ sink_old)
-AskEnds old new sink_old sink_new (Err (Write _ _)) = (old.reads < new.reads → new.ended ≡ false) × (new.source_failed ≡ old.source_failed) × (new.sink_failed ≡ true) × (sink_new ≡ sink_old)
-AskEnds old new sink_old sink_new (Err TooManyReads) = (old.reads < new.reads → new.ended ≡ false) × (new.source_failed ≡ old.source_failed) × (new.sink_failed ≡ old.sink_failed) × (sink_new ≡ sink_old)
-AskEnds old new sink_old sink_new (Err LinkClosed) = (old.reads < new.reads) × (new.ended ≡ true) × (new.source_failed ≡ old.source_failed) × (new.sink_failed ≡ old.sink_failed) × (sink_new ≡ sink_old)
-AskEnds old new sink_old sink_new (Err Output) = sink_new ≡ true
-AskEnds old new sink_old sink_new (Err _) = ⊥
+AskEnds old new sink_old sink_new (Err Output) = (sink_new ≡ true) × ((link : Result (Unit {0}) RunFault) × LinkEnds old new link)
+AskEnds old new sink_old sink_new (Ok x) = LinkEnds old new (Ok x) × (sink_new ≡ sink_old)
+AskEnds old new sink_old sink_new (Err e) = LinkEnds old new (Err e) × (sink_new ≡ sink_old)

@@ -1,5 +1,5 @@
 -- No part of a promise: what the functions inside asking say of the bytes that a link gives.
-use Rattle.std.specs.Prelude.{◌≡◌, ℕ, ◌<◌, ◌⊎◌, Bool, true, false, List, [], ◌∷◌, ◌++◌, length, Option, Some, None, Result, Ok, Err, take, drop, map}
+use Rattle.std.specs.Prelude.{◌≡◌, ℕ, ◌<◌, ◌≤◌, ◌⊎◌, Bool, true, false, List, [], ◌∷◌, ◌++◌, length, Option, Some, None, Result, Ok, Err, take, drop, map}
 use Rattle.std.specs.List.{filter_map}
 use Rattle.std.specs.Io.KnownBytes.{Appends}
 use Rattle.gc_lines.specs.Answering.{Ports}
@@ -10,7 +10,7 @@ use Rattle.gc_client.specs.declared.settlement.Settlement.{Settlement}
 use Rattle.gc_client.specs.Rule.{ById, heard, fits, hears}
 use Rattle.gc_client.specs.Settlements.{AreSettlements, settlement_seen}
 use Rattle.gc_texts.specs.Settlements.{lines_from, ToldPart}
-use Rattle.gc_ask.specs.Asking.{first_reply, waiting_for, request_text, lost_of}
+use Rattle.gc_ask.specs.Asking.{first_reply, waiting_for, request_text, lost_of, LinkEnds}
 use Rattle.gc_texts.specs.declared.commands.Command.{Command}
 use Rattle.gc_texts.specs.declared.fault.RunFault.{RunFault}
 use Rattle.gc_texts.specs.declared.fault.RunFault.TheVariants.{Read, Write, TooManyReads, LinkClosed, Output}
@@ -115,6 +115,54 @@ AsksOne place command rest bytes left kept to link_old link_new sink_old sink_ne
 
 -- why that ended, and what the sink then is
 abbrev pub AskOneEnds : Ports → Ports → (before after : ℕ) → (sink_old sink_new : Bool) → Result (Unit {0}) RunFault → Type 0
-AskOneEnds old new before after sink_old sink_new (Err Output) = sink_new ≡ true
+AskOneEnds old new before after sink_old sink_new (Err Output) = (sink_new ≡ true) × ((link : Result (Unit {0}) RunFault) × ExchangeEnds old new before after link)
 AskOneEnds old new before after sink_old sink_new (Ok x) = ExchangeEnds old new before after (Ok x) × (sink_new ≡ sink_old)
 AskOneEnds old new before after sink_old sink_new (Err e) = ExchangeEnds old new before after (Err e) × (sink_new ≡ sink_old)
+
+-- A loop's two ends.
+
+-- what the ports of an end are a step later, with this end of it
+pub record StepEnds (old new : Ports) (result : Result (Unit {0}) RunFault) : Type 0 where
+  pub ends : LinkEnds old new result
+  pub same : new.reads ≡ old.reads → new.ended ≡ old.ended
+  pub grows : old.reads ≤ new.reads
+
+-- a reply that was cut is the one at this place
+abbrev pub CountsReplies : ℕ → Result (Unit {0}) RunFault → Type 0
+CountsReplies place (Err (Write count _)) = count ≡ place
+CountsReplies place _ = Unit {0}
+
+-- it came at one of the two ends
+abbrev pub BothStep : (client_old client_new instrument_old instrument_new : Ports) → Result (Unit {0}) RunFault → Type 0
+BothStep client_old client_new instrument_old instrument_new result =
+    (StepEnds client_old client_new result × StepEnds instrument_old instrument_new (Ok tt))
+    ⊎ (StepEnds client_old client_new (Ok tt) × StepEnds instrument_old instrument_new result)
+
+-- a request was sent, answered at the other end, and its reply waited for
+abbrev pub LoopExchanges : ℕ → Command → (rest bytes left : List ℕ) → Kept → ById → List Settlement → Option (List ℕ) → Option (List ℕ) → Result (Unit {0}) RunFault → Type 0
+LoopExchanges place command rest bytes left kept to settled old new (Ok x) = Exchanges place command rest bytes left kept to settled old new (Ok x)
+LoopExchanges place command rest bytes left kept to settled old new (Err (Write count _)) =
+    (count ≡ place) × ((part : ℕ) × Appends old new (take part (request_text place command))) × (to ≡ waiting_for place command)
+LoopExchanges place command rest bytes left kept to settled old new (Err _) =
+    Appends old new (request_text place command) × (to ≡ waiting_for place command)
+
+-- a request was sent, its reply waited for, and its settlement told
+abbrev pub LoopsOne : ℕ → Command → (rest bytes left : List ℕ) → Kept → ById → (link_old link_new sink_old sink_new : Option (List ℕ)) → Result (Unit {0}) RunFault → Type 0
+LoopsOne place command rest bytes left kept to link_old link_new sink_old sink_new (Ok x) =
+    AsksOne place command rest bytes left kept to link_old link_new sink_old sink_new (Ok x)
+LoopsOne place command rest bytes left kept to link_old link_new sink_old sink_new (Err (Write count _)) =
+    (count ≡ place) × ((part : ℕ) × Appends link_old link_new (take part (request_text place command)))
+    × Appends sink_old sink_new (lines_from place (lost_of command ∷ []))
+LoopsOne place command rest bytes left kept to link_old link_new sink_old sink_new (Err Output) =
+    AsksOne place command rest bytes left kept to link_old link_new sink_old sink_new (Err Output)
+LoopsOne place command rest bytes left kept to link_old link_new sink_old sink_new (Err _) =
+    Appends link_old link_new (request_text place command) × Appends sink_old sink_new (lines_from place (lost_of command ∷ []))
+
+-- why that ended, and what the sink then is
+abbrev pub LoopOneEnds : (client_old client_new instrument_old instrument_new : Ports) → (sink_old sink_new : Bool) → Result (Unit {0}) RunFault → Type 0
+LoopOneEnds client_old client_new instrument_old instrument_new sink_old sink_new (Err Output) =
+    (sink_new ≡ true) × ((link : Result (Unit {0}) RunFault) × BothStep client_old client_new instrument_old instrument_new link)
+LoopOneEnds client_old client_new instrument_old instrument_new sink_old sink_new (Ok x) =
+    BothStep client_old client_new instrument_old instrument_new (Ok x) × (sink_new ≡ sink_old)
+LoopOneEnds client_old client_new instrument_old instrument_new sink_old sink_new (Err e) =
+    BothStep client_old client_new instrument_old instrument_new (Err e) × (sink_new ≡ sink_old)

@@ -1,6 +1,8 @@
 //! The instrument's end of a link: the instrument behind an assembler, which gives it the lines that come.
 
-ghost use Rattle.std.specs.Prelude.{◌≡◌, ◌+◌, ◌≤◌, length, []};
+ghost use Rattle.std.specs.Prelude.{◌≡◌, ◌+◌, Err};
+ghost use Rattle.gc_texts.specs.declared.fault.RunFault.{RunFault};
+ghost use Rattle.gc_ask.specs.Listening.{StepEnds, CountsReplies};
 
 use crate::unheard::Unheard;
 use gc_instrument::Instrument;
@@ -32,7 +34,13 @@ impl InstrumentEnd {
         link_out: &mut O,
         reads: &mut u32,
     ) -> Result<(), RunFault>
-        ensures { I.reads link_in.new + reads.new ≡ I.reads link_in.old + reads.old }
+        ensures reads { I.reads link_in.new + reads.new ≡ I.reads link_in.old + reads.old }
+        ensures ends { StepEnds
+            (record { remaining = I.remaining link_in.old; reads = I.reads link_in.old; ended = I.ended link_in.old; source_failed = I.failed link_in.old; taken = O.taken link_out.old; sink_failed = O.failed link_out.old })
+            (record { remaining = I.remaining link_in.new; reads = I.reads link_in.new; ended = I.ended link_in.new; source_failed = I.failed link_in.new; taken = O.taken link_out.new; sink_failed = O.failed link_out.new })
+            result }
+        ensures count { CountsReplies place result }
+        ensures too_many { result ≡ Err RunFault.TooManyReads → reads.new ≡ 0 }
     {
         let mut text = Outgoing::new();
         let mut cut = Line::new();

@@ -11,7 +11,4 @@ mod unheard;
 
 pub use ask::{read_command_text, run_ask};
 pub use looped::run_loop;
-pub use sockets::{MOST_CONNECTIONS, ask_tcp, loop_tcp, serve_tcp};
-
-#[cfg(test)]
-mod tests;
+pub use sockets::{MOST_CONNECTIONS, ask_tcp, loop_tcp, serve_on, serve_tcp};

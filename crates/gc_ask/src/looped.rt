@@ -1,8 +1,13 @@
 //! A loop: a client and a simulator at the two ends of one link, in one thread.
 
-ghost use Rattle.std.specs.Prelude.{◌≡◌, ◌+◌, ◌≤◌, ℕ, List, length, OnOk, IfErr};
+ghost use Rattle.std.specs.Prelude.{◌≡◌, ◌+◌, ◌*◌, ◌-◌, ◌≤◌, ◌++◌, ℕ, List, length, Err};
+ghost use Rattle.std.specs.Io.KnownBytes.{Consumes};
 ghost use Rattle.gc_lines.specs.Assembler.{StandsFor};
-ghost use Rattle.gc_ask.specs.Asking.{idle, waiting_for};
+ghost use Rattle.gc_ask.specs.Asking.{idle};
+ghost use Rattle.gc_ask.specs.Listening.{LoopExchanges, LoopsOne, LoopOneEnds, BothStep};
+ghost use Rattle.gc_ask.specs.Looping.{Loops, LoopEnds, LoopRuns};
+ghost use Rattle.gc_texts.specs.Texts.{end_reads};
+ghost use Rattle.gc_texts.specs.declared.fault.RunFault.{RunFault};
 
 use crate::ask::{Asking, read_command_text};
 use crate::instrument_end::InstrumentEnd;
@@ -26,7 +31,29 @@ pub fn run_loop<S: Source, A: Source, B: Sink, C: Source, D: Sink, K: Sink>(
     sink: &mut K,
     max_reads: u32,
 ) -> Result<(), RunFault>
-    ensures { A.reads client_in.new + C.reads instrument_in.new ≤ A.reads client_in.old + C.reads instrument_in.old + max_reads }
+    // What the text was, and what of its commands was asked: what the client's end took and gave, what the sink took, and which
+    // ports have failed.
+    ensures loops { (given : List ℕ) × Consumes (S.remaining commands.old) (S.remaining commands.new) given
+        × (S.reads commands.new ≤ S.reads commands.old + length given + end_reads (S.ended commands.new))
+        × LoopRuns given
+        (record { remaining = S.remaining commands.old; reads = S.reads commands.old; ended = S.ended commands.old; failed = S.failed commands.old })
+        (record { remaining = S.remaining commands.new; reads = S.reads commands.new; ended = S.ended commands.new; failed = S.failed commands.new })
+        (record { remaining = A.remaining client_in.old; reads = A.reads client_in.old; ended = A.ended client_in.old; source_failed = A.failed client_in.old; taken = B.taken client_out.old; sink_failed = B.failed client_out.old })
+        (record { remaining = A.remaining client_in.new; reads = A.reads client_in.new; ended = A.ended client_in.new; source_failed = A.failed client_in.new; taken = B.taken client_out.new; sink_failed = B.failed client_out.new })
+        (record { remaining = C.remaining instrument_in.old; reads = C.reads instrument_in.old; ended = C.ended instrument_in.old; source_failed = C.failed instrument_in.old; taken = D.taken instrument_out.old; sink_failed = D.failed instrument_out.old })
+        (record { remaining = C.remaining instrument_in.new; reads = C.reads instrument_in.new; ended = C.ended instrument_in.new; source_failed = C.failed instrument_in.new; taken = D.taken instrument_out.new; sink_failed = D.failed instrument_out.new })
+        (K.taken sink.old) (K.taken sink.new) (K.failed sink.old) (K.failed sink.new) result }
+
+    // At most so many reads of both ends were answered, and all of them where that is the fault.
+    ensures bound { A.reads client_in.new + C.reads instrument_in.new ≤ A.reads client_in.old + C.reads instrument_in.old + max_reads }
+    ensures too_many { result ≡ Err RunFault.TooManyReads → A.reads client_in.new + C.reads instrument_in.new ≡ A.reads client_in.old + C.reads instrument_in.old + max_reads }
+
+    // After want of memory nothing was read of the link, sent or written.
+    ensures memory { result ≡ Err RunFault.Memory
+        → (A.remaining client_in.new ≡ A.remaining client_in.old) × (A.reads client_in.new ≡ A.reads client_in.old)
+        × (C.remaining instrument_in.new ≡ C.remaining instrument_in.old) × (C.reads instrument_in.new ≡ C.reads instrument_in.old)
+        × (B.taken client_out.new ≡ B.taken client_out.old) × (D.taken instrument_out.new ≡ D.taken instrument_out.old)
+        × (K.taken sink.new ≡ K.taken sink.old) }
 {
     let commands = match read_command_text(alloc, commands) {
         Ok(commands) => commands,
@@ -53,10 +80,26 @@ pub(crate) fn loop_all<A: Source, B: Sink, C: Source, D: Sink, K: Sink>(
     sink: &mut K,
     max_reads: u32,
 ) -> Result<(), RunFault>
-    ensures { A.reads client_in.new + C.reads instrument_in.new ≤ A.reads client_in.old + C.reads instrument_in.old + max_reads }
+    // What the client's end gave, and what of the commands it took, and the sink of their settlements.
+    ensures loops { (given : List ℕ) × Consumes (A.remaining client_in.old) (A.remaining client_in.new) given
+        × (length given ≤ 256 * (A.reads client_in.new - A.reads client_in.old))
+        × Loops commands.now given (B.taken client_out.old) (B.taken client_out.new) (K.taken sink.old) (K.taken sink.new) result }
+
+    // At most so many reads of both ends were answered, and all of them where that is the fault.
+    ensures bound { A.reads client_in.new + C.reads instrument_in.new ≤ A.reads client_in.old + C.reads instrument_in.old + max_reads }
+    ensures too_many { result ≡ Err RunFault.TooManyReads → A.reads client_in.new + C.reads instrument_in.new ≡ A.reads client_in.old + C.reads instrument_in.old + max_reads }
+
+    // Why it ended, and which ports have failed.
+    ensures ends { LoopEnds
+        (record { remaining = A.remaining client_in.old; reads = A.reads client_in.old; ended = A.ended client_in.old; source_failed = A.failed client_in.old; taken = B.taken client_out.old; sink_failed = B.failed client_out.old })
+        (record { remaining = A.remaining client_in.new; reads = A.reads client_in.new; ended = A.ended client_in.new; source_failed = A.failed client_in.new; taken = B.taken client_out.new; sink_failed = B.failed client_out.new })
+        (record { remaining = C.remaining instrument_in.old; reads = C.reads instrument_in.old; ended = C.ended instrument_in.old; source_failed = C.failed instrument_in.old; taken = D.taken instrument_out.old; sink_failed = D.failed instrument_out.old })
+        (record { remaining = C.remaining instrument_in.new; reads = C.reads instrument_in.new; ended = C.ended instrument_in.new; source_failed = C.failed instrument_in.new; taken = D.taken instrument_out.new; sink_failed = D.failed instrument_out.new })
+        (K.failed sink.old) (K.failed sink.new) result }
 {
+    let asking = Asking::new(max_reads);
     let mut ends = Ends {
-        asking: Asking::new(max_reads),
+        asking,
         instrument: InstrumentEnd::new(),
     };
     for (place, command) in commands.iter().enumerate() {
@@ -96,9 +139,20 @@ impl Ends {
     ) -> Result<(), RunFault>
         requires idle { self.old.asking.end.client.ids ≡ idle place }
         requires stands { (rest : List ℕ) × StandsFor self.old.asking.end.assembler rest }
-        ensures idle { OnOk result (self.new.asking.end.client.ids ≡ idle (place + 1)) }
-        ensures stands { OnOk result ((rest : List ℕ) × StandsFor self.new.asking.end.assembler rest) }
+        ensures loops { (given : List ℕ) × Consumes (A.remaining client_in.old) (A.remaining client_in.new) given
+            × (length given ≤ 256 * (A.reads client_in.new - A.reads client_in.old))
+            × ((rest : List ℕ) → StandsFor self.old.asking.end.assembler rest
+            → LoopsOne place command.now rest (self.old.asking.ahead ++ given) self.new.asking.ahead self.new.asking.end.assembler self.new.asking.end.client.ids
+            (B.taken client_out.old) (B.taken client_out.new) (K.taken sink.old) (K.taken sink.new) result) }
         ensures reads { A.reads client_in.new + C.reads instrument_in.new + self.new.asking.reads ≡ A.reads client_in.old + C.reads instrument_in.old + self.old.asking.reads }
+        ensures grows { A.reads client_in.old ≤ A.reads client_in.new }
+        ensures too_many { result ≡ Err RunFault.TooManyReads → self.new.asking.reads ≡ 0 }
+        ensures ends { LoopOneEnds
+            (record { remaining = A.remaining client_in.old; reads = A.reads client_in.old; ended = A.ended client_in.old; source_failed = A.failed client_in.old; taken = B.taken client_out.old; sink_failed = B.failed client_out.old })
+            (record { remaining = A.remaining client_in.new; reads = A.reads client_in.new; ended = A.ended client_in.new; source_failed = A.failed client_in.new; taken = B.taken client_out.new; sink_failed = B.failed client_out.new })
+            (record { remaining = C.remaining instrument_in.old; reads = C.reads instrument_in.old; ended = C.ended instrument_in.old; source_failed = C.failed instrument_in.old; taken = D.taken instrument_out.old; sink_failed = D.failed instrument_out.old })
+            (record { remaining = C.remaining instrument_in.new; reads = C.reads instrument_in.new; ended = C.ended instrument_in.new; source_failed = C.failed instrument_in.new; taken = D.taken instrument_out.new; sink_failed = D.failed instrument_out.new })
+            (K.failed sink.old) (K.failed sink.new) result }
     {
         match self.exchange(
             place,
@@ -130,11 +184,20 @@ impl Ends {
         instrument_out: &mut D,
     ) -> Result<(), RunFault>
         requires idle { self.old.asking.end.client.ids ≡ idle place }
-        requires stands { (rest : List ℕ) × StandsFor self.old.asking.end.assembler rest }
-        ensures settled { OnOk result ((length self.new.asking.end.settled.items ≡ 1) × (self.new.asking.end.client.ids ≡ idle (place + 1))
-            × ((rest : List ℕ) × StandsFor self.new.asking.end.assembler rest)) }
-        ensures waits { IfErr result (λ _. self.new.asking.end.client.ids ≡ waiting_for place command.now) }
+        ensures exchanges { (given : List ℕ) × Consumes (A.remaining client_in.old) (A.remaining client_in.new) given
+            × (length given ≤ 256 * (A.reads client_in.new - A.reads client_in.old))
+            × ((rest : List ℕ) → StandsFor self.old.asking.end.assembler rest
+            → LoopExchanges place command.now rest (self.old.asking.ahead ++ given) self.new.asking.ahead self.new.asking.end.assembler self.new.asking.end.client.ids self.new.asking.end.settled.items
+            (B.taken client_out.old) (B.taken client_out.new) result) }
         ensures reads { A.reads client_in.new + C.reads instrument_in.new + self.new.asking.reads ≡ A.reads client_in.old + C.reads instrument_in.old + self.old.asking.reads }
+        ensures grows { A.reads client_in.old ≤ A.reads client_in.new }
+        ensures too_many { result ≡ Err RunFault.TooManyReads → self.new.asking.reads ≡ 0 }
+        ensures ends { BothStep
+            (record { remaining = A.remaining client_in.old; reads = A.reads client_in.old; ended = A.ended client_in.old; source_failed = A.failed client_in.old; taken = B.taken client_out.old; sink_failed = B.failed client_out.old })
+            (record { remaining = A.remaining client_in.new; reads = A.reads client_in.new; ended = A.ended client_in.new; source_failed = A.failed client_in.new; taken = B.taken client_out.new; sink_failed = B.failed client_out.new })
+            (record { remaining = C.remaining instrument_in.old; reads = C.reads instrument_in.old; ended = C.ended instrument_in.old; source_failed = C.failed instrument_in.old; taken = D.taken instrument_out.old; sink_failed = D.failed instrument_out.old })
+            (record { remaining = C.remaining instrument_in.new; reads = C.reads instrument_in.new; ended = C.ended instrument_in.new; source_failed = C.failed instrument_in.new; taken = D.taken instrument_out.new; sink_failed = D.failed instrument_out.new })
+            result }
     {
         if let Err(fault) = self.asking.send(place, command, client_out) {
             return Err(fault);

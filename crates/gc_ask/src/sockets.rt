@@ -66,6 +66,21 @@ pub fn serve_tcp<R: Net<Listener = TcpListener, Stream = TcpStream>>(
     let Ok(listener) = TcpListener::bind(rt, here(port)) else {
         return Err(RunFault::Socket);
     };
+    serve_on(&listener, connections, instrument, max_reads)
+}
+
+/// Accepts so many connections of a port one after the other, and serves each with the instrument, which is restarted for
+/// it, in at most `max_reads` reads. Others wait, as the system has it.
+///
+/// `Socket` comes where an accept failed, and the faults of a connection are those of `serve_tcp`.
+pub fn serve_on(
+    listener: &TcpListener,
+    connections: u32,
+    instrument: &mut Instrument,
+    max_reads: u32,
+) -> Result<(), RunFault>
+    requires { connections ≤ MOST_CONNECTIONS }
+{
     for _ in 0..connections {
         let Ok((stream, _)) = listener.accept() else {
             return Err(RunFault::Socket);

@@ -10,8 +10,6 @@ mod reading;
 mod replies;
 mod requests;
 mod taking;
-#[cfg(test)]
-mod tests;
 mod writing;
 
 pub use answer::{Answer, Reading};

@@ -8,6 +8,12 @@ ghost use Rattle.gc_client.specs.Ids.{id_of, IsWindow, Waits, SendKeepsIds, Sett
 ghost use Rattle.gc_client.specs.Silence.{IsReplyWithId, is_ours, IsSilent};
 ghost use Rattle.gc_client.specs.OneForOne.{Step, begun, course, IsOneForOne};
 
+/// At most seven requests wait, and there are eight ids.
+pub fn limits()
+    ensures window { WINDOW ≡ 7 }
+    ensures ids { IDS ≡ 8 }
+{}
+
 /// A request has one id from its sending to its settlement.
 pub fn ids_last()
     ensures sending { (next waiting : ℕ) → next < IDS → waiting < WINDOW → SendKeepsIds next waiting }

@@ -9,8 +9,6 @@ mod pending;
 mod ring;
 mod settlement;
 mod slots;
-#[cfg(test)]
-mod tests;
 mod window;
 
 pub use client::{Client, WindowFull};

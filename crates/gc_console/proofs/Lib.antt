@@ -1,4 +1,1 @@
-mod Shown
-mod Checked
 mod Measured
-mod OneVerdict

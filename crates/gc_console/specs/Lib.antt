@@ -1,5 +1,2 @@
-pub mod Drill
-pub mod Verdicts
-pub mod Checking
-pub mod Laws
 pub mod Measuring
+pub mod Refusals

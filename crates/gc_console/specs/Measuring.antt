@@ -54,6 +54,10 @@ IsUntouched old new (Err InputTooLong) = new ≡ old
 IsUntouched old new (Err Memory) = new ≡ old
 IsUntouched old new _ = Unit {0}
 
+-- the line of a cycle that was not done when the next was due
+abbrev pub overrun_line : ℕ → List ℕ
+overrun_line cycle = codes "geocom: cycle " ++ decimal cycle ++ codes " was not done when the next was due\n"
+
 -- the line of the counts of a run that is done
 abbrev pub tally_line : Tally → List ℕ
 tally_line t = codes "answered " ++ decimal t.answered ++ codes " late " ++ decimal t.late ++ codes " lost " ++ decimal t.lost ++ codes "\n"

@@ -1,8 +1,8 @@
 //! A text of commands, read from a source, measured over a link, and its records written into a sink, all in one form.
 
-ghost use Rattle.std.specs.Prelude.{◌+◌, ◌≤◌, ℕ, List, length};
-ghost use Rattle.std.specs.Io.KnownBytes.{Consumes};
-ghost use Rattle.gc_console.specs.Measuring.{text_in, Measures, IsUntouched};
+ghost use Rattle.std.specs.Prelude.{◌+◌, ◌≤◌, ℕ, List, length, OnOk};
+ghost use Rattle.std.specs.Io.KnownBytes.{Consumes, Appends};
+ghost use Rattle.gc_console.specs.Measuring.{text_in, Measures, IsUntouched, overrun_line};
 ghost use Rattle.gc_station.specs.Runs.{Ran, FailsAtOutput};
 ghost use Rattle.gc_texts.specs.Texts.{end_reads};
 ghost use Rattle.gc_texts.specs.declared.record.Form.TheVariants as form;
@@ -14,7 +14,7 @@ use gc_lines::{PortFailed, Sink, Source};
 use gc_station::{Book, Link, Plan, Stamp, Tally, run_station};
 use gc_texts::{Command, Form, RunFault, write_head, write_record};
 use std::alloc::Global;
-use std::io::Write;
+use std::io::{self, Write};
 use std::marker::PhantomData;
 
 /// Reads the whole command text of a source, writes what stands in front of the records in this form, and measures the
@@ -158,9 +158,16 @@ impl<'a, F: InForm, K: Sink, E: Write> Book for Records<'a, F, K, E> {
 
     // Where that can't be written the station measures on: what it writes of each request doesn't depend on it.
     fn overran(&mut self, cycle: u32) {
-        let _ = writeln!(
-            self.messages,
-            "geocom: cycle {cycle} was not done when the next was due"
-        );
+        let _ = tell_overrun(self.messages, cycle);
     }
+}
+
+// The line of a cycle that was not done when the next was due.
+fn tell_overrun<E: Write>(messages: &mut E, cycle: u32) -> io::Result<()>
+    ensures { OnOk result (Appends (E.contents messages.old) (E.contents messages.new) (overrun_line cycle)) }
+{
+    writeln!(
+        messages,
+        "geocom: cycle {cycle} was not done when the next was due"
+    )
 }

@@ -11,23 +11,22 @@ ghost use Rattle.gc_instrument.specs.Serving.{IsServing};
 ghost use Rattle.gc_world.specs.declared.event.Event.{Event};
 ghost use Rattle.gc_texts.specs.declared.fault.RunFault.{RunFault};
 ghost use Rattle.gc_texts.specs.Faults.{run_fault_text, fault_line, Tells};
-ghost use Rattle.gc_texts.specs.Schedule.{IsSchedule};
-ghost use Rattle.gc_console.specs.Checking.{IsChecking};
-ghost use Rattle.gc_console.specs.Drill.{drill_text, Drills, source_failed, sink_failed};
+ghost use Rattle.gc_console.specs.Refusals.{range_line};
+ghost use Rattle.gc_engines.specs.Schedule.{IsSchedule};
+ghost use Rattle.gc_engines.specs.Checking.{IsChecking};
+ghost use Rattle.gc_engines.specs.Drill.{drill_text, Drills, source_failed, sink_failed};
 
-use crate::check::run_check;
-use crate::drill::run_drill_width;
-use crate::exec::run_exec;
 use crate::help::{COMMANDS, EVENTS, FAULTS, REQUESTS, VERDICTS};
-use crate::station::{Station, run_station_port, station_command, station_of};
+use crate::station::{Station, flag_of, run_station_port, station_command, station_of};
 use clap::error::ErrorKind;
-use clap::{Arg, ArgAction, Command, Error, value_parser};
+use clap::{Arg, ArgMatches, Command, Error, value_parser};
 use gc_ask::{MOST_CONNECTIONS, ask_tcp, loop_tcp, serve_tcp};
 use gc_client::WINDOW;
+use gc_engines::{run_check, run_drill_width, run_exec};
 use gc_instrument::Instrument;
 use gc_lines::{FromReader, ReadAhead, ServeFault, Served, Sink, Source, ToWriter};
 use gc_texts::RunFault;
-use std::alloc::Global;
+use std::alloc::{AllocError, Global};
 use std::env::Args;
 use std::io::{self, Read, Write};
 use std::net::{Net, TcpListener, TcpStream};
@@ -45,11 +44,9 @@ enum Subcommand {
     Station(Station),
 }
 
-/// Runs a command line, whose first word is the program's name, over the net and the clock, an input,
-/// an output and a place for messages, and gives the exit status: 0 where it is done, 1 after a fault, which is one
-/// line on `messages`, and 2 for a command line that doesn't parse. `--help` and `--version` write
-/// to `output` and are done. It fails itself only where a text can't be written. The statuses and
-/// the fault line are this project's own.
+/// Runs a command line, whose first word is the program's name, over the net and the clock, an input, an output and a place
+/// for messages, and gives the exit status: 0 where it is done or asked for help or the version, 1 after a fault, which is
+/// one line on `messages`, and 2 for words that don't parse. It fails itself only where a text can't be written.
 pub fn run_program<
     R: Net<Listener = TcpListener, Stream = TcpStream> + Clock,
     I: Read + Drop,
@@ -72,10 +69,7 @@ pub fn run_program<
     match subcommand_of(alloc, words.as_slice()) {
         Ok(subcommand) => run_subcommand(rt, alloc, subcommand, input, output, &mut messages),
         Err(error) if error.kind() == ErrorKind::OutOfMemory => want_of_memory(&mut messages),
-        Err(error) if error.use_stderr() => {
-            write!(messages, "{error}")?;
-            Ok(ExitCode::from(2))
-        }
+        Err(error) if error.use_stderr() => refuse(&error, &mut messages),
         Err(text) => show(&text, &mut output, &mut messages),
     }
 }
@@ -151,13 +145,22 @@ fn show<O: Write, E: Write>(text: &Error, output: &mut O, messages: &mut E) -> i
     }
 }
 
+// A command line that doesn't parse: why is told.
+fn refuse<E: Write>(error: &Error, messages: &mut E) -> io::Result<ExitCode>
+    ensures { IfOk result (λ status. exit_status status ≡ 2) }
+{
+    write!(messages, "{error}")?;
+    Ok(ExitCode::from(2))
+}
+
 fn all_words(alloc: Global, words: io::Result<Args>) -> io::Result<Vec<String>> {
     Ok(words?.collect(alloc)?)
 }
 
 // A word that is no text doesn't parse.
 fn refuse_words<E: Write>(error: &io::Error, messages: &mut E) -> io::Result<ExitCode>
-    ensures { IfOk result (λ status. exit_status status ≤ 2) }
+    ensures refused { IfOk result (λ status. 1 ≤ exit_status status) }
+    ensures bound { IfOk result (λ status. exit_status status ≤ 2) }
 {
     if error.kind() == io::ErrorKind::OutOfMemory {
         return want_of_memory(messages);
@@ -174,92 +177,114 @@ fn want_of_memory<E: Write>(messages: &mut E) -> io::Result<ExitCode>
     Ok(ExitCode::from(1))
 }
 
-// A subcommand is required.
+// A subcommand is required. Each function adds few of them: the proof of a chain of calls grows faster than the chain.
 fn subcommand_of(alloc: Global, words: &[String]) -> Result<Subcommand, Error> {
+    let command = Command::new(alloc, "geocom")
+        .version("0.1.0")
+        .about("A simulated instrument that speaks GeoCOM's ASCII protocol")
+        .after_help(FAULTS)
+        .subcommand_required(true)
+        .disable_help_subcommand(true);
+    let command = with_streams(alloc, command)?;
+    let matches = with_ports(alloc, command)?.try_get_matches_from(words)?;
+    Ok(asked_for(&matches))
+}
+
+// The subcommands that go from standard input to standard output.
+fn with_streams<'a>(alloc: Global, command: Command<'a>) -> Result<Command<'a>, AllocError> {
     let exec = Command::new(alloc, "exec")
         .about("Answers the requests of standard input on standard output")
         .after_help(REQUESTS);
     let check = Command::new(alloc, "check")
         .about("Says of each frame of standard input what it is, or what is wrong with it")
         .after_help(VERDICTS);
+    command
+        .subcommand(exec)?
+        .subcommand(check)?
+        .subcommand(drill_of(alloc)?)
+}
+
+// The subcommands over connections.
+fn with_ports<'a>(alloc: Global, command: Command<'a>) -> Result<Command<'a>, AllocError> {
     let looped = Command::new(alloc, "loop")
         .about("Asks the commands of standard input over a connection to a simulator of its own")
         .after_help(COMMANDS);
+    let command = command.subcommand(looped)?.subcommand(serve_of(alloc)?)?;
+    command
+        .subcommand(ask_of(alloc)?)?
+        .subcommand(station_command(alloc)?)
+}
+
+// The subcommand that serves a port.
+fn serve_of<'a>(alloc: Global) -> Result<Command<'a>, AllocError> {
     let connections = Arg::new(alloc, "connections")
         .long("connections")
         .value_name("N")
         .value_parser(value_parser!(u32).range(1..=1000))
         .default_value("1")
         .help("Serves so many connections, one after the other");
-    let serve = Command::new(alloc, "serve")
+    Command::new(alloc, "serve")
         .about("Serves a simulator on a port of 127.0.0.1")
         .arg(port_of(alloc))?
-        .arg(connections)?;
-    let ask = Command::new(alloc, "ask")
+        .arg(connections)
+}
+
+// The subcommand that asks on a port.
+fn ask_of<'a>(alloc: Global) -> Result<Command<'a>, AllocError> {
+    Command::new(alloc, "ask")
         .about("Asks the commands of standard input on a port of 127.0.0.1")
         .after_help(COMMANDS)
-        .arg(port_of(alloc))?;
-    let command = Command::new(alloc, "geocom")
-        .version("0.1.0")
-        .about("A simulated instrument that speaks GeoCOM's ASCII protocol")
-        .after_help(FAULTS)
-        .subcommand_required(true)
-        .disable_help_subcommand(true)
-        .subcommand(exec)?
-        .subcommand(check)?
-        .subcommand(drill_of(alloc)?)?
-        .subcommand(looped)?
-        .subcommand(serve)?
-        .subcommand(ask)?
-        .subcommand(station_command(alloc)?)?;
-    let matches = command.try_get_matches_from(words)?;
+        .arg(port_of(alloc))
+}
+
+// Which subcommand the words ask for.
+fn asked_for(matches: &ArgMatches) -> Subcommand {
     if matches.subcommand_matches("check").is_some() {
-        return Ok(Subcommand::Check);
+        return Subcommand::Check;
     }
     if let Some(drill) = matches.subcommand_matches("drill") {
-        return Ok(Subcommand::Drill {
+        return Subcommand::Drill {
             totals: drill.get_flag("totals"),
             width: drill.get_one::<u8>("width").unwrap_or(0),
-        });
+        };
     }
     if let Some(serve) = matches.subcommand_matches("serve") {
-        return Ok(Subcommand::Serve {
+        return Subcommand::Serve {
             port: serve.get_one::<u16>("port").unwrap_or(0),
             connections: serve.get_one::<u32>("connections").unwrap_or(0),
-        });
+        };
     }
     if let Some(ask) = matches.subcommand_matches("ask") {
-        return Ok(Subcommand::Ask {
+        return Subcommand::Ask {
             port: ask.get_one::<u16>("port").unwrap_or(0),
-        });
+        };
     }
     if let Some(station) = matches.subcommand_matches("station") {
-        return Ok(Subcommand::Station(station_of(station)));
+        return Subcommand::Station(station_of(station));
     }
     if matches.subcommand_matches("loop").is_some() {
-        return Ok(Subcommand::Loop);
+        return Subcommand::Loop;
     }
-    Ok(Subcommand::Exec)
+    Subcommand::Exec
 }
 
 // The subcommand that plays a schedule.
-fn drill_of<'a>(alloc: Global) -> Result<Command<'a>, Error> {
-    let totals = Arg::new(alloc, "totals")
-        .long("totals")
-        .action(ArgAction::SetTrue)
-        .help("Writes a line of totals behind the settlements");
+fn drill_of<'a>(alloc: Global) -> Result<Command<'a>, AllocError> {
     let width = Arg::new(alloc, "width")
         .long("width")
         .value_name("W")
         .value_parser(value_parser!(u8).range(1..=7))
         .default_value("7")
         .help("Lets so many requests wait: a send beyond them is refused");
-    let drill = Command::new(alloc, "drill")
+    Command::new(alloc, "drill")
         .about("Plays the schedule of standard input, and writes a line for each settlement")
         .after_help(EVENTS)
-        .arg(totals)?
-        .arg(width)?;
-    Ok(drill)
+        .arg(flag_of(
+            alloc,
+            "totals",
+            "Writes a line of totals behind the settlements",
+        ))?
+        .arg(width)
 }
 
 // A port, as a required word.
@@ -271,8 +296,7 @@ pub(crate) fn port_of<'a>(alloc: Global) -> Arg<'a> {
         .help("A port of 127.0.0.1, from 1 on")
 }
 
-// Serves a port, and tells how it ended. Numbers out of their range are refused: the words were read with these ranges, but
-// no clause says so.
+// Serves a port, and tells how it ended. Numbers out of their range, which clap refuses by no clause, are refused here.
 fn serve_port<R: Net<Listener = TcpListener, Stream = TcpStream>, E: Write>(
     rt: &R,
     port: u16,
@@ -322,7 +346,8 @@ fn ask_port<R: Net<Listener = TcpListener, Stream = TcpStream>, S: Source, K: Si
 }
 
 pub(crate) fn refuse_numbers<E: Write>(messages: &mut E) -> io::Result<ExitCode>
-    ensures { IfOk result (λ status. exit_status status ≡ 2) }
+    ensures status { IfOk result (λ status. exit_status status ≡ 2) }
+    ensures told { IfOk result (λ status. (exit_status status ≡ 2) × Appends (E.contents messages.old) (E.contents messages.new) range_line) }
 {
     writeln!(
         messages,
@@ -408,8 +433,7 @@ fn tell_end<E: Write>(end: Result<Served, ServeFault>, messages: &mut E) -> io::
     }
 }
 
-// Plays a schedule, and tells how it ended. A width out of its range is refused: the words were read with this range, but no
-// clause says so.
+// Plays a schedule, and tells how it ended. A width out of its range, which clap refuses by no clause, is refused here.
 fn drill_within<S: Source, K: Sink, E: Write>(
     alloc: Global,
     source: &mut S,
@@ -418,9 +442,28 @@ fn drill_within<S: Source, K: Sink, E: Write>(
     width: u8,
     messages: &mut E,
 ) -> io::Result<ExitCode>
-    ensures { IfOk result (λ status. exit_status status ≤ 2) }
+    // Either status 2 behind a refused number's line, and nothing was read or written; or what became of the schedule.
+    ensures told { IfOk result (λ status.
+        ((exit_status status ≡ 2) × Appends (E.contents messages.old) (E.contents messages.new) range_line
+        × (S.remaining source.new ≡ S.remaining source.old) × (K.taken sink.new ≡ K.taken sink.old))
+        ⊎ ((end : Result (Unit {0}) RunFault)
+        × ((given : List ℕ) × Consumes (S.remaining source.old) (S.remaining source.new) given × Drills width given totals (K.taken sink.old) (K.taken sink.new) end)
+        × (S.failed source.new ≡ source_failed end (S.failed source.old))
+        × (K.failed sink.new ≡ sink_failed end (K.failed sink.old))
+        × Tells run_fault_text end (exit_status status) (E.contents messages.old) (E.contents messages.new))) }
+
+    // A width from 1 to 7 isn't refused.
+    ensures width { 1 ≤ width → width ≤ WINDOW → IfOk result (λ status. exit_status status ≤ 1) }
+
+    // Status 0 only where the sink took the output of the text's events.
+    ensures done { IfOk result (λ status. exit_status status ≡ 0 → (given : List ℕ) × Consumes (S.remaining source.old) (S.remaining source.new) given
+        × ((events : List Event) × IsSchedule given events × Appends (K.taken sink.old) (K.taken sink.new) (drill_text width events totals))) }
+    ensures bound { IfOk result (λ status. exit_status status ≤ 2) }
 {
-    if width == 0 || usize::from(width) > WINDOW {
+    if width == 0 {
+        return refuse_numbers(messages);
+    }
+    if usize::from(width) > WINDOW {
         return refuse_numbers(messages);
     }
     drill(alloc, source, sink, totals, width, messages)

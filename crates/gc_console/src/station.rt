@@ -13,11 +13,11 @@ ghost use Rattle.gc_texts.specs.declared.fault.RunFault.{RunFault};
 use crate::help::STATION;
 use crate::measure::run_station_text;
 use crate::program::{port_of, refuse_numbers};
-use clap::{Arg, ArgAction, ArgMatches, Command, Error, value_parser};
+use clap::{Arg, ArgAction, ArgMatches, Command, value_parser};
 use gc_lines::{Sink, Source};
 use gc_station::{Link, Plan, Tally, TcpLink};
 use gc_texts::{Form, RunFault};
-use std::alloc::Global;
+use std::alloc::{AllocError, Global};
 use std::io::{self, Write};
 use std::net::{Net, TcpListener, TcpStream};
 use std::process::ExitCode;
@@ -32,25 +32,39 @@ pub(crate) struct Station {
 }
 
 /// The words of `station`.
-pub(crate) fn station_command<'a>(alloc: Global) -> Result<Command<'a>, Error> {
+pub(crate) fn station_command<'a>(alloc: Global) -> Result<Command<'a>, AllocError> {
+    let command = Command::new(alloc, "station")
+        .about(
+            "Measures the commands of standard input on a port of 127.0.0.1, cycle after cycle, with deadlines",
+        )
+        .after_help(STATION)
+        .arg(port_of(alloc))?;
+    let command = with_pace(alloc, command)?;
+    let command = with_bounds(alloc, command)?;
+    command
+        .arg(flag_of(
+            alloc,
+            "settle",
+            "Has a null procedure answered on each new connection first",
+        ))?
+        .arg(flag_of(alloc, "csv", "Writes comma-separated values, with a header"))
+}
+
+// How many requests wait, how long each, and how far apart the cycles begin.
+fn with_pace<'a>(alloc: Global, command: Command<'a>) -> Result<Command<'a>, AllocError> {
     let width = Arg::new(alloc, "width")
         .long("width")
         .value_name("W")
         .value_parser(value_parser!(u8).range(1..=7))
         .default_value("1")
         .help("Lets so many requests wait at a time, 1 to 7");
-    let cycles = Arg::new(alloc, "cycles")
-        .long("cycles")
-        .value_name("N")
-        .value_parser(value_parser!(u32).range(1..))
-        .default_value("1")
-        .help("Asks all commands so many times");
-    let retries = Arg::new(alloc, "retries")
-        .long("retries")
-        .value_name("N")
-        .value_parser(value_parser!(u32))
-        .default_value("10")
-        .help("Connects anew so many times in a row");
+    let deadline = time_of(
+        alloc,
+        "deadline",
+        "MS",
+        "10000",
+        "Gives each request up so many milliseconds after it was sent",
+    );
     let every = time_of(
         alloc,
         "every",
@@ -59,38 +73,31 @@ pub(crate) fn station_command<'a>(alloc: Global) -> Result<Command<'a>, Error> {
         "Begins a cycle so many seconds after the last began",
     )
     .value_parser(value_parser!(u64).range(0..=86_400));
-    Ok(
-        Command::new(alloc, "station")
-            .about(
-                "Measures the commands of standard input on a port of 127.0.0.1, cycle after cycle, with deadlines",
-            )
-            .after_help(STATION)
-            .arg(port_of(alloc))?
-            .arg(width)?
-            .arg(time_of(
-                alloc,
-                "deadline",
-                "MS",
-                "10000",
-                "Gives each request up so many milliseconds after it was sent",
-            ))?
-            .arg(every)?
-            .arg(cycles)?
-            .arg(time_of(
-                alloc,
-                "quiet",
-                "MS",
-                "2000",
-                "Takes the line for quiet where nothing came or went for so many milliseconds",
-            ))?
-            .arg(retries)?
-            .arg(flag_of(
-                alloc,
-                "settle",
-                "Has a null procedure answered on each new connection first",
-            ))?
-            .arg(flag_of(alloc, "csv", "Writes comma-separated values, with a header"))?,
-    )
+    command.arg(width)?.arg(deadline)?.arg(every)
+}
+
+// How many cycles, how long a silence, and how many connections in a row.
+fn with_bounds<'a>(alloc: Global, command: Command<'a>) -> Result<Command<'a>, AllocError> {
+    let cycles = Arg::new(alloc, "cycles")
+        .long("cycles")
+        .value_name("N")
+        .value_parser(value_parser!(u32).range(1..))
+        .default_value("1")
+        .help("Asks all commands so many times");
+    let quiet = time_of(
+        alloc,
+        "quiet",
+        "MS",
+        "2000",
+        "Takes the line for quiet where nothing came or went for so many milliseconds",
+    );
+    let retries = Arg::new(alloc, "retries")
+        .long("retries")
+        .value_name("N")
+        .value_parser(value_parser!(u32))
+        .default_value("10")
+        .help("Connects anew so many times in a row");
+    command.arg(cycles)?.arg(quiet)?.arg(retries)
 }
 
 // A time, as a word with a default.
@@ -110,7 +117,7 @@ fn time_of<'a>(
 }
 
 // A word that is there or not.
-fn flag_of<'a>(alloc: Global, name: &'a str, help: &'a str) -> Arg<'a> {
+pub(crate) fn flag_of<'a>(alloc: Global, name: &'a str, help: &'a str) -> Arg<'a> {
     Arg::new(alloc, name)
         .long(name)
         .action(ArgAction::SetTrue)

@@ -16,6 +16,3 @@ pub use instrument::{Instrument, SceneFull};
 pub use pointing::Pointing;
 pub use serving::serve;
 pub use target::Target;
-
-#[cfg(test)]
-mod tests;

@@ -13,6 +13,9 @@ use crate::served::{ServeFault, Served};
 use crate::session::Session;
 use arrayvec::ArrayVec;
 
+/// How many bytes a run reads at a time at most.
+const PIECE: usize = 256;
+
 /// What is handed out to be written: texts one behind the other, each of at most 514 bytes, its line end counted.
 pub type Outgoing = ArrayVec<u8, 8192>;
 
@@ -60,7 +63,7 @@ pub fn answer_frames<A: Answers, S: Source, K: Sink>(
         max_reads result }
 {
     let mut session = Session::new(gathers);
-    let mut buf = [0u8; 256];
+    let mut buf = [0u8; PIECE];
     let mut cut = Line::new();
     for _ in 0..max_reads {
         match source.read(&mut buf) {

@@ -1,6 +1,15 @@
 //! What is proved of the definitions themselves. Each function does nothing: its contract is the law.
 
+ghost use Rattle.std.specs.Prelude.{◌≡◌};
 ghost use Rattle.gc_lines.specs.Laws.{OneCut, FramesHoweverCut, PlainIsOneLine, ReadsRequests, ReadsReplies, WritesRequests, WritesReplies};
+ghost use Rattle.gc_lines.specs.declared.answering.TheConstants.{PIECE};
+ghost use Rattle.gc_lines.specs.declared.read_ahead.TheConstants.{AHEAD};
+
+/// A run reads at most 256 bytes at a time, and a reader that reads ahead at most 8192.
+pub fn limits()
+    ensures piece { PIECE ≡ 256 }
+    ensures ahead { AHEAD ≡ 8192 }
+{}
 
 /// A stream has one cutting at its line feeds: the pieces, of which the frames are made, and the rest.
 pub fn one_cut()

@@ -37,6 +37,3 @@ pub use request::{Request, begin_request, push_request, read_request, write_requ
 pub use served::{ServeFault, Served};
 pub use to_writer::ToWriter;
 pub use writing::{write_line, write_whole};
-
-#[cfg(test)]
-mod tests;

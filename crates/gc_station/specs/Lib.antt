@@ -12,3 +12,4 @@ pub mod Closing
 pub mod Answers
 pub mod Probing
 pub mod Stations
+pub mod Pace

@@ -20,7 +20,8 @@ pub struct Stamp {
 
 /// Where records go. One type of book writes all its records in one form.
 pub trait Book {
-    ghost use Rattle.std.specs.Prelude.{ℕ, List, Option, Bool};
+    ghost use Rattle.std.specs.Prelude.{ℕ, List, [], ◌∷◌, Option, None, Bool};
+    ghost use Rattle.std.specs.Io.KnownBytes.{Appends};
     ghost use Rattle.gc_station.specs.Records.{Record};
 
     /// The bytes of a record.
@@ -32,13 +33,18 @@ pub trait Book {
     /// Whether a write has failed.
     ghost failed: { Self → Bool };
 
+    /// The cycles of which it was told that they overran, where they are known.
+    ghost overruns: { Self → Option (List ℕ) } = { λ _. None };
+
     /// Writes a record. `Err`: it took the first bytes of it, which aren't all, and has failed.
     fn write(&mut self, stamp: Stamp, settlement: &Settlement) -> Result<(), PortFailed>
         ensures writes { Writes (taken self.old) (taken self.new) (text (record_seen stamp settlement.now)) result }
-        ensures fails { FailsWith result (failed self.old) (failed self.new) };
+        ensures fails { FailsWith result (failed self.old) (failed self.new) }
+        ensures untold { overruns self.new ≡ overruns self.old };
 
     /// Is told that this cycle was not done when the next was due.
     fn overran(&mut self, cycle: u32)
+        ensures told { Appends (overruns self.old) (overruns self.new) (cycle ∷ []) }
         ensures same { taken self.new ≡ taken self.old }
         ensures works { failed self.new ≡ failed self.old };
 }

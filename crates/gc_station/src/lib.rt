@@ -22,6 +22,3 @@ pub use plan::Plan;
 pub use run::run_station;
 pub use tally::Tally;
 pub use tcp::TcpLink;
-
-#[cfg(test)]
-mod tests;

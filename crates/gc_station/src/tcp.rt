@@ -24,16 +24,24 @@ pub struct TcpLink<'a, R> {
     rt: &'a R,
     start: Instant,
     port: u16,
+    // How long one write, and the making of a connection, may wait, in milliseconds: at least one.
+    patience: u64,
     stream: Option<TcpStream>,
 }
 
 impl<'a, R: Net<Listener = TcpListener, Stream = TcpStream> + Clock> TcpLink<'a, R> {
     /// A link that is not connected yet. It fails where the clock can't be read.
     pub fn new(rt: &'a R, port: u16) -> io::Result<TcpLink<'a, R>> {
+        TcpLink::with_patience(rt, port, PATIENCE)
+    }
+
+    /// A link of which one write, and the making of a connection, waits no longer than so many milliseconds; for none, one.
+    pub fn with_patience(rt: &'a R, port: u16, patience: u64) -> io::Result<TcpLink<'a, R>> {
         Ok(TcpLink {
             rt,
             start: Instant::now(rt)?,
             port,
+            patience: patience.max(1),
             stream: None,
         })
     }
@@ -183,7 +191,7 @@ impl<'a, R: Net<Listener = TcpListener, Stream = TcpStream> + Clock> Link for Tc
 
     fn open(&mut self) -> Result<(), PortFailed> {
         let here = SocketAddr::from(([127, 0, 0, 1], self.port));
-        let patience = Duration::from_millis(PATIENCE);
+        let patience = Duration::from_millis(self.patience);
         let Ok(stream) = TcpStream::connect_timeout(self.rt, &here, patience) else {
             return Err(PortFailed);
         };

@@ -5,11 +5,11 @@ use Rattle.gc_catalogue.specs.declared.call.Call.{Call}
 use Rattle.gc_texts.specs.Commands.{IsCommand, IsCommands}
 use Rattle.gc_texts.specs.Cuts.{Cuts}
 use Rattle.gc_texts.specs.LineForms.{is_kept, text_lines}
-use Rattle.gc_texts.specs.Schedule.{IsNumber, IsProcedure}
+use Rattle.gc_texts.specs.Procedures.{IsNumber, IsProcedure}
 use Rattle.gc_texts.specs.declared.commands.Command.{Command}
 use Rattle.gc_texts.proofs.Cutting.{cut_found, one_front, digits_lack_spaces}
-use Rattle.gc_texts.proofs.Forms.{one_number}
-use Rattle.gc_texts.proofs.OneSchedule.{one_procedure, one_list}
+use Rattle.gc_texts.proofs.OneReading.{one_procedure, one_list}
+use Rattle.gc_texts.proofs.Procedures.{one_number}
 
 some_is : (a b : List ℕ) → Some a ≡ Some b → a ≡ b
 some_is a b e = cc

@@ -1,8 +1,8 @@
-mod Cutting
-mod Forms
+pub mod Cutting
+pub mod Procedures
 mod LineEnds
 mod TextLines
-mod OneSchedule
+pub mod OneReading
 mod CommandForms
 pub mod SettlementLines
 mod Telling

@@ -1,7 +1,7 @@
 -- A command text, and the commands that it gives: this project's own.
 use Rattle.std.specs.Prelude.{◌≡◌, ℕ, List, ◌∷◌, ◌++◌}
 use Rattle.gc_texts.specs.LineForms.{IsText, FirstFaulty, BehindAnItem}
-use Rattle.gc_texts.specs.Schedule.{IsNumber, IsProcedure}
+use Rattle.gc_texts.specs.Procedures.{IsNumber, IsProcedure}
 use Rattle.gc_texts.specs.declared.commands.Command.{Command}
 
 -- `T RPC` or `T RPC PARAMS`

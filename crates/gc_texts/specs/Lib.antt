@@ -1,6 +1,6 @@
 pub mod Cuts
 pub mod LineForms
-pub mod Schedule
+pub mod Procedures
 pub mod Commands
 pub mod Texts
 pub mod Settlements

@@ -1,10 +1,8 @@
--- The lines of settlements and of totals, and what a sink took of them: this project's own.
-use Rattle.std.specs.Prelude.{◌≡◌, ℕ, ◌+◌, ◌<◌, Bool, true, List, [], ◌∷◌, ◌++◌, length, take, map, Option, Result, Ok, Err, if◌then◌else◌, codes}
+-- The lines of settlements, and what a sink took of them: this project's own.
+use Rattle.std.specs.Prelude.{◌≡◌, ℕ, ◌+◌, ◌<◌, Bool, true, List, [], ◌∷◌, ◌++◌, length, take, Option, Result, Ok, Err, codes}
 use Rattle.std.specs.Fmt.{decimal}
 use Rattle.std.specs.Io.KnownBytes.{Appends}
 use Rattle.gc_client.specs.Rule.{Settlement, Outcome, Answered, Late, Lost}
-use Rattle.gc_client.specs.Settlements.{settlement_seen}
-use Rattle.gc_world.specs.declared.report.Report.{Report}
 use Rattle.gc_texts.specs.declared.fault.RunFault.{RunFault}
 use Rattle.gc_texts.specs.declared.fault.RunFault.TheVariants.{Output}
 
@@ -26,18 +24,6 @@ lines_from place (s ∷ later) = settlement_line place s ++ lines_from (place + 
 -- the lines of settlements, from place 0 on
 abbrev pub settlement_lines : List Settlement → List ℕ
 settlement_lines settlements = lines_from 0 settlements
-
--- the line of totals, for these counts
-abbrev pub totals_text : (sent executed made settled refused idle : ℕ) → List ℕ
-totals_text sent executed made settled refused idle =
-    codes "sent " ++ decimal sent ++ codes " executed " ++ decimal executed ++ codes " made " ++ decimal made
-    ++ codes " settled " ++ decimal settled ++ codes " refused " ++ decimal refused ++ codes " idle " ++ decimal idle ++ codes "\n"
-
--- what is written of a report: its settlements, and behind them the totals where they are asked for
-abbrev pub report_text : Report → Bool → List ℕ
-report_text r totals =
-    settlement_lines (map settlement_seen r.settled)
-    ++ (if totals then totals_text (length r.sent) (length r.executed) (length r.made) (length r.settled) r.refused_sends r.idle_events else [])
 
 -- the lines of settlements, the first at this place, went to a sink whole, or the sink failed and took a part of them: those of the
 -- earlier ones, and of the next one less than its line

@@ -7,9 +7,9 @@ ghost use Rattle.gc_texts.specs.declared.fault.RunFault.{RunFault};
 ghost use Rattle.gc_texts.specs.declared.text.TheConstants.{TEXT_LIMIT};
 
 use crate::cuts::cut_at;
-use crate::event::{TARGET_MAX, number_of, read_procedure};
 use crate::fault::RunFault;
 use crate::line_forms::{LineForm, read_items};
+use crate::procedure::{TARGET_MAX, number_of, read_procedure};
 use gc_catalogue::Call;
 use std::alloc::Global;
 
@@ -22,7 +22,12 @@ pub struct Command {
     pub call: Call,
 }
 
-impl LineForm for Command {
+// The form of a command text's lines: each is a command.
+struct CommandForm;
+
+impl LineForm for CommandForm {
+    type Item = Command;
+
     ghost form = { IsCommand };
 
     fn read(line: &[u8]) -> Option<Command> {
@@ -61,5 +66,5 @@ pub fn read_commands(alloc: Global, text: &[u8]) -> Result<Vec<Command>, RunFaul
     ensures memory { result ≡ Err RunFault.Memory → IsBehindACommand text.now }
     ensures faults { IfErr result (λ e. TextFault IsCommand text.now e) }
 {
-    read_items(alloc, text)
+    read_items::<CommandForm>(alloc, text)
 }

@@ -5,8 +5,8 @@ ghost use Rattle.gc_texts.specs.Cuts.{Cuts};
 
 use memchr::memchr;
 
-// What stands before the first mark, and what stands behind it.
-pub(crate) fn cut_at(mark: u8, text: &[u8]) -> (&[u8], Option<&[u8]>)
+/// What stands before the first mark, and what stands behind it.
+pub fn cut_at(mark: u8, text: &[u8]) -> (&[u8], Option<&[u8]>)
     ensures { Cuts mark text.now result.0.now (option_copied result.1) }
 {
     match memchr(mark, text) {

@@ -1,11 +1,6 @@
 //! What is proved of the definitions themselves. The functions have no effect: their contracts are the laws.
 
-ghost use Rattle.gc_texts.specs.Laws.{OneSchedule, OneCommandList, ColumnsAreFields};
-
-/// A text is the schedule of one list of events at most.
-pub fn schedule_has_one_reading()
-    ensures { OneSchedule }
-{}
+ghost use Rattle.gc_texts.specs.Laws.{OneCommandList, ColumnsAreFields};
 
 /// A text gives one list of commands at most.
 pub fn commands_have_one_reading()

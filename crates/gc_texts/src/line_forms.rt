@@ -11,16 +11,19 @@ use crate::fault::RunFault;
 use crate::text::TEXT_LIMIT;
 use std::alloc::Global;
 
-/// What a line of a text stands for.
+/// What the lines of a text stand for.
 pub trait LineForm {
     ghost use Rattle.std.specs.Prelude.{ℕ, List, MatchOption};
 
+    /// What a line stands for.
+    type Item: Copy;
+
     /// Which lines have the form of an item.
-    ghost form: { List ℕ → Self → Type 0 };
+    ghost form: { List ℕ → Self.Item → Type 0 };
 
     /// Reads a line; none where it has the form of no item.
-    fn read(line: &[u8]) -> Option<Self>
-        ensures { MatchOption result ((item : Self) → form line.now item → ⊥) (λ item. form line.now item) };
+    fn read(line: &[u8]) -> Option<Self::Item>
+        ensures { MatchOption result ((item : Self.Item) → form line.now item → ⊥) (λ item. form line.now item) };
 }
 
 // Drops one CR at the end.
@@ -45,22 +48,22 @@ fn is_skipped(line: &[u8]) -> bool
 /// Refused are a text of more than 65,536 bytes (`InputTooLong`, before any line is looked at), and the first line that
 /// has the form of no item (`Schedule`, with its number counted from 1). `Memory` comes only where a growth was refused,
 /// behind a line that is an item.
-pub(crate) fn read_items<T: LineForm + Copy>(alloc: Global, text: &[u8]) -> Result<Vec<T>, RunFault>
-    ensures found { IfOk result (λ items. IsText T.form text.now items.items) }
+pub fn read_items<F: LineForm>(alloc: Global, text: &[u8]) -> Result<Vec<F::Item>, RunFault>
+    ensures found { IfOk result (λ items. IsText F.form text.now items.items) }
     ensures too_long { (result ≡ Err RunFault.InputTooLong) ↔ (TEXT_LIMIT < length text.now) }
-    ensures fault { IfErr result (λ e. TextFault T.form text.now e) }
+    ensures fault { IfErr result (λ e. TextFault F.form text.now e) }
 {
     if text.len() > TEXT_LIMIT {
         return Err(RunFault::InputTooLong);
     }
-    read_lines(alloc, text)
+    read_lines::<F>(alloc, text)
 }
 
 // Reads the lines of a text.
-fn read_lines<T: LineForm + Copy>(alloc: Global, text: &[u8]) -> Result<Vec<T>, RunFault>
+fn read_lines<F: LineForm>(alloc: Global, text: &[u8]) -> Result<Vec<F::Item>, RunFault>
     requires { length text.now ≤ TEXT_LIMIT }
-    ensures found { IfOk result (λ items. IsText T.form text.now items.items) }
-    ensures fault { IfErr result (λ e. TextFault T.form text.now e) }
+    ensures found { IfOk result (λ items. IsText F.form text.now items.items) }
+    ensures fault { IfErr result (λ e. TextFault F.form text.now e) }
 {
     let mut items = Vec::new(alloc);
     let mut left = Some(text);
@@ -73,7 +76,7 @@ fn read_lines<T: LineForm + Copy>(alloc: Global, text: &[u8]) -> Result<Vec<T>, 
         if is_skipped(line) {
             continue;
         }
-        match T::read(line) {
+        match F::read(line) {
             Some(item) => {
                 if items.reserve(1).is_err() {
                     return Err(RunFault::Memory);

@@ -1,32 +1,18 @@
-//! The lines of a report: one for each settlement, which takes no memory, and one of totals.
+//! The lines of settlements, one for each, which takes no memory.
 
-ghost use Rattle.std.specs.Prelude.{◌≡◌, ℕ, ◌+◌, ◌^◌, ◌≤◌, ◌++◌, List, [], length, map, if◌then◌else◌, OnOk, IfOk};
-ghost use Rattle.std.specs.Fmt.{decimal};
+ghost use Rattle.std.specs.Prelude.{◌≡◌, ℕ, ◌+◌, ◌^◌, ◌≤◌, ◌++◌, length, map, OnOk};
 ghost use Rattle.gc_client.specs.Settlements.{settlement_seen};
-ghost use Rattle.gc_texts.specs.Settlements.{settlement_line, settlement_lines, totals_text, report_text, Told};
+ghost use Rattle.gc_texts.specs.Settlements.{settlement_line, settlement_lines, Told};
 
 use crate::fault::RunFault;
 use arrayvec::ArrayVec;
 use gc_client::{Outcome, Settlement};
 use gc_lines::{Sink, append, write_whole};
-use gc_world::Report;
 use itoa::Buffer;
-use std::alloc::{AllocError, Global};
+use std::alloc::AllocError;
 
-/// The lines of a report's settlements, and with `totals` the line of totals behind them.
-pub fn text_of(alloc: Global, report: &Report, totals: bool) -> Result<Vec<u8>, AllocError>
-    ensures { IfOk result (λ text. text.items ≡ report_text report.now totals) }
-{
-    let mut text = Vec::new(alloc);
-    append_settlements(&mut text, report.settled.as_slice())?;
-    if totals {
-        append_totals(&mut text, report)?;
-    }
-    Ok(text)
-}
-
-// Appends the lines of settlements, the first of them at place 0.
-fn append_settlements(text: &mut Vec<u8>, settlements: &[Settlement]) -> Result<(), AllocError>
+/// Appends the lines of settlements, the first of them at place 0. Behind a want of memory a part of them stands there.
+pub fn append_settlements(text: &mut Vec<u8>, settlements: &[Settlement]) -> Result<(), AllocError>
     ensures { OnOk result (text.new.items ≡ text.old.items ++ settlement_lines (map settlement_seen settlements.now)) }
 {
     for (place, settlement) in settlements.iter().enumerate() {
@@ -87,26 +73,4 @@ pub(crate) fn line_of(place: usize, settlement: &Settlement) -> ArrayVec<u8, LIN
     }
     append(&mut line, b"\n");
     line
-}
-
-// Appends the line of totals.
-fn append_totals(text: &mut Vec<u8>, report: &Report) -> Result<(), AllocError>
-    ensures { OnOk result (text.new.items ≡ text.old.items ++ totals_text (length report.now.sent) (length report.now.executed) (length report.now.made) (length report.now.settled) report.now.refused_sends report.now.idle_events) }
-{
-    append_number(text, b"sent ", report.sent.len())?;
-    append_number(text, b" executed ", report.executed.len())?;
-    append_number(text, b" made ", report.made.len())?;
-    append_number(text, b" settled ", report.settled.len())?;
-    append_number(text, b" refused ", report.refused_sends)?;
-    append_number(text, b" idle ", report.idle_events)?;
-    text.extend_from_slice(b"\n")
-}
-
-// Appends a word and a number behind it.
-fn append_number(text: &mut Vec<u8>, word: &[u8], n: usize) -> Result<(), AllocError>
-    ensures { OnOk result (text.new.items ≡ text.old.items ++ (word.now ++ decimal n)) }
-{
-    let mut digits = Buffer::new();
-    text.extend_from_slice(word)?;
-    text.extend_from_slice(digits.format(n).as_bytes())
 }

@@ -13,6 +13,11 @@ use std::alloc::Global;
 /// The greatest length of a schedule's or a command list's text, in bytes.
 pub const TEXT_LIMIT: usize = 65536;
 
+/// A text has at most 65,536 bytes. It does nothing: its contract is the law.
+pub fn limits_texts()
+    ensures { TEXT_LIMIT ≡ 65536 }
+{}
+
 /// Reads a text until the input ends. It reads 65,537 bytes at most, which are too many.
 ///
 /// `Read` comes where the source failed, `InputTooLong` where it gave more than 65,536 bytes, and `Memory` only where a

@@ -339,6 +339,3 @@ impl PartialOrd for Decimal {
         Some(self.cmp(other))
     }
 }
-
-#[cfg(test)]
-mod tests;

@@ -133,6 +133,3 @@ pub fn split(params: &[u8]) -> Result<Items<'_>, ValueFault>
     }
     Err(ValueFault::TooMany)
 }
-
-#[cfg(test)]
-mod tests;

@@ -116,6 +116,3 @@ impl Value {
         out
     }
 }
-
-#[cfg(test)]
-mod tests;

@@ -9,8 +9,6 @@ mod playing;
 mod queue;
 mod report;
 mod stage;
-#[cfg(test)]
-mod tests;
 
 pub use entries::Entries;
 pub use event::Event;

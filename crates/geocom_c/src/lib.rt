@@ -21,6 +21,7 @@ pub use calls::{
     geocom_client_expire, geocom_client_init, geocom_client_next_deadline, geocom_client_waiting,
     geocom_version,
 };
+pub use faults::numbers;
 pub use feeding::{geocom_client_feed, geocom_client_restart};
 pub use following::{Step, follow};
 pub use listed::GeocomItem;

@@ -4,7 +4,7 @@ use Rattle.gc_lines.proofs.Known.{Consumes-append, Consumes-nil}
 use Rattle.gc_ask.specs.Asking.{idle}
 use Rattle.gc_ask.proofs.Asked.{course_start, course_all}
 use Rattle.gc_texts.proofs.SettlementLines.{at_place}
-use Rattle.gc_ask.proofs.Exchanging.{course_next, course_fault, still_on}
+use Rattle.gc_ask.proofs.Exchanging.{course_next, course_fault, going_fault, still_on}
 use Rattle.gc_ask.proofs.ask.ask_all.Goals as goal
 
 pub loop-place-init : goal.loop-place-init
@@ -88,3 +88,26 @@ returns-clause-asks g c =
     let so = c.loop-place.invariant.course in
     let whole : take c.loop-place.place c.args.commands.now ≡ c.args.commands.now = take_all _ _ c.loop-place-test.false in
     (so.0, so.1, so.2, course_all _ _ _ _ _ _ _ _ _ (rw whole at so.3))
+
+pub returns-in-Err-clause-ends : goal.returns-in-Err-clause-ends
+returns-in-Err-clause-ends g c =
+    let link0 = c.args.link_in.now in
+    let out0 = c.args.link_out.now in
+    let link = c.loop-place.link_in in
+    let out = c.loop-place.link_out in
+    let link' = c.ask.new.link_in in
+    let out' = c.ask.new.link_out in
+    going_fault
+    (record { remaining = g.I.Source.remaining link0; reads = g.I.Source.reads link0; ended = g.I.Source.ended link0; source_failed = g.I.Source.failed link0; taken = g.O.Sink.taken out0; sink_failed = g.O.Sink.failed out0 })
+    (record { remaining = g.I.Source.remaining link; reads = g.I.Source.reads link; ended = g.I.Source.ended link; source_failed = g.I.Source.failed link; taken = g.O.Sink.taken out; sink_failed = g.O.Sink.failed out })
+    (record { remaining = g.I.Source.remaining link'; reads = g.I.Source.reads link'; ended = g.I.Source.ended link'; source_failed = g.I.Source.failed link'; taken = g.O.Sink.taken out'; sink_failed = g.O.Sink.failed out' })
+    (g.K.Sink.failed c.args.sink.now) (g.K.Sink.failed c.loop-place.sink) (g.K.Sink.failed c.ask.new.sink)
+    c.loop-place.asking.reads c.ask.new.self.reads c.in-Err.fault
+    (record {
+      grows = c.loop-place.invariant.grows;
+      going = c.loop-place.invariant.going;
+      source = c.loop-place.invariant.source;
+      link = c.loop-place.invariant.link;
+      sink = c.loop-place.invariant.sink;
+    })
+    c.in-Err.ensures.grows c.in-Err.ensures.ends

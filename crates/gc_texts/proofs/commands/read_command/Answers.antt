@@ -1,6 +1,6 @@
 use Rattle.std.proofs.Common.{ap, rules, Some, None}
 use Rattle.std.specs.Option.{option_copied}
-use Rattle.gc_texts.proofs.Forms.{with_rest}
+use Rattle.gc_texts.proofs.Procedures.{with_rest}
 use Rattle.gc_texts.proofs.CommandForms.{no_space, has_number, has_call}
 use Rattle.gc_texts.proofs.commands.read_command.Goals as goal
 

@@ -5,25 +5,25 @@ use Rattle.gc_texts.proofs.line_forms.read_lines.Goals as goal
 
 pub overflow_add-number : goal.overflow_add-number
 overflow_add-number g c =
-    let few : c.loop-left.number ≤ 65537 = reads_few g.T.LineForm.form c.args.text.now (option_copied c.loop-left.left) c.loop-left.number c.loop-left.items.items c.requires c.loop-left.invariant in
+    let few : c.loop-left.number ≤ 65537 = reads_few g.F.LineForm.form c.args.text.now (option_copied c.loop-left.left) c.loop-left.number c.loop-left.items.items c.requires c.loop-left.invariant in
     omega (arith, few)
 
 pub loop-left-preserved-then-is_skipped : goal.loop-left-preserved-then-is_skipped
 loop-left-preserved-then-is_skipped g c =
-    turn_skips g.T.LineForm.form c.args.text.now (option_copied c.loop-left.left) c.in-Some.text.now c.cut_at.result.0.now c.without_cr-line.result.now (option_copied c.cut_at.result.1) c.loop-left.number
+    turn_skips g.F.LineForm.form c.args.text.now (option_copied c.loop-left.left) c.in-Some.text.now c.cut_at.result.0.now c.without_cr-line.result.now (option_copied c.cut_at.result.1) c.loop-left.number
     c.loop-left.items.items c.is_skipped.result c.loop-left.invariant (ap option_copied c.in-Some.is) c.cut_at.ensures c.without_cr-line.ensures c.is_skipped.ensures c.if-is_skipped.true
 
 pub loop-left-preserved : goal.loop-left-preserved
 loop-left-preserved g c =
     let grown : c.push_reserved.new.self.items ≡ c.loop-left.items.items ++ c.in-Some-read.item ∷ [] = search rules in
-    turn_reads g.T.LineForm.form c.args.text.now (option_copied c.loop-left.left) c.in-Some.text.now c.cut_at.result.0.now c.without_cr-line.result.now (option_copied c.cut_at.result.1) c.loop-left.number
+    turn_reads g.F.LineForm.form c.args.text.now (option_copied c.loop-left.left) c.in-Some.text.now c.cut_at.result.0.now c.without_cr-line.result.now (option_copied c.cut_at.result.1) c.loop-left.number
     c.loop-left.items.items c.is_skipped.result c.loop-left.invariant (ap option_copied c.in-Some.is) c.cut_at.ensures c.without_cr-line.ensures c.is_skipped.ensures
     c.in-Some-read.item c.push_reserved.new.self.items c.if-is_skipped.false c.in-Some-read.ensures grown
 
 pub returns-in-None-clause-fault : goal.returns-in-None-clause-fault
 returns-in-None-clause-fault g c = (
   c.requires,
-  turn_fails g.T.LineForm.form c.args.text.now (option_copied c.loop-left.left) c.in-Some.text.now c.cut_at.result.0.now c.without_cr-line.result.now (option_copied c.cut_at.result.1) c.loop-left.number
+  turn_fails g.F.LineForm.form c.args.text.now (option_copied c.loop-left.left) c.in-Some.text.now c.cut_at.result.0.now c.without_cr-line.result.now (option_copied c.cut_at.result.1) c.loop-left.number
       c.loop-left.items.items c.is_skipped.result c.loop-left.invariant (ap option_copied c.in-Some.is) c.cut_at.ensures c.without_cr-line.ensures c.is_skipped.ensures
       c.if-is_skipped.false c.in-None.ensures,
 )
@@ -31,7 +31,7 @@ returns-in-None-clause-fault g c = (
 pub returns-then-is_err-clause-fault : goal.returns-then-is_err-clause-fault
 returns-then-is_err-clause-fault g c = (
   c.requires,
-  turn_wants g.T.LineForm.form c.args.text.now (option_copied c.loop-left.left) c.in-Some.text.now c.cut_at.result.0.now c.without_cr-line.result.now (option_copied c.cut_at.result.1) c.loop-left.number
+  turn_wants g.F.LineForm.form c.args.text.now (option_copied c.loop-left.left) c.in-Some.text.now c.cut_at.result.0.now c.without_cr-line.result.now (option_copied c.cut_at.result.1) c.loop-left.number
       c.loop-left.items.items c.is_skipped.result c.loop-left.invariant (ap option_copied c.in-Some.is) c.cut_at.ensures c.without_cr-line.ensures c.is_skipped.ensures
       c.in-Some-read.item c.if-is_skipped.false c.in-Some-read.ensures,
 )

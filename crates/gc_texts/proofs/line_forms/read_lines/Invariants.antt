@@ -3,7 +3,7 @@ use Rattle.gc_texts.proofs.TextLines.{Reads, much_left}
 use Rattle.gc_texts.proofs.line_forms.read_lines.Given as goal
 
 abbrev pub invariant-loop-left : goal.invariant-loop-left
-invariant-loop-left g l = Reads g.T.LineForm.form l.text (option_copied l.left) l.number l.items.items
+invariant-loop-left g l = Reads g.F.LineForm.form l.text (option_copied l.left) l.number l.items.items
 
 abbrev pub decreases-loop-left : goal.decreases-loop-left
 decreases-loop-left g l = much_left (option_copied l.left)

@@ -1,8 +1,14 @@
-use Rattle.std.proofs.Common.{◌≡◌, ◌+◌}
+use Rattle.std.proofs.Common.{◌≡◌, ◌+◌, ◌<◌, ◌≤◌, false}
 use Rattle.gc_ask.proofs.instrument_end.InstrumentEnd.answer_line.Given as goal
 
 abbrev pub invariant-loop-cut : goal.invariant-loop-cut
-invariant-loop-cut g l = g.I.Source.reads l.link_in + l.reads ≡ g.I.Source.reads l.initial.link_in + l.initial.reads
+invariant-loop-cut g l = record {
+  reads : g.I.Source.reads l.link_in + l.reads ≡ g.I.Source.reads l.initial.link_in + l.initial.reads;
+  grows : g.I.Source.reads l.initial.link_in ≤ g.I.Source.reads l.link_in;
+  going : g.I.Source.reads l.initial.link_in < g.I.Source.reads l.link_in → g.I.Source.ended l.link_in ≡ false;
+  same : g.I.Source.reads l.link_in ≡ g.I.Source.reads l.initial.link_in → g.I.Source.ended l.link_in ≡ g.I.Source.ended l.initial.link_in;
+  failed : g.I.Source.failed l.link_in ≡ g.I.Source.failed l.initial.link_in;
+}
 
 abbrev pub decreases-loop-cut : goal.decreases-loop-cut
 decreases-loop-cut g l = l.reads

@@ -1,14 +1,77 @@
-use Rattle.std.proofs.Common.{◌++◌, sym, subst}
+use Rattle.std.proofs.Common.{ℕ, List, [], ◌++◌, inl, inr, refl, sym, subst, arith}
 use Rattle.gc_lines.specs.Assembler.{Kept, StandsFor}
-use Rattle.gc_ask.proofs.Exchanging.{one_settled}
+use Rattle.gc_lines.proofs.Known.{Consumes-nil}
+use Rattle.gc_ask.specs.Listening.{LoopExchanges}
+use Rattle.gc_ask.proofs.Looping.{step_none, step_sends, step_hears, unsent, unanswered, exchanged}
 use Rattle.gc_ask.proofs.looped.Ends.exchange.Goals as goal
 
-pub returns-clause-settled : goal.returns-clause-settled
-returns-clause-settled g c =
-    let stands = c.requires.stands in
-    let ahead = c.send.new.self.ahead in
-    let end = c.hear_reply.new.self in
-    let s = subst (λ (k : Kept). StandsFor k stands.0) (sym c.send.ensures.same.0) stands.1 in
+pub returns-in-Err-clause-exchanges : goal.returns-in-Err-clause-exchanges
+returns-in-Err-clause-exchanges g c =
+    let asking = c.send.new.self in (
+      [],
+      Consumes-nil _,
+      omega arith,
+      λ rest s.
+          unsent c.args.place c.args.command.now rest (c.args.self.now.asking.ahead ++ []) asking.ahead asking.end.assembler asking.end.client.ids asking.end.settled.items
+          (g.B.Sink.taken c.args.client_out.now) (g.B.Sink.taken c.send.new.link) (g.B.Sink.failed c.args.client_out.now) (g.B.Sink.failed c.send.new.link) c.in-Err.fault
+          c.in-Err.ensures.sends c.in-Err.ensures.client,
+    )
+
+pub returns-in-Err-clause-ends : goal.returns-in-Err-clause-ends
+returns-in-Err-clause-ends g c =
+    inl (
+      step_sends c.args.place c.args.command.now
+          (record { remaining = g.A.Source.remaining c.args.client_in.now; reads = g.A.Source.reads c.args.client_in.now; ended = g.A.Source.ended c.args.client_in.now; source_failed = g.A.Source.failed c.args.client_in.now; taken = g.B.Sink.taken c.args.client_out.now; sink_failed = g.B.Sink.failed c.args.client_out.now })
+          (record { remaining = g.A.Source.remaining c.args.client_in.now; reads = g.A.Source.reads c.args.client_in.now; ended = g.A.Source.ended c.args.client_in.now; source_failed = g.A.Source.failed c.args.client_in.now; taken = g.B.Sink.taken c.send.new.link; sink_failed = g.B.Sink.failed c.send.new.link })
+          c.in-Err.fault c.in-Err.ensures.sends refl refl refl,
+      step_none (record { remaining = g.C.Source.remaining c.args.instrument_in.now; reads = g.C.Source.reads c.args.instrument_in.now; ended = g.C.Source.ended c.args.instrument_in.now; source_failed = g.C.Source.failed c.args.instrument_in.now; taken = g.D.Sink.taken c.args.instrument_out.now; sink_failed = g.D.Sink.failed c.args.instrument_out.now }) (record { remaining = g.C.Source.remaining c.args.instrument_in.now; reads = g.C.Source.reads c.args.instrument_in.now; ended = g.C.Source.ended c.args.instrument_in.now; source_failed = g.C.Source.failed c.args.instrument_in.now; taken = g.D.Sink.taken c.args.instrument_out.now; sink_failed = g.D.Sink.failed c.args.instrument_out.now }) refl refl refl refl,
+    )
+
+pub returns-in-Err-answer_line-clause-exchanges : goal.returns-in-Err-answer_line-clause-exchanges
+returns-in-Err-answer_line-clause-exchanges g c =
+    let asking = c.send.new.self in (
+      [],
+      Consumes-nil _,
+      omega arith,
+      λ rest s.
+          unanswered c.args.place c.args.command.now rest (c.args.self.now.asking.ahead ++ []) asking.ahead asking.end.assembler asking.end.client.ids asking.end.settled.items
+          (g.B.Sink.taken c.args.client_out.now) (g.B.Sink.taken c.send.new.link) c.in-Err-answer_line.fault
+          c.in_default.ensures.sends.0 c.in-Err-answer_line.ensures.count c.send.ensures.client,
+    )
+
+pub returns-in-Err-answer_line-clause-ends : goal.returns-in-Err-answer_line-clause-ends
+returns-in-Err-answer_line-clause-ends g c =
+    inr (
+      step_none
+          (record { remaining = g.A.Source.remaining c.args.client_in.now; reads = g.A.Source.reads c.args.client_in.now; ended = g.A.Source.ended c.args.client_in.now; source_failed = g.A.Source.failed c.args.client_in.now; taken = g.B.Sink.taken c.args.client_out.now; sink_failed = g.B.Sink.failed c.args.client_out.now })
+          (record { remaining = g.A.Source.remaining c.args.client_in.now; reads = g.A.Source.reads c.args.client_in.now; ended = g.A.Source.ended c.args.client_in.now; source_failed = g.A.Source.failed c.args.client_in.now; taken = g.B.Sink.taken c.send.new.link; sink_failed = g.B.Sink.failed c.send.new.link })
+          refl refl refl c.in_default.ensures.sends.1,
+      c.in-Err-answer_line.ensures.ends,
+    )
+
+pub returns-clause-exchanges : goal.returns-clause-exchanges
+returns-clause-exchanges g c =
     let heard = c.hear_reply.ensures.hears in
-    one_settled c.args.place c.args.command.now stands.0 (ahead ++ heard.0) c.hear_reply.new.ahead end.assembler c.send.new.self.end.client.ids end.client.ids end.settled.items c.hear_reply.result
-    c.send.ensures.client (heard.3 stands.0 s)
+    let asking = c.send.new.self in
+    let end = c.hear_reply.new.self in (
+      heard.0,
+      heard.1,
+      heard.2,
+      λ rest s.
+          let same = subst (λ (k : Kept). StandsFor k rest) (sym c.send.ensures.same.0) s in
+          subst (λ (xs : List ℕ). LoopExchanges c.args.place c.args.command.now rest (xs ++ heard.0) c.hear_reply.new.ahead end.assembler end.client.ids end.settled.items (g.B.Sink.taken c.args.client_out.now) (g.B.Sink.taken c.send.new.link) c.hear_reply.result)
+          c.send.ensures.same.1
+          (exchanged c.args.place c.args.command.now rest (asking.ahead ++ heard.0) c.hear_reply.new.ahead end.assembler asking.end.client.ids end.client.ids end.settled.items
+          (g.B.Sink.taken c.args.client_out.now) (g.B.Sink.taken c.send.new.link) (g.A.Source.reads c.args.client_in.now) (g.A.Source.reads c.hear_reply.new.link) (g.A.Source.ended c.args.client_in.now) (g.A.Source.ended c.hear_reply.new.link) (g.A.Source.failed c.args.client_in.now) (g.A.Source.failed c.hear_reply.new.link) c.answer_line.new.reads c.hear_reply.new.reads c.hear_reply.result
+          c.in_default.ensures.sends.0 c.send.ensures.client (heard.3 rest same) c.hear_reply.ensures.ends),
+    )
+
+pub returns-clause-ends : goal.returns-clause-ends
+returns-clause-ends g c =
+    inl (
+      step_hears
+          (record { remaining = g.A.Source.remaining c.args.client_in.now; reads = g.A.Source.reads c.args.client_in.now; ended = g.A.Source.ended c.args.client_in.now; source_failed = g.A.Source.failed c.args.client_in.now; taken = g.B.Sink.taken c.args.client_out.now; sink_failed = g.B.Sink.failed c.args.client_out.now })
+          (record { remaining = g.A.Source.remaining c.hear_reply.new.link; reads = g.A.Source.reads c.hear_reply.new.link; ended = g.A.Source.ended c.hear_reply.new.link; source_failed = g.A.Source.failed c.hear_reply.new.link; taken = g.B.Sink.taken c.send.new.link; sink_failed = g.B.Sink.failed c.send.new.link })
+          c.answer_line.new.reads c.hear_reply.new.reads c.hear_reply.result c.hear_reply.ensures.ends c.hear_reply.ensures.grows c.in_default.ensures.sends.1,
+      c.in_default-answer_line.ensures.ends,
+    )

@@ -1,0 +1,80 @@
+use Rattle.std.proofs.Common.{◌++◌, length, sym, ap, arith}
+use Rattle.std.proofs.lemmas.List.{length-map}
+use Rattle.gc_client.specs.Settlements.{settlement_seen}
+use Rattle.gc_ask.proofs.Asked.{settled_is}
+use Rattle.gc_ask.proofs.Exchanging.{lost_alone}
+use Rattle.gc_ask.proofs.Looping.{loop_waits, loop_lost, loop_untold, loop_ends_lost, loop_ends_untold}
+use Rattle.gc_ask.proofs.looped.Ends.ask.Goals as goal
+
+pub write_settlements-requires : goal.write_settlements-requires
+write_settlements-requires g c =
+    let stands = c.requires.stands in
+    let ex = c.in-Ok.ensures.exchanges.3 stands.0 stands.1 in
+    let one = (settled_is _ _ _ _ _ _ _ _ ex.1).0 in
+    omega (arith, c.ranges.place.fits, sym (length-map c.exchange.new.self.asking.end.settled.items settlement_seen), ap length one, ap length c.as_slice.ensures.value)
+
+pub write_settlements-requires-in-Err : goal.write_settlements-requires-in-Err
+write_settlements-requires-in-Err g c =
+    let stands = c.requires.stands in
+    let ex = c.in-Err.ensures.exchanges in
+    let end = c.exchange.new.self.asking.end in
+    let waits = loop_waits c.args.place c.args.command.now stands.0 (c.args.self.now.asking.ahead ++ ex.0) c.exchange.new.self.asking.ahead end.assembler end.client.ids end.settled.items
+    (g.B.Sink.taken c.args.client_out.now) (g.B.Sink.taken c.exchange.new.client_out) c.in-Err.fault (ex.3 stands.0 stands.1) in
+    let one = lost_alone c.args.place c.args.command.now end.client.ids c.restart-lost.result.items waits c.restart-lost.ensures.settled in
+    omega (arith, c.ranges.place.fits, sym (length-map c.restart-lost.result.items settlement_seen), ap length one, ap length c.as_slice-in-Err.ensures.value)
+
+pub returns-in-Ok-write_settlements-clause-loops : goal.returns-in-Ok-write_settlements-clause-loops
+returns-in-Ok-write_settlements-clause-loops g c =
+    let ex = c.in-Err.ensures.exchanges in
+    let asking = c.exchange.new.self.asking in
+    let end = asking.end in (
+      ex.0,
+      ex.1,
+      ex.2,
+      λ rest s.
+          loop_lost c.args.place c.args.command.now rest (c.args.self.now.asking.ahead ++ ex.0) asking.ahead asking.ahead end.assembler end.assembler end.client.ids c.restart-lost.new.self.ids end.settled.items
+          c.restart-lost.result.items c.as_slice-in-Err.result.now
+          (g.B.Sink.taken c.args.client_out.now) (g.B.Sink.taken c.exchange.new.client_out) (g.K.Sink.taken c.args.sink.now) (g.K.Sink.taken c.write_settlements-in-Err.new.sink)
+          c.in-Err.fault
+          (record { remaining = g.A.Source.remaining c.args.client_in.now; reads = g.A.Source.reads c.args.client_in.now; ended = g.A.Source.ended c.args.client_in.now; source_failed = g.A.Source.failed c.args.client_in.now; taken = g.B.Sink.taken c.args.client_out.now; sink_failed = g.B.Sink.failed c.args.client_out.now })
+          (record { remaining = g.A.Source.remaining c.exchange.new.client_in; reads = g.A.Source.reads c.exchange.new.client_in; ended = g.A.Source.ended c.exchange.new.client_in; source_failed = g.A.Source.failed c.exchange.new.client_in; taken = g.B.Sink.taken c.exchange.new.client_out; sink_failed = g.B.Sink.failed c.exchange.new.client_out })
+          (record { remaining = g.C.Source.remaining c.args.instrument_in.now; reads = g.C.Source.reads c.args.instrument_in.now; ended = g.C.Source.ended c.args.instrument_in.now; source_failed = g.C.Source.failed c.args.instrument_in.now; taken = g.D.Sink.taken c.args.instrument_out.now; sink_failed = g.D.Sink.failed c.args.instrument_out.now })
+          (record { remaining = g.C.Source.remaining c.exchange.new.instrument_in; reads = g.C.Source.reads c.exchange.new.instrument_in; ended = g.C.Source.ended c.exchange.new.instrument_in; source_failed = g.C.Source.failed c.exchange.new.instrument_in; taken = g.D.Sink.taken c.exchange.new.instrument_out; sink_failed = g.D.Sink.failed c.exchange.new.instrument_out })
+          (ex.3 rest s) c.in-Err.ensures.ends c.restart-lost.ensures.settled c.as_slice-in-Err.ensures.value c.in-Ok-write_settlements.ensures.0,
+    )
+
+pub returns-in-Ok-write_settlements-clause-ends : goal.returns-in-Ok-write_settlements-clause-ends
+returns-in-Ok-write_settlements-clause-ends g c =
+    loop_ends_lost
+    (record { remaining = g.A.Source.remaining c.args.client_in.now; reads = g.A.Source.reads c.args.client_in.now; ended = g.A.Source.ended c.args.client_in.now; source_failed = g.A.Source.failed c.args.client_in.now; taken = g.B.Sink.taken c.args.client_out.now; sink_failed = g.B.Sink.failed c.args.client_out.now })
+    (record { remaining = g.A.Source.remaining c.exchange.new.client_in; reads = g.A.Source.reads c.exchange.new.client_in; ended = g.A.Source.ended c.exchange.new.client_in; source_failed = g.A.Source.failed c.exchange.new.client_in; taken = g.B.Sink.taken c.exchange.new.client_out; sink_failed = g.B.Sink.failed c.exchange.new.client_out })
+    (record { remaining = g.C.Source.remaining c.args.instrument_in.now; reads = g.C.Source.reads c.args.instrument_in.now; ended = g.C.Source.ended c.args.instrument_in.now; source_failed = g.C.Source.failed c.args.instrument_in.now; taken = g.D.Sink.taken c.args.instrument_out.now; sink_failed = g.D.Sink.failed c.args.instrument_out.now })
+    (record { remaining = g.C.Source.remaining c.exchange.new.instrument_in; reads = g.C.Source.reads c.exchange.new.instrument_in; ended = g.C.Source.ended c.exchange.new.instrument_in; source_failed = g.C.Source.failed c.exchange.new.instrument_in; taken = g.D.Sink.taken c.exchange.new.instrument_out; sink_failed = g.D.Sink.failed c.exchange.new.instrument_out })
+    (g.K.Sink.failed c.args.sink.now) (g.K.Sink.failed c.write_settlements-in-Err.new.sink) c.in-Err.fault c.in-Err.ensures.ends c.in-Ok-write_settlements.ensures.1
+
+pub returns-in-Err-write_settlements-clause-loops : goal.returns-in-Err-write_settlements-clause-loops
+returns-in-Err-write_settlements-clause-loops g c =
+    let ex = c.in-Err.ensures.exchanges in
+    let asking = c.exchange.new.self.asking in
+    let end = asking.end in (
+      ex.0,
+      ex.1,
+      ex.2,
+      λ rest s.
+          loop_untold c.args.place c.args.command.now rest (c.args.self.now.asking.ahead ++ ex.0) asking.ahead asking.ahead end.assembler end.assembler end.client.ids c.restart-lost.new.self.ids end.settled.items
+          c.restart-lost.result.items c.as_slice-in-Err.result.now
+          (g.B.Sink.taken c.args.client_out.now) (g.B.Sink.taken c.exchange.new.client_out) (g.K.Sink.taken c.args.sink.now) (g.K.Sink.taken c.write_settlements-in-Err.new.sink)
+          (g.K.Sink.failed c.args.sink.now) (g.K.Sink.failed c.write_settlements-in-Err.new.sink)
+          c.in-Err.fault c.in-Err-write_settlements.output
+          (ex.3 rest s) c.restart-lost.ensures.settled c.as_slice-in-Err.ensures.value c.in-Err-write_settlements.ensures,
+    )
+
+pub returns-in-Err-write_settlements-clause-ends : goal.returns-in-Err-write_settlements-clause-ends
+returns-in-Err-write_settlements-clause-ends g c =
+    loop_ends_untold
+    (record { remaining = g.A.Source.remaining c.args.client_in.now; reads = g.A.Source.reads c.args.client_in.now; ended = g.A.Source.ended c.args.client_in.now; source_failed = g.A.Source.failed c.args.client_in.now; taken = g.B.Sink.taken c.args.client_out.now; sink_failed = g.B.Sink.failed c.args.client_out.now })
+    (record { remaining = g.A.Source.remaining c.exchange.new.client_in; reads = g.A.Source.reads c.exchange.new.client_in; ended = g.A.Source.ended c.exchange.new.client_in; source_failed = g.A.Source.failed c.exchange.new.client_in; taken = g.B.Sink.taken c.exchange.new.client_out; sink_failed = g.B.Sink.failed c.exchange.new.client_out })
+    (record { remaining = g.C.Source.remaining c.args.instrument_in.now; reads = g.C.Source.reads c.args.instrument_in.now; ended = g.C.Source.ended c.args.instrument_in.now; source_failed = g.C.Source.failed c.args.instrument_in.now; taken = g.D.Sink.taken c.args.instrument_out.now; sink_failed = g.D.Sink.failed c.args.instrument_out.now })
+    (record { remaining = g.C.Source.remaining c.exchange.new.instrument_in; reads = g.C.Source.reads c.exchange.new.instrument_in; ended = g.C.Source.ended c.exchange.new.instrument_in; source_failed = g.C.Source.failed c.exchange.new.instrument_in; taken = g.D.Sink.taken c.exchange.new.instrument_out; sink_failed = g.D.Sink.failed c.exchange.new.instrument_out })
+    c.args.place _ (g.K.Sink.taken c.args.sink.now) (g.K.Sink.taken c.write_settlements-in-Err.new.sink) (g.K.Sink.failed c.args.sink.now) (g.K.Sink.failed c.write_settlements-in-Err.new.sink)
+    c.in-Err.fault c.in-Err-write_settlements.output c.in-Err.ensures.ends c.in-Err-write_settlements.ensures

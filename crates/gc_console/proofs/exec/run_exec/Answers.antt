@@ -1,4 +1,0 @@
-use Rattle.gc_console.proofs.exec.run_exec.Goals as goal
-
-pub returns : goal.returns
-returns g c = (c.serve.new.instrument, rw c.simulator.ensures.state at c.serve.ensures)

@@ -1,0 +1,3 @@
+//! What no clause says of the texts: one of each kind that is read, and what is printed.
+
+mod printed;

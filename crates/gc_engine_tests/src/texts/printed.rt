@@ -1,0 +1,171 @@
+//! A text that is read, the printed line of each fault, and a record in each form.
+
+use gc_catalogue::Call;
+use gc_client::{Client, Heard, Settlement, Slots};
+use gc_lines::{Line, ToWriter};
+use gc_texts::{Command, Form, RunFault, read_commands, write_head, write_record};
+use std::alloc::Global;
+use std::process::Abort;
+use std::test::Fail;
+
+#[test]
+fn a_command_text_is_read(rt: HostRuntime) -> Result<(), Fail> {
+    let commands = read_commands(rt.alloc(), b"7 5003\n8 0\n")?;
+    let wanted = [
+        Command {
+            target: 7,
+            call: Call::InstrumentNo,
+        },
+        Command {
+            target: 8,
+            call: Call::NullProc,
+        },
+    ];
+    assert_eq!(rt; commands.as_slice(), wanted.as_slice());
+    Ok(())
+}
+
+#[test]
+fn each_fault_is_told(rt: HostRuntime) -> Result<(), Fail> {
+    let written = RunFault::Write {
+        replies: 7,
+        bytes: 21,
+    };
+    let rows = [
+        (RunFault::Read, 42, "fault 42"),
+        (written, 43, "fault 43 reply 7 byte 21"),
+        (RunFault::TooManyReads, 44, "fault 44"),
+        (RunFault::LinkClosed, 45, "fault 45"),
+        (RunFault::Schedule { line: 3 }, 51, "fault 51 line 3"),
+        (RunFault::Memory, 52, "fault 52"),
+        (RunFault::InputTooLong, 53, "fault 53"),
+        (RunFault::Socket, 54, "fault 54"),
+        (RunFault::Output, 55, "fault 55"),
+    ];
+    for (fault, number, text) in rows {
+        let alloc = rt.alloc();
+        let mut told = Vec::new(alloc);
+        fault.tell(&mut told)?;
+        let told = str::from_utf8(told.as_slice()).expect(&rt, text);
+        let line = format!(in alloc; "geocom: {text}\n")?;
+        let shown = format!(in alloc; "{fault}")?;
+        assert_eq!(rt; told, line.as_str());
+        assert_eq!(rt; shown.as_str(), text);
+        assert_eq!(rt; fault.number(), number, "{text}");
+    }
+    Ok(())
+}
+
+#[test]
+fn moments_are_told(rt: HostRuntime) -> Result<(), Fail> {
+    let alloc = rt.alloc();
+    let rows: [(u64, &[u8]); 9] = [
+        (0, b"1970-01-01T00:00:00.000Z"),
+        (946684799999, b"1999-12-31T23:59:59.999Z"),
+        (951782399999, b"2000-02-28T23:59:59.999Z"),
+        (951782400000, b"2000-02-29T00:00:00.000Z"),
+        (1795388907123, b"2026-11-22T23:08:27.123Z"),
+        (4107542399999, b"2100-02-28T23:59:59.999Z"),
+        (4107542400000, b"2100-03-01T00:00:00.000Z"),
+        (253402300799999, b"9999-12-31T23:59:59.999Z"),
+        (253402300800000, b"10000-01-01T00:00:00.000Z"),
+    ];
+    for (utc, text) in rows {
+        let mut line = Vec::from_slice(alloc, text)?;
+        line.extend_from_slice(b" 3 0 lost\n")?;
+        let mut written = Vec::new(alloc);
+        let mut sink = ToWriter::new(&mut written);
+        let lost = Settlement::default();
+        let taken = write_record(&mut sink, Form::Lines, utc, 2, 3, &lost);
+        assert_eq!(rt; taken, Ok(()));
+        assert_eq!(rt; written.as_slice(), line.as_slice());
+    }
+    Ok(())
+}
+
+// The end of a call for target 7, to which this reply came.
+fn settled_by(rt: &impl Abort, call: Call, reply: &[u8]) -> Settlement {
+    let mut client = Client::new(Slots::new());
+    let _ = client.send(7, call, u64::MAX);
+    let mut line = Line::new();
+    let _ = line.try_extend_from_slice(reply);
+    match client.on_line(&line) {
+        Heard::Settled(mut settled) => settled.pop().expect(rt, "one is settled"),
+        _ => Settlement::default(),
+    }
+}
+
+// A record of the second cycle in both forms.
+fn written(alloc: Global, settlement: &Settlement) -> Result<(Vec<u8>, Vec<u8>), Fail> {
+    let mut lines = Vec::new(alloc);
+    let mut rows = Vec::new(alloc);
+    let moment = 1795388907123;
+    let _ = write_record(
+        &mut ToWriter::new(&mut lines),
+        Form::Lines,
+        moment,
+        2,
+        3,
+        settlement,
+    );
+    let _ = write_record(
+        &mut ToWriter::new(&mut rows),
+        Form::Csv,
+        moment,
+        2,
+        3,
+        settlement,
+    );
+    Ok((lines, rows))
+}
+
+#[test]
+fn records_are_written(rt: HostRuntime) -> Result<(), Fail> {
+    let rows: [(Call, &[u8], &[u8]); 4] = [
+        (
+            Call::InstrumentNo,
+            b"%R1P,0,0:0,123456",
+            b"5003,answered,0,0,123456",
+        ),
+        (
+            Call::InstrumentName,
+            b"%R1P,0,0:0,\"GEOCOM SIM\"",
+            b"5004,answered,0,0,\"\"\"GEOCOM SIM\"\"\"",
+        ),
+        (
+            Call::GetAngle { mode: 1 },
+            b"%R1P,0,0:0,2.25,1.625",
+            b"2107,answered,0,0,\"2.25,1.625\"",
+        ),
+        (Call::NullProc, b"%R1P,3080,0:0", b"0,answered,3080,0,"),
+    ];
+    for (call, reply, columns) in rows {
+        let settlement = settled_by(&rt, call, reply);
+        let (line, row) = written(rt.alloc(), &settlement)?;
+        let wanted = line
+            .strip_prefix(b"2026-11-22T23:08:27.123Z 3 7 answered ")
+            .and_then(|rest| rest.strip_suffix(b"\n"));
+        assert_eq!(rt; wanted, Some(reply));
+        let wanted = row
+            .strip_prefix(b"2026-11-22T23:08:27.123Z,2,3,7,")
+            .and_then(|rest| rest.strip_suffix(b"\n"));
+        assert_eq!(rt; wanted, Some(columns));
+    }
+    let lost = Settlement::default();
+    let (line, row) = written(rt.alloc(), &lost)?;
+    assert_eq!(rt;
+        line.as_slice(),
+        b"2026-11-22T23:08:27.123Z 3 0 lost\n".as_slice()
+    );
+    assert_eq!(rt;
+        row.as_slice(),
+        b"2026-11-22T23:08:27.123Z,2,3,0,0,lost,,,\n".as_slice()
+    );
+    let mut head = Vec::new(rt.alloc());
+    let _ = write_head(&mut ToWriter::new(&mut head), Form::Csv);
+    assert_eq!(rt;
+        head.as_slice(),
+        b"time,cycle,place,target,procedure,outcome,rc_com,rc,values\n".as_slice()
+    );
+    Ok(())
+}

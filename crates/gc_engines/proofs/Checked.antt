@@ -1,0 +1,141 @@
+-- Frames that were judged are the verdicts' lines.
+use Rattle.std.proofs.Common.{◌≡◌, ℕ, ◌+◌, ◌-◌, ◌<◌, ◌≤◌, ◌^◌, min, Bool, true, false, cond, List, [], ◌∷◌, ◌++◌, length, take, map, suc, Option, Some, Result, Ok, Err, refl, sym, ap, ◌∙◌, subst, arith, append_assoc, length-append}
+use Rattle.std.specs.Option.{option_to_list}
+use Rattle.gc_lines.specs.Answering.{Ports, AnswersInOrder, AnswersAll, AnswersPart, AnswersFrames, EndsBecause}
+use Rattle.gc_lines.specs.Frames.{frames, frame_of, pieces_behind, is_line_feed, ends_in_return}
+use Rattle.gc_lines.specs.declared.frame.Frame.{Frame}
+use Rattle.gc_lines.specs.declared.frame.Frame.TheVariants.{Line, Cleared, Overlong, More}
+use Rattle.gc_lines.specs.declared.served.Served.{Served}
+use Rattle.gc_lines.specs.declared.served.ServeFault.{ServeFault}
+use Rattle.gc_lines.specs.declared.served.ServeFault.TheVariants.{Read, Write, TooManyReads}
+use Rattle.gc_lines.proofs.InOrder.{in_order_then, in_order_one}
+use Rattle.gc_engines.specs.Verdicts.{IsVerdict, AreVerdicts, verdict_line, lines_from, AreLinesOf}
+use Rattle.gc_engines.specs.Checking.{JudgesFrame, ChecksAll, ChecksPart, Checks}
+use Rattle.gc_engines.specs.declared.check.Judge.{Judge}
+use Rattle.gc_engines.specs.declared.verdict.Verdict.{Verdict}
+
+-- a line feed has ended each of these frames
+AreEnded : List Frame → Type 0
+AreEnded [] = Unit {0}
+AreEnded (Line line ∷ later) = AreEnded later
+AreEnded (Cleared ∷ later) = AreEnded later
+AreEnded (Overlong ∷ later) = AreEnded later
+AreEnded (More ∷ later) = ⊥
+
+ended_piece : (a b : Bool) (line : Frame) (later : List Frame) → (AreEnded later → AreEnded (line ∷ later)) → AreEnded later → AreEnded (cond a (cond b Overlong line) Cleared ∷ later)
+unfolding AreEnded
+ended_piece true true line later is h = h
+ended_piece true false line later is h = is h
+ended_piece false b line later is h = h
+
+ended_pieces : (parts : List (List ℕ)) → AreEnded (map frame_of parts)
+unfolding AreEnded
+ended_pieces [] = tt
+ended_pieces (part ∷ later) = ended_piece (ends_in_return part) _ (Line (record { items = take (length part - 1) part })) (map frame_of later) (λ h. h) (ended_pieces later)
+
+ended_front : (xs ys : List Frame) → AreEnded (xs ++ ys) → AreEnded xs
+unfolding AreEnded
+ended_front [] ys h = tt
+ended_front (Line line ∷ xs) ys h = ended_front xs ys h
+ended_front (Cleared ∷ xs) ys h = ended_front xs ys h
+ended_front (Overlong ∷ xs) ys h = ended_front xs ys h
+ended_front (More ∷ xs) ys h = h
+
+-- a frame has a byte at least
+few_pieces : (before bytes : List ℕ) → length (pieces_behind before bytes) ≤ length bytes
+few_pieces before [] = omega arith
+few_pieces before (b ∷ bs) = elim (is_line_feed b) as (λ t. length (cond t (before ∷ pieces_behind [] bs) (pieces_behind (before ++ b ∷ []) bs)) ≤ length (b ∷ bs)) [
+  | true ↦ omega (arith, few_pieces [] bs)
+  | false ↦ omega (arith, few_pieces (before ++ b ∷ []) bs)
+]
+
+length-mapped : {X Y : Type 0} (f : X → Y) (xs : List X) → length (map f xs) ≡ length xs
+length-mapped f [] = refl
+length-mapped f (x ∷ xs) = ap suc (length-mapped f xs)
+
+few_frames : (given : List ℕ) → length (frames given) ≤ length given
+few_frames given = omega (arith, length-mapped frame_of (pieces_behind [] given), few_pieces [] given)
+
+-- the lines of frames behind n others
+record Judged (n : ℕ) (seen : List Frame) (texts : List (List ℕ)) : Type 0 where
+  said : List Verdict
+  are : AreVerdicts seen said
+  numbered : texts ≡ lines_from (n + 1) said
+
+judged_next : (s u : Judge) (frame : Frame) (later : List Frame) (v : Verdict) (text : Option (List ℕ)) (rest texts : List (List ℕ)) (n : ℕ) → s.frames ≡ n → n + 1 < 2 ^ 64
+    → IsVerdict frame v → u.frames ≡ min (s.frames + 1) (2 ^ 64 - 1) → text ≡ Some (verdict_line u.frames v) → texts ≡ option_to_list text ++ rest → (u.frames ≡ n + 1 → Judged (n + 1) later rest) → Judged n (frame ∷ later) texts
+judged_next s u frame later v text rest texts n at few is counts told are next =
+    let more : u.frames ≡ n + 1 = omega (arith, at, few, counts) in
+    let k = next more in
+    record {
+      said = v ∷ k.said;
+      are = (is, k.are);
+      numbered = are ∙ ap (λ (o : Option (List ℕ)). option_to_list o ++ rest) told ∙ ap (λ (m : ℕ). verdict_line m v ∷ rest) more ∙ ap (λ (ts : List (List ℕ)). verdict_line (n + 1) v ∷ ts) k.numbered;
+    }
+
+judged : (s t : Judge) (seen : List Frame) (texts : List (List ℕ)) (n : ℕ) → s.frames ≡ n → n + length seen < 2 ^ 64 → AreEnded seen → AnswersInOrder Judge JudgesFrame s seen t texts → Judged n seen texts
+unfolding AreEnded
+judged s t [] texts n at few ended h = record { said = []; are = tt; numbered = h.1 }
+judged s t (Line line ∷ later) texts n at few ended h = judged_next s h.0 (Line line) later h.3.0 h.1 h.2 texts n at (omega (arith, few)) h.3.1 h.3.2 h.3.3 h.5 (λ more. judged h.0 t later h.2 (n + 1) more (omega (arith, few)) ended h.4)
+judged s t (Cleared ∷ later) texts n at few ended h = judged_next s h.0 Cleared later h.3.0 h.1 h.2 texts n at (omega (arith, few)) h.3.1 h.3.2 h.3.3 h.5 (λ more. judged h.0 t later h.2 (n + 1) more (omega (arith, few)) ended h.4)
+judged s t (Overlong ∷ later) texts n at few ended h = judged_next s h.0 Overlong later h.3.0 h.1 h.2 texts n at (omega (arith, few)) h.3.1 h.3.2 h.3.3 h.5 (λ more. judged h.0 t later h.2 (n + 1) more (omega (arith, few)) ended h.4)
+judged s t (More ∷ later) texts n at few ended h = absurd ended
+
+lines_of : (s t : Judge) (seen : List Frame) (texts : List (List ℕ)) → s.frames ≡ 0 → length seen < 2 ^ 64 → AreEnded seen → AnswersInOrder Judge JudgesFrame s seen t texts → AreLinesOf seen texts
+lines_of s t seen texts at few ended h =
+    let k = judged s t seen texts 0 at (omega (arith, few)) ended h in
+    record { said = k.said; are = k.are; numbered = k.numbered }
+
+all_checked : (s t : Judge) (given : List ℕ) (a b : Option (List ℕ)) (count : ℕ) → s.frames ≡ 0 → length given < 2 ^ 64 → AnswersAll JudgesFrame s t (frames given) a b 0 count → ChecksAll given a b count
+all_checked s t given a b count at few all = record {
+  lines = all.texts;
+  are = lines_of s t (frames given) all.texts at (omega (arith, few, few_frames given)) (ended_pieces (pieces_behind [] given)) all.answers;
+  counts = omega (arith, all.counts);
+  took = all.took;
+}
+
+part_checked : (s t : Judge) (given : List ℕ) (a b : Option (List ℕ)) (count bytes : ℕ) → s.frames ≡ 0 → length given < 2 ^ 64 → AnswersPart JudgesFrame s t (frames given) a b 0 count bytes → ChecksPart given a b count bytes
+part_checked s t given a b count bytes at few part =
+    let seen = part.earlier ++ part.frame ∷ [] in
+    let order : frames given ≡ seen ++ part.later = part.order ∙ sym (append_assoc part.earlier (part.frame ∷ []) part.later) in
+    let ended : AreEnded seen = ended_front seen part.later (subst (λ (fs : List Frame). AreEnded fs) order (ended_pieces (pieces_behind [] given))) in
+    let fewer : length seen < 2 ^ 64 = omega (arith, few, few_frames given, ap (λ (fs : List Frame). length fs) order, length-append seen part.later) in
+    record {
+      seen = seen;
+      later = part.later;
+      order = order;
+      whole = part.texts;
+      line = part.text;
+      are = lines_of s t seen (part.texts ++ part.text ∷ []) at fewer ended
+          (in_order_then JudgesFrame s part.state t part.earlier (part.frame ∷ []) part.texts (part.text ∷ []) part.answers (in_order_one JudgesFrame part.state t part.frame (Some part.text) part.draws));
+      counts = omega (arith, part.counts);
+      not_all = part.not_all;
+      took = part.took;
+    }
+
+-- the whole result
+pub checked : (s t : Judge) (given : List ℕ) (a b : Option (List ℕ)) (r : Result Served ServeFault) → s.frames ≡ 0 → length given < 2 ^ 64 → AnswersFrames JudgesFrame s t (frames given) a b r → Checks given a b r
+checked s t given a b (Ok served) at few h = all_checked s t given a b served.replies at few h
+checked s t given a b (Err (Read n)) at few h = all_checked s t given a b n at few h
+checked s t given a b (Err (Write n bytes)) at few h = part_checked s t given a b n bytes at few h
+checked s t given a b (Err (TooManyReads n)) at few h = all_checked s t given a b n at few h
+
+-- no more reads were made than are allowed
+pub few_reads : (old new : Ports) (most : ℕ) (r : Result Served ServeFault) → EndsBecause old new most r → new.reads ≤ old.reads + most
+few_reads old new most (Ok served) h = h.1
+few_reads old new most (Err (Read n)) h = omega (arith, h.0)
+few_reads old new most (Err (Write n bytes)) h = h.1
+few_reads old new most (Err (TooManyReads n)) h = omega (arith, h.0)
+
+-- a frame's verdict is what judging it gives
+pub judged_frame : (s u : Judge) (frame : Frame) (v : Verdict) → IsVerdict frame v → u.frames ≡ min (s.frames + 1) (2 ^ 64 - 1) → JudgesFrame s frame u (Some (verdict_line u.frames v))
+judged_frame s u (Line line) v is counts = (v, is, counts, refl)
+judged_frame s u Cleared v is counts = (v, is, counts, refl)
+judged_frame s u Overlong v is counts = (v, is, counts, refl)
+judged_frame s u More v is counts = absurd is
+
+-- the parts of a line, one appended behind the other
+pub line_of_parts : (old a b c d digits verdict : List ℕ) → a ≡ old ++ digits → b ≡ a ++ 32 ∷ [] → c ≡ b ++ verdict → d ≡ c ++ 10 ∷ [] → d ≡ old ++ (digits ++ 32 ∷ [] ++ verdict ++ 10 ∷ [])
+line_of_parts old a b c d digits verdict first second third last =
+    let whole : d ≡ old ++ digits ++ 32 ∷ [] ++ verdict ++ 10 ∷ [] = last ∙ ap (λ (xs : List ℕ). xs ++ 10 ∷ []) (third ∙ ap (λ (xs : List ℕ). xs ++ verdict) (second ∙ ap (λ (xs : List ℕ). xs ++ 32 ∷ []) first)) in
+    whole ∙ simp append_assoc

@@ -1,0 +1,76 @@
+-- Which lines have the forms of a schedule.
+use Rattle.std.proofs.Common.{◌≡◌, ℕ, List, ◌∷◌, ◌++◌, Option, Some, None, ap, subst, sym, ◌∙◌, codes}
+use Rattle.std.specs.Prelude.{MatchOption}
+use Rattle.std.proofs.lemmas.List.{append_cancel_left}
+use Rattle.gc_catalogue.specs.declared.call.Call.{Call}
+use Rattle.gc_world.specs.declared.event.Event.{Event}
+use Rattle.gc_world.specs.declared.event.Event.TheVariants.{Send, UpDeliver, UpBytes, UpLose, UpRepeat, DownDeliver, DownBytes, DownLose, DownRepeat, Expire, RestartClient, RestartInstrument}
+use Rattle.gc_texts.specs.Cuts.{Cuts}
+use Rattle.gc_texts.specs.Procedures.{IsNumber, IsProcedure}
+use Rattle.gc_texts.proofs.Cutting.{cut_found, digits_lack_spaces}
+use Rattle.gc_engines.specs.Schedule.{IsNumbered, IsRequested, IsSend, IsEvent, IsCounted}
+
+-- a number behind a word that the line begins with
+pub numbered_is : (word line rest : List ℕ) (max : ℕ) (r : Option ℕ) → line ≡ word ++ rest → MatchOption r ((n : ℕ) → IsNumber rest n max → ⊥) (λ n. IsNumber rest n max) → MatchOption r ((n : ℕ) → IsNumbered word line n max → ⊥) (λ n. IsNumbered word line n max)
+numbered_is word line rest max None e none = λ n found. none n (subst (λ (ds : List ℕ). IsNumber ds n max) (append_cancel_left word found.digits rest (sym found.line_is ∙ e)) found.number)
+numbered_is word line rest max (Some n) e number = record { digits = rest; line_is = e; number = number }
+
+some_is : (a b : List ℕ) → Some a ≡ Some b → a ≡ b
+some_is a b e = cc
+
+module _ (text : List ℕ) (t : ℕ) (call : Call) (d : ℕ) (r : IsRequested text t call d) where
+  first_cut : (target : List ℕ) (rest : Option (List ℕ)) → Cuts 32 text target rest → (target ≡ r.target_text) × (rest ≡ Some (r.deadline_text ++ 32 ∷ r.procedure))
+  first_cut target rest cut = cut_found 32 text target rest r.target_text (r.deadline_text ++ 32 ∷ r.procedure) cut r.text_is (digits_lack_spaces r.target_text r.target_is.names.digits)
+
+  second_cut : (target rest deadline : List ℕ) (behind : Option (List ℕ)) → Cuts 32 text target (Some rest) → Cuts 32 rest deadline behind → (deadline ≡ r.deadline_text) × (behind ≡ Some r.procedure)
+  second_cut target rest deadline behind cut next =
+      let first = first_cut target (Some rest) cut in
+      cut_found 32 rest deadline behind r.deadline_text r.procedure next (some_is rest (r.deadline_text ++ 32 ∷ r.procedure) first.1) (digits_lack_spaces r.deadline_text r.deadline_is.names.digits)
+
+  -- two spaces are there
+  pub no_first_space : (target : List ℕ) → Cuts 32 text target None → ⊥
+  no_first_space target cut = let first = first_cut target None cut in let bad : None ≡ Some (r.deadline_text ++ 32 ∷ r.procedure) = first.1 in cc
+
+  pub no_second_space : (target rest deadline : List ℕ) → Cuts 32 text target (Some rest) → Cuts 32 rest deadline None → ⊥
+  no_second_space target rest deadline cut next = let second = second_cut target rest deadline None cut next in let bad : None ≡ Some r.procedure = second.1 in cc
+
+  -- and a target, a deadline and a call stand between and behind them
+  pub has_target : (target rest : List ℕ) → Cuts 32 text target (Some rest) → ((n : ℕ) → IsNumber target n 4294967295 → ⊥) → ⊥
+  has_target target rest cut none = none t (subst (λ (ds : List ℕ). IsNumber ds t 4294967295) (sym (first_cut target (Some rest) cut).0) r.target_is)
+
+  pub has_deadline : (target rest deadline : List ℕ) (behind : Option (List ℕ)) → Cuts 32 text target (Some rest) → Cuts 32 rest deadline behind → ((n : ℕ) → IsNumber deadline n 18446744073709551615 → ⊥) → ⊥
+  has_deadline target rest deadline behind cut next none = none d (subst (λ (ds : List ℕ). IsNumber ds d 18446744073709551615) (sym (second_cut target rest deadline behind cut next).0) r.deadline_is)
+
+  pub has_procedure : (target rest deadline procedure : List ℕ) → Cuts 32 text target (Some rest) → Cuts 32 rest deadline (Some procedure) → ((c : Call) → IsProcedure procedure c → ⊥) → ⊥
+  has_procedure target rest deadline procedure cut next none =
+      none call (subst (λ (p : List ℕ). IsProcedure p call) (sym (some_is procedure r.procedure (second_cut target rest deadline (Some procedure) cut next).1)) r.procedure_is)
+
+-- `send`, and what is requested behind it
+pub send_is : (word line rest : List ℕ) (o : Option (ℕ × Call × ℕ)) → word ≡ codes "send " → line ≡ word ++ rest → MatchOption o ((t : ℕ) (call : Call) (d : ℕ) → IsRequested rest t call d → ⊥) (λ r. IsRequested rest r.0 r.1 r.2) → MatchOption o ((t : ℕ) (call : Call) (d : ℕ) → IsSend line t call d → ⊥) (λ r. IsSend line r.0 r.1 r.2)
+send_is word line rest None same e none =
+    λ t call d sent. none t call d (subst (λ (x : List ℕ). IsRequested x t call d) (append_cancel_left (codes "send ") sent.rest rest (sym sent.line_is ∙ e ∙ ap (λ w. w ++ rest) same)) sent.requested)
+send_is word line rest (Some r) same e requested = record { rest = rest; line_is = e ∙ ap (λ w. w ++ rest) same; requested = requested }
+
+-- the line has the form of no event that is words and a number
+pub no_numbered :
+    (line : List ℕ) →
+    ((n : ℕ) → IsNumbered (codes "up bytes ") line n 4294967295 → ⊥) →
+    ((n : ℕ) → IsNumbered (codes "up lose ") line n 4294967295 → ⊥) →
+    ((n : ℕ) → IsNumbered (codes "up repeat ") line n 4294967295 → ⊥) →
+    ((n : ℕ) → IsNumbered (codes "down bytes ") line n 4294967295 → ⊥) →
+    ((n : ℕ) → IsNumbered (codes "down lose ") line n 4294967295 → ⊥) →
+    ((n : ℕ) → IsNumbered (codes "down repeat ") line n 4294967295 → ⊥) →
+    ((n : ℕ) → IsNumbered (codes "expire ") line n 18446744073709551615 → ⊥) →
+    (event : Event) → IsCounted event → IsEvent line event → ⊥
+no_numbered line ub ul ur db dl dr ex (UpBytes n) counted h = ub n h
+no_numbered line ub ul ur db dl dr ex (UpLose k) counted h = ul k h
+no_numbered line ub ul ur db dl dr ex (UpRepeat k) counted h = ur k h
+no_numbered line ub ul ur db dl dr ex (DownBytes n) counted h = db n h
+no_numbered line ub ul ur db dl dr ex (DownLose k) counted h = dl k h
+no_numbered line ub ul ur db dl dr ex (DownRepeat k) counted h = dr k h
+no_numbered line ub ul ur db dl dr ex (Expire moment) counted h = ex moment h
+no_numbered line ub ul ur db dl dr ex (Send t call d) counted h = counted
+no_numbered line ub ul ur db dl dr ex UpDeliver counted h = counted
+no_numbered line ub ul ur db dl dr ex DownDeliver counted h = counted
+no_numbered line ub ul ur db dl dr ex RestartClient counted h = counted
+no_numbered line ub ul ur db dl dr ex RestartInstrument counted h = counted

@@ -1,0 +1,5 @@
+mod Forms
+mod OneSchedule
+mod Shown
+mod Checked
+mod OneVerdict

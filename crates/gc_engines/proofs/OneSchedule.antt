@@ -1,0 +1,187 @@
+-- One line has the form of one event, and one text is the schedule of one list of events.
+use Rattle.std.proofs.Common.{◌≡◌, ◌==◌, ◌+◌, arith, ℕ, List, ◌∷◌, ◌++◌, drop, get_or, Option, Some, None, refl, ap, subst, sym, ◌∙◌, codes, if◌then◌else◌}
+use Rattle.std.proofs.lemmas.List.{append_cancel_left}
+use Rattle.std.specs.Prelude.{filter}
+use Rattle.gc_values.specs.Digits.{number}
+use Rattle.gc_catalogue.specs.declared.call.Call.{Call}
+use Rattle.gc_world.specs.declared.event.Event.{Event}
+use Rattle.gc_world.specs.declared.event.Event.TheVariants.{Send, UpDeliver, UpBytes, UpLose, UpRepeat, DownDeliver, DownBytes, DownLose, DownRepeat, Expire, RestartClient, RestartInstrument}
+use Rattle.gc_texts.specs.LineForms.{is_kept, text_lines}
+use Rattle.gc_texts.specs.Procedures.{IsNumber, IsProcedure}
+use Rattle.gc_texts.proofs.Cutting.{one_front, digits_lack_spaces}
+use Rattle.gc_texts.proofs.OneReading.{one_procedure, one_list}
+use Rattle.gc_texts.proofs.Procedures.{one_number}
+use Rattle.gc_engines.specs.Schedule.{IsRequested, IsSend, IsEvent, IsSchedule}
+
+-- an event in three parts: its kind, what it sends, and its number
+abbrev kind : Event → ℕ
+kind (Send target call deadline) = 0
+kind UpDeliver = 1
+kind (UpLose k) = 2
+kind (UpRepeat k) = 3
+kind DownDeliver = 4
+kind (DownLose k) = 5
+kind (DownRepeat k) = 6
+kind (Expire moment) = 7
+kind RestartClient = 8
+kind RestartInstrument = 9
+kind (UpBytes n) = 10
+kind (DownBytes n) = 11
+
+abbrev sends : Event → Option (ℕ × Call × ℕ)
+sends (Send target call deadline) = Some (target, call, deadline)
+sends _ = None
+
+abbrev count : Event → ℕ
+count (UpLose k) = k
+count (UpRepeat k) = k
+count (DownLose k) = k
+count (DownRepeat k) = k
+count (Expire moment) = moment
+count (UpBytes n) = n
+count (DownBytes n) = n
+count _ = 0
+
+-- the event of these parts
+abbrev joined : ℕ → Option (ℕ × Call × ℕ) → ℕ → Event
+joined k (Some s) n = Send s.0 s.1 s.2
+joined k None n =
+    if k == 1 then UpDeliver else if k == 2 then UpLose n else if k == 3 then UpRepeat n else if k == 4 then DownDeliver else if k == 5 then DownLose n
+    else if k == 6 then DownRepeat n else if k == 7 then Expire n else if k == 8 then RestartClient else if k == 10 then UpBytes n else if k == 11 then DownBytes n else RestartInstrument
+
+joined_is : (e : Event) → joined (kind e) (sends e) (count e) ≡ e
+joined_is (Send target call deadline) = refl
+joined_is UpDeliver = refl
+joined_is (UpLose k) = refl
+joined_is (UpRepeat k) = refl
+joined_is DownDeliver = refl
+joined_is (DownLose k) = refl
+joined_is (DownRepeat k) = refl
+joined_is (Expire moment) = refl
+joined_is RestartClient = refl
+joined_is RestartInstrument = refl
+joined_is (UpBytes n) = refl
+joined_is (DownBytes n) = refl
+
+-- the kind that a line's bytes tell: `send`, `expire`, `up` and `down` with the word behind them, and `restart` with its own
+abbrev way_kind : ℕ → ℕ → ℕ → ℕ
+way_kind from bytes b = if b == 100 then from else if b == 108 then from + 1 else if b == 98 then bytes else from + 2
+
+abbrev kind_in : List ℕ → ℕ
+kind_in line =
+    if get_or line 0 0 == 115 then 0 else if get_or line 0 0 == 101 then 7 else if get_or line 0 0 == 117 then way_kind 1 10 (get_or line 3 0)
+    else if get_or line 0 0 == 100 then way_kind 4 11 (get_or line 5 0) else if get_or line 8 0 == 99 then 8 else 9
+
+kind_is : (line : List ℕ) (e : Event) → IsEvent line e → kind_in line ≡ kind e
+kind_is line (Send target call deadline) h = ap kind_in h.line_is
+kind_is line UpDeliver h = ap kind_in h
+kind_is line (UpLose k) h = ap kind_in h.line_is
+kind_is line (UpRepeat k) h = ap kind_in h.line_is
+kind_is line DownDeliver h = ap kind_in h
+kind_is line (DownLose k) h = ap kind_in h.line_is
+kind_is line (DownRepeat k) h = ap kind_in h.line_is
+kind_is line (Expire moment) h = ap kind_in h.line_is
+kind_is line RestartClient h = ap kind_in h
+kind_is line RestartInstrument h = ap kind_in h
+kind_is line (UpBytes n) h = ap kind_in h.line_is
+kind_is line (DownBytes n) h = ap kind_in h.line_is
+
+-- the number behind the words of a kind
+abbrev count_in : ℕ → List ℕ → ℕ
+count_in k line =
+    if k == 2 then number (drop 8 line) else if k == 3 then number (drop 10 line) else if k == 5 then number (drop 10 line)
+    else if k == 6 then number (drop 12 line) else if k == 7 then number (drop 7 line) else if k == 10 then number (drop 9 line) else if k == 11 then number (drop 11 line) else 0
+
+count_is : (line : List ℕ) (e : Event) → IsEvent line e → count_in (kind e) line ≡ count e
+count_is line (Send target call deadline) h = refl
+count_is line UpDeliver h = refl
+count_is line (UpLose k) h = ap (count_in 2) h.line_is ∙ sym h.number.names.value
+count_is line (UpRepeat k) h = ap (count_in 3) h.line_is ∙ sym h.number.names.value
+count_is line DownDeliver h = refl
+count_is line (DownLose k) h = ap (count_in 5) h.line_is ∙ sym h.number.names.value
+count_is line (DownRepeat k) h = ap (count_in 6) h.line_is ∙ sym h.number.names.value
+count_is line (Expire moment) h = ap (count_in 7) h.line_is ∙ sym h.number.names.value
+count_is line RestartClient h = refl
+count_is line RestartInstrument h = refl
+count_is line (UpBytes n) h = ap (count_in 10) h.line_is ∙ sym h.number.names.value
+count_is line (DownBytes n) h = ap (count_in 11) h.line_is ∙ sym h.number.names.value
+
+-- one target, call and deadline in what is requested
+one_requested : (text : List ℕ) (t u : ℕ) (c d : Call) (m n : ℕ) → IsRequested text t c m → IsRequested text u d n → (t ≡ u) × (c ≡ d) × (m ≡ n)
+one_requested text t u c d m n r s =
+    let first = one_front 32 r.target_text s.target_text (r.deadline_text ++ 32 ∷ r.procedure) (s.deadline_text ++ 32 ∷ s.procedure) (sym r.text_is ∙ s.text_is)
+    (digits_lack_spaces r.target_text r.target_is.names.digits) (digits_lack_spaces s.target_text s.target_is.names.digits) in
+    let second = one_front 32 r.deadline_text s.deadline_text r.procedure s.procedure first.1 (digits_lack_spaces r.deadline_text r.deadline_is.names.digits)
+    (digits_lack_spaces s.deadline_text s.deadline_is.names.digits) in (
+      one_number s.target_text t u 4294967295 (subst (λ (x : List ℕ). IsNumber x t 4294967295) first.0 r.target_is) s.target_is,
+      one_procedure s.procedure c d (subst (λ (x : List ℕ). IsProcedure x c) second.1 r.procedure_is) s.procedure_is,
+      one_number s.deadline_text m n 18446744073709551615 (subst (λ (x : List ℕ). IsNumber x m 18446744073709551615) second.0 r.deadline_is) s.deadline_is,
+    )
+
+-- what a `send` line sends
+abbrev sent : ℕ → Call → ℕ → Option (ℕ × Call × ℕ)
+sent t c m = Some (t, c, m)
+
+some_three : (t u : ℕ) (c d : Call) (m n : ℕ) → (t ≡ u) × (c ≡ d) × (m ≡ n) → sent t c m ≡ sent u d n
+some_three t u c d m n h = rw (h.0, h.1, h.2) refl
+
+one_send : (line : List ℕ) (t u : ℕ) (c d : Call) (m n : ℕ) → IsSend line t c m → IsSend line u d n → sent t c m ≡ sent u d n
+one_send line t u c d m n x y =
+    let rests : x.rest ≡ y.rest = append_cancel_left (codes "send ") x.rest y.rest (sym x.line_is ∙ y.line_is) in
+    some_three t u c d m n (one_requested y.rest t u c d m n (subst (λ (r : List ℕ). IsRequested r t c m) rests x.requested) y.requested)
+
+sends_nothing : (e : Event) (k : ℕ) → kind e ≡ k + 1 → sends e ≡ None
+sends_nothing (Send target call deadline) k h = absurd (omega (arith, h))
+sends_nothing UpDeliver k h = refl
+sends_nothing (UpLose n) k h = refl
+sends_nothing (UpRepeat n) k h = refl
+sends_nothing DownDeliver k h = refl
+sends_nothing (DownLose n) k h = refl
+sends_nothing (DownRepeat n) k h = refl
+sends_nothing (Expire moment) k h = refl
+sends_nothing RestartClient k h = refl
+sends_nothing RestartInstrument k h = refl
+sends_nothing (UpBytes n) k h = refl
+sends_nothing (DownBytes n) k h = refl
+
+sends_this : (line : List ℕ) (t : ℕ) (c : Call) (m : ℕ) (e : Event) → IsSend line t c m → IsEvent line e → 0 ≡ kind e → sent t c m ≡ sends e
+sends_this line t c m (Send u d n) x y h = one_send line t u c d m n x y
+sends_this line t c m UpDeliver x y h = absurd (omega (arith, h))
+sends_this line t c m (UpLose n) x y h = absurd (omega (arith, h))
+sends_this line t c m (UpRepeat n) x y h = absurd (omega (arith, h))
+sends_this line t c m DownDeliver x y h = absurd (omega (arith, h))
+sends_this line t c m (DownLose n) x y h = absurd (omega (arith, h))
+sends_this line t c m (DownRepeat n) x y h = absurd (omega (arith, h))
+sends_this line t c m (Expire moment) x y h = absurd (omega (arith, h))
+sends_this line t c m RestartClient x y h = absurd (omega (arith, h))
+sends_this line t c m RestartInstrument x y h = absurd (omega (arith, h))
+sends_this line t c m (UpBytes n) x y h = absurd (omega (arith, h))
+sends_this line t c m (DownBytes n) x y h = absurd (omega (arith, h))
+
+one_sent : (line : List ℕ) (a b : Event) → IsEvent line a → IsEvent line b → kind a ≡ kind b → sends a ≡ sends b
+one_sent line (Send t c m) b x y h = sends_this line t c m b x y h
+one_sent line UpDeliver b x y h = sym (sends_nothing b 0 (sym h))
+one_sent line (UpLose n) b x y h = sym (sends_nothing b 1 (sym h))
+one_sent line (UpRepeat n) b x y h = sym (sends_nothing b 2 (sym h))
+one_sent line DownDeliver b x y h = sym (sends_nothing b 3 (sym h))
+one_sent line (DownLose n) b x y h = sym (sends_nothing b 4 (sym h))
+one_sent line (DownRepeat n) b x y h = sym (sends_nothing b 5 (sym h))
+one_sent line (Expire moment) b x y h = sym (sends_nothing b 6 (sym h))
+one_sent line RestartClient b x y h = sym (sends_nothing b 7 (sym h))
+one_sent line RestartInstrument b x y h = sym (sends_nothing b 8 (sym h))
+one_sent line (UpBytes n) b x y h = sym (sends_nothing b 9 (sym h))
+one_sent line (DownBytes n) b x y h = sym (sends_nothing b 10 (sym h))
+
+same_joined : (k l : ℕ) (s r : Option (ℕ × Call × ℕ)) (m n : ℕ) → k ≡ l → s ≡ r → m ≡ n → joined k s m ≡ joined l r n
+same_joined k l s r m n e f g = ap (λ x. joined x s m) e ∙ ap (λ x. joined l x m) f ∙ ap (λ x. joined l r x) g
+
+-- a line has the form of one event
+one_event : (line : List ℕ) (a b : Event) → IsEvent line a → IsEvent line b → a ≡ b
+one_event line a b x y =
+    let kinds : kind a ≡ kind b = sym (kind_is line a x) ∙ kind_is line b y in
+    let counts : count a ≡ count b = sym (count_is line a x) ∙ ap (λ k. count_in k line) kinds ∙ count_is line b y in
+    sym (joined_is a) ∙ same_joined (kind a) (kind b) (sends a) (sends b) (count a) (count b) kinds (one_sent line a b x y kinds) counts ∙ joined_is b
+
+-- a text is the schedule of one list of events
+pub one_schedule : (text : List ℕ) (xs ys : List Event) → IsSchedule text xs → IsSchedule text ys → xs ≡ ys
+one_schedule text xs ys h k = one_list IsEvent one_event (filter is_kept (text_lines text)) xs ys h k

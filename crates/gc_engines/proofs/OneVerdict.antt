@@ -1,0 +1,83 @@
+-- A frame has one verdict, and a stream one list of their lines.
+use Rattle.std.proofs.Common.{◌≡◌, ℕ, List, [], ◌∷◌, Result, Ok, Err, drop, slice_index, arith, refl, sym, ap, ◌∙◌, subst}
+use Rattle.gc_lines.specs.Faults.{fault_number}
+use Rattle.gc_lines.specs.Frames.{frames}
+use Rattle.gc_lines.specs.Readers.{request_at, reply_at}
+use Rattle.gc_lines.specs.Replies.{ReplyFields, IsReply}
+use Rattle.gc_lines.specs.Requests.{RequestFields, IsRequest}
+use Rattle.gc_lines.specs.declared.fault.LineFault.{LineFault}
+use Rattle.gc_lines.specs.declared.frame.Frame.{Frame}
+use Rattle.gc_lines.specs.declared.frame.Frame.TheVariants.{Line, Cleared, Overlong, More}
+use Rattle.gc_lines.proofs.Requests.{request_one, request_again, request_bad}
+use Rattle.gc_lines.proofs.Replies.{reply_one, reply_again, reply_bad}
+use Rattle.gc_catalogue.proofs.CallLaws.{one_refusal, no_refusal}
+use Rattle.gc_catalogue.specs.declared.fault.CallFault.{CallFault}
+use Rattle.gc_engines.specs.Laws.{OneVerdict}
+use Rattle.gc_engines.specs.Verdicts.{IsRequestVerdict, reads, refuses, BeginsAsReply, IsLineVerdict, request, reply, no_reply, no_request, IsVerdict, AreVerdicts, AreVerdictLines, lines_from, refusal_number}
+use Rattle.gc_engines.specs.declared.verdict.Verdict.{Verdict}
+use Rattle.gc_engines.specs.declared.verdict.Verdict.TheVariants as verdict
+
+-- a list of faults has one head
+one_fault : {A : Type 0} (r : Result A LineFault) (e f : LineFault) → r ≡ Err e → r ≡ Err f → e ≡ f
+one_fault r e f is other = cc
+
+never : {A : Type 0} (r : Result A LineFault) (x : A) (f : LineFault) → r ≡ Ok x → r ≡ Err f → ⊥
+never r x f is other = cc
+
+-- the fourth letter tells a request from a reply
+other_letter : (xs ys : List ℕ) → 81 ∷ 44 ∷ xs ≡ 80 ∷ 44 ∷ ys → ⊥
+other_letter xs ys e = let same : ◌≡◌ {A = ℕ} 81 80 = ap (λ (zs : List ℕ). slice_index zs 0) e in omega arith
+
+no_both : (line : List ℕ) (q : RequestFields) → IsRequest line q → BeginsAsReply line → ⊥
+no_both line q is begins = other_letter _ _ (ap (λ (xs : List ℕ). drop 3 xs) (sym is.whole ∙ begins.1))
+
+begins : (line : List ℕ) (r : ReplyFields) → IsReply line r → BeginsAsReply line
+begins line r is = (_, is.whole)
+
+one_of_request : (q : RequestFields) (v w : Verdict) → IsRequestVerdict q v → IsRequestVerdict q w → v ≡ w
+one_of_request q v w (reads c is says) (reads d other tells) = says ∙ sym tells
+one_of_request q v w (reads c is says) (refuses e other tells) = absurd (no_refusal q.rpc q.params c e is other)
+one_of_request q v w (refuses e is says) (reads c other tells) = absurd (no_refusal q.rpc q.params c e other is)
+one_of_request q v w (refuses e is says) (refuses f other tells) =
+    says ∙ ap (λ (g : CallFault). verdict.RequestFault q.rpc (refusal_number g)) (one_refusal q.rpc q.params e f is other) ∙ sym tells
+
+one_of_line : (line : List ℕ) (v w : Verdict) → IsLineVerdict line v → IsLineVerdict line w → v ≡ w
+one_of_line line v w (request q is says) (request p other tells) = one_of_request q v w says (subst (λ (f : RequestFields). IsRequestVerdict f w) (request_one line p q other is) tells)
+one_of_line line v w (request q is says) (reply r other tells) = absurd (no_both line q is (begins line r other))
+one_of_line line v w (request q is says) (no_reply f so bad tells) = absurd (no_both line q is so)
+one_of_line line v w (request q is says) (no_request f none bad tells) = absurd (never (request_at line) q f (request_again line q is) (request_bad line f bad))
+one_of_line line v w (reply r is says) (request q other tells) = absurd (no_both line q other (begins line r is))
+one_of_line line v w (reply r is says) (reply p other tells) = says ∙ ap (λ (f : ReplyFields). verdict.Reply f.rc_com f.rc) (reply_one line r p is other) ∙ sym tells
+one_of_line line v w (reply r is says) (no_reply f so bad tells) = absurd (never (reply_at line) r f (reply_again line r is) (reply_bad line f bad))
+one_of_line line v w (reply r is says) (no_request f none bad tells) = absurd (none (begins line r is))
+one_of_line line v w (no_reply e so bad says) (request q other tells) = absurd (no_both line q other so)
+one_of_line line v w (no_reply e so bad says) (reply r other tells) = absurd (never (reply_at line) r e (reply_again line r other) (reply_bad line e bad))
+one_of_line line v w (no_reply e so bad says) (no_reply f also worse tells) =
+    says ∙ ap (λ (g : LineFault). verdict.Fault (fault_number g)) (one_fault (reply_at line) e f (reply_bad line e bad) (reply_bad line f worse)) ∙ sym tells
+one_of_line line v w (no_reply e so bad says) (no_request f none worse tells) = absurd (none so)
+one_of_line line v w (no_request e none bad says) (request q other tells) = absurd (never (request_at line) q e (request_again line q other) (request_bad line e bad))
+one_of_line line v w (no_request e none bad says) (reply r other tells) = absurd (none (begins line r other))
+one_of_line line v w (no_request e none bad says) (no_reply f so worse tells) = absurd (none so)
+one_of_line line v w (no_request e none bad says) (no_request f nothing worse tells) =
+    says ∙ ap (λ (g : LineFault). verdict.Fault (fault_number g)) (one_fault (request_at line) e f (request_bad line e bad) (request_bad line f worse)) ∙ sym tells
+
+one_of_frame : (seen : Frame) (v w : Verdict) → IsVerdict seen v → IsVerdict seen w → v ≡ w
+one_of_frame (Line line) v w says tells = one_of_line line.items v w says tells
+one_of_frame Cleared v w says tells = says ∙ sym tells
+one_of_frame Overlong v w says tells = says ∙ sym tells
+one_of_frame More v w says tells = absurd says
+
+one_of_frames : (seen : List Frame) (vs ws : List Verdict) → AreVerdicts seen vs → AreVerdicts seen ws → vs ≡ ws
+one_of_frames [] [] [] says tells = refl
+one_of_frames [] [] (w ∷ ws) says tells = absurd tells
+one_of_frames [] (v ∷ vs) ws says tells = absurd says
+one_of_frames (frame ∷ later) [] ws says tells = absurd says
+one_of_frames (frame ∷ later) (v ∷ vs) [] says tells = absurd tells
+one_of_frames (frame ∷ later) (v ∷ vs) (w ∷ ws) says tells =
+    ap (λ (x : Verdict). x ∷ vs) (one_of_frame frame v w says.0 tells.0) ∙ ap (λ (xs : List Verdict). w ∷ xs) (one_of_frames later vs ws says.1 tells.1)
+
+one_of_stream : (bytes : List ℕ) (xs ys : List (List ℕ)) → AreVerdictLines bytes xs → AreVerdictLines bytes ys → xs ≡ ys
+one_of_stream bytes xs ys says tells = says.numbered ∙ ap (λ (vs : List Verdict). lines_from 1 vs) (one_of_frames (frames bytes) says.said tells.said says.are tells.are) ∙ sym tells.numbered
+
+pub one_verdict : OneVerdict
+one_verdict = record { frame = one_of_frame; stream = one_of_stream }

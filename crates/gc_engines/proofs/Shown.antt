@@ -1,0 +1,40 @@
+-- The text of a report is that of the run that it shows.
+use Rattle.std.proofs.Common.{◌≡◌, ℕ, List, [], ◌++◌, Bool, true, false, if◌then◌else◌, length, refl, sym, ap, ◌∙◌, subst}
+use Rattle.std.proofs.lemmas.List.{length-map}
+use Rattle.gc_client.specs.Settlements.{settlement_seen}
+use Rattle.gc_instrument.specs.State.{State, simulator_opening}
+use Rattle.gc_world.specs.declared.event.Event.{Event}
+use Rattle.gc_world.specs.declared.report.Report.{Report}
+use Rattle.gc_world.specs.Clients.{played}
+use Rattle.gc_world.specs.Faithful.{sent_seen}
+use Rattle.gc_world.specs.Reports.{IsReport, made_seen}
+use Rattle.gc_world.specs.World.{Wire}
+use Rattle.gc_texts.specs.Settlements.{settlement_lines}
+use Rattle.gc_engines.specs.Reports.{totals_text, report_text}
+use Rattle.gc_engines.specs.Drill.{wire_text, drill_text}
+
+six : (f : ℕ → ℕ → ℕ → ℕ → ℕ → ℕ → List ℕ) (a b c d e g a' b' c' d' e' g' : ℕ) → a ≡ a' → b ≡ b' → c ≡ c' → d ≡ d' → e ≡ e' → g ≡ g' → f a b c d e g ≡ f a' b' c' d' e' g'
+six f a b c d e g a' b' c' d' e' g' ea eb ec ed ee eg = cc
+
+totals_where : (totals : Bool) (s t x y : List ℕ) → s ≡ t → x ≡ y → s ++ (if totals then x else []) ≡ t ++ (if totals then y else [])
+totals_where true s t x y es ex = cc
+totals_where false s t x y es ex = ap (λ l. l ++ []) es
+
+pub text_shown : (r : Report) (w : Wire State) (totals : Bool) → IsReport r w → report_text r totals ≡ wire_text w totals
+text_shown r w totals is =
+    let sent : length r.sent ≡ length w.sent = sym (length-map r.sent sent_seen) ∙ ap length is.sent in
+    let made : length r.made ≡ length w.made = sym (length-map r.made made_seen) ∙ ap length is.made in
+    let settled : length r.settled ≡ length w.settled = sym (length-map r.settled settlement_seen) ∙ ap length is.settled.seen in
+    totals_where totals _ _ _ _
+    (ap settlement_lines is.settled.seen)
+    (six totals_text (length r.sent) (length r.executed) (length r.made) (length r.settled) r.refused_sends r.idle_events (length w.sent) (length w.executed) (length w.made) (length w.settled) w.refused w.idle
+    sent (ap length is.executed) made settled is.refused is.idle)
+
+text_of_run : (width : ℕ) (events : List Event) (totals : Bool) → drill_text width events totals ≡ wire_text (played width simulator_opening events).wire totals
+text_of_run width events totals = unfold drill_text in refl
+
+-- what is written of a report of the simulator's run
+pub drill_shown : (width : ℕ) (opening : State) (events : List Event) (totals : Bool) (r : Report) → opening ≡ simulator_opening → IsReport r (played width opening events).wire → report_text r totals ≡ drill_text width events totals
+drill_shown width opening events totals r simulator is =
+    let at : IsReport r (played width simulator_opening events).wire = subst (λ o. IsReport r (played width o events).wire) simulator is in
+    text_shown r (played width simulator_opening events).wire totals at ∙ sym (text_of_run width events totals)

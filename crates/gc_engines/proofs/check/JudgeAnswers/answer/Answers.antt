@@ -1,0 +1,10 @@
+use Rattle.gc_engines.specs.Verdicts.{verdict_line}
+use Rattle.gc_engines.proofs.Checked.{judged_frame, line_of_parts}
+use Rattle.gc_engines.proofs.check.JudgeAnswers.answer.Goals as goal
+
+pub returns-clause-answered : goal.returns-clause-answered
+returns-clause-answered c = (
+  verdict_line c.saturating_add-self.result c.in-Some.verdict,
+  judged_frame _ _ _ c.in-Some.verdict c.in-Some.ensures c.saturating_add-self.ensures,
+  line_of_parts c.args.text.now.items _ _ _ _ _ _ c.push_decimal.ensures.items c.push.ensures.items c.push_verdict.ensures.items c.push-2.ensures.items,
+)

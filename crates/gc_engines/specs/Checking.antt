@@ -1,0 +1,52 @@
+-- What a check writes, and how it ends: this project's own.
+use Rattle.std.specs.Prelude.{◌≡◌, ℕ, ◌+◌, ◌-◌, ◌*◌, ◌<◌, ◌≤◌, min, ◌^◌, List, [], ◌∷◌, ◌++◌, length, take, Option, Some, None, Result, Ok, Err}
+use Rattle.std.specs.Io.KnownBytes.{Appends, Consumes}
+use Rattle.gc_lines.specs.Answering.{Ports, HasEnded, all_of}
+use Rattle.gc_lines.specs.Frames.{frames}
+use Rattle.gc_lines.specs.declared.frame.Frame.{Frame}
+use Rattle.gc_lines.specs.declared.frame.Frame.TheVariants.{More}
+use Rattle.gc_lines.specs.declared.served.Served.{Served}
+use Rattle.gc_lines.specs.declared.served.ServeFault.{ServeFault}
+use Rattle.gc_lines.specs.declared.served.ServeFault.TheVariants.{Read, Write, TooManyReads}
+use Rattle.gc_engines.specs.Verdicts.{IsVerdict, verdict_line, AreLinesOf, AreVerdictLines}
+use Rattle.gc_engines.specs.declared.check.Judge.{Judge}
+use Rattle.gc_engines.specs.declared.verdict.Verdict.{Verdict}
+
+-- the lines of the verdicts on all frames went out whole, and there are count of them
+pub record ChecksAll (given : List ℕ) (old new : Option (List ℕ)) (count : ℕ) : Type 0 where
+  pub lines : List (List ℕ)
+  pub are : AreVerdictLines given lines
+  pub counts : count ≡ length lines
+  pub took : Appends old new (all_of lines)
+
+-- the first frames' lines went out, count of them whole, and of the last the first bytes, which aren't all
+pub record ChecksPart (given : List ℕ) (old new : Option (List ℕ)) (count bytes : ℕ) : Type 0 where
+  pub seen : List Frame
+  pub later : List Frame
+  pub order : frames given ≡ seen ++ later
+  pub whole : List (List ℕ)
+  pub line : List ℕ
+  pub are : AreLinesOf seen (whole ++ line ∷ [])
+  pub counts : count ≡ length whole
+  pub not_all : bytes < length line
+  pub took : Appends old new (all_of whole ++ take bytes line)
+
+-- what was done with the frames of what was read
+abbrev pub Checks : List ℕ → Option (List ℕ) → Option (List ℕ) → Result Served ServeFault → Type 0
+Checks given old new (Ok served) = ChecksAll given old new served.replies
+Checks given old new (Err (Read count)) = ChecksAll given old new count
+Checks given old new (Err (Write count bytes)) = ChecksPart given old new count bytes
+Checks given old new (Err (TooManyReads count)) = ChecksAll given old new count
+
+-- a check in at most most reads took the ports from old to new, and gave this result
+pub record IsChecking (old new : Ports) (most : ℕ) (result : Result Served ServeFault) : Type 0 where
+  -- of the bytes that the source gave, the sink took the lines of the verdicts, or the part that the fault says
+  pub checks : (given : List ℕ) × Consumes old.remaining new.remaining given
+      × (length given ≤ 256 * (new.reads - old.reads)) × Checks given old.taken new.taken result
+  -- why it ended, with which result exactly where, and what the ports then are
+  pub ended : HasEnded old new most result
+
+-- No part of a promise: what is kept from one frame to the next is how many there were, as far as 64 bits count.
+abbrev pub JudgesFrame : Judge → Frame → Judge → Option (List ℕ) → Type 0
+JudgesFrame before More after text = (after ≡ before) × (text ≡ None)
+JudgesFrame before frame after text = (v : Verdict) × IsVerdict frame v × (after.frames ≡ min (before.frames + 1) (2 ^ 64 - 1)) × (text ≡ Some (verdict_line after.frames v))

@@ -1,0 +1,55 @@
+-- What a schedule that is played writes: this project's own.
+use Rattle.std.specs.Prelude.{◌≡◌, ℕ, ◌+◌, ◌<◌, ◌≤◌, Bool, true, false, List, [], ◌++◌, length, take, Option, Result, Ok, Err, if◌then◌else◌}
+use Rattle.std.specs.Io.KnownBytes.{Appends}
+use Rattle.gc_instrument.specs.State.{State, simulator_opening}
+use Rattle.gc_world.specs.declared.event.Event.{Event}
+use Rattle.gc_world.specs.Clients.{played}
+use Rattle.gc_world.specs.World.{Wire}
+use Rattle.gc_texts.specs.Settlements.{settlement_lines}
+use Rattle.gc_engines.specs.Reports.{totals_text}
+use Rattle.gc_engines.specs.Schedule.{IsSchedule, IsFirstFaulty}
+use Rattle.gc_texts.specs.declared.text.TheConstants.{TEXT_LIMIT}
+use Rattle.gc_texts.specs.declared.fault.RunFault.{RunFault}
+use Rattle.gc_texts.specs.declared.fault.RunFault.TheVariants.{Read, Schedule, Memory, InputTooLong, Output}
+
+-- the line of totals of a run
+abbrev pub totals_line : Wire State → List ℕ
+totals_line w = totals_text (length w.sent) (length w.executed) (length w.made) (length w.settled) w.refused w.idle
+
+-- what is written of a run: its settlements, and behind them the totals where they are asked for
+abbrev pub wire_text : Wire State → Bool → List ℕ
+wire_text w totals = settlement_lines w.settled ++ (if totals then totals_line w else [])
+
+-- what is written for events that are played on the simulator, with a window of this width
+unfoldable pub drill_text : ℕ → List Event → Bool → List ℕ
+drill_text width events totals = wire_text (played width simulator_opening events).wire totals
+
+-- a sink took the front of this text, and not all of it
+abbrev pub TookPart : Option (List ℕ) → Option (List ℕ) → List ℕ → Type 0
+TookPart old new text = (n : ℕ) × (n < length text) × Appends old new (take n text)
+
+-- what became of the bytes that were given, with a window of this width, and what a sink took
+abbrev pub Drills : ℕ → List ℕ → Bool → Option (List ℕ) → Option (List ℕ) → Result (Unit {0}) RunFault → Type 0
+Drills width given totals old new (Ok _) = (length given ≤ TEXT_LIMIT) × ((events : List Event) × IsSchedule given events × Appends old new (drill_text width events totals))
+Drills width given totals old new (Err Read) = (length given ≤ TEXT_LIMIT) × (new ≡ old)
+Drills width given totals old new (Err InputTooLong) = (length given ≡ TEXT_LIMIT + 1) × (new ≡ old)
+Drills width given totals old new (Err (Schedule n)) = (length given ≤ TEXT_LIMIT) × IsFirstFaulty given n × (new ≡ old)
+Drills width given totals old new (Err Memory) = (length given ≤ TEXT_LIMIT) × (new ≡ old)
+Drills width given totals old new (Err Output) = (length given ≤ TEXT_LIMIT) × ((events : List Event) × IsSchedule given events × TookPart old new (drill_text width events totals))
+Drills width given totals old new (Err _) = ⊥
+
+-- whether the source was read to its end
+abbrev pub is_read_whole : Result (Unit {0}) RunFault → Bool
+is_read_whole (Ok _) = true
+is_read_whole (Err (Schedule n)) = true
+is_read_whole (Err Output) = true
+is_read_whole (Err _) = false
+
+-- whether the source has failed after this end, and whether the sink has
+abbrev pub source_failed : Result (Unit {0}) RunFault → Bool → Bool
+source_failed (Err Read) failed = true
+source_failed _ failed = failed
+
+abbrev pub sink_failed : Result (Unit {0}) RunFault → Bool → Bool
+sink_failed (Err Output) failed = true
+sink_failed _ failed = failed

@@ -1,0 +1,16 @@
+-- Laws of schedules and verdicts: this project's own, as they are.
+use Rattle.std.specs.Prelude.{◌≡◌, ℕ, List}
+use Rattle.gc_lines.specs.declared.frame.Frame.{Frame}
+use Rattle.gc_world.specs.declared.event.Event.{Event}
+use Rattle.gc_engines.specs.Schedule.{IsSchedule}
+use Rattle.gc_engines.specs.Verdicts.{IsVerdict, AreVerdictLines}
+use Rattle.gc_engines.specs.declared.verdict.Verdict.{Verdict}
+
+-- a text has one list of events
+abbrev pub OneSchedule : Type 0
+OneSchedule = (text : List ℕ) (xs ys : List Event) → IsSchedule text xs → IsSchedule text ys → xs ≡ ys
+
+-- a frame has one verdict, and a stream one list of their lines
+pub record OneVerdict : Type 0 where
+  pub frame : (seen : Frame) (v w : Verdict) → IsVerdict seen v → IsVerdict seen w → v ≡ w
+  pub stream : (bytes : List ℕ) (xs ys : List (List ℕ)) → AreVerdictLines bytes xs → AreVerdictLines bytes ys → xs ≡ ys

@@ -1,0 +1,6 @@
+pub mod Schedule
+pub mod Reports
+pub mod Drill
+pub mod Verdicts
+pub mod Checking
+pub mod Laws

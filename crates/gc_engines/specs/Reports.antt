@@ -1,0 +1,18 @@
+-- What is written of a report: its settlements, and a line of totals. This project's own.
+use Rattle.std.specs.Prelude.{ℕ, Bool, List, [], ◌++◌, length, map, if◌then◌else◌, codes}
+use Rattle.std.specs.Fmt.{decimal}
+use Rattle.gc_client.specs.Settlements.{settlement_seen}
+use Rattle.gc_world.specs.declared.report.Report.{Report}
+use Rattle.gc_texts.specs.Settlements.{settlement_lines}
+
+-- the line of totals, for these counts
+abbrev pub totals_text : (sent executed made settled refused idle : ℕ) → List ℕ
+totals_text sent executed made settled refused idle =
+    codes "sent " ++ decimal sent ++ codes " executed " ++ decimal executed ++ codes " made " ++ decimal made
+    ++ codes " settled " ++ decimal settled ++ codes " refused " ++ decimal refused ++ codes " idle " ++ decimal idle ++ codes "\n"
+
+-- what is written of a report: its settlements, and behind them the totals where they are asked for
+abbrev pub report_text : Report → Bool → List ℕ
+report_text r totals =
+    settlement_lines (map settlement_seen r.settled)
+    ++ (if totals then totals_text (length r.sent) (length r.executed) (length r.made) (length r.settled) r.refused_sends r.idle_events else [])

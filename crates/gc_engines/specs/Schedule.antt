@@ -1,0 +1,75 @@
+-- A schedule's text, and the events that it gives: this project's own.
+use Rattle.std.specs.Prelude.{◌≡◌, ℕ, List, ◌∷◌, ◌++◌, codes}
+use Rattle.gc_catalogue.specs.declared.call.Call.{Call}
+use Rattle.gc_texts.specs.LineForms.{IsText, FirstFaulty, BehindAnItem}
+use Rattle.gc_texts.specs.Procedures.{IsNumber, IsProcedure}
+use Rattle.gc_world.specs.declared.event.Event.{Event}
+use Rattle.gc_world.specs.declared.event.Event.TheVariants.{Send, UpDeliver, UpBytes, UpLose, UpRepeat, DownDeliver, DownBytes, DownLose, DownRepeat, Expire, RestartClient, RestartInstrument}
+
+-- a word and then a number, at most max
+pub record IsNumbered (word line : List ℕ) (n max : ℕ) : Type 0 where
+  pub digits : List ℕ
+  pub line_is : line ≡ word ++ digits
+  pub number : IsNumber digits n max
+
+-- `T D RPC` or `T D RPC PARAMS`
+pub record IsRequested (text : List ℕ) (target : ℕ) (call : Call) (deadline : ℕ) : Type 0 where
+  pub target_text : List ℕ
+  pub deadline_text : List ℕ
+  pub procedure : List ℕ
+  pub text_is : text ≡ target_text ++ 32 ∷ (deadline_text ++ 32 ∷ procedure)
+  pub target_is : IsNumber target_text target 4294967295
+  pub deadline_is : IsNumber deadline_text deadline 18446744073709551615
+  pub procedure_is : IsProcedure procedure call
+
+-- `send`, and what is requested
+pub record IsSend (line : List ℕ) (target : ℕ) (call : Call) (deadline : ℕ) : Type 0 where
+  pub rest : List ℕ
+  pub line_is : line ≡ codes "send " ++ rest
+  pub requested : IsRequested rest target call deadline
+
+-- the line has the form of the event
+abbrev pub IsEvent : List ℕ → Event → Type 0
+IsEvent line (Send target call deadline) = IsSend line target call deadline
+IsEvent line UpDeliver = line ≡ codes "up deliver"
+IsEvent line (UpBytes n) = IsNumbered (codes "up bytes ") line n 4294967295
+IsEvent line (UpLose k) = IsNumbered (codes "up lose ") line k 4294967295
+IsEvent line (UpRepeat k) = IsNumbered (codes "up repeat ") line k 4294967295
+IsEvent line DownDeliver = line ≡ codes "down deliver"
+IsEvent line (DownBytes n) = IsNumbered (codes "down bytes ") line n 4294967295
+IsEvent line (DownLose k) = IsNumbered (codes "down lose ") line k 4294967295
+IsEvent line (DownRepeat k) = IsNumbered (codes "down repeat ") line k 4294967295
+IsEvent line (Expire moment) = IsNumbered (codes "expire ") line moment 18446744073709551615
+IsEvent line RestartClient = line ≡ codes "restart client"
+IsEvent line RestartInstrument = line ≡ codes "restart instrument"
+
+-- an event that is words and a number
+abbrev pub IsCounted : Event → Type 0
+IsCounted (UpBytes n) = Unit {0}
+IsCounted (UpLose k) = Unit {0}
+IsCounted (UpRepeat k) = Unit {0}
+IsCounted (DownBytes n) = Unit {0}
+IsCounted (DownLose k) = Unit {0}
+IsCounted (DownRepeat k) = Unit {0}
+IsCounted (Expire moment) = Unit {0}
+IsCounted _ = ⊥
+
+-- an event that is words alone
+abbrev pub IsWords : Event → Type 0
+IsWords UpDeliver = Unit {0}
+IsWords DownDeliver = Unit {0}
+IsWords RestartClient = Unit {0}
+IsWords RestartInstrument = Unit {0}
+IsWords _ = ⊥
+
+-- the text is a schedule of these events: one for each line that isn't skipped
+abbrev pub IsSchedule : List ℕ → List Event → Type 0
+IsSchedule text events = IsText IsEvent text events
+
+-- line number n, counted from 1, is the first that isn't skipped and has the form of no event
+abbrev pub IsFirstFaulty : List ℕ → ℕ → Type 0
+IsFirstFaulty text n = FirstFaulty IsEvent text n
+
+-- a line has the form of an event, and no line before it is faulty
+abbrev pub IsBehindAnEvent : List ℕ → Type 0
+IsBehindAnEvent text = BehindAnItem IsEvent text

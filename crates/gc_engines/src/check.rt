@@ -1,0 +1,63 @@
+//! `check`: each frame of a source, named with its verdict.
+
+ghost use Rattle.std.specs.Prelude.{◌≡◌, ◌+◌, ◌≤◌, length};
+ghost use Rattle.gc_engines.specs.Checking.{IsChecking};
+
+use crate::verdict::{push_decimal, push_verdict, verdict_of};
+use gc_lines::{Answers, Lent, Outgoing, ServeFault, Served, Sink, Source, answer_frames};
+
+// Judges frames, and counts them. The count ends at 2^64 - 1, which a run of less than 2^32 reads of 256 bytes can't reach.
+#[derive(Drop)]
+struct Judge {
+    frames: u64,
+}
+
+impl Answers for Judge {
+    ghost use Rattle.gc_engines.specs.Checking.{JudgesFrame};
+
+    ghost answers = { JudgesFrame };
+
+    fn answer(&mut self, frame: Lent<'_>, text: &mut Outgoing) -> bool {
+        let Some(verdict) = verdict_of(frame) else {
+            return false;
+        };
+        self.frames = self.frames.saturating_add(1);
+        push_decimal(text, self.frames);
+        text.push(b' ');
+        push_verdict(text, verdict);
+        text.push(b'\n');
+        true
+    }
+}
+
+/// Checks the frames of a source until its end, in at most `max_reads` reads of at most 256 bytes, and writes a line with LF
+/// for each of them into a sink: `N VERDICT`, N counted from 1.
+///
+/// | Frame | Verdict |
+/// |---|---|
+/// | a line feed without a CR before it | `cleared` |
+/// | a line of more than 512 bytes | `overlong` |
+/// | a request whose call reads | `request RPC ok` |
+/// | a request whose call doesn't | `request RPC fault F`, F being 21, or the parameters' fault, 11 to 15 |
+/// | a reply | `reply RC_COM RC` |
+/// | another line that begins with `%R1P,` | `fault F`, F being its fault as a reply, 2 to 5 |
+/// | any other line | `fault F`, F being its fault as a request, 1 to 4 |
+///
+/// A rest without a line feed at the end of the input gets no line. `replies` in an answer counts the lines that went out
+/// whole. The lines of one read go out together, before the next read. Takes no memory. N can't pass 2^40, since each
+/// frame has a byte at least and there are less than 2^32 reads.
+///
+/// [`Served`] exactly where the last read was the end, 42 exactly where the source failed, 43 exactly where the sink did, and
+/// 44 exactly where all reads were answered and none was the end.
+pub fn run_check<S: Source, K: Sink>(
+    source: &mut S,
+    sink: &mut K,
+    max_reads: u32,
+) -> Result<Served, ServeFault>
+    ensures { IsChecking
+        (record { remaining = S.remaining source.old; reads = S.reads source.old; ended = S.ended source.old; source_failed = S.failed source.old; taken = K.taken sink.old; sink_failed = K.failed sink.old })
+        (record { remaining = S.remaining source.new; reads = S.reads source.new; ended = S.ended source.new; source_failed = S.failed source.new; taken = K.taken sink.new; sink_failed = K.failed sink.new })
+        max_reads result }
+{
+    answer_frames(&mut Judge { frames: 0 }, source, sink, max_reads, true)
+}

@@ -1,0 +1,101 @@
+//! A schedule, read from a source, played on the simulator, and its settlements written into a sink.
+
+ghost use Rattle.std.specs.Prelude.{◌≡◌, ◌+◌, ◌<◌, ◌≤◌, ℕ, List, length, true, Err, IfOk};
+ghost use Rattle.std.specs.Io.KnownBytes.{Consumes, IsAtEnd};
+ghost use Rattle.gc_texts.specs.Texts.{end_reads};
+ghost use Rattle.gc_texts.specs.declared.fault.RunFault.{RunFault};
+ghost use Rattle.gc_texts.specs.declared.text.TheConstants.{TEXT_LIMIT};
+ghost use Rattle.gc_engines.specs.Drill.{drill_text, Drills, is_read_whole, source_failed, sink_failed};
+
+use crate::report_text::text_of;
+use crate::schedule::read_schedule;
+use gc_client::{Slots, WINDOW};
+use gc_instrument::Instrument;
+use gc_lines::{Sink, Source, write_whole};
+use gc_texts::{RunFault, read_text};
+use gc_world::{Event, play_width};
+use std::alloc::{AllocError, Global};
+
+/// Plays the schedule that a source gives on the simulator and a client that lets `width` requests wait, and writes one
+/// line for each settlement, then with `totals` one more line. Nothing is written before the whole schedule was read and
+/// played, and its whole text made.
+///
+/// `Read` comes where the source failed, `InputTooLong` where it gave more than 65,536 bytes, and `Schedule` at the first
+/// line that has the form of no event, counted from 1; then, and after `Memory`, which comes only where a growth was
+/// refused, the sink has taken nothing. `Output` comes where the sink failed; it has taken a part of the text. The lines
+/// are this project's own.
+pub fn run_drill_width<S: Source, K: Sink>(
+    alloc: Global,
+    source: &mut S,
+    sink: &mut K,
+    totals: bool,
+    width: u8,
+) -> Result<(), RunFault>
+    requires least { 1 ≤ width }
+    requires most { width ≤ WINDOW }
+
+    // What the bytes that the source gave were, and what of their schedule's output the sink took. Each read gave a byte at
+    // least, but the last where it was the end: behind the end nothing was read.
+    ensures drills { (given : List ℕ) × Consumes (S.remaining source.old) (S.remaining source.new) given
+        × (S.reads source.new ≤ S.reads source.old + length given + end_reads (S.ended source.new))
+        × Drills width given totals (K.taken sink.old) (K.taken sink.new) result }
+
+    // At most 65,537 reads were answered.
+    ensures bounded { S.reads source.new ≤ S.reads source.old + (TEXT_LIMIT + 1) }
+
+    // A schedule is played, or found faulty, only where the last read was the end, and the source has no byte left.
+    ensures whole { is_read_whole result ≡ true
+        → IsAtEnd (S.remaining source.new) × (S.ended source.new ≡ true) × (S.reads source.old < S.reads source.new) }
+
+    // Memory is wanted only behind a read that was answered.
+    ensures memory { result ≡ Err RunFault.Memory → S.reads source.old < S.reads source.new }
+
+    // `Read` exactly where the source failed, and `Output` exactly where the sink did.
+    ensures source { S.failed source.new ≡ source_failed result (S.failed source.old) }
+    ensures sink { K.failed sink.new ≡ sink_failed result (K.failed sink.old) }
+{
+    let text = read_text(alloc, source)?;
+    let events = read_schedule(alloc, text.as_slice())?;
+    let Ok(output) = output_of(alloc, events.as_slice(), totals, width) else {
+        return Err(RunFault::Memory);
+    };
+    match write_whole(sink, output.as_slice()) {
+        Ok(()) => Ok(()),
+        Err(_) => Err(RunFault::Output),
+    }
+}
+
+/// Plays a schedule as `run_drill_width` does, with a client that lets seven requests wait, and has the same ends.
+pub fn run_drill<S: Source, K: Sink>(
+    alloc: Global,
+    source: &mut S,
+    sink: &mut K,
+    totals: bool,
+) -> Result<(), RunFault>
+    ensures drills { (given : List ℕ) × Consumes (S.remaining source.old) (S.remaining source.new) given
+        × (S.reads source.new ≤ S.reads source.old + length given + end_reads (S.ended source.new))
+        × Drills WINDOW given totals (K.taken sink.old) (K.taken sink.new) result }
+    ensures bounded { S.reads source.new ≤ S.reads source.old + (TEXT_LIMIT + 1) }
+    ensures whole { is_read_whole result ≡ true
+        → IsAtEnd (S.remaining source.new) × (S.ended source.new ≡ true) × (S.reads source.old < S.reads source.new) }
+    ensures memory { result ≡ Err RunFault.Memory → S.reads source.old < S.reads source.new }
+    ensures source { S.failed source.new ≡ source_failed result (S.failed source.old) }
+    ensures sink { K.failed sink.new ≡ sink_failed result (K.failed sink.old) }
+{
+    run_drill_width(alloc, source, sink, totals, WINDOW as u8)
+}
+
+// What is written for events that are played.
+fn output_of(
+    alloc: Global,
+    events: &[Event],
+    totals: bool,
+    width: u8,
+) -> Result<Vec<u8>, AllocError>
+    requires least { 1 ≤ width }
+    requires most { width ≤ WINDOW }
+    ensures { IfOk result (λ text. text.items ≡ drill_text width events.now totals) }
+{
+    let (report, _) = play_width(alloc, Instrument::simulator(), Slots::new(), width, events)?;
+    text_of(alloc, &report, totals)
+}

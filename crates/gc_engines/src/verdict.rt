@@ -1,0 +1,155 @@
+//! What is said of each frame of a recording: the verdicts, how they are found and how they read.
+
+ghost use Rattle.std.specs.Prelude.{◌≡◌, ◌+◌, ◌≤◌, ◌++◌, length, MatchOption};
+ghost use Rattle.gc_lines.specs.Lent.{lent_seen};
+ghost use Rattle.gc_lines.specs.Replies.{FirstBadOfReply};
+ghost use Rattle.gc_lines.specs.Requests.{request_seen};
+ghost use Rattle.gc_lines.specs.declared.frame.Frame.{Frame};
+ghost use Rattle.gc_engines.specs.Verdicts.{IsRequestVerdict, BeginsAsReply, IsLineVerdict, IsVerdict, refusal_number, verdict_text};
+
+use gc_catalogue::{CallFault, decode_call};
+use gc_lines::{Lent, LineFault, Outgoing, Request, append, read_reply, read_request};
+use itoa::{Buffer, Integer};
+
+/// What is said of a frame. The verdicts and their numbers are this project's own.
+#[derive(Clone, Copy, Debug, PartialEq, Eq)]
+pub(crate) enum Verdict {
+    /// A line feed without a CR before it.
+    Cleared,
+    /// A line of more than 512 bytes.
+    Overlong,
+    /// A request whose call reads.
+    Request { rpc: u16 },
+    /// A request whose call doesn't: fault 21, or 11 to 15.
+    RequestFault { rpc: u16, fault: u8 },
+    /// A reply.
+    Reply { rc_com: u16, rc: u16 },
+    /// A line that is neither: fault 1 to 5.
+    Fault { fault: u8 },
+}
+
+// The verdict on a frame, if a line feed has ended it.
+#[inline]
+pub(crate) fn verdict_of(frame: Lent<'_>) -> Option<Verdict>
+    ensures { MatchOption result (lent_seen frame.entry ≡ Frame.More) (λ v. IsVerdict (lent_seen frame.entry) v) }
+{
+    match frame {
+        Lent::Line(line) => Some(line_verdict(line)),
+        Lent::Cleared => Some(Verdict::Cleared),
+        Lent::Overlong => Some(Verdict::Overlong),
+        Lent::More => None,
+    }
+}
+
+// The verdict on a line.
+#[inline]
+pub(crate) fn line_verdict(line: &[u8]) -> Verdict
+    ensures { IsLineVerdict line.now result }
+{
+    match read_reply(line) {
+        Ok(reply) => Verdict::Reply {
+            rc_com: reply.rc_com,
+            rc: reply.rc,
+        },
+        Err(fault) => faulty_verdict(line, fault),
+    }
+}
+
+// The verdict on a line that has this fault as a reply.
+#[inline]
+fn faulty_verdict(line: &[u8], fault: LineFault) -> Verdict
+    requires { FirstBadOfReply line.now fault }
+    ensures { IsLineVerdict line.now result }
+{
+    match fault {
+        LineFault::Signature => no_reply_verdict(line),
+        _ => Verdict::Fault {
+            fault: fault.number(),
+        },
+    }
+}
+
+// The verdict on a line that doesn't begin as a reply.
+#[inline]
+fn no_reply_verdict(line: &[u8]) -> Verdict
+    requires { ¬ BeginsAsReply line.now }
+    ensures { IsLineVerdict line.now result }
+{
+    match read_request(line) {
+        Ok(request) => request_verdict(&request),
+        Err(fault) => Verdict::Fault {
+            fault: fault.number(),
+        },
+    }
+}
+
+// The verdict on a request.
+#[inline]
+fn request_verdict(request: &Request<'_>) -> Verdict
+    ensures { IsRequestVerdict (request_seen request.now) result }
+{
+    match decode_call(request) {
+        Ok(_) => Verdict::Request { rpc: request.rpc },
+        Err(fault) => Verdict::RequestFault {
+            rpc: request.rpc,
+            fault: refusal_number(fault),
+        },
+    }
+}
+
+// The number of the fault by which a request names no call: 21, or that of its parameters.
+fn refusal_number(fault: CallFault) -> u8
+    ensures { result ≡ refusal_number fault }
+{
+    match fault {
+        CallFault::Unknown => 21,
+        CallFault::Parameters(fault) => fault.number(),
+    }
+}
+
+// Appends a verdict in words, for which there is room.
+#[inline]
+pub(crate) fn push_verdict(text: &mut Outgoing, verdict: Verdict)
+    requires { length text.old.items + 100 ≤ 8192 }
+    ensures items { text.new.items ≡ text.old.items ++ verdict_text verdict }
+    ensures bound { length text.new.items ≤ length text.old.items + 100 }
+{
+    match verdict {
+        Verdict::Cleared => append(text, b"cleared"),
+        Verdict::Overlong => append(text, b"overlong"),
+        Verdict::Request { rpc } => {
+            push_number(text, b"request ", rpc);
+            append(text, b" ok");
+        }
+        Verdict::RequestFault { rpc, fault } => {
+            push_number(text, b"request ", rpc);
+            push_number(text, b" fault ", fault);
+        }
+        Verdict::Reply { rc_com, rc } => {
+            push_number(text, b"reply ", rc_com);
+            push_number(text, b" ", rc);
+        }
+        Verdict::Fault { fault } => push_number(text, b"fault ", fault),
+    }
+}
+
+// Appends a word and a number behind it, for which there is room.
+#[inline]
+fn push_number<I: Integer>(text: &mut Outgoing, word: &[u8], number: I)
+    requires { length text.old.items + length word.now + 40 ≤ 8192 }
+    ensures items { text.new.items ≡ text.old.items ++ word.now ++ I.text number }
+    ensures bound { length text.new.items ≤ length text.old.items + length word.now + 40 }
+{
+    append(text, word);
+    push_decimal(text, number);
+}
+
+// Appends a number in decimal, for which there is room.
+#[inline]
+pub(crate) fn push_decimal<I: Integer>(text: &mut Outgoing, number: I)
+    requires { length text.old.items + 40 ≤ 8192 }
+    ensures items { text.new.items ≡ text.old.items ++ I.text number }
+    ensures bound { length text.new.items ≤ length text.old.items + 40 }
+{
+    append(text, Buffer::new().format(number).as_bytes());
+}

@@ -1,0 +1,15 @@
+//! Tests of the lower crates, through their public calls alone. They stand apart, so that each of those crates is proved once.
+#![tactic(auto)]
+
+#[cfg(test)]
+mod catalogue;
+#[cfg(test)]
+mod client;
+#[cfg(test)]
+mod instrument;
+#[cfg(test)]
+mod lines;
+#[cfg(test)]
+mod values;
+#[cfg(test)]
+mod world;

@@ -1,0 +1,5 @@
+//! Worked examples of decimals, typed items and parameter lists.
+
+mod decimals;
+mod lists;
+mod typed;

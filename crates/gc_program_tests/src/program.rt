@@ -1,0 +1,7 @@
+//! What no clause says of the program: what a command line means, its printed texts, and a station over its ports.
+
+mod faults;
+mod measure;
+mod options;
+mod station;
+mod words;

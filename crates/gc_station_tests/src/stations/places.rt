@@ -1,0 +1,338 @@
+//! Runs in which a piece is cut, the line goes dead, or a call fails, at each place in turn.
+
+use super::drills::plays;
+use super::script::{Ends, Script, Step};
+use super::{BOTH, EACH, FIRST, QUIET, SECOND, command, null, plan};
+use arrayvec::ArrayVec;
+use gc_catalogue::Call;
+use gc_station::{Plan, run_station};
+use gc_texts::Command;
+use std::process::Abort;
+use std::test::Fail;
+
+// What commands come to where something happens at a place: what was put, what was written, and the fault's number.
+fn asks(
+    rt: &impl Abort,
+    place: usize,
+    plan: Plan,
+    commands: &[Command],
+    link: Script<'_>,
+    put: &[u8],
+    ends: &[u8],
+    number: Option<u8>,
+) {
+    let mut link = link;
+    let mut book = Ends::new();
+    let number_is = match run_station(&mut link, &mut book, commands, &plan, 60) {
+        Ok(_) => None,
+        Err(fault) => Some(fault.number()),
+    };
+    assert!(rt; link.text.as_slice() == put, "{place}: put");
+    assert!(rt; book.text.as_slice() == ends, "{place}: ends");
+    assert!(rt; number_is == number, "{place}: fault");
+}
+
+// The same of two null procedures.
+fn comes_to(
+    rt: &impl Abort,
+    place: usize,
+    plan: Plan,
+    link: Script<'_>,
+    put: &[u8],
+    ends: &[u8],
+    number: Option<u8>,
+) {
+    let commands = [null(7), null(8)];
+    asks(
+        rt,
+        place,
+        plan,
+        commands.as_slice(),
+        link,
+        put,
+        ends,
+        number,
+    );
+}
+
+// Two cycles, of which so many requests may wait at a time, and so many new tries.
+fn twice(width: u8, retries: u32) -> Plan {
+    Plan {
+        width,
+        cycles: 2,
+        retries,
+        ..plan()
+    }
+}
+
+// The same where two targets' precision is read.
+fn reads_precision(
+    rt: &impl Abort,
+    place: usize,
+    plan: Plan,
+    link: Script<'_>,
+    put: &[u8],
+    ends: &[u8],
+    number: Option<u8>,
+) {
+    let commands = [
+        command(7, Call::GetPrecision),
+        command(8, Call::GetPrecision),
+    ];
+    asks(
+        rt,
+        place,
+        plan,
+        commands.as_slice(),
+        link,
+        put,
+        ends,
+        number,
+    );
+}
+
+const LINE: &[u8] = b"%R1P,0,0:0\r\n";
+
+#[test]
+fn a_line_cut_at_every_place(rt: HostRuntime) -> Result<(), Fail> {
+    for k in 0..LINE.len() {
+        let front = Step::Line(&LINE[..k], 5);
+        let back = Step::Line(&LINE[k..], 5);
+        let steps = [QUIET, front, back, SECOND];
+        let link = Script::new(steps.as_slice());
+        comes_to(&rt, k, plan(), link, BOTH, b"10a 11a ", None);
+    }
+    let mut steps: ArrayVec<Step, 16> = ArrayVec::new();
+    let _ = steps.try_push(QUIET);
+    for k in 0..LINE.len() {
+        let _ = steps.try_push(Step::Line(&LINE[k..k + 1], 5));
+    }
+    let _ = steps.try_push(SECOND);
+    let link = Script::new(steps.as_slice());
+    comes_to(&rt, LINE.len(), plan(), link, BOTH, b"10a 11a ", None);
+    Ok(())
+}
+
+const LINES: &[u8] = b"%R1P,0,0:0\r\n%R1P,0,1:0\r\n";
+
+// The first place has both lines in one piece, and the places behind the first line end have one and a half.
+#[test]
+fn two_lines_cut_at_every_place(rt: HostRuntime) -> Result<(), Fail> {
+    let both = Plan { width: 2, ..plan() };
+    for k in 0..LINES.len() {
+        let front = Step::Line(&LINES[..k], 5);
+        let back = Step::Line(&LINES[k..], 5);
+        let steps = [QUIET, front, back];
+        let link = Script::new(steps.as_slice());
+        comes_to(&rt, k, both, link, BOTH, b"10a 11a ", None);
+    }
+    Ok(())
+}
+
+#[test]
+fn two_lines_in_one_piece(rt: HostRuntime) -> Result<(), Fail> {
+    plays(
+        &rt,
+        "the second before its request went out",
+        1,
+        [null(1), null(2)].as_slice(),
+        [QUIET, Step::Line(LINES, 5)].as_slice(),
+        BOTH,
+        b"10a 11x ",
+    );
+    plays(
+        &rt,
+        "the first late, and the second in time",
+        2,
+        [null(1), null(2), null(3)].as_slice(),
+        [
+            QUIET,
+            Step::Line(b"%R1P,0,0:0\r\n", 50),
+            Step::Line(b"%R1P,0,1:0\r\n%R1P,0,2:0\r\n", 50),
+        ]
+        .as_slice(),
+        b"open lf %R1Q,0,0: %R1Q,0,1: %R1Q,0,2: close ",
+        b"10a 11l 12a ",
+    );
+    Ok(())
+}
+
+// The first of these steps, and others behind them.
+fn first_of(k: usize, steps: &[Step], others: &[Step]) -> ArrayVec<Step, 16> {
+    let mut all: ArrayVec<Step, 16> = ArrayVec::new();
+    for (_, step) in (0..k).zip(steps) {
+        let _ = all.try_push(*step);
+    }
+    for step in others {
+        let _ = all.try_push(*step);
+    }
+    all
+}
+
+// Two cycles of two commands, each answered with its request's number, the first in two pieces.
+const CYCLES: &[Step] = &[
+    QUIET,
+    Step::Line(b"%R1P,0,0:", 1),
+    Step::Line(b"0,1\r\n", 1),
+    Step::Reply(1),
+    Step::Reply(1),
+    Step::Reply(1),
+];
+
+const ONE: &[u8] = b"open lf %R1Q,108,0: close ";
+
+const TWO: &[u8] = b"open lf %R1Q,108,0: %R1Q,108,1: close ";
+
+const THREE: &[u8] = b"open lf %R1Q,108,0: %R1Q,108,1: %R1Q,108,2: close ";
+
+const FOUR: &[u8] = b"open lf %R1Q,108,0: %R1Q,108,1: %R1Q,108,2: %R1Q,108,3: close ";
+
+// What was put and what was written where nothing comes any more behind so many of these steps, and the fault's number.
+const DEAD: &[(&[u8], &[u8], Option<u8>)] = &[
+    (ONE, b"10x ", Some(42)),
+    (ONE, b"10x ", Some(42)),
+    (ONE, b"10x ", Some(42)),
+    (TWO, b"10a1 11x ", Some(42)),
+    (THREE, b"10a1 11a2 20x ", Some(42)),
+    (FOUR, b"10a1 11a2 20a3 21x ", None),
+    (FOUR, b"10a1 11a2 20a3 21a4 ", None),
+];
+
+#[test]
+fn dead_at_every_place(rt: HostRuntime) -> Result<(), Fail> {
+    for (k, row) in DEAD.iter().enumerate() {
+        let steps = first_of(k, CYCLES, [].as_slice());
+        let link = Script::new(steps.as_slice());
+        reads_precision(&rt, k, twice(1, 0), link, row.0, row.1, row.2);
+    }
+    Ok(())
+}
+
+// A dead line, the reply to the first request and half a line within the next quiet time, and a line that answers.
+const REVIVAL: &[Step] = &[
+    Step::Dead,
+    QUIET,
+    Step::Line(b"%R1P,0,0:0,1\r\n%R1P,0,1:", 1),
+    QUIET,
+    Step::Reply(1),
+    Step::Reply(1),
+    Step::Reply(1),
+];
+
+const ONE_AND_THREE: &[u8] =
+    b"open lf %R1Q,108,0: close open lf %R1Q,108,0: %R1Q,108,1: %R1Q,108,2: close ";
+
+const TWO_AND_TWO: &[u8] =
+    b"open lf %R1Q,108,0: %R1Q,108,1: close open lf %R1Q,108,0: %R1Q,108,1: close ";
+
+const THREE_AND_ONE: &[u8] =
+    b"open lf %R1Q,108,0: %R1Q,108,1: %R1Q,108,2: close open lf %R1Q,108,0: close ";
+
+// What was put and what was written where the line is dead behind so many of the steps, and answers on a new connection.
+const REVIVED: &[(&[u8], &[u8])] = &[
+    (ONE_AND_THREE, b"10x 11a2 20a3 21a4 "),
+    (ONE_AND_THREE, b"10x 11a2 20a3 21a4 "),
+    (ONE_AND_THREE, b"10x 11a2 20a3 21a4 "),
+    (TWO_AND_TWO, b"10a1 11x 20a3 21a4 "),
+    (THREE_AND_ONE, b"10a1 11a2 20x 21a4 "),
+    (FOUR, b"10a1 11a2 20a3 21x "),
+    (FOUR, b"10a1 11a2 20a3 21a4 "),
+];
+
+#[test]
+fn dead_at_every_place_and_then_answering(rt: HostRuntime) -> Result<(), Fail> {
+    for (k, row) in REVIVED.iter().enumerate() {
+        let steps = first_of(k, CYCLES, REVIVAL);
+        let link = Script::new(steps.as_slice());
+        reads_precision(&rt, k, twice(1, 1), link, row.0, row.1, None);
+    }
+    Ok(())
+}
+
+// A cycle whose two requests wait at once, answered with their numbers.
+const PAIR: &[Step] = &[
+    QUIET,
+    Step::Line(b"%R1P,0,0:0,1\r\n", 1),
+    Step::Line(b"%R1P,0,1:0,2\r\n", 1),
+];
+
+// A dead line, the replies to the first two requests within the next quiet time, and a line that answers the last two.
+const PAIR_REVIVAL: &[Step] = &[
+    Step::Dead,
+    QUIET,
+    Step::Line(b"%R1P,0,0:0,1\r\n%R1P,0,1:0,2\r\n", 1),
+    QUIET,
+    Step::Line(b"%R1P,0,0:0,3\r\n", 1),
+    Step::Line(b"%R1P,0,1:0,4\r\n", 1),
+];
+
+const PAIRS: &[(&[u8], &[u8])] = &[
+    (TWO_AND_TWO, b"10x 11x 20a3 21a4 "),
+    (TWO_AND_TWO, b"10x 11x 20a3 21a4 "),
+    (TWO_AND_TWO, b"10a1 11x 20a3 21a4 "),
+    (FOUR, b"10a1 11a2 20x 21x "),
+];
+
+#[test]
+fn dead_at_every_place_where_two_wait(rt: HostRuntime) -> Result<(), Fail> {
+    for (k, row) in PAIRS.iter().enumerate() {
+        let steps = first_of(k, PAIR, PAIR_REVIVAL);
+        let link = Script::new(steps.as_slice());
+        reads_precision(&rt, k, twice(2, 1), link, row.0, row.1, None);
+    }
+    Ok(())
+}
+
+const RECONNECTION: &[Step] = &[QUIET, Step::End, QUIET, QUIET, FIRST];
+
+#[test]
+fn dead_at_every_place_of_a_reconnection(rt: HostRuntime) -> Result<(), Fail> {
+    for k in 0..RECONNECTION.len() {
+        let steps = first_of(k, RECONNECTION, [].as_slice());
+        let link = Script::new(steps.as_slice());
+        comes_to(&rt, k, plan(), link, EACH, b"10x 11x ", None);
+    }
+    let link = Script::new(RECONNECTION);
+    comes_to(
+        &rt,
+        RECONNECTION.len(),
+        plan(),
+        link,
+        EACH,
+        b"10x 11a ",
+        None,
+    );
+    Ok(())
+}
+
+// What was put and what was written where call k fails, for each k, and the fault's number. Where no command is left to
+// be sent, only a clock that fails is a fault. The last row's call isn't made.
+const CALLS: &[(&[u8], &[u8], Option<u8>)] = &[
+    (b"shut ", b"", Some(54)),
+    (b"open cut close ", b"", Some(43)),
+    (b"open lf close ", b"", Some(42)),
+    (b"open lf close ", b"", Some(42)),
+    (b"open lf close ", b"", Some(42)),
+    (b"open lf cut close ", b"10x ", Some(43)),
+    (b"open lf %R1Q,0,0: close ", b"10x ", Some(42)),
+    (b"open lf %R1Q,0,0: close ", b"10x ", Some(42)),
+    (b"open lf %R1Q,0,0: cut close ", b"10a 11x ", None),
+    (BOTH, b"10a 11x ", Some(42)),
+    (BOTH, b"10a 11x ", None),
+    (BOTH, b"10a 11a ", None),
+];
+
+#[test]
+fn failure_at_every_call(rt: HostRuntime) -> Result<(), Fail> {
+    let once = Plan {
+        retries: 0,
+        ..plan()
+    };
+    let steps = [QUIET, FIRST, SECOND];
+    for (k, row) in CALLS.iter().enumerate() {
+        let mut link = Script::new(steps.as_slice());
+        link.failing = k;
+        comes_to(&rt, k, once, link, row.0, row.1, row.2);
+    }
+    Ok(())
+}

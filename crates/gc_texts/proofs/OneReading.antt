@@ -1,0 +1,33 @@
+-- One call stands in a procedure's text, and lines give one list of items where each gives one item.
+use Rattle.std.proofs.Common.{◌≡◌, ℕ, List, [], ◌∷◌, ◌++◌, Option, Some, None, refl, ap, subst, sym, ◌∙◌, unwrap_or}
+use Rattle.std.proofs.lemmas.List.{append-nil}
+use Rattle.gc_catalogue.specs.declared.call.Call.{Call}
+use Rattle.gc_catalogue.specs.Calls.{IsCall}
+use Rattle.gc_catalogue.proofs.CallLaws.{one_call}
+use Rattle.gc_texts.specs.Cuts.{Cuts, Lacks}
+use Rattle.gc_texts.specs.LineForms.{Form, AreItems}
+use Rattle.gc_texts.specs.Procedures.{IsNumber, IsProcedure, behind_number}
+use Rattle.gc_texts.proofs.Cutting.{digits_lack_spaces}
+use Rattle.gc_texts.proofs.Procedures.{one_number, procedure_parts}
+
+cut_text : (text digits : List ℕ) (params : Option (List ℕ)) → text ≡ digits ++ behind_number params → Lacks 32 digits → Cuts 32 text digits params
+cut_text text digits None e lacks = (e ∙ append-nil digits, lacks)
+cut_text text digits (Some params) e lacks = (e, lacks)
+
+-- one call stands in a procedure's text
+pub one_procedure : (text : List ℕ) (c d : Call) → IsProcedure text c → IsProcedure text d → c ≡ d
+one_procedure text c d p q =
+    let cut : Cuts 32 text q.rpc_text q.params = cut_text text q.rpc_text q.params q.text_is (digits_lack_spaces q.rpc_text q.number.names.digits) in
+    let parts = procedure_parts text q.rpc_text q.params c cut p in
+    let rpcs : q.rpc ≡ p.rpc = one_number p.rpc_text q.rpc p.rpc 65535 (subst (λ (t : List ℕ). IsNumber t q.rpc 65535) parts.0 q.number) p.number in
+    let lists : unwrap_or q.params [] ≡ unwrap_or p.params [] = ap (λ o. unwrap_or o []) parts.1 in
+    one_call p.rpc (unwrap_or p.params []) c d p.calls (subst (λ (n : ℕ). IsCall n (unwrap_or p.params []) d) rpcs (subst (λ (ps : List ℕ). IsCall q.rpc ps d) lists q.calls))
+
+-- one item for each line, and one list for all
+pub one_list : {Item : Type 0} (form : Form Item) → ((line : List ℕ) (a b : Item) → form line a → form line b → a ≡ b) → (lines : List (List ℕ)) (xs ys : List Item) → AreItems form lines xs → AreItems form lines ys → xs ≡ ys
+one_list form one [] [] [] h k = refl
+one_list form one [] [] (y ∷ ys) h k = absurd k
+one_list form one [] (x ∷ xs) ys h k = absurd h
+one_list form one (line ∷ lines) [] ys h k = absurd h
+one_list form one (line ∷ lines) (x ∷ xs) [] h k = absurd k
+one_list form one (line ∷ lines) (x ∷ xs) (y ∷ ys) h k = ap (λ e. e ∷ xs) (one line x y h.0 k.0) ∙ ap (λ es. y ∷ es) (one_list form one lines xs ys h.1 k.1)

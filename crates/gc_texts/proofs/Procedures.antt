@@ -1,0 +1,76 @@
+-- Which texts are those of a procedure and its parameters.
+use Rattle.std.proofs.Common.{◌≡◌, ◌<◌, ℕ, List, [], ◌∷◌, ◌++◌, length, Option, Some, None, arith, refl, ap, subst, sym, ◌∙◌, unwrap_or}
+use Rattle.std.specs.Prelude.{MatchOption}
+use Rattle.std.proofs.lemmas.List.{append-nil}
+use Rattle.gc_catalogue.specs.declared.call.Call.{Call}
+use Rattle.gc_catalogue.specs.Calls.{IsCall}
+use Rattle.gc_texts.specs.Cuts.{Cuts, Lacks}
+use Rattle.gc_texts.specs.Procedures.{IsNumber, IsProcedure, IsMore, behind_number}
+use Rattle.gc_texts.proofs.Cutting.{cut_found, cut_none, digits_lack_spaces}
+
+cut_params : (text front digits : List ℕ) (rest params : Option (List ℕ)) → Cuts 32 text front rest → Lacks 32 digits → text ≡ digits ++ behind_number params → (front ≡ digits) × (rest ≡ params)
+cut_params text front digits rest None cut lacks e =
+    let whole : text ≡ digits = e ∙ append-nil digits in
+    let found = cut_none 32 text front rest cut (subst (λ (t : List ℕ). Lacks 32 t) (sym whole) lacks) in
+    (found.0 ∙ whole, found.1)
+cut_params text front digits rest (Some params) cut lacks e = cut_found 32 text front rest digits params cut e lacks
+
+-- the parts of a procedure's text, cut at its first space
+pub procedure_parts : (text front : List ℕ) (rest : Option (List ℕ)) (call : Call) → Cuts 32 text front rest → (p : IsProcedure text call) → (front ≡ p.rpc_text) × (rest ≡ p.params)
+procedure_parts text front rest call cut p = cut_params text front p.rpc_text rest p.params cut (digits_lack_spaces p.rpc_text p.number.names.digits) p.text_is
+
+-- no number stands first
+pub no_procedure : (text front : List ℕ) (rest : Option (List ℕ)) → Cuts 32 text front rest → ((n : ℕ) → IsNumber front n 65535 → ⊥) → (call : Call) → IsProcedure text call → ⊥
+no_procedure text front rest cut none call p =
+    let parts = procedure_parts text front rest call cut p in
+    none p.rpc (subst (λ (t : List ℕ). IsNumber t p.rpc 65535) (sym parts.0) p.number)
+
+not_more : (params : Option (List ℕ)) → params ≡ Some [] → IsMore params → ⊥
+not_more None e more = cc
+not_more (Some []) e more = absurd (omega (arith, more))
+not_more (Some (b ∷ bs)) e more = cc
+
+-- a space stands behind the number, and nothing behind the space
+pub no_parameters : (text front : List ℕ) → Cuts 32 text front (Some []) → (call : Call) → IsProcedure text call → ⊥
+no_parameters text front cut call p =
+    let parts = procedure_parts text front (Some []) call cut p in
+    not_more p.params (sym parts.1) p.some
+
+-- one number is written by digits
+pub one_number : (digits : List ℕ) (m n max : ℕ) → IsNumber digits m max → IsNumber digits n max → m ≡ n
+one_number digits m n max h k = h.names.value ∙ sym k.names.value
+
+-- the call is that of the number and the parameters
+pub procedure_is : (text front params : List ℕ) (rest : Option (List ℕ)) (rpc : ℕ) (r : Option Call) → Cuts 32 text front rest → IsMore rest → params ≡ unwrap_or rest [] → IsNumber front rpc 65535 → MatchOption r ((call : Call) → IsCall rpc params call → ⊥) (λ call. IsCall rpc params call) → MatchOption r ((call : Call) → IsProcedure text call → ⊥) (λ call. IsProcedure text call)
+procedure_is text front params rest rpc None cut more same number none =
+    λ call p.
+    let parts = procedure_parts text front rest call cut p in
+    let rpcs : p.rpc ≡ rpc = one_number front p.rpc rpc 65535 (subst (λ (t : List ℕ). IsNumber t p.rpc 65535) (sym parts.0) p.number) number in
+    let lists : unwrap_or p.params [] ≡ params = ap (λ o. unwrap_or o []) (sym parts.1) ∙ sym same in
+    none call (subst (λ (n : ℕ). IsCall n params call) rpcs (subst (λ (ps : List ℕ). IsCall p.rpc ps call) lists p.calls))
+procedure_is text front params rest rpc (Some call) cut more same number calls =
+    record {
+      rpc_text = front;
+      rpc = rpc;
+      params = rest;
+      text_is = cut_text text front rest cut;
+      number = number;
+      some = more;
+      calls = subst (λ (ps : List ℕ). IsCall rpc ps call) same calls;
+    }
+  where
+    cut_text : (text front : List ℕ) (rest : Option (List ℕ)) → Cuts 32 text front rest → text ≡ front ++ behind_number rest
+    cut_text text front None cut = cut.0 ∙ sym (append-nil front)
+    cut_text text front (Some rest) cut = cut.0
+
+-- a cut whose rest is known
+pub with_rest : (mark : ℕ) (text front : List ℕ) (o rest : Option (List ℕ)) → Cuts mark text front o → o ≡ rest → Cuts mark text front rest
+with_rest mark text front o rest cut e = let P : Option (List ℕ) → Type 0 = λ r. Cuts mark text front r in subst P e cut
+
+-- the parameters behind a space: there is one byte at least, and the call is that of the number and these
+pub with_parameters : (text front params : List ℕ) (o : Option (List ℕ)) (rpc : ℕ) (r : Option Call) → Cuts 32 text front o → o ≡ Some params → 0 < length params → IsNumber front rpc 65535 → MatchOption r ((call : Call) → IsCall rpc params call → ⊥) (λ call. IsCall rpc params call) → MatchOption r ((call : Call) → IsProcedure text call → ⊥) (λ call. IsProcedure text call)
+with_parameters text front params o rpc r cut e more number called = procedure_is text front params (Some params) rpc r (with_rest 32 text front o (Some params) cut e) more refl number called
+
+pub without_parameters : (text front params : List ℕ) (o : Option (List ℕ)) → Cuts 32 text front o → o ≡ Some params → length params ≡ 0 → (call : Call) → IsProcedure text call → ⊥
+without_parameters text front [] o cut e none call p = no_parameters text front (with_rest 32 text front o (Some []) cut e) call p
+without_parameters text front (b ∷ bs) o cut e none call p = absurd (omega (arith, none))

@@ -1,0 +1,30 @@
+-- Numbers of a text, and procedures with their parameters, as schedules and commands have them: this project's own.
+use Rattle.std.specs.Prelude.{◌≡◌, ℕ, ◌<◌, ◌≤◌, List, [], ◌∷◌, ◌++◌, length, Option, Some, None, unwrap_or}
+use Rattle.gc_values.specs.Whole.{NamesNumber}
+use Rattle.gc_catalogue.specs.Calls.{IsCall}
+use Rattle.gc_catalogue.specs.declared.call.Call.{Call}
+
+-- a number of a text: digits without a sign, at most max
+pub record IsNumber (text : List ℕ) (n max : ℕ) : Type 0 where
+  pub names : NamesNumber text n
+  pub within : n ≤ max
+
+-- the parameters behind a procedure's number: none, or a space and at least one byte
+abbrev pub behind_number : Option (List ℕ) → List ℕ
+behind_number None = []
+behind_number (Some params) = 32 ∷ params
+
+-- where there are parameters, they have at least one byte
+abbrev pub IsMore : Option (List ℕ) → Type 0
+IsMore None = Unit {0}
+IsMore (Some params) = 0 < length params
+
+-- a procedure's number and its parameters, which are a call's
+pub record IsProcedure (text : List ℕ) (call : Call) : Type 0 where
+  pub rpc_text : List ℕ
+  pub rpc : ℕ
+  pub params : Option (List ℕ)
+  pub text_is : text ≡ rpc_text ++ behind_number params
+  pub number : IsNumber rpc_text rpc 65535
+  pub some : IsMore params
+  pub calls : IsCall rpc (unwrap_or params []) call

@@ -1,0 +1,55 @@
+//! A number of a text, and a procedure's number with its parameters, read: what schedules and commands share.
+
+ghost use Rattle.std.specs.Prelude.{◌≡◌, ◌≤◌, ℕ, length, MatchOption};
+ghost use Rattle.gc_texts.specs.Procedures.{IsNumber, IsProcedure};
+ghost use Rattle.gc_catalogue.specs.Calls.{IsCall};
+ghost use Rattle.gc_catalogue.specs.declared.call.Call.{Call};
+
+use crate::cuts::cut_at;
+use gc_catalogue::{Call, decode_call};
+use gc_lines::Request;
+use gc_values::read_whole;
+
+/// The greatest target.
+pub const TARGET_MAX: u64 = 4294967295;
+
+/// The number that digits write, without a sign, where it is at most `max`.
+pub fn number_of(digits: &[u8], max: u64) -> Option<u64>
+    ensures { MatchOption result ((n : ℕ) → IsNumber digits.now n max → ⊥) (λ n. IsNumber digits.now n max) }
+{
+    match read_whole(digits, max) {
+        Ok(n) => Some(n),
+        Err(_) => None,
+    }
+}
+
+/// The call of a procedure's number and its parameters: `RPC`, or `RPC PARAMS` with one byte of parameters at least.
+pub fn read_procedure(text: &[u8]) -> Option<Call>
+    ensures { MatchOption result ((call : Call) → IsProcedure text.now call → ⊥) (λ call. IsProcedure text.now call) }
+{
+    let (digits, params) = cut_at(b' ', text);
+    let Some(rpc) = number_of(digits, 65535) else {
+        return None
+    };
+    let Some(params) = params else {
+        return read_call(rpc as u16, &[]);
+    };
+    if params.is_empty() {
+        return None;
+    }
+    read_call(rpc as u16, params)
+}
+
+fn read_call(rpc: u16, params: &[u8]) -> Option<Call>
+    ensures { MatchOption result ((call : Call) → IsCall rpc params.now call → ⊥) (λ call. IsCall rpc params.now call) }
+{
+    let request = Request {
+        rpc,
+        id: None,
+        params,
+    };
+    match decode_call(&request) {
+        Ok(call) => Some(call),
+        Err(_) => None,
+    }
+}
