@@ -128,8 +128,8 @@ LinkEnds old new (Err TooManyReads) = (old.reads < new.reads → new.ended ≡ f
 LinkEnds old new (Err LinkClosed) = (old.reads < new.reads) × (new.ended ≡ true) × (new.source_failed ≡ old.source_failed) × (new.sink_failed ≡ old.sink_failed)
 LinkEnds old new (Err _) = ⊥
 
--- why asking ended, and what the link's ports and the sink then are: the sink failed exactly where that is the fault, and then the link
--- ended as it would have without it
+-- why asking ended, and what the link's ports and the sink then are: the sink failed exactly where that is the fault, and then the link's
+-- ports are as some end of the link leaves them
 abbrev pub AskEnds : Ports → Ports → Bool → Bool → Result (Unit {0}) RunFault → Type 0
 AskEnds old new sink_old sink_new (Err Output) = (sink_new ≡ true) × ((link : Result (Unit {0}) RunFault) × LinkEnds old new link)
 AskEnds old new sink_old sink_new (Ok x) = LinkEnds old new (Ok x) × (sink_new ≡ sink_old)

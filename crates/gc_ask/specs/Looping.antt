@@ -47,8 +47,8 @@ BothEnd client_old client_new instrument_old instrument_new result =
     (LinkEnds client_old client_new result × LinkEnds instrument_old instrument_new (Ok tt))
     ⊎ (LinkEnds client_old client_new (Ok tt) × LinkEnds instrument_old instrument_new result)
 
--- why the loop ended, and what the ports and the sink then are: the sink failed exactly where that is the fault, and then the link ended
--- as it would have without it
+-- why the loop ended, and what the ports and the sink then are: the sink failed exactly where that is the fault, and then the ports are
+-- as some end of the link leaves them
 abbrev pub LoopEnds : (client_old client_new instrument_old instrument_new : Ports) → Bool → Bool → Result (Unit {0}) RunFault → Type 0
 LoopEnds client_old client_new instrument_old instrument_new sink_old sink_new (Err Output) =
     (sink_new ≡ true) × ((link : Result (Unit {0}) RunFault) × BothEnd client_old client_new instrument_old instrument_new link)
