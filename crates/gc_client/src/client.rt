@@ -157,6 +157,20 @@ impl<W: Window> Client<W> {
         self.window.len()
     }
 
+    /// How many requests wait that aren't given up.
+    pub fn current(&self) -> usize
+        ensures current { result ≡ length (deadlines self.now.ids.waiting) }
+        ensures within { result ≤ length self.now.ids.waiting }
+    {
+        let mut current = 0;
+        for k in 0..self.window.len() {
+            if !self.window.get(k).given_up {
+                current += 1;
+            }
+        }
+        current
+    }
+
     /// The id that the next request will have.
     pub fn next_id(&self) -> u8
         ensures next { result ≡ self.now.ids.next }
