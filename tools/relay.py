@@ -1,15 +1,23 @@
-"""A bad line between `geocom station` and `geocom serve`, by a seed: it loses, delays, repeats and cuts lines, hands them over
-in pieces, kills connections, closes idle ones, refuses them for a while, and stalls. It keeps order, as the protocol wants of a line.
+"""A bad line between `geocom station` and `geocom serve`, by a seed: it loses, delays, repeats, echoes and cuts lines, hands them
+over in pieces, closes connections, also idle ones, refuses them for a while, and stalls. It keeps order, over connections too:
+what is under way where a connection ends is lost, or held back and handed over on a later one, before all that is new. Of a
+line that is cut there the front, the whole or nothing gets through. The instrument lives on, or starts anew, at any time.
 
-For each connection of the station it starts `geocom serve` and makes a connection to it. What was under way on the last
-connection may still come on the new one, at once.
+Nothing from before may be under way once a beginning's quiet time is over. So what was held back comes while each connection is
+drained, or well behind the quiet time, or behind the first request; where that one is a null procedure with id 0, it is lost.
 
-With `--tag` each answer that comes back carries the number of the request that it answers in place of its values. What numbers
-stand for which request is written to the log, a line `NUMBER CYCLE PLACE` each.
+With `--tag` each answer carries, in place of its values, the number of the request on whose execution it was made. The log has a
+line for each thing that came or went, with the milliseconds of this machine's clock in front:
+
+    clear                       the station's lone line feed
+    null ID                     a null procedure of the station's own
+    sent NUMBER CYCLE PLACE     a command's request, as it came from the station
+    came NUMBER                 a reply to it that went on to the station, whole
 """
 
 import argparse
 import collections
+import math
 import random
 import re
 import select
@@ -22,32 +30,30 @@ import time
 
 REQUEST = re.compile(rb"%R1Q,(\d+),(\d):")
 REPLY = re.compile(rb"%R1P,0,(\d):0(,[^\r]*)?\r\n$")
+LOST = -1
 
 
-ENDS = {signal.SIGTERM, signal.SIGINT}
+class Line:
+    """A line on its way, in pieces: what it is of, and whether the connection ends before or behind it."""
 
-
-def unblock():
-    signal.pthread_sigmask(signal.SIG_UNBLOCK, ENDS)
+    def __init__(self, at, pieces, of=None, kill=None):
+        self.at, self.pieces, self.of, self.kill = at, collections.deque(pieces), of, kill
+        self.begun = self.old = False
 
 
 class Way:
-    """One direction: lines that wait for their moment, in order."""
+    """One direction: lines that wait for their moment, in order, and what went over of a line."""
 
     def __init__(self):
         self.rest = b""
         self.queue = collections.deque()
-        self.last = 0.0
+        self.gone = b""
 
     def lines(self, data):
         """The lines that this data ends, each with its line feed."""
         self.rest += data
         *whole, self.rest = self.rest.split(b"\n")
         return [line + b"\n" for line in whole]
-
-    def put(self, at, data, then=None):
-        self.last = max(self.last, at)
-        self.queue.append((self.last, data, then))
 
 
 class Relay:
@@ -56,66 +62,128 @@ class Relay:
         self.random = random.Random(options.seed)
         self.places = [int(p) for p in options.procedures.split(",")]
         self.log = open(options.log, "w")
-        self.number = 0
-        self.cycle = 1
-        self.place = -1
+        self.number, self.cycle, self.place = 0, 1, -1
         self.told = collections.Counter()
-        self.serves = []
-        self.left_down, self.left_up = [], []
+        self.up, self.down = Way(), Way()
+        self.far = self.serve = None
+        # Whether a request came behind the station's line feed, until when what was held back waits, and until when nothing goes.
+        self.asked, self.held, self.dead = False, 0.0, 0.0
 
-    # The instrument's end.
-
-    def instrument(self):
-        """A connection to a `geocom serve` that has served none."""
-        self.serves = [s for s in self.serves if s.poll() is None]
-        for _ in range(200):
-            with socket.socket() as free:
-                free.bind(("127.0.0.1", 0))
-                port = free.getsockname()[1]
-            words = [self.options.geocom, "serve", str(port)]
-            # A signal that comes meanwhile waits, or nobody would end what was just started.
-            signal.pthread_sigmask(signal.SIG_BLOCK, ENDS)
-            self.serves.append(subprocess.Popen(words, stderr=subprocess.DEVNULL, preexec_fn=unblock))
-            unblock()
-            while self.serves[-1].poll() is None:
-                try:
-                    far = socket.create_connection(("127.0.0.1", port), 5)
-                except OSError:
-                    time.sleep(0.005)
-                    continue
-                far.setsockopt(socket.IPPROTO_TCP, socket.TCP_NODELAY, 1)
-                return far
-        sys.exit("geocom serve can't be reached")
-
-    # What a line is.
-
-    def name(self, line):
-        """The number of a request, by its cycle and place, or None for the null procedure and what is no request."""
-        found = REQUEST.match(line)
-        if not found or int(found[1]) not in self.places:
-            return None
-        place = self.places.index(int(found[1]))
-        if place <= self.place:
-            self.cycle += 1
-        self.place = place
-        self.number += 1
-        print(self.number, self.cycle, place, file=self.log, flush=True)
-        return self.number
-
-    def tagged(self, line, number):
-        """The reply with its request's number in place of its values."""
-        found = REPLY.match(line)
-        if not self.options.tag or number is None or not found:
-            return line
-        return b"%%R1P,0,%s:0,%d\r\n" % (found[1], number)
-
-    # What becomes of a line.
+    def note(self, *words):
+        print(int(time.monotonic() * 1000), *words, file=self.log, flush=True)
 
     def chance(self, per_mille):
         return self.random.random() * 1000 < per_mille * self.options.bad
 
-    def spoil(self, way, line, sent):
-        """Queues a line, or what is left of it."""
+    # The instrument.
+
+    def begin_serving(self):
+        with socket.socket() as free:
+            free.bind(("127.0.0.1", 0))
+            self.at = free.getsockname()
+        words = [self.options.geocom, "serve", str(self.at[1]), "--connections", "1000"]
+        self.serve = subprocess.Popen(words, stderr=subprocess.DEVNULL)
+
+    def reach(self):
+        """A connection to the instrument, once it listens."""
+        while self.serve.poll() is None:
+            try:
+                return socket.create_connection(self.at, 5)
+            except ConnectionRefusedError:
+                time.sleep(0.01)
+        sys.exit("geocom serve ended")
+
+    def start_anew(self):
+        """The instrument starts anew: it forgets the reply that it keeps, and what had come of a line."""
+        if self.far:
+            self.far.shutdown(socket.SHUT_WR)
+            while self.far.recv(65536):
+                pass
+            self.far.close()
+        if self.told["starts"] % 1000 == 0:
+            self.begin_serving()
+        self.told["starts"] += 1
+        self.far = self.reach()
+        self.far.setsockopt(socket.IPPROTO_TCP, socket.TCP_NODELAY, 1)
+        self.kept, self.owed = None, collections.deque()
+        self.up.gone = self.down.rest = b""
+
+    def owe(self, of):
+        """A request reached the instrument: where it keeps a reply with that id, it sends that one."""
+        if not self.kept or self.kept[0] != of[0]:
+            self.kept = of
+        self.owed.append(self.kept[1])
+
+    # What comes.
+
+    def from_station(self, data):
+        for line in self.up.lines(data):
+            found = REQUEST.match(line)
+            if not found:
+                self.clear(line)
+                continue
+            procedure, number = int(found[1]), None
+            if procedure in self.places:
+                number = self.name(self.places.index(procedure))
+            else:
+                self.note("null", int(found[2]))
+            if not self.asked:
+                self.asked = True
+                self.past(number is None and found[2] == b"0")
+            if self.chance(15):
+                self.told["echoed"] += 1
+                self.down.queue.append(Line(0, [line]))
+            self.spoil(self.up, line, (found[2], number))
+
+    def name(self, place):
+        """The number of a command's request: places go up within a cycle."""
+        self.cycle += place <= self.place
+        self.place = place
+        self.number += 1
+        self.note("sent", self.number, self.cycle, place)
+        return self.number
+
+    def clear(self, line):
+        """The station has a new connection: what is under way was held back."""
+        self.note("clear")
+        quiet = self.options.quiet / 1000
+        self.asked, self.dead = False, 0.0
+        if self.down.gone:
+            self.down.queue.popleft()
+            self.down.gone = b""
+        self.held = time.monotonic() + quiet * self.random.choice([0, 0.5, 1.4, math.inf])
+        for old in [*self.up.queue, *self.down.queue]:
+            old.at, old.old = self.held, True
+        self.told["held"] += len(self.up.queue) + len(self.down.queue)
+        self.up.queue.append(Line(0, [line]))
+
+    def past(self, anew):
+        """The station is past its drain: what was held back is lost where it begins anew, and else may come."""
+        for way in (self.up, self.down):
+            if anew:
+                way.queue = collections.deque(line for line in way.queue if not line.old)
+            for line in way.queue:
+                if line.old:
+                    line.at = time.monotonic() + self.random.uniform(0, self.options.deadline) / 1000
+        if anew:
+            self.owed = collections.deque([LOST] * len(self.owed))
+
+    def from_instrument(self, data):
+        for line in self.down.lines(data):
+            number = self.owed.popleft()
+            if number == LOST:
+                continue
+            found = REPLY.match(line)
+            if self.options.tag and number and found:
+                line = b"%%R1P,0,%s:0,%d\r\n" % (found[1], number)
+            if self.asked:
+                self.spoil(self.down, line, (None, number))
+            else:
+                self.down.queue.append(Line(self.held, [line], (None, number)))
+                self.down.queue[-1].old = True
+
+    def spoil(self, way, line, of):
+        """Puts a line on its way, or what is left of it."""
         o = self.options
         at = time.monotonic() + self.random.uniform(0, o.delay) / 1000
         if self.chance(30):
@@ -124,128 +192,123 @@ class Relay:
         if self.chance(15):
             self.told["delayed"] += 1
             at += o.deadline * self.random.uniform(0.5, 2) / 1000
-        if len(line) > 1 and self.chance(15):
+        if self.chance(15):
             self.told["beheaded"] += 1
-            line = line[self.random.randrange(1, len(line)) :]
-            sent = None
+            line, of = line[self.random.randrange(1, len(line)) :], None
         if o.kill and self.chance(6):
-            self.told["killed"] += 1
-            way.put(at, line[: self.random.randrange(len(line))], "kill")
+            self.told["cut"] += 1
+            way.queue.append(Line(at, [line[: self.random.randrange(len(line) + 1)]], of, "behind"))
+            return
+        if o.kill and self.chance(10):
+            self.told["closed"] += 1
+            way.queue.append(Line(at + o.deadline * self.random.uniform(0, 0.3) / 1000, [line], of, "before"))
             return
         for _ in range(2 if self.chance(30) else 1):
             cut = sorted(self.random.sample(range(1, len(line)), min(len(line) - 1, self.random.choice([0, 0, 1, 3]))))
-            for begin, end in zip([0] + cut, cut + [len(line)]):
-                way.put(at, line[begin:end], sent if end == len(line) else None)
-                at += self.random.uniform(0, 4) / 1000
+            way.queue.append(Line(at, [line[begin:end] for begin, end in zip([0] + cut, cut + [len(line)])], of))
+
+    # What goes.
+
+    def deliver(self, way, to):
+        """Hands over what is due. Says whether the connection lives."""
+        while way.queue and way.queue[0].at <= time.monotonic():
+            line = way.queue[0]
+            if line.kill == "before":
+                line.kill = None
+                return False
+            piece = line.pieces.popleft()
+            try:
+                to.sendall(piece)
+            except OSError:
+                return False
+            if not way.gone:
+                way.of = line.of
+            way.gone += piece
+            if way.gone.endswith(b"\n"):
+                self.went(way)
+            line.begun, line.at = True, time.monotonic() + self.random.uniform(0, 4) / 1000
+            if not line.pieces:
+                way.queue.popleft()
+            if line.kill:
+                return False
+        return True
+
+    def went(self, way):
+        """A line went over, whole. A front that was cut, and the line feed behind it, are one line."""
+        if way is self.down and way.of and way.of[1]:
+            self.note("came", way.of[1])
+        if way is self.up and way.of and REQUEST.match(way.gone) and way.gone.endswith(b"\r\n"):
+            self.owe(way.of)
+        way.gone = b""
 
     # One connection.
 
-    def connection(self, near, far):
+    def connection(self, near):
         """Relays until one end closes or the connection is killed."""
         near.setsockopt(socket.IPPROTO_TCP, socket.TCP_NODELAY, 1)
-        up, down = Way(), Way()
-        owed = collections.deque()
-        self.remain(up, down, far, owed)
-        dead_until = 0.0
         heard = time.monotonic()
-        alive = True
-        while alive:
+        while True:
             now = time.monotonic()
-            if dead_until <= now:
-                alive = self.deliver(up, far, owed) and self.deliver(down, near, owed)
-            soonest = min([w.queue[0][0] for w in (up, down) if w.queue], default=now + 1)
-            wait = max(0.0, max(soonest, dead_until) - now)
+            if self.dead <= now and not (self.deliver(self.up, self.far) and self.deliver(self.down, near)):
+                break
             if self.options.idle and now - heard > self.options.idle / 1000:
                 self.told["idle"] += 1
-                alive = False
-            for end in select.select([near, far], [], [], min(wait, 1))[0] if alive else []:
+                break
+            soonest = min([way.queue[0].at for way in (self.up, self.down) if way.queue], default=now + 1)
+            wait = max(0.0, min(max(soonest, self.dead) - now, 1))
+            for end in select.select([near, self.far], [], [], wait)[0]:
                 try:
                     data = end.recv(65536)
                 except OSError:
                     data = b""
-                alive = alive and bool(data)
+                if not data and end is self.far:
+                    sys.exit("geocom serve ended")
+                if not data:
+                    return self.end(near)
                 heard = time.monotonic()
                 if end is near:
-                    self.from_station(up, data)
+                    self.from_station(data)
                 else:
-                    self.from_instrument(down, data, owed)
-                if self.chance(2):
+                    self.from_instrument(data)
+                if self.asked and self.chance(2):
                     self.told["stalled"] += 1
-                    dead_until = now + 3 * self.options.deadline / 1000
-        self.left_down = [data for _, data, then in down.queue if then != "kill"][:8]
-        self.left_up = [(data, then) for _, data, then in up.queue if REQUEST.match(data) and then and then != "kill"][:8]
-        ahead = self.instrument()
-        self.end(near, up)
-        far.close()
-        return ahead
+                    self.dead = now + 3 * self.options.deadline / 1000
+            if self.chance(2):
+                self.start_anew()
+        self.end(near)
 
-    def remain(self, up, down, far, owed):
-        """What was under way on the last connection comes on this one, before the line is quiet."""
-        now = time.monotonic()
-        if self.options.leftovers:
-            for data in self.left_down:
-                down.put(now + 0.02, data)
-        if self.options.leftovers == "both":
-            for data, (number, _) in self.left_up:
-                up.put(now, data, (number, True))
-        self.told["leftovers"] += len(down.queue) + len(up.queue)
-
-    def deliver(self, way, to, owed):
-        """Hands over what is due. Says whether the connection lives."""
-        while way.queue and way.queue[0][0] <= time.monotonic():
-            _, data, then = way.queue.popleft()
-            try:
-                to.sendall(data)
-            except OSError:
-                return False
-            if then == "kill":
-                return False
-            if then:
-                owed.append(then)
-        return True
-
-    def from_station(self, up, data):
-        for line in up.lines(data):
-            number = self.name(line)
-            self.spoil(up, line, (number, False) if REQUEST.match(line) else None)
-
-    def from_instrument(self, down, data, owed):
-        for line in down.lines(data):
-            number, old = owed.popleft()
-            line = self.tagged(line, number)
-            if old:
-                down.put(time.monotonic(), line)
-            else:
-                self.spoil(down, line, None)
-
-    def end(self, near, up):
-        """Ends the station's connection, by an end or by a reset, and notes what it had sent."""
-        if self.random.random() < 0.5:
-            try:
+    def end(self, near):
+        """Ends the station's connection, by an end or by a reset. What is under way is lost, or held back."""
+        try:
+            if self.random.random() < 0.5:
                 near.shutdown(socket.SHUT_WR)
-            except OSError:
-                pass
-            near.settimeout(5)
-            try:
-                while data := near.recv(65536):
-                    for line in up.lines(data):
-                        self.name(line)
-            except OSError:
-                pass
-        else:
-            near.setsockopt(socket.SOL_SOCKET, socket.SO_LINGER, struct.pack("ii", 1, 0))
+                near.settimeout(5)
+            else:
+                near.setsockopt(socket.SOL_SOCKET, socket.SO_LINGER, struct.pack("ii", 1, 0))
+                near.settimeout(0)
+            while data := near.recv(65536):
+                self.from_station(data)
+        except OSError:
+            pass
         near.close()
+        # Nothing goes over before the station's next line feed.
+        self.dead = math.inf
+        self.up.rest = self.down.gone = b""
+        for way in (self.up, self.down):
+            # Behind the front of a request comes the next line feed, and nothing else.
+            kept = [line for line in way.queue if not (line.begun or line.kill or way.gone) and self.random.random() < 0.8]
+            way.queue = collections.deque(kept)
 
     def run(self):
+        self.start_anew()
         at = socket.create_server(("127.0.0.1", self.options.listen))
-        far = self.instrument()
         while True:
             near, _ = at.accept()
             self.told["connections"] += 1
             refuse = self.options.kill and self.chance(100)
             if refuse:
                 at.close()
-            far = self.connection(near, far)
+            self.connection(near)
             if refuse:
                 self.told["refused"] += 1
                 time.sleep(1.5 * self.options.quiet / 1000)
@@ -264,18 +327,17 @@ def main():
     words.add_argument("--bad", type=float, default=1, help="0: a good line")
     words.add_argument("--kill", action="store_true")
     words.add_argument("--idle", type=int, default=0, help="milliseconds after which a connection that carries nothing is closed; 0: none is")
-    words.add_argument("--leftovers", choices=["", "replies", "both"], default="")
     words.add_argument("--tag", action="store_true")
     words.add_argument("--log", required=True)
     relay = Relay(words.parse_args())
 
     def stop(*_):
-        for serve in relay.serves:
-            serve.kill()
+        if relay.serve:
+            relay.serve.kill()
         print(" ".join(f"{k} {v}" for k, v in sorted(relay.told.items())), file=sys.stderr)
         sys.exit(0)
 
-    for end in ENDS:
+    for end in (signal.SIGTERM, signal.SIGINT):
         signal.signal(end, stop)
     relay.run()
 

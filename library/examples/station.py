@@ -4,11 +4,13 @@ request that ended. It wants python3-serial, and geocom.py with libgeocom.so on 
 
     station.py /dev/ttyUSB0 --targets 1 2 3 --every 60 --deadline 5
 
-It reconnects by `restart` where the port fails, and where all that wait were given up and nothing comes any more, on the
-premise that with each new connection the instrument starts anew, or keeps no replies.
+Ids go on over connections. A new one is made where the port fails or is dead: half a line is dropped, the line rests, a
+line feed goes out, and what comes is dropped until the line is quiet. At its start, and where seven requests are given up
+and the line is quiet, it begins anew, with a null procedure that is answered alone. `docs/STATION.md` has the premises.
 """
 
 import argparse
+import collections
 import csv
 import sys
 import time
@@ -18,6 +20,7 @@ import serial
 import geocom
 
 MEASURE = (2108, "5000,1")
+NULL = (0, "")
 
 
 def now() -> int:
@@ -26,57 +29,127 @@ def now() -> int:
 
 
 class Station:
-    def __init__(self, port: str, baud: int, deadline: int, width: int, out):
+    def __init__(self, port: str, baud: int, deadline: int, quiet: int, width: int, out):
         self.settings = dict(url=port, baudrate=baud, timeout=0)
         self.port = None
-        self.deadline = deadline
-        self.client = geocom.Client(width)
+        self.deadline, self.quiet, self.width = deadline, quiet, width
+        self.client = geocom.Client()
+        # What waits, in order: its deadline, and whether it is a null procedure.
+        self.waiting = collections.deque()
+        # When something came last or was given up, and when a reply did or the first request behind it.
+        self.moment = self.last = self.alive = now()
+        self.replies = 0
+        self.asked = False
+        self.pause = quiet
         self.rows = csv.writer(out, lineterminator="\n")
         self.out = out
 
-    def ask(self, target: int) -> bool:
-        """Asks a target for a measurement, unless as many requests wait as may."""
-        try:
-            line = self.client.send(target, now() + self.deadline, *MEASURE)
-        except geocom.WindowFull:
-            return False
+    def under_way(self) -> int:
+        """How many wait that aren't given up."""
+        return sum(deadline > self.moment for deadline, _ in self.waiting)
+
+    def has_room(self) -> bool:
+        return self.under_way() < self.width and len(self.waiting) < geocom.WINDOW
+
+    def ask(self, target: int, procedure: int, params: str) -> None:
+        """Sends a request. It goes out once, whatever becomes of it."""
+        self.moment = now()
+        if not self.asked:
+            self.alive, self.asked = self.moment, True
+        line = self.client.send(target, self.moment + self.deadline, procedure, params)
+        self.waiting.append((self.moment + self.deadline, procedure == 0))
         try:
             self.port.write(line)
         except (OSError, serial.SerialException):
-            self.reconnect()
-        return True
+            self.connect()
 
-    def hear(self, until: int) -> None:
-        """Takes what comes, no longer than until a moment, or until the next deadline."""
-        moment = min(until, self.client.next_deadline() or until)
+    def hear(self) -> None:
+        """Takes what comes, no longer than a second, or until the next deadline."""
         try:
-            self.port.timeout = max(0, moment - now()) / 1000
-            data = self.port.read(1)
-            data += self.port.read(self.port.in_waiting)
+            data = self.read(min(now() + 1000, self.client.next_deadline() or now() + 1000))
         except (OSError, serial.SerialException):
-            self.reconnect()
+            self.connect()
             return
-        self.client.expire(now())
+        self.moment = now()
+        if self.client.expire(self.moment) or data:
+            self.last = self.moment
         self.tell(self.client.feed(data))
-        if not data and self.client.waiting and self.client.next_deadline() is None:
-            self.reconnect()
+        replies = self.client.counts[geocom.Kind.SETTLED] + self.client.counts[geocom.Kind.STRAY]
+        if replies != self.replies:
+            self.alive, self.asked, self.replies = self.moment, False, replies
+        if self.waiting and self.moment - self.alive >= 2 * self.deadline + self.quiet:
+            self.connect()
 
-    def reconnect(self) -> None:
-        """Opens the connection anew; the instrument starts anew with it, or keeps no replies."""
-        if self.port is not None:
-            self.port.close()
-        self.tell(self.client.restart())
+    def is_silent(self) -> bool:
+        """All that wait are given up, and the line is quiet."""
+        return not self.under_way() and now() - self.last >= self.quiet
+
+    def read(self, until: int) -> bytes:
+        self.port.timeout = max(0, until - now()) / 1000
+        data = self.port.read(1)
+        return data + self.port.read(self.port.in_waiting)
+
+    def connect(self, quiets: int = 1) -> None:
+        """Makes the connection anew, and drops what comes until nothing came for so many quiet times."""
         while True:
+            if self.port is not None:
+                self.port.close()
+                time.sleep(self.pause / 1000)
+                self.pause = max(self.quiet, min(2 * self.pause, 60_000))
             try:
                 self.port = serial.serial_for_url(**self.settings)
-                return
+                self.port.write(b"\n")
+                end = now() + quiets * self.quiet
+                while now() < end:
+                    if self.read(end):
+                        end = now() + quiets * self.quiet
+                break
             except (OSError, serial.SerialException) as failed:
                 print(f"station: {failed}", file=sys.stderr)
-                time.sleep(1)
+                if self.port is None:
+                    time.sleep(1)
+        # Half a line of the last connection is dropped, too.
+        self.tell(self.client.feed(b"\n"))
+        self.alive, self.asked = now(), False
+
+    def begin(self) -> None:
+        """Begins anew: what waits is lost, and no command goes out before a null procedure is answered."""
+        quiets = max(1, len(self.waiting))
+        while True:
+            self.tell(self.client.restart())
+            self.connect(quiets)
+            self.ask(0, *NULL)
+            while self.waiting and not self.is_silent():
+                self.hear()
+            if not self.waiting:
+                return
+
+    def wait(self) -> None:
+        """Hears, and begins anew where nothing else helps."""
+        self.hear()
+        if len(self.waiting) == geocom.WINDOW and self.is_silent():
+            self.begin()
+
+    def measure(self, targets) -> None:
+        """A round: each target once, until each is settled."""
+        self.alive, self.asked = now(), False
+        for target in targets:
+            while not self.has_room():
+                self.wait()
+            self.ask(target, *MEASURE)
+        while not all(is_null for _, is_null in self.waiting):
+            if not self.under_way() and self.has_room():
+                # Its reply settles those that are given up.
+                self.ask(0, *NULL)
+            self.wait()
 
     def tell(self, settlements) -> None:
         for s in settlements:
-            self.rows.writerow([s.target, s.outcome, s.reading, s.code, *s.items])
+            _, is_null = self.waiting.popleft()
+            if s.outcome != geocom.Outcome.LOST and not is_null:
+                self.pause = self.quiet
+            if not is_null:
+                self.rows.writerow([s.target, s.outcome, s.reading, s.code, *s.items])
         self.out.flush()
 
 
@@ -86,21 +159,18 @@ def main() -> None:
     options.add_argument("--targets", type=int, nargs="+", default=[1, 2, 3])
     options.add_argument("--every", type=float, default=60, help="seconds between two rounds")
     options.add_argument("--deadline", type=float, default=5, help="seconds for an answer")
+    options.add_argument("--quiet", type=float, default=2, help="seconds after which nothing from before comes any more")
     options.add_argument("--baud", type=int, default=19200)
-    options.add_argument("--width", type=int, default=7, help="how many requests may wait: 1 for an instrument that buffers one")
+    options.add_argument("--width", type=int, default=7, help="how many requests may be under way: 1 for an instrument that buffers one")
     options.add_argument("--rounds", type=int, default=0, help="stop after so many; 0 goes on")
     given = options.parse_args()
 
-    station = Station(given.port, given.baud, int(given.deadline * 1000), given.width, sys.stdout)
-    station.reconnect()
+    station = Station(given.port, given.baud, int(given.deadline * 1000), int(given.quiet * 1000), given.width, sys.stdout)
+    station.begin()
     done = 0
     while given.rounds == 0 or done < given.rounds:
         begin = now()
-        for target in given.targets:
-            while not station.ask(target):
-                station.hear(now() + 1000)
-        while station.client.waiting:
-            station.hear(now() + 1000)
+        station.measure(given.targets)
         done += 1
         if given.rounds == 0 or done < given.rounds:
             time.sleep(max(0, begin + given.every * 1000 - now()) / 1000)

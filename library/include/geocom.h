@@ -10,8 +10,10 @@
  *   2. geocom_client_send for a request; write the line that it gives on the connection.
  *   3. Read, waiting no longer than until geocom_client_next_deadline.
  *   4. geocom_client_expire with the moment after the read, then geocom_client_feed with the bytes until all are used.
- *   5. Where the connection fails, or all that wait were given up and nothing comes any more: close it, have the
- *      instrument start anew (or know that it keeps no replies), open it anew, and geocom_client_restart.
+ *   5. Where the connection fails or is dead: close it, let the line rest, open it anew, send a lone line feed, drop what
+ *      comes until the line is quiet, and feed a lone line feed, which drops half a line. Ids go on, and so does what waits.
+ *   6. At the start, and where seven wait that were all given up and nothing comes: the same, but drained longer, and then
+ *      geocom_client_restart, and a null procedure, alone, until it is answered.
  *
  * What the caller vouches for: every pointer is valid for the length behind it and not null, also where the length is 0;
  * what two pointers of one call point at does not overlap; and one call at a time is made for each state. Calls for
@@ -165,8 +167,8 @@ geocom_count geocom_client_expire(geocom_client *state, uint64_t now, uint32_t *
 geocom_deadline geocom_client_next_deadline(const geocom_client *state);
 
 /* Settles all that wait as lost, and begins anew at id 0 and at the start of a line; the width stays. The caller vouches
- * that no byte is under way in either direction, and that the instrument starts anew too, or keeps no replies. Writes
- * `count` records, the oldest request's first. Faults: 62 (settlements_room below GEOCOM_WINDOW), 63. */
+ * that no byte is under way in either direction, and that the instrument starts anew too, or keeps no replies, or that a
+ * null procedure is sent next, and nothing else until it is answered. Writes `count` records, the oldest request's first. Faults: 62 (settlements_room below GEOCOM_WINDOW), 63. */
 geocom_count geocom_client_restart(geocom_client *state, geocom_settlement *settlements, size_t settlements_room);
 
 /* How many requests wait, those that were given up among them. Fault: 63. */

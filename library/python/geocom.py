@@ -309,8 +309,8 @@ class Client:
     def restart(self) -> list[Settlement]:
         """Settles all that wait as lost, and begins anew at id 0.
 
-        You vouch that no byte is under way in either direction, and that the instrument starts anew too, or keeps no
-        replies: close the connection, restart the instrument, open the connection, and then call this.
+        You vouch that no byte is under way in either direction, and that a null procedure is sent next, and nothing else
+        until it is answered (or that the instrument starts anew too, or keeps no replies).
         """
         with self._lock:
             lost = _library.geocom_client_restart(self._state, self._records, WINDOW)

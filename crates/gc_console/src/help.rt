@@ -83,15 +83,20 @@ begin with # are skipped. Each is asked once in each cycle, and each gets a line
   late      its reply came after it was given up; what it said is dropped
   lost      no reply came, and none will be taken
 
-The connection is closed and made anew where it ends or fails, and where all requests that wait are given up, no other
-may go out, and nothing came and nothing more was given up for the quiet time. With each new connection the instrument
-has to start anew, as `serve` does, or keep no replies; if it does neither, use --settle. The quiet time has to be longer
-than the instrument's slowest answer.
+A request that is given up keeps its id, and holds up no other. The connection is closed and made anew where it ends or
+fails, and where something waits and no reply came for twice the deadline and the quiet time. Ids go on then. At the start,
+and where seven requests are given up, it begins anew: a null procedure has to be answered before any command goes out.
+
+Each answer is the reply to its own request, also by an instrument that keeps its last reply, where
+  - the line keeps order, over connections too, loses lines whole, and repeats a line only directly behind it;
+  - nothing from before is under way once a beginning was drained;
+  - what else comes reads as no reply with an id, and a line feed behind half a request clears it at the instrument;
+  - the clock goes as time does.
 
 Example, beside `geocom serve 4001`:
   printf '7 5003\\n8 2026\\n' | geocom station 4001
 writes two lines as
-  2026-11-22T23:08:27.123Z 0 7 answered %R1P,0,0:0,123456
-  2026-11-22T23:08:27.124Z 1 8 answered %R1P,0,1:0,0
+  2026-11-22T23:08:27.123Z 0 7 answered %R1P,0,1:0,123456
+  2026-11-22T23:08:27.124Z 1 8 answered %R1P,0,2:0,0
 and on standard error, at its end,
   answered 2 late 0 lost 0";

@@ -41,23 +41,17 @@ pub(crate) fn station_command<'a>(alloc: Global) -> Result<Command<'a>, AllocErr
         .arg(port_of(alloc))?;
     let command = with_pace(alloc, command)?;
     let command = with_bounds(alloc, command)?;
-    command
-        .arg(flag_of(
-            alloc,
-            "settle",
-            "Has a null procedure answered on each new connection first",
-        ))?
-        .arg(flag_of(alloc, "csv", "Writes comma-separated values, with a header"))
+    command.arg(flag_of(alloc, "csv", "Writes comma-separated values, with a header"))
 }
 
-// How many requests wait, how long each, and how far apart the cycles begin.
+// How many requests are under way, how long each waits, and how far apart the cycles begin.
 fn with_pace<'a>(alloc: Global, command: Command<'a>) -> Result<Command<'a>, AllocError> {
     let width = Arg::new(alloc, "width")
         .long("width")
         .value_name("W")
         .value_parser(value_parser!(u8).range(1..=7))
         .default_value("1")
-        .help("Lets so many requests wait at a time, 1 to 7");
+        .help("Lets so many requests be under way that aren't given up, 1 to 7");
     let deadline = time_of(
         alloc,
         "deadline",
@@ -141,7 +135,6 @@ pub(crate) fn station_of(matches: &ArgMatches) -> Station {
             cycles: matches.get_one::<u32>("cycles").unwrap_or(1),
             quiet: number("quiet"),
             retries: matches.get_one::<u32>("retries").unwrap_or(0),
-            settle: matches.get_flag("settle"),
         },
     }
 }

@@ -2,6 +2,5 @@
 
 mod faults;
 mod measure;
-mod options;
 mod station;
 mod words;

@@ -1,30 +1,33 @@
 -- A connection is closed, and a run stops, only for a cause: whatever decides the end, the act that did it shows.
-use Rattle.std.proofs.Common.{◌≡◌, ℕ, ◌⊎◌, inl, inr, ◌&&◌, ◌||◌, Bool, true, false, List, [], ◌∷◌, ◌++◌, length, drop, Option, Some, None, if◌then◌else◌, nat_lt, nat_eq, refl, sym, ap, ◌∙◌, subst, arith}
+use Rattle.std.proofs.Common.{◌≡◌, ℕ, ◌⊎◌, inl, inr, ◌&&◌, ◌||◌, Bool, true, false, not, List, [], ◌∷◌, ◌++◌, length, drop, Option, Some, None, if◌then◌else◌, nat_lt, nat_eq, refl, sym, ap, ◌∙◌, subst, arith}
 use Rattle.std.proofs.lemmas.Bool.Decides.{nat_tests}
-use Rattle.gc_catalogue.specs.declared.call.Call.TheVariants.{NullProc}
+use Rattle.gc_lines.specs.Frames.{rest_behind}
 use Rattle.gc_texts.specs.declared.commands.Command.{Command}
 use Rattle.gc_station.specs.declared.plan.Plan.{Plan}
 use Rattle.gc_station.specs.declared.cause.Cause.{Cause}
 use Rattle.gc_station.specs.declared.cause.Cause.TheVariants as cause
 use Rattle.gc_station.specs.declared.link.Moment.{Moment}
+use Rattle.gc_station.specs.declared.mark.Mark.{Mark}
 use Rattle.gc_station.specs.declared.progress.Phase.{Phase}
-use Rattle.gc_station.specs.declared.progress.Phase.TheVariants.{Resting, Draining, Probing, Ready, Closing, Over}
+use Rattle.gc_station.specs.declared.progress.Phase.TheVariants.{Resting, Draining, Probing, Ready, Closing, Over, Down}
 use Rattle.gc_station.specs.declared.progress.Order.{Order}
 use Rattle.gc_station.specs.declared.progress.Order.TheVariants as order
 use Rattle.gc_station.specs.declared.progress.Progress.{Progress}
+use Rattle.gc_station.specs.declared.progress.Waiting.{Waiting}
 use Rattle.gc_station.specs.Acts.{Act, Told, Untold, Put, Cut, Gave, Silent, Ended, Broke, Closed, Opened, Unopened}
-use Rattle.gc_station.specs.Deciding.{is_up, is_quiet, order_in}
-use Rattle.gc_station.specs.Progressing.{turned, told, begun, failing, quieted, waited, reckoned_early, is_finished, is_resting, closed, cleared, probed, sent, is_spared}
-use Rattle.gc_station.specs.Closing.{IsAlone, IsReasoned, Shows, ClosesForACause, EndsDone, EndsBehind, EndsGone, Ends, StopsForACause}
+use Rattle.gc_station.specs.Deciding.{is_up, is_past, drain_of, order_in}
+use Rattle.gc_station.specs.Marks.{commands_in}
+use Rattle.gc_station.specs.Progressing.{turned, told, begun, failing, quieted, drained, waited, asking, reckoned_early, is_finished, is_resting, begins_anew, closed_again, closed, cleared, probed, sent, is_spared}
+use Rattle.gc_station.specs.Closing.{IsAlone, IsReasoned, Shows, ClosesForACause, EndsDone, EndsBehind, EndsGone, Ends, StopsForACause, commands_behind}
 use Rattle.gc_station.specs.Reasons.{IsFor, IsAtItsEnd}
 use Rattle.gc_station.specs.Runs.{stood}
-use Rattle.gc_station.specs.Standing.{Standing, opening, order_at, place_next, with_progress, with_moment, is_heard, is_hopeless, asks, asks_first, after_tell, after_put, after_open, after_read, Puts, IsTelling, IsOpening, IsReading, Obeys, moved, after, after_all, Runs}
+use Rattle.gc_station.specs.Standing.{Standing, waiting_of, opening, order_at, place_next, mark_next, with_progress, with_moment, with_rest, is_heard, line_came, lines_came, lines_behind, came, asks_null, asks_first, asks_next, after_tell, after_put, after_open, after_read, Puts, IsTelling, IsOpening, IsReading, Obeys, moved, after, after_all, Runs}
+use Rattle.gc_station.proofs.Counts.{ended_progress}
 use Rattle.gc_station.proofs.EachRun.{fine_stood}
 use Rattle.gc_station.proofs.Facts.{order_for}
-use Rattle.gc_station.proofs.Fine.{Fine, is_idle, says_done}
+use Rattle.gc_station.proofs.Fine.{Fine, is_bare, says_done}
 use Rattle.gc_station.proofs.Going.{after_all-append}
-use Rattle.gc_station.proofs.Counts.{came_progress}
-use Rattle.gc_station.proofs.Turns.{closed_down}
+use Rattle.gc_station.proofs.Turns.{again_down, closed_down}
 
 -- the end that a phase has decided
 abbrev end_of : Phase → Option Cause
@@ -62,116 +65,161 @@ put_decides requests bytes f s (Put out) c o same down e = inr (inr (same e))
 put_decides requests bytes f s (Cut out n) c o same down e = fail_decides s.progress.phase (f s).progress.phase (is_up (f s).progress.phase) (cause.Write requests n) c (Cut out n) refl (out, refl) down e
 put_decides requests bytes f s act c o same down e = absurd o
 
-drained : (b : Bool) (c : Cause) → end_of (if b then Probing else Ready) ≡ Some c → ⊥
-drained true c e = cc
-drained false c e = cc
+drained_none : (p : Progress) (anew : Bool) (c : Cause) → end_of (if anew then Probing else Ready) ≡ Some c → ⊥
+drained_none p true c e = cc
+drained_none p false c e = cc
 
-quiet_same : (plan : Plan) (resting : Bool) (phase : Phase) (b : Bool) (c : Cause) → end_of (if b then quieted plan resting phase else phase) ≡ Some c → (if b then quieted plan resting phase else phase) ≡ phase
-quiet_same plan resting phase false c e = refl
-quiet_same plan true Resting true c e = refl
-quiet_same plan false Resting true c e = cc
-quiet_same plan resting Draining true c e = absurd (drained plan.settle c e)
-quiet_same plan resting phase true c e = refl
+rested_same : (at : Phase) (b : Bool) (c : Cause) → end_of (if b then Down else at) ≡ Some c → (if b then Down else at) ≡ at
+rested_same at true c e = cc
+rested_same at false c e = refl
 
-read_decides : {Other : Type 0} (plan : Plan) (commands : List Command) (rested : Bool) (s : Standing) (act : Act) (c : Cause) → IsReading act → end_of (after_read plan commands rested s act).progress.phase ≡ Some c
-    → Decides Other s.progress.phase (after_read plan commands rested s act).progress.phase c act
-read_decides plan commands rested s Untold c o e = failed s cause.Clock c Untold refl e
-read_decides plan commands rested s (Gave bytes m) c o e = inr (inr (ap (λ p. p.phase) (came_progress (is_heard s.progress.phase) plan commands bytes (with_moment m (with_progress (told m) s)))))
-read_decides plan commands rested s (Silent m) c o e = inr (inr (quiet_same plan (is_resting plan (waited rested m s.progress)) s.progress.phase (is_quiet plan (waited rested m s.progress)) c e))
-read_decides plan commands rested s Ended c o e = failed s cause.End c Ended refl e
-read_decides plan commands rested s Broke c o e = failed s cause.Read c Broke refl e
-read_decides plan commands rested s act c o e = absurd o
+drained_same : (p : Progress) (b : Bool) (c : Cause) → end_of (if b then drained p else p).phase ≡ Some c → (if b then drained p else p).phase ≡ p.phase
+drained_same p true c e = absurd (drained_none p p.anew c e)
+drained_same p false c e = refl
 
-none_left : (a b : ℕ) → nat_eq a 0 && nat_eq b 0 ≡ true → (a ≡ 0) × (b ≡ 0)
-none_left a b e = grind (arith, nat_tests, e)
+quiet_same : (plan : Plan) (phase : Phase) (p : Progress) (c : Cause) → end_of (quieted plan phase p).phase ≡ Some c → (quieted plan phase p).phase ≡ p.phase
+quiet_same plan Resting p c e = rested_same p.phase (is_past p.pause p && not (is_resting plan p)) c e
+quiet_same plan Draining p c e = drained_same p (is_past (drain_of plan p) p) c e
+quiet_same plan phase p c e = refl
+
+-- no line changes the phase
+lines_phase : (s : Standing) (lines : List (List ℕ)) → (lines_came s lines).progress.phase ≡ s.progress.phase
+lines_phase s [] = refl
+lines_phase s (line ∷ others) = lines_phase (line_came s line) others
+
+came_phase : (heard : Bool) (piece : List ℕ) (s : Standing) → (came heard piece s).progress.phase ≡ s.progress.phase
+came_phase true piece s = lines_phase (with_rest (rest_behind s.rest piece) s) (lines_behind s.rest piece)
+came_phase false piece s = refl
+
+read_decides : {Other : Type 0} (plan : Plan) (rested : Bool) (s : Standing) (act : Act) (c : Cause) → IsReading act → end_of (after_read plan rested s act).progress.phase ≡ Some c
+    → Decides Other s.progress.phase (after_read plan rested s act).progress.phase c act
+read_decides plan rested s Untold c o e = failed s cause.Clock c Untold refl e
+read_decides plan rested s (Gave bytes m) c o e = inr (inr (came_phase (is_heard s.progress.phase) bytes (with_moment m (with_progress (told m) s))))
+read_decides plan rested s (Silent m) c o e = inr (inr (quiet_same plan s.progress.phase (waited rested m s.progress) c e))
+read_decides plan rested s Ended c o e = failed s cause.End c Ended refl e
+read_decides plan rested s Broke c o e = failed s cause.Read c Broke refl e
+read_decides plan rested s act c o e = absurd o
+
+none_left : (a b n : ℕ) → nat_eq a 0 && nat_eq b 0 && nat_eq n 0 ≡ true → (a ≡ 0) × (b ≡ 0) × (n ≡ 0)
+none_left a b n e = grind (arith, nat_tests, e)
 
 no_try : (spared : Bool) (tries : ℕ) → spared || nat_lt 0 tries ≡ false → (spared ≡ false) × (tries ≡ 0)
 no_try true tries e = cc
 no_try false tries e = (refl, grind (arith, nat_tests, e))
 
--- what a run ends for where no connection is made anew
-again_ends : (plan : Plan) (other c : Cause) (p : Progress) (done some : Bool) → is_finished p ≡ done → (is_spared plan other p || nat_lt 0 p.tries) ≡ some
-    → end_of (if done then Over cause.Done else if some then Resting else Over other) ≡ Some c
-    → EndsDone p c ⊎ ((c ≡ other) × (is_finished p ≡ false) × (is_spared plan other p ≡ false) × (p.tries ≡ 0))
-again_ends plan other c p true some finished tries e = let none = none_left p.left p.unsent finished in inl (cc, none.0, none.1)
-again_ends plan other c p false true finished tries e = cc
-again_ends plan other c p false false finished tries e = let none = no_try (is_spared plan other p) p.tries tries in inr (cc, finished, none.0, none.1)
+-- a run ends since nothing is left to be sent and no command waits, or for a cause since no try is left
+abbrev EndsAgain : Plan → Progress → ℕ → Cause → Cause → Type 0
+EndsAgain plan p n other c = EndsDone p n c ⊎ ((c ≡ other) × (is_finished n p ≡ false) × (is_spared plan other p ≡ false) × (p.tries ≡ 0))
 
--- and where one was closed
-closed_ends : (plan : Plan) (other c : Cause) (p : Progress) → (other ≡ cause.Done → (p.left ≡ 0) × (p.unsent ≡ 0)) → end_of (closed plan other (turned p)).phase ≡ Some c → EndsBehind plan p other c
-closed_ends plan cause.Done c p done e = (cc, (done refl).0, (done refl).1)
-closed_ends plan cause.Clock c p done e = cc
-closed_ends plan cause.Turns c p done e = cc
-closed_ends plan other c p done e = again_ends plan other c p (is_finished p) (is_spared plan other p || nat_lt 0 p.tries) refl refl e
+-- what a run ends for where no connection is made anew
+again_ends : (plan : Plan) (other c : Cause) (n : ℕ) (p : Progress) (done some : Bool) → is_finished n p ≡ done → (is_spared plan other p || nat_lt 0 p.tries) ≡ some
+    → end_of (if done then Over cause.Done else if some then Resting else Over other) ≡ Some c → EndsAgain plan p n other c
+again_ends plan other c n p true some finished tries e = let none = none_left p.left p.unsent n finished in inl (cc, none.0, none.1, none.2)
+again_ends plan other c n p false true finished tries e = cc
+again_ends plan other c n p false false finished tries e = let none = no_try (is_spared plan other p) p.tries tries in inr (cc, finished, none.0, none.1)
+
+-- and where one was closed, to begin anew or not
+closed_again_ends : (plan : Plan) (w : Waiting) (other c : Cause) (p : Progress) (anew : Bool) → end_of (closed_again plan w other anew (turned p)).phase ≡ Some c → EndsAgain plan p (if anew then 0 else w.commands) other c
+closed_again_ends plan w cause.Open c p true e = again_ends plan cause.Open c 0 p (is_finished 0 p) (nat_lt 0 p.tries) refl refl e
+closed_again_ends plan w cause.Open c p false e = again_ends plan cause.Open c w.commands p (is_finished w.commands p) (nat_lt 0 p.tries) refl refl e
+closed_again_ends plan w other c p true e = again_ends plan other c 0 p (is_finished 0 p) (is_resting plan p || nat_lt 0 p.tries) refl refl e
+closed_again_ends plan w other c p false e = again_ends plan other c w.commands p (is_finished w.commands p) (is_resting plan p || nat_lt 0 p.tries) refl refl e
+
+none_behind : (anew : Bool) (n : ℕ) → n ≡ 0 → (if anew then 0 else n) ≡ 0
+none_behind true n e = refl
+none_behind false n e = e
+
+-- nothing is left to be sent, and no command waits
+abbrev NoneLeft : Progress → ℕ → Type 0
+NoneLeft p n = (p.left ≡ 0) × (p.unsent ≡ 0) × (n ≡ 0)
+
+closed_ends : (plan : Plan) (w : Waiting) (other c : Cause) (p : Progress) → (other ≡ cause.Done → NoneLeft p w.commands) → end_of (closed plan w other (turned p)).phase ≡ Some c
+    → EndsBehind plan p (commands_behind w other p) other c
+closed_ends plan w cause.Done c p done e = let none = done refl in (cc, none.0, none.1, none_behind (p.alone || p.anew) w.commands none.2)
+closed_ends plan w cause.Clock c p done e = cc
+closed_ends plan w cause.Turns c p done e = cc
+closed_ends plan w other c p done e = closed_again_ends plan w other c p (begins_anew other p) e
 
 -- there is no connection behind an act that closed it, or made none, and no other is made
-abbrev Gone : Plan → Progress → Order → Phase → Cause → Act → Type 0
-Gone plan p next behind c act = (is_up behind ≡ false) × EndsGone plan p next c act
+abbrev Gone : Plan → Standing → Order → Phase → Cause → Act → Type 0
+Gone plan s next behind c act = (is_up behind ≡ false) × EndsGone plan s.progress (waiting_of s) next c act
 
 open_decides : (plan : Plan) (s : Standing) (act : Act) (c : Cause) → IsOpening act → end_of (after_open plan (with_progress turned s) act).progress.phase ≡ Some c
-    → Decides (Gone plan s.progress order.Open (after_open plan (with_progress turned s) act).progress.phase c act) s.progress.phase (after_open plan (with_progress turned s) act).progress.phase c act
+    → Decides (Gone plan s order.Open (after_open plan (with_progress turned s) act).progress.phase c act) s.progress.phase (after_open plan (with_progress turned s) act).progress.phase c act
 open_decides plan s Opened c o e = cc
-open_decides plan s Unopened c o e = inr (inl (closed_down plan cause.Open (turned s.progress), (cause.Open, inr (refl, refl), closed_ends plan cause.Open c s.progress (λ is. cc) e)))
+open_decides plan s Unopened c o e =
+    let n = commands_in s.marks in
+    let p = s.progress in
+    inr (inl (again_down plan n cause.Open p, inr (refl, again_ends plan cause.Open c n p (is_finished n p) (nat_lt 0 p.tries) refl refl e)))
 open_decides plan s act c o e = absurd o
 
-first_phase : (plan : Plan) (left : List Command) (s : Standing) → (asks_first plan left s).progress.phase ≡ s.progress.phase
-first_phase plan [] s = refl
-first_phase plan (command ∷ others) s = refl
+first_phase : (plan : Plan) (mark : Mark) (left : List Command) (s : Standing) → (asks_first plan mark left s).progress.phase ≡ s.progress.phase
+first_phase plan mark [] s = refl
+first_phase plan mark (command ∷ others) s = refl
 
-moved_decides : (plan : Plan) (commands : List Command) (next : Order) (s : Standing) (act : Act) (c : Cause) → Obeys commands s next act → (next ≡ order.Close cause.Done → (s.progress.left ≡ 0) × (s.progress.unsent ≡ 0))
+moved_decides : (plan : Plan) (commands : List Command) (next : Order) (s : Standing) (act : Act) (c : Cause) → Obeys commands s next act → (next ≡ order.Close cause.Done → NoneLeft s.progress (commands_in s.marks))
     → end_of (moved plan commands next (with_progress turned s) act).progress.phase ≡ Some c
-    → Decides (Gone plan s.progress next (moved plan commands next (with_progress turned s) act).progress.phase c act) s.progress.phase (moved plan commands next (with_progress turned s) act).progress.phase c act
-moved_decides plan commands order.Tell s act c o done e = tell_decides (λ (m : Moment) (p : Progress). reckoned_early plan (length s.client.waiting) (told m p)) (with_progress turned s) act c o (λ m. refl) e
+    → Decides (Gone plan s next (moved plan commands next (with_progress turned s) act).progress.phase c act) s.progress.phase (moved plan commands next (with_progress turned s) act).progress.phase c act
+moved_decides plan commands order.Tell s act c o done e = tell_decides (λ (m : Moment) (p : Progress). reckoned_early plan (commands_in s.marks) (told m p)) (with_progress turned s) act c o (λ m. refl) e
 moved_decides plan commands order.Begin s act c o done e = tell_decides (begun plan (length commands)) (with_progress turned s) act c o (λ m. refl) e
 moved_decides plan commands order.Open s act c o done e = open_decides plan s act c o e
 moved_decides plan commands order.Clear s act c o done e = put_decides _ (10 ∷ []) (with_progress cleared) (with_progress turned s) act c o (λ g. cc) (λ d. cc) e
-moved_decides plan commands order.Probe s act c o done e = put_decides _ _ (λ (x : Standing). with_progress probed (asks plan 0 NullProc x)) (with_progress turned s) act c o (λ g. cc) (λ d. cc) e
+moved_decides plan commands order.Probe s act c o done e = put_decides _ _ (λ (x : Standing). with_progress probed (asks_null plan x)) (with_progress turned s) act c o (λ g. cc) (λ d. cc) e
 moved_decides plan commands order.Send s act c o done e =
-    let same = first_phase plan (drop (place_next commands s.progress) commands) (with_progress turned s) in
-    put_decides _ _ (λ (x : Standing). with_progress sent (asks_first plan (drop (place_next commands x.progress) commands) x)) (with_progress turned s) act c o (λ g. same) (λ d. sym (ap is_up same) ∙ d) e
-moved_decides plan commands order.Read s act c o done e = read_decides plan commands false (with_progress turned s) act c o e
-moved_decides plan commands order.Rest s act c o done e = read_decides plan commands true (with_progress turned s) act c o e
+    let same = first_phase plan (mark_next plan commands s.progress) (drop (place_next commands s.progress) commands) (with_progress turned s) in
+    put_decides _ _ (λ (x : Standing). with_progress sent (asks_next plan commands x)) (with_progress turned s) act c o (λ g. same) (λ d. sym (ap is_up same) ∙ d) e
+moved_decides plan commands order.Flush s act c o done e = put_decides _ _ (λ (x : Standing). with_progress asking (asks_null plan x)) (with_progress turned s) act c o (λ g. refl) (λ d. d) e
+moved_decides plan commands order.Read s act c o done e = read_decides plan false (with_progress turned s) act c o e
+moved_decides plan commands order.Rest s act c o done e = read_decides plan true (with_progress turned s) act c o e
 moved_decides plan commands (order.Close why) s act c o done e =
-    inr (inl (closed_down plan why (turned s.progress), (why, inl (o, refl), closed_ends plan why c s.progress (λ is. done (ap order.Close is)) e)))
+    inr (inl (closed_down plan (waiting_of s) why (turned s.progress), inl (why, o, refl, closed_ends plan (waiting_of s) why c s.progress (λ is. done (ap order.Close is)) e)))
 moved_decides plan commands (order.Stop why) s act c o done e = absurd o
 
 -- where the end is decided, no act leaves the phase: a connection is closed, and without one no act is made
-not_twice : (plan : Plan) (commands : List Command) (s : Standing) (act : Act) (c : Cause) (phase : Phase) → s.progress.phase ≡ phase → end_of phase ≡ Some c → Obeys commands s (order_in phase plan s.progress (length s.client.waiting) (is_hopeless s.client)) act
-    → (moved plan commands (order_in phase plan s.progress (length s.client.waiting) (is_hopeless s.client)) (with_progress turned s) act).progress.phase ≡ phase → ⊥
-not_twice plan commands s act c (Closing why) is e o same = let down : true ≡ false = sym (ap is_up same) ∙ closed_down plan why (turned s.progress) in cc
+not_twice : (plan : Plan) (commands : List Command) (s : Standing) (act : Act) (c : Cause) (phase : Phase) → s.progress.phase ≡ phase → end_of phase ≡ Some c → Obeys commands s (order_in phase plan s.progress (waiting_of s)) act
+    → (moved plan commands (order_in phase plan s.progress (waiting_of s)) (with_progress turned s) act).progress.phase ≡ phase → ⊥
+not_twice plan commands s act c (Closing why) is e o same = let down : true ≡ false = sym (ap is_up same) ∙ closed_down plan (waiting_of s) why (turned s.progress) in cc
 not_twice plan commands s act c (Over why) is e o same = absurd o
 not_twice plan commands s act c phase is e o same = cc
 
 -- what an act by which the end was decided shows
 abbrev Decided : Plan → Standing → Phase → Cause → Act → Type 0
-Decided plan s behind c act = Failed s.progress.phase behind c act ⊎ Gone plan s.progress (order_at plan s) behind c act
+Decided plan s behind c act = Failed s.progress.phase behind c act ⊎ Gone plan s (order_at plan s) behind c act
 
-after_decided : (plan : Plan) (commands : List Command) (s : Standing) (act : Act) (c : Cause) → Obeys commands s (order_at plan s) act → (order_at plan s ≡ order.Close cause.Done → (s.progress.left ≡ 0) × (s.progress.unsent ≡ 0))
-    → end_of (after plan commands s act).progress.phase ≡ Some c → Decided plan s (after plan commands s act).progress.phase c act
-after_decided plan commands s act c o done e = pick (moved_decides plan commands (order_at plan s) s act c o done e) where
-  pick : Decides (Gone plan s.progress (order_at plan s) (after plan commands s act).progress.phase c act) s.progress.phase (after plan commands s act).progress.phase c act → Decided plan s (after plan commands s act).progress.phase c act
+moved_decided : (plan : Plan) (commands : List Command) (s : Standing) (act : Act) (c : Cause) → Obeys commands s (order_at plan s) act → (order_at plan s ≡ order.Close cause.Done → NoneLeft s.progress (commands_in s.marks))
+    → end_of (moved plan commands (order_at plan s) (with_progress turned s) act).progress.phase ≡ Some c → Decided plan s (moved plan commands (order_at plan s) (with_progress turned s) act).progress.phase c act
+moved_decided plan commands s act c o done e = pick (moved_decides plan commands (order_at plan s) s act c o done e) where
+  pick : Decides (Gone plan s (order_at plan s) (moved plan commands (order_at plan s) (with_progress turned s) act).progress.phase c act) s.progress.phase (moved plan commands (order_at plan s) (with_progress turned s) act).progress.phase c act
+      → Decided plan s (moved plan commands (order_at plan s) (with_progress turned s) act).progress.phase c act
   pick (inl shows) = inl shows
   pick (inr (inl gone)) = inr gone
   pick (inr (inr same)) = absurd (not_twice plan commands s act c s.progress.phase refl (ap end_of (sym same) ∙ e) o same)
+
+after_decided : (plan : Plan) (commands : List Command) (s : Standing) (act : Act) (c : Cause) → Obeys commands s (order_at plan s) act → (order_at plan s ≡ order.Close cause.Done → NoneLeft s.progress (commands_in s.marks))
+    → end_of (after plan commands s act).progress.phase ≡ Some c → Decided plan s (after plan commands s act).progress.phase c act
+after_decided plan commands s act c o done e =
+    let same : (after plan commands s act).progress.phase ≡ (moved plan commands (order_at plan s) (with_progress turned s) act).progress.phase =
+    ap (λ (p : Progress). p.phase) (ended_progress (moved plan commands (order_at plan s) (with_progress turned s) act)) in
+    subst (λ (behind : Phase). Decided plan s behind c act) (sym same) (moved_decided plan commands s act c o done (sym (ap end_of same) ∙ e))
 
 pub runs_split : (plan : Plan) (commands : List Command) (s : Standing) (earlier later : List Act) (act : Act) → Runs plan commands s (earlier ++ act ∷ later)
     → Runs plan commands s earlier × Obeys commands (after_all plan commands s earlier) (order_at plan (after_all plan commands s earlier)) act
 runs_split plan commands s [] later act runs = (tt, runs.0)
 runs_split plan commands s (x ∷ xs) later act runs = let r = runs_split plan commands (after plan commands s x) xs later act runs.1 in ((runs.0, r.0), r.1)
 
--- what clears and settles a connection goes out where nothing waits
-goes_alone : (plan : Plan) (commands : List Command) (s : Standing) (next : Order) → Fine plan commands s → IsFor plan s.progress (length s.client.waiting) (is_hopeless s.client) next → IsAlone next s.client
-goes_alone plan commands s order.Clear fine needs = (fine.idle (ap is_idle needs)).1
-goes_alone plan commands s order.Probe fine needs = (fine.idle (ap is_idle needs.0)).1
+-- the null procedure with which it begins anew goes out where nothing waits
+goes_alone : (plan : Plan) (commands : List Command) (s : Standing) (next : Order) → Fine plan commands s → IsFor plan s.progress (waiting_of s) next → IsAlone next s
+goes_alone plan commands s order.Probe fine needs = ((fine.anew (fine.probing needs.0)).0, fine.rest (ap is_bare needs.0))
 goes_alone plan commands s next fine needs = tt
 
 pub act_reasoned : (plan : Plan) (commands : List Command) (turns : ℕ) (earlier later : List Act) (act : Act) → Runs plan commands (opening plan turns) (earlier ++ act ∷ later) → IsReasoned plan commands (stood plan commands turns earlier) act
 act_reasoned plan commands turns earlier later act runs =
     let s = stood plan commands turns earlier in
+    let needs = order_for plan s.progress (waiting_of s) in
     record {
       obeys = (runs_split plan commands (opening plan turns) earlier later act runs).1;
-      needs = order_for plan s.progress (length s.client.waiting) (is_hopeless s.client);
-      alone = goes_alone plan commands s (order_at plan s) (fine_stood plan commands turns earlier) (order_for plan s.progress (length s.client.waiting) (is_hopeless s.client));
+      needs = needs;
+      alone = goes_alone plan commands s (order_at plan s) (fine_stood plan commands turns earlier) needs;
     }
 
 -- the last of some acts
@@ -187,17 +235,17 @@ closes_only commands s (order.Close why) o = (why, refl)
 closes_only commands s next o = absurd o
 
 -- what an order that is next needs
-needs_of : (plan : Plan) (s : Standing) (next : Order) → order_at plan s ≡ next → IsFor plan s.progress (length s.client.waiting) (is_hopeless s.client) next
-needs_of plan s next is = subst (λ (o : Order). IsFor plan s.progress (length s.client.waiting) (is_hopeless s.client) o) is (order_for plan s.progress (length s.client.waiting) (is_hopeless s.client))
+needs_of : (plan : Plan) (s : Standing) (next : Order) → order_at plan s ≡ next → IsFor plan s.progress (waiting_of s) next
+needs_of plan s next is = subst (λ (o : Order). IsFor plan s.progress (waiting_of s) o) is (order_for plan s.progress (waiting_of s))
 
--- a connection is closed for being done where nothing is left to be sent
+-- a connection is closed for being done where nothing is left to be sent, and no command waits
 done_sent : (plan : Plan) (commands : List Command) (turns : ℕ) (acts : List Act) → order_at plan (stood plan commands turns acts) ≡ order.Close cause.Done
-    → ((stood plan commands turns acts).progress.left ≡ 0) × ((stood plan commands turns acts).progress.unsent ≡ 0)
+    → NoneLeft (stood plan commands turns acts).progress (commands_in (stood plan commands turns acts).marks)
 done_sent plan commands turns acts is = by_needs (needs_of plan (stood plan commands turns acts) (order.Close cause.Done) is).1 where
-  by_needs : (((stood plan commands turns acts).progress.phase ≡ Closing cause.Done) ⊎ IsAtItsEnd plan (stood plan commands turns acts).progress (length (stood plan commands turns acts).client.waiting) (is_hopeless (stood plan commands turns acts).client) cause.Done)
-      → ((stood plan commands turns acts).progress.left ≡ 0) × ((stood plan commands turns acts).progress.unsent ≡ 0)
+  by_needs : (((stood plan commands turns acts).progress.phase ≡ Closing cause.Done) ⊎ IsAtItsEnd plan (stood plan commands turns acts).progress (waiting_of (stood plan commands turns acts)) cause.Done)
+      → NoneLeft (stood plan commands turns acts).progress (commands_in (stood plan commands turns acts).marks)
   by_needs (inl phase) = (fine_stood plan commands turns acts).finished (ap says_done phase)
-  by_needs (inr end) = (end.0, end.1)
+  by_needs (inr end) = end
 
 -- the last act of a run whose end is decided shows by what
 decided_last : (plan : Plan) (commands : List Command) (turns : ℕ) (acts : List Act) (c : Cause) → Runs plan commands (opening plan turns) acts → end_of (stood plan commands turns acts).progress.phase ≡ Some c
@@ -233,9 +281,9 @@ closed_for plan commands turns acts later runs =
       shows why before last phase (inl failed) = failed.1
       shows why before last phase (inr gone) = let up : true ≡ false = sym (ap is_up phase) ∙ gone.0 in cc
 
-      by_needs : (why : Cause) → (((stood plan commands turns acts).progress.phase ≡ Closing why) ⊎ IsAtItsEnd plan (stood plan commands turns acts).progress (length (stood plan commands turns acts).client.waiting) (is_hopeless (stood plan commands turns acts).client) why)
+      by_needs : (why : Cause) → (((stood plan commands turns acts).progress.phase ≡ Closing why) ⊎ IsAtItsEnd plan (stood plan commands turns acts).progress (waiting_of (stood plan commands turns acts)) why)
           → Runs plan commands (opening plan turns) acts
-          → IsAtItsEnd plan (stood plan commands turns acts).progress (length (stood plan commands turns acts).client.waiting) (is_hopeless (stood plan commands turns acts).client) why
+          → IsAtItsEnd plan (stood plan commands turns acts).progress (waiting_of (stood plan commands turns acts)) why
           ⊎ ((earlier : List Act) × (last : Act) × (acts ≡ earlier ++ last ∷ []) × Shows why last)
       by_needs why (inl phase) runs = let d = decided_last plan commands turns acts why runs (ap end_of phase) in inr (d.0, d.1, d.2, shows why (stood plan commands turns d.0) d.1 phase d.3)
       by_needs why (inr end) runs = inl end

@@ -1,13 +1,15 @@
--- The records and the requests that wait are the commands that were sent, whatever the link tells.
-use Rattle.std.proofs.Common.{◌≡◌, ℕ, zero, suc, ◌+◌, ◌-◌, ◌<◌, ◌≤◌, Bool, true, false, List, [], ◌∷◌, ◌++◌, length, take, drop, map, Option, if◌then◌else◌, refl, sym, ap, ◌∙◌, arith, append_assoc, append-nil, length-append}
+-- The records and the commands that wait are the commands that were sent, whatever the link tells.
+use Rattle.std.proofs.Common.{◌≡◌, ℕ, zero, suc, ◌+◌, ◌<◌, List, [], ◌∷◌, ◌++◌, length, take, drop, map, Option, Some, None, refl, sym, ap, ◌∙◌, arith, append_assoc, append-nil}
 use Rattle.std.proofs.lemmas.List.{length-map, map-append}
 use Rattle.gc_client.specs.declared.pending.Pending.{Pending}
-use Rattle.gc_client.specs.Rule.{ById, Settlement, expired, lost, hears}
+use Rattle.gc_client.specs.Rule.{Settlement, expired, lost}
 use Rattle.gc_client.specs.OneForOne.{Asked, of_settled, of_pending}
-use Rattle.gc_client.proofs.OneForOne.{heard_parts, lost_parts, expired_parts}
+use Rattle.gc_client.proofs.OneForOne.{lost_parts, expired_parts}
 use Rattle.gc_texts.specs.declared.commands.Command.{Command}
-use Rattle.gc_station.specs.EachOnce.{Request, requests, of_command, all_cycles, sent_by, of_record}
-use Rattle.gc_station.specs.Records.{Record, records_from}
+use Rattle.gc_station.specs.declared.mark.Mark.{Mark}
+use Rattle.gc_station.specs.EachOnce.{Request, requests, of_command, all_cycles, sent_by, of_record, of_waiting, still_waiting}
+use Rattle.gc_station.specs.Marks.{commands_in, record_of, records_of}
+use Rattle.gc_station.specs.Records.{Record}
 
 pub requests-append : (cycle place : ℕ) (xs ys : List Asked) → requests cycle place (xs ++ ys) ≡ requests cycle place xs ++ requests cycle (place + length xs) ys
 requests-append cycle place [] ys = ap (λ n. requests cycle n ys) (omega arith)
@@ -16,76 +18,103 @@ requests-append cycle place (x ∷ xs) ys =
     let at : (place + 1) + length xs ≡ place + length (x ∷ xs) = omega arith in
     ap (λ rs. one ∷ rs) (requests-append cycle (place + 1) xs ys ∙ ap (λ n. requests cycle (place + 1) xs ++ requests cycle n ys) at)
 
-records_requests : (utc cycle place : ℕ) (ss : List Settlement) → map of_record (records_from utc cycle place ss) ≡ requests cycle place (map of_settled ss)
-records_requests utc cycle place [] = refl
-records_requests utc cycle place (s ∷ ss) = ap (λ rs. record { cycle = cycle; place = place; asked = of_settled s } ∷ rs) (records_requests utc cycle (place + 1) ss)
+-- the requests with these marks, of what they ask
+abbrev pub marked : List (Option Mark) → List Asked → List Request
+marked [] asks = []
+marked (m ∷ ms) [] = []
+marked (None ∷ ms) (a ∷ asks) = marked ms asks
+marked (Some mark ∷ ms) (a ∷ asks) = record { cycle = mark.cycle; place = mark.place; asked = a } ∷ marked ms asks
 
--- the records, and behind them those of the cycle that wait, so many of which were sent
-abbrev pub waiting_of : Bool → ℕ → ℕ → List Pending → List Request
-waiting_of probe cycle place ws = if probe then [] else requests cycle (place - length ws) (map of_pending ws)
+waiting_marked : (ms : List (Option Mark)) (ws : List Pending) → still_waiting ms ws ≡ marked ms (map of_pending ws)
+waiting_marked [] ws = refl
+waiting_marked (m ∷ ms) [] = refl
+waiting_marked (None ∷ ms) (w ∷ ws) = waiting_marked ms ws
+waiting_marked (Some mark ∷ ms) (w ∷ ws) = ap (λ rs. of_waiting mark w ∷ rs) (waiting_marked ms ws)
 
-abbrev pub EachIs : Bool → ℕ → ℕ → List Pending → List Record → List Request → Type 0
-EachIs probe cycle place ws rs sent = map of_record rs ++ waiting_of probe cycle place ws ≡ sent
+records_marked : (utc : ℕ) (ms : List (Option Mark)) (ss : List Settlement) → map of_record (records_of utc ms ss) ≡ marked ms (map of_settled ss)
+records_marked utc [] ss = refl
+records_marked utc (m ∷ ms) [] = refl
+records_marked utc (None ∷ ms) (s ∷ ss) = records_marked utc ms ss
+records_marked utc (Some mark ∷ ms) (s ∷ ss) = ap (λ rs. of_record (record_of utc mark s) ∷ rs) (records_marked utc ms ss)
+
+marked_append : (ms : List (Option Mark)) (xs ys : List Asked) → marked ms (xs ++ ys) ≡ marked ms xs ++ marked (drop (length xs) ms) ys
+marked_append [] [] ys = refl
+marked_append [] (x ∷ xs) ys = refl
+marked_append (m ∷ ms) [] ys = refl
+marked_append (None ∷ ms) (x ∷ xs) ys = marked_append ms xs ys
+marked_append (Some mark ∷ ms) (x ∷ xs) ys = ap (λ rs. record { cycle = mark.cycle; place = mark.place; asked = x } ∷ rs) (marked_append ms xs ys)
+
+-- one more, with its mark
+marked_more : (ms : List (Option Mark)) (asks : List Asked) (m : Option Mark) (a : Asked) → length ms ≡ length asks → marked (ms ++ m ∷ []) (asks ++ a ∷ []) ≡ marked ms asks ++ marked (m ∷ []) (a ∷ [])
+marked_more [] [] m a e = refl
+marked_more [] (x ∷ xs) m a e = absurd (omega (arith, e))
+marked_more (n ∷ ms) [] m a e = absurd (omega (arith, e))
+marked_more (None ∷ ms) (x ∷ xs) m a e = marked_more ms xs m a (omega (arith, e))
+marked_more (Some mark ∷ ms) (x ∷ xs) m a e = ap (λ rs. record { cycle = mark.cycle; place = mark.place; asked = x } ∷ rs) (marked_more ms xs m a (omega (arith, e)))
+
+-- where no command waits
+marked_none : (ms : List (Option Mark)) (asks : List Asked) → commands_in ms ≡ 0 → marked ms asks ≡ []
+marked_none [] asks e = refl
+marked_none (m ∷ ms) [] e = refl
+marked_none (None ∷ ms) (a ∷ asks) e = marked_none ms asks e
+marked_none (Some mark ∷ ms) (a ∷ asks) e = absurd (omega (arith, e))
+
+-- the records, and behind them the commands that wait
+abbrev pub EachIs : List (Option Mark) → List Pending → List Record → List Request → Type 0
+EachIs ms ws rs sent = map of_record rs ++ still_waiting ms ws ≡ sent
 
 -- a moment keeps it
-pub each_moment : (probe : Bool) (cycle place : ℕ) (ws : List Pending) (rs : List Record) (sent : List Request) (m : ℕ) → EachIs probe cycle place ws rs sent → EachIs probe cycle place (map (expired m) ws) rs sent
-each_moment probe cycle place ws rs sent m h =
-    ap (λ n. map of_record rs ++ (if probe then [] else requests cycle (place - n) (map of_pending (map (expired m) ws)))) (length-map ws (expired m))
-    ∙ ap (λ (xs : List Asked). map of_record rs ++ (if probe then [] else requests cycle (place - length ws) xs)) (expired_parts m ws) ∙ h
+pub each_moment : (ms : List (Option Mark)) (ws : List Pending) (rs : List Record) (sent : List Request) (m : ℕ) → EachIs ms ws rs sent → EachIs ms (map (expired m) ws) rs sent
+each_moment ms ws rs sent m h =
+    ap (λ xs. map of_record rs ++ xs) (waiting_marked ms (map (expired m) ws) ∙ ap (marked ms) (expired_parts m ws) ∙ sym (waiting_marked ms ws)) ∙ h
 
--- where nothing waits, the records are what was sent
-pub each_settled : (probe : Bool) (cycle place : ℕ) (ws : List Pending) (rs : List Record) (sent : List Request) → ws ≡ [] → EachIs probe cycle place ws rs sent → map of_record rs ≡ sent
-each_settled true cycle place ws rs sent none h = sym (append-nil (map of_record rs)) ∙ h
-each_settled false cycle place ws rs sent none h =
-    sym (append-nil (map of_record rs)) ∙ sym (ap (λ (xs : List Pending). map of_record rs ++ requests cycle (place - length xs) (map of_pending xs)) none) ∙ h
+-- where no command waits, the records are what was sent
+pub each_settled : (ms : List (Option Mark)) (ws : List Pending) (rs : List Record) (sent : List Request) → commands_in ms ≡ 0 → EachIs ms ws rs sent → map of_record rs ≡ sent
+each_settled ms ws rs sent none h =
+    sym (append-nil (map of_record rs)) ∙ sym (ap (λ xs. map of_record rs ++ xs) (waiting_marked ms ws ∙ marked_none ms (map of_pending ws) none)) ∙ h
 
-pub each_nothing : (probe : Bool) (cycle place : ℕ) (ws : List Pending) (rs : List Record) (sent : List Request) → ws ≡ [] → map of_record rs ≡ sent → EachIs probe cycle place ws rs sent
-each_nothing true cycle place ws rs sent none h = append-nil (map of_record rs) ∙ h
-each_nothing false cycle place ws rs sent none h = ap (λ (xs : List Pending). map of_record rs ++ requests cycle (place - length xs) (map of_pending xs)) none ∙ append-nil (map of_record rs) ∙ h
+pub each_nothing : (ms : List (Option Mark)) (ws : List Pending) (rs : List Record) (sent : List Request) → commands_in ms ≡ 0 → map of_record rs ≡ sent → EachIs ms ws rs sent
+each_nothing ms ws rs sent none h =
+    ap (λ xs. map of_record rs ++ xs) (waiting_marked ms ws ∙ marked_none ms (map of_pending ws) none) ∙ append-nil (map of_record rs) ∙ h
 
--- where the null procedure waits, the records are what was sent
-pub each_probe : (cycle place : ℕ) (ws : List Pending) (rs : List Record) (sent : List Request) → map of_record rs ≡ sent → EachIs true cycle place ws rs sent
-each_probe cycle place ws rs sent h = append-nil (map of_record rs) ∙ h
+-- where nothing waits, whatever the marks
+pub each_empty : (ms : List (Option Mark)) (ws : List Pending) (rs : List Record) (sent : List Request) → ws ≡ [] → EachIs ms ws rs sent → map of_record rs ≡ sent
+each_empty ms ws rs sent none h =
+    sym (append-nil (map of_record rs)) ∙ sym (ap (λ xs. map of_record rs ++ xs) (ap (still_waiting ms) none ∙ nothing ms)) ∙ h where
+      nothing : (ms : List (Option Mark)) → still_waiting ms [] ≡ []
+      nothing [] = refl
+      nothing (m ∷ ms) = refl
 
--- all that wait are lost
-pub each_lost : (probe : Bool) (utc cycle place : ℕ) (ws : List Pending) (rs : List Record) (sent : List Request) → EachIs probe cycle place ws rs sent
-    → map of_record (rs ++ (if probe then [] else records_from utc cycle (place - length ws) (map lost ws))) ≡ sent
-each_lost true utc cycle place ws rs sent h = map-append of_record rs [] ∙ h
-each_lost false utc cycle place ws rs sent h =
-    map-append of_record rs (records_from utc cycle (place - length ws) (map lost ws))
-    ∙ ap (λ xs. map of_record rs ++ xs) (records_requests utc cycle (place - length ws) (map lost ws) ∙ ap (requests cycle (place - length ws)) (lost_parts ws)) ∙ h
-
--- a line keeps it
-pub each_heard : (probe : Bool) (utc cycle place : ℕ) (c : ById) (line : List ℕ) (o : Option ℕ) (rs : List Record) (sent : List Request) → (probe ≡ false → length c.waiting ≤ place)
-    → EachIs probe cycle place c.waiting rs sent
-    → EachIs probe cycle place (hears c line o).client.waiting (rs ++ (if probe then [] else records_from utc cycle (place - length c.waiting) (hears c line o).settlements)) sent
-each_heard true utc cycle place c line o rs sent within h = ap (λ xs. xs ++ []) (map-append of_record rs [] ∙ append-nil (map of_record rs)) ∙ h
-each_heard false utc cycle place c line o rs sent within h =
-    let x = hears c line o in
+-- some are settled
+pub each_settles : (utc : ℕ) (ms : List (Option Mark)) (ws left : List Pending) (ss : List Settlement) (rs : List Record) (sent : List Request) → map of_settled ss ++ map of_pending left ≡ map of_pending ws
+    → EachIs ms ws rs sent → EachIs (drop (length ss) ms) left (rs ++ records_of utc ms ss) sent
+each_settles utc ms ws left ss rs sent parts h =
     let front = map of_record rs in
-    let base = place - length c.waiting in
-    let ended = map of_settled x.settlements in
-    let left = map of_pending x.client.waiting in
-    let parts = heard_parts c line o in
-    let below : length c.waiting ≤ place = within refl in
-    let count : length ended + length left ≡ length c.waiting = sym (length-append ended left) ∙ ap length parts ∙ length-map c.waiting of_pending in
-    let lefts : length left ≡ length x.client.waiting = length-map x.client.waiting of_pending in
-    let at : place - length x.client.waiting ≡ base + length ended = omega (arith, below, count, lefts) in
-    ap (λ xs. xs ++ requests cycle (place - length x.client.waiting) left) (map-append of_record rs (records_from utc cycle base x.settlements) ∙ ap (λ xs. front ++ xs) (records_requests utc cycle base x.settlements))
-    ∙ ap (λ n. (front ++ requests cycle base ended) ++ requests cycle n left) at
-    ∙ append_assoc front (requests cycle base ended) (requests cycle (base + length ended) left)
-    ∙ ap (λ xs. front ++ xs) (sym (requests-append cycle base ended left) ∙ ap (requests cycle base) parts)
+    let ended = map of_settled ss in
+    let waits = map of_pending left in
+    let count : length ended ≡ length ss = length-map ss of_settled in
+    ap (λ xs. xs ++ still_waiting (drop (length ss) ms) left) (map-append of_record rs (records_of utc ms ss))
+    ∙ append_assoc front (map of_record (records_of utc ms ss)) (still_waiting (drop (length ss) ms) left)
+    ∙ ap (λ xs. front ++ (xs ++ still_waiting (drop (length ss) ms) left)) (records_marked utc ms ss)
+    ∙ ap (λ xs. front ++ (marked ms ended ++ xs)) (waiting_marked (drop (length ss) ms) left ∙ ap (λ n. marked (drop n ms) waits) (sym count))
+    ∙ ap (λ xs. front ++ xs) (sym (marked_append ms ended waits) ∙ ap (marked ms) parts ∙ sym (waiting_marked ms ws))
     ∙ h
 
--- a line leaves no more waiting than waited
-pub heard_fewer : (c : ById) (line : List ℕ) (o : Option ℕ) → length (hears c line o).client.waiting ≤ length c.waiting
-heard_fewer c line o =
-    let x = hears c line o in
-    let ended = map of_settled x.settlements in
-    let left = map of_pending x.client.waiting in
-    let count : length ended + length left ≡ length c.waiting = sym (length-append ended left) ∙ ap length (heard_parts c line o) ∙ length-map c.waiting of_pending in
-    let lefts : length left ≡ length x.client.waiting = length-map x.client.waiting of_pending in
-    omega (arith, count, lefts)
+-- all that wait are lost
+pub each_lost : (utc : ℕ) (ms : List (Option Mark)) (ws : List Pending) (rs : List Record) (sent : List Request) → EachIs ms ws rs sent → EachIs (drop (length (map lost ws)) ms) [] (rs ++ records_of utc ms (map lost ws)) sent
+each_lost utc ms ws rs sent h = each_settles utc ms ws [] (map lost ws) rs sent (append-nil (map of_settled (map lost ws)) ∙ lost_parts ws) h
+
+-- one more waits
+more_waiting : (ms : List (Option Mark)) (ws : List Pending) (m : Option Mark) (p : Pending) → length ms ≡ length ws → still_waiting (ms ++ m ∷ []) (ws ++ p ∷ []) ≡ still_waiting ms ws ++ marked (m ∷ []) (of_pending p ∷ [])
+more_waiting ms ws m p paired =
+    let asked = map of_pending ws in
+    let count : length ms ≡ length asked = paired ∙ sym (length-map ws of_pending) in
+    waiting_marked (ms ++ m ∷ []) (ws ++ p ∷ []) ∙ ap (marked (ms ++ m ∷ [])) (map-append of_pending ws (p ∷ []))
+    ∙ marked_more ms asked m (of_pending p) count ∙ ap (λ xs. xs ++ marked (m ∷ []) (of_pending p ∷ [])) (sym (waiting_marked ms ws))
+
+-- a null procedure is sent
+pub each_null : (ms : List (Option Mark)) (ws : List Pending) (p : Pending) (rs : List Record) (sent : List Request) → length ms ≡ length ws → EachIs ms ws rs sent → EachIs (ms ++ None ∷ []) (ws ++ p ∷ []) rs sent
+each_null ms ws p rs sent paired h = ap (λ xs. map of_record rs ++ xs) (more_waiting ms ws None p paired ∙ append-nil (still_waiting ms ws)) ∙ h
 
 -- the commands before one place and the one at it
 take_next : (commands : List Command) (place : ℕ) (command : Command) (others : List Command) → drop place commands ≡ command ∷ others → take (place + 1) commands ≡ take place commands ++ command ∷ []
@@ -102,33 +131,32 @@ take_place commands zero command others e = refl
 take_place [] (suc n) command others e = cc
 take_place (c ∷ cs) (suc n) command others e = ap suc (take_place cs n command others e)
 
--- a command is sent
-pub each_sent : (commands : List Command) (begun place : ℕ) (ws : List Pending) (p : Pending) (rs : List Record) (command : Command) (others : List Command) → drop place commands ≡ command ∷ others → of_pending p ≡ of_command command
-    → 0 < begun → length ws ≤ place
-    → EachIs false begun place ws rs (sent_by commands begun place) → EachIs false begun (place + 1) (ws ++ p ∷ []) rs (sent_by commands begun (place + 1))
-each_sent commands zero place ws p rs command others at is some within h = absurd (omega (arith, some))
-each_sent commands (suc n) place ws p rs command others at is some within h =
-    let front = map of_record rs in
-    let base = place - length ws in
-    let asked = map of_pending ws in
+-- one command more was sent
+sent_next : (commands : List Command) (begun place : ℕ) (command : Command) (others : List Command) → drop place commands ≡ command ∷ others → 0 < begun
+    → sent_by commands begun place ++ requests begun place (of_command command ∷ []) ≡ sent_by commands begun (place + 1)
+sent_next commands zero place command others at some = absurd (omega (arith, some))
+sent_next commands (suc n) place command others at some =
     let one : List Asked = of_command command ∷ [] in
     let taken = map of_command (take place commands) in
-    let len : length (ws ++ p ∷ []) ≡ length ws + 1 = length-append ws (p ∷ []) in
-    let base_is : (place + 1) - length (ws ++ p ∷ []) ≡ base = omega (arith, len, within) in
-    let asked_len : length asked ≡ length ws = length-map ws of_pending in
-    let place_is : base + length asked ≡ place = omega (arith, asked_len, within) in
+    let cycles = all_cycles commands n in
     let taken_len : length taken ≡ place = length-map (take place commands) of_command ∙ take_place commands place command others at in
     let taken_at : 0 + length taken ≡ place = omega (arith, taken_len) in
-    let cycles = all_cycles commands n in
-    ap (λ b. front ++ requests (suc n) b (map of_pending (ws ++ p ∷ []))) base_is
-    ∙ ap (λ xs. front ++ requests (suc n) base xs) (map-append of_pending ws (p ∷ []) ∙ ap (λ a. asked ++ a ∷ []) is)
-    ∙ ap (λ xs. front ++ xs) (requests-append (suc n) base asked one ∙ ap (λ b. requests (suc n) base asked ++ requests (suc n) b one) place_is)
-    ∙ sym (append_assoc front (requests (suc n) base asked) (requests (suc n) place one))
-    ∙ ap (λ xs. xs ++ requests (suc n) place one) h
-    ∙ append_assoc cycles (requests (suc n) 0 taken) (requests (suc n) place one)
+    append_assoc cycles (requests (suc n) 0 taken) (requests (suc n) place one)
     ∙ ap (λ b. cycles ++ (requests (suc n) 0 taken ++ requests (suc n) b one)) (sym taken_at)
     ∙ ap (λ xs. cycles ++ xs) (sym (requests-append (suc n) 0 taken one))
     ∙ ap (λ xs. cycles ++ requests (suc n) 0 xs) (sym (map-append of_command (take place commands) (command ∷ [])) ∙ ap (map of_command) (sym (take_next commands place command others at)))
+
+-- a command is sent
+pub each_sent : (commands : List Command) (begun place : ℕ) (ms : List (Option Mark)) (ws : List Pending) (p : Pending) (rs : List Record) (command : Command) (others : List Command)
+    → length ms ≡ length ws → drop place commands ≡ command ∷ others → of_pending p ≡ of_command command → 0 < begun
+    → EachIs ms ws rs (sent_by commands begun place) → EachIs (ms ++ Some (record { cycle = begun; place = place }) ∷ []) (ws ++ p ∷ []) rs (sent_by commands begun (place + 1))
+each_sent commands begun place ms ws p rs command others paired at is some h =
+    let front = map of_record rs in
+    let mark : Mark = record { cycle = begun; place = place } in
+    ap (λ xs. front ++ xs) (more_waiting ms ws (Some mark) p paired ∙ ap (λ a. still_waiting ms ws ++ requests begun place (a ∷ [])) is)
+    ∙ sym (append_assoc front (still_waiting ms ws) (requests begun place (of_command command ∷ [])))
+    ∙ ap (λ xs. xs ++ requests begun place (of_command command ∷ [])) h
+    ∙ sent_next commands begun place command others at some
 
 -- a whole cycle was sent
 pub sent_whole : (commands : List Command) (begun place : ℕ) → place ≡ length commands → sent_by commands begun place ≡ all_cycles commands begun
@@ -142,3 +170,10 @@ sent_whole commands (suc n) place e = ap (λ xs. all_cycles commands n ++ reques
 pub sent_none : (commands : List Command) (begun next place : ℕ) → next ≡ suc begun → place ≡ 0 → sent_by commands next place ≡ all_cycles commands begun
 sent_none commands begun next place is none =
     ap (λ n. sent_by commands n place) is ∙ ap (λ m. all_cycles commands begun ++ requests (suc begun) 0 (map of_command (take m commands))) none ∙ append-nil (all_cycles commands begun)
+
+-- behind a whole cycle, each command of which is settled, the next one begins
+pub each_begun : (commands : List Command) (begun next place place' : ℕ) (ms : List (Option Mark)) (ws : List Pending) (rs : List Record)
+    → commands_in ms ≡ 0 → place ≡ length commands → next ≡ suc begun → place' ≡ 0 → EachIs ms ws rs (sent_by commands begun place) → EachIs ms ws rs (sent_by commands next place')
+each_begun commands begun next place place' ms ws rs settled whole is none h =
+    each_nothing ms ws rs (sent_by commands next place') settled
+    (each_settled ms ws rs (sent_by commands begun place) settled h ∙ sent_whole commands begun place whole ∙ sym (sent_none commands begun next place' is none))

@@ -1,144 +1,172 @@
 -- Each order, and so each run, keeps them.
-use Rattle.std.proofs.Common.{◌≡◌, ℕ, ◌+◌, ◌-◌, ◌%◌, ◌<◌, ◌⊎◌, inl, inr, Bool, true, false, List, [], ◌∷◌, ◌++◌, length, drop, map, nat_eq, refl, sym, ap, ◌∙◌, subst, arith, length-append}
-use Rattle.std.proofs.lemmas.Bool.Decides.{nat_tests}
+use Rattle.std.proofs.Common.{◌≡◌, ℕ, ◌-◌, ◌<◌, ◌⊎◌, inl, inr, ◌||◌, ◌&&◌, Bool, true, false, not, List, [], ◌∷◌, ◌++◌, length, drop, map, nat_eq, Option, None, refl, sym, ap, ◌∙◌, subst, arith}
 use Rattle.std.proofs.lemmas.List.{length-drop, nil_from_length}
 use Rattle.gc_catalogue.specs.declared.call.Call.TheVariants.{NullProc}
-use Rattle.gc_client.specs.declared.window.TheConstants.{IDS}
-use Rattle.gc_client.specs.Rule.{ById, pending_of, id_send, sends}
+use Rattle.gc_client.specs.Rule.{ById, fresh}
 use Rattle.gc_texts.specs.declared.commands.Command.{Command}
+use Rattle.gc_station.specs.declared.link.Moment.{Moment}
+use Rattle.gc_station.specs.declared.mark.Mark.{Mark}
 use Rattle.gc_station.specs.declared.plan.Plan.{Plan}
 use Rattle.gc_station.specs.declared.cause.Cause.{Cause}
 use Rattle.gc_station.specs.declared.cause.Cause.TheVariants as cause
 use Rattle.gc_station.specs.declared.progress.Phase.{Phase}
-use Rattle.gc_station.specs.declared.progress.Phase.TheVariants.{Down, Resting, Clearing, Draining, Probing, Ready, Closing, Over}
+use Rattle.gc_station.specs.declared.progress.Phase.TheVariants.{Clearing, Probing, Ready, Over}
 use Rattle.gc_station.specs.declared.progress.Order.{Order}
 use Rattle.gc_station.specs.declared.progress.Order.TheVariants as order
+use Rattle.gc_station.specs.declared.progress.Progress.{Progress}
+use Rattle.gc_station.specs.declared.progress.Waiting.{Waiting}
 use Rattle.gc_station.specs.Acts.{Act}
-use Rattle.gc_station.specs.Deciding.{width_of, is_up}
-use Rattle.gc_station.specs.Progressing.{later, turned, told, reckoned_early, begun, cleared, probed, sent}
+use Rattle.gc_station.specs.Deciding.{later, is_up}
 use Rattle.gc_station.specs.EachOnce.{EachOnce, sent_by, of_record, all_cycles}
+use Rattle.gc_station.specs.Marks.{commands_in}
+use Rattle.gc_station.specs.Progressing.{turned, told, reckoned_early, begun, cleared, asking, probed, sent, is_over, is_over_in}
 use Rattle.gc_station.specs.Reasons.{IsFor}
 use Rattle.gc_station.specs.Runs.{stood}
-use Rattle.gc_station.specs.Standing.{Standing, opening, order_at, place_next, with_progress, is_hopeless, client_sent, asks, asks_first, moved, after, after_all}
-use Rattle.gc_station.proofs.Each.{EachIs, each_settled, each_probe, each_sent, sent_whole}
+use Rattle.gc_station.specs.Standing.{Standing, opening, order_at, waiting_of, place_next, mark_next, with_progress, asks_null, asks_first, asks_next, moved, after, after_all}
+use Rattle.gc_station.proofs.Acting.{mid_tell, mid_put, mid_open, mid_close, mid_read}
+use Rattle.gc_station.proofs.Each.{each_empty, sent_whole}
 use Rattle.gc_station.proofs.Facts.{order_for}
-use Rattle.gc_station.proofs.Fine.{is_idle, says_done, none_waits, Fine, fine_at, fine_told, fine_begun, fine_close, fine_read, fine_tell, fine_put, fine_open, never_idle, never_done}
+use Rattle.gc_station.proofs.Fine.{Fine, is_bare, says_done}
+use Rattle.gc_station.proofs.Midway.{Placed, Mid, mid_of, clash, sound_null, sound_sent, sound_begun, fine_ended}
 
-room_left : (n w : ℕ) → n < w → nat_eq n w ≡ false
-room_left n w room = grind (arith, nat_tests, room)
+-- while requests go out, and no null procedure of a beginning waits
+going_placed : (phase : Phase) (anew alone : Bool) (left unsent : ℕ) (rest : List ℕ) (next : ℕ) (marks : List (Option Mark)) → phase ≡ Ready → anew ≡ false → alone ≡ false → Placed phase anew alone left unsent rest next marks
+going_placed phase anew alone left unsent rest next marks is begun single = record {
+  begins = λ e. single;
+  ready = λ e. begun;
+  probing = λ e. let other : Ready ≡ Probing = sym is ∙ e in cc;
+  lone = λ e up. absurd (clash alone e single);
+  bare = λ e. single;
+  empty = λ e. absurd (clash (is_bare phase) e (ap is_bare is));
+  finished = λ e. absurd (clash (says_done phase) e (ap says_done is));
+}
+
+-- the clock was read, and a cycle begins
+mid_begun : (plan : Plan) (commands : List Command) (s : Standing) (m : Moment) → s.progress.phase ≡ Ready → s.progress.alone ≡ false → s.progress.unsent ≡ 0 → commands_in s.marks ≡ 0 → 0 < s.progress.left → Mid plan commands s
+    → Mid plan commands (with_progress (begun plan (length commands) m) s)
+mid_begun plan commands s m is single none settled some mid =
+    let p = s.progress in (
+      sound_begun plan commands p.left p.unsent s.client s.marks s.records none settled some mid.0,
+      going_placed p.phase p.anew p.alone (p.left - 1) (length commands) s.rest s.client.next s.marks is (mid.1.ready is) single,
+    )
+
+-- the line feed went out
+mid_cleared : (plan : Plan) (commands : List Command) (s : Standing) → s.progress.phase ≡ Clearing → Mid plan commands s → Mid plan commands (with_progress cleared s)
+mid_cleared plan commands s is mid =
+    let placed = mid.1 in
+    let here : is_bare s.progress.phase ≡ true = ap is_bare is in (
+      mid.0,
+      record {
+        begins = placed.begins;
+        ready = λ e. cc;
+        probing = λ e. cc;
+        lone = λ e up. absurd (clash s.progress.alone e (placed.bare here));
+        bare = λ e. placed.bare here;
+        empty = λ e. placed.empty here;
+        finished = λ e. cc;
+      },
+    )
+
+-- the null procedure of a beginning is sent
+mid_probed : (plan : Plan) (commands : List Command) (s : Standing) → s.client ≡ fresh → length s.client.waiting < 7 → Mid plan commands s → Mid plan commands (with_progress probed (asks_null plan s))
+mid_probed plan commands s fresh_is room mid =
+    let p = s.progress in
+    let sound = mid.0 in
+    let none : length s.marks ≡ 0 = sound.paired ∙ ap (λ (c : ById). length c.waiting) fresh_is in (
+      sound_null plan commands p.left p.unsent s.client s.marks s.records 0 NullProc (later p.moment.elapsed plan.deadline) room sound,
+      record {
+        begins = λ e. cc;
+        ready = λ e. refl;
+        probing = λ e. cc;
+        lone = λ e up. (ap (λ (ms : List (Option Mark)). ms ++ None ∷ []) (nil_from_length s.marks none), ap (λ (c : ById). (asks_null plan (record s { client = c })).client.next) fresh_is);
+        bare = λ e. cc;
+        empty = λ e. cc;
+        finished = λ e. cc;
+      },
+    )
+
+-- a null procedure is sent behind those that are given up
+mid_flushed : (plan : Plan) (commands : List Command) (s : Standing) → s.progress.phase ≡ Ready → s.progress.alone ≡ false → length s.client.waiting < 7 → Mid plan commands s → Mid plan commands (with_progress asking (asks_null plan s))
+mid_flushed plan commands s is single room mid =
+    let p = s.progress in (
+      sound_null plan commands p.left p.unsent s.client s.marks s.records 0 NullProc (later p.moment.elapsed plan.deadline) room mid.0,
+      going_placed p.phase p.anew p.alone p.left p.unsent s.rest (asks_null plan s).client.next (asks_null plan s).marks is (mid.1.ready is) single,
+    )
 
 -- the next command is sent
-fine_asked : (plan : Plan) (commands : List Command) (s : Standing) (left : List Command) (full : Bool) → Fine plan commands s → s.progress.phase ≡ Ready → s.progress.probe ≡ false → 0 < s.progress.unsent
-    → drop (place_next commands s.progress) commands ≡ left → nat_eq (length s.client.waiting) (width_of plan) ≡ full → full ≡ false → Fine plan commands (with_progress sent (asks_first plan left s))
-fine_asked plan commands s [] full fine ready probe some at is room =
+mid_first : (plan : Plan) (commands : List Command) (s : Standing) (left : List Command) → drop (place_next commands s.progress) commands ≡ left
+    → s.progress.phase ≡ Ready → s.progress.alone ≡ false → 0 < s.progress.unsent → length s.client.waiting < 7 → Mid plan commands s → Mid plan commands (with_progress sent (asks_first plan (mark_next plan commands s.progress) left s))
+mid_first plan commands s [] at is single some room mid =
+    let sound = mid.0 in
     let n : length commands - place_next commands s.progress ≡ 0 = sym (length-drop (place_next commands s.progress) commands) ∙ ap length at in
-    absurd (omega (arith, n, some, fine.unsent))
-fine_asked plan commands s (command ∷ others) full fine ready probe some at is room =
+    absurd (omega (arith, n, some, sound.unsents))
+mid_first plan commands s (command ∷ others) at is single some room mid =
     let p = s.progress in
-    let ws = s.client.waiting in
-    let asked = pending_of command.target command.call (later p.moment.elapsed plan.deadline) in
-    let next : ById = record { next = (s.client.next + 1) % IDS; waiting = ws ++ asked ∷ [] } in
-    let client : client_sent s.client (sends (width_of plan) s.client command.target command.call (later p.moment.elapsed plan.deadline)) ≡ next =
-    ap (λ (b : Bool). client_sent s.client (id_send s.client command.target command.call (later p.moment.elapsed plan.deadline) b)) (is ∙ room) in
-    let begun = plan.cycles - p.left in
-    let place = place_next commands p in
-    let below = fine.begun some in
-    let within = fine.within probe in
-    let place_is : length commands - (p.unsent - 1) ≡ place + 1 = omega (arith, some, fine.unsent) in
-    let many : 0 < begun = omega (arith, below) in
-    let before = subst (λ (b : Bool). EachIs b begun place ws s.records (sent_by commands begun place)) probe fine.each in
-    let after_it = each_sent commands begun place ws asked s.records command others at refl many within before in
-    let each = subst (λ (n : ℕ). EachIs false begun n next.waiting s.records (sent_by commands begun n)) (sym place_is) after_it in
-    let each_probe = subst (λ (b : Bool). EachIs b begun (length commands - (p.unsent - 1)) next.waiting s.records (sent_by commands begun (length commands - (p.unsent - 1)))) (sym probe) each in
-    record {
-      unsent = omega (arith, fine.unsent);
-      left = fine.left;
-      begun = λ e. below;
-      within = λ e. let n : length (client_sent s.client (sends (width_of plan) s.client command.target command.call (later p.moment.elapsed plan.deadline))).waiting ≡ length ws + 1 = ap (λ c. length c.waiting) client ∙ length-append ws (asked ∷ []) in omega (arith, n, place_is, within);
-      idle = λ e. absurd (never_idle s.progress.phase ready e);
-      finished = λ e. absurd (never_done s.progress.phase ready e);
-      each = subst (λ (c : ById). EachIs p.probe begun (length commands - (p.unsent - 1)) c.waiting s.records (sent_by commands begun (length commands - (p.unsent - 1)))) (sym client) each_probe;
-    }
+    let t = asks_first plan (mark_next plan commands p) (command ∷ others) s in (
+      sound_sent plan commands p.left p.unsent s.client s.marks s.records (later p.moment.elapsed plan.deadline) command others room some at mid.0,
+      going_placed p.phase p.anew p.alone p.left (p.unsent - 1) s.rest t.client.next t.marks is (mid.1.ready is) single,
+    )
 
-fine_sent : (plan : Plan) (commands : List Command) (s : Standing) → Fine plan commands s → s.progress.phase ≡ Ready → s.progress.probe ≡ false → 0 < s.progress.unsent → length s.client.waiting < width_of plan
-    → Fine plan commands (with_progress sent (asks_first plan (drop (place_next commands s.progress) commands) s))
-fine_sent plan commands s fine ready probe some room =
-    fine_asked plan commands s (drop (place_next commands s.progress) commands) (nat_eq (length s.client.waiting) (width_of plan)) fine ready probe some refl refl (room_left (length s.client.waiting) (width_of plan) room)
-
--- the null procedure is sent
-fine_probed : (plan : Plan) (commands : List Command) (s : Standing) → Fine plan commands s → s.progress.phase ≡ Probing → Fine plan commands (with_progress probed (asks plan 0 NullProc s))
-fine_probed plan commands s fine is =
-    let p = s.progress in
-    let nothing = none_waits s.client (fine.idle (ap is_idle is)).1 in
-    record {
-      unsent = fine.unsent;
-      left = fine.left;
-      begun = fine.begun;
-      within = λ e. cc;
-      idle = λ e. cc;
-      finished = λ e. cc;
-      each = each_probe (plan.cycles - p.left) (place_next commands p) (asks plan 0 NullProc s).client.waiting s.records _ (each_settled p.probe (plan.cycles - p.left) (place_next commands p) s.client.waiting s.records _ nothing fine.each);
-    }
-
-fine_cleared : (plan : Plan) (commands : List Command) (s : Standing) → Fine plan commands s → s.progress.phase ≡ Clearing → Fine plan commands (with_progress cleared s)
-fine_cleared plan commands s fine is =
-    let p = s.progress in
-    fine_at plan commands s Draining true p.moment p.since p.began p.early p.tries p.turns s.rest fine (λ e. ap is_idle is) (λ e. cc)
-
-fine_turned : (plan : Plan) (commands : List Command) (s : Standing) → Fine plan commands s → Fine plan commands (with_progress turned s)
-fine_turned plan commands s fine =
-    let p = s.progress in fine_at plan commands s p.phase p.stale p.moment p.since p.began p.early p.tries (p.turns - 1) s.rest fine (λ e. e) fine.finished
+mid_sent : (plan : Plan) (commands : List Command) (s : Standing) → s.progress.phase ≡ Ready → s.progress.alone ≡ false → 0 < s.progress.unsent → length s.client.waiting < 7 → Mid plan commands s → Mid plan commands (with_progress sent (asks_next plan commands s))
+mid_sent plan commands s is single some room mid = mid_first plan commands s (drop (place_next commands s.progress) commands) refl is single some room mid
 
 -- a close for being done
-close_done : (plan : Plan) (commands : List Command) (s : Standing) (h : Bool) (why : Cause) → Fine plan commands s → IsFor plan s.progress (length s.client.waiting) h (order.Close why) → why ≡ cause.Done → (s.progress.left ≡ 0) × (s.progress.unsent ≡ 0)
-close_done plan commands s h cause.Done fine (up, inl phase) is = fine.finished (ap says_done phase)
-close_done plan commands s h cause.Done fine (up, inr end) is = (end.0, end.1)
-close_done plan commands s h cause.Silence fine for_it is = cc
-close_done plan commands s h cause.Read fine for_it is = cc
-close_done plan commands s h cause.End fine for_it is = cc
-close_done plan commands s h (cause.Write n m) fine for_it is = cc
-close_done plan commands s h cause.Clock fine for_it is = cc
-close_done plan commands s h cause.Open fine for_it is = cc
-close_done plan commands s h cause.Turns fine for_it is = cc
+close_done : (plan : Plan) (commands : List Command) (s : Standing) (w : Waiting) (why : Cause) → Fine plan commands s → IsFor plan s.progress w (order.Close why) → why ≡ cause.Done → (s.progress.left ≡ 0) × (s.progress.unsent ≡ 0)
+close_done plan commands s w cause.Done fine (up, inl phase) is = let it = fine.finished (ap says_done phase) in (it.0, it.1)
+close_done plan commands s w cause.Done fine (up, inr end) is = (end.0, end.1)
+close_done plan commands s w why fine for_it is = cc
 
-fine_moved : (plan : Plan) (commands : List Command) (s : Standing) (h : Bool) (order : Order) (act : Act) → Fine plan commands s → IsFor plan s.progress (length s.client.waiting) h order
-    → Fine plan commands (moved plan commands order (with_progress turned s) act)
-fine_moved plan commands s h order.Tell act fine is =
-    let t = with_progress turned s in fine_tell plan commands (λ m p. reckoned_early plan (length t.client.waiting) (told m p)) t act (fine_turned plan commands s fine) (λ m. fine_told plan commands t m (reckoned_early plan (length t.client.waiting) (told m t.progress)).early (fine_turned plan commands s fine))
-fine_moved plan commands s h order.Begin act fine is =
+-- what an act of an order leaves
+pub mid_moved : (plan : Plan) (commands : List Command) (s : Standing) (order : Order) (act : Act) → Fine plan commands s → IsFor plan s.progress (waiting_of s) order
+    → Mid plan commands (moved plan commands order (with_progress turned s) act)
+mid_moved plan commands s order.Tell act fine is =
+    let t = with_progress turned s in mid_tell plan commands (λ m p. reckoned_early plan (commands_in t.marks) (told m p)) t act (mid_of plan commands s fine) (λ m. mid_of plan commands s fine)
+mid_moved plan commands s order.Begin act fine is =
     let t = with_progress turned s in
-    let at = fine_turned plan commands s fine in
-    fine_tell plan commands (begun plan (length commands)) t act at (λ m. fine_begun plan commands t m at is.0 is.2 (nil_from_length s.client.waiting is.3) is.4)
-fine_moved plan commands s h order.Open act fine is = fine_open plan commands (with_progress turned s) act (fine_turned plan commands s fine) is
-fine_moved plan commands s h order.Clear act fine is =
-    let t = with_progress turned s in fine_put plan commands _ (with_progress cleared) t act (fine_cleared plan commands t (fine_turned plan commands s fine) is)
-fine_moved plan commands s h order.Probe act fine is =
-    let t = with_progress turned s in fine_put plan commands _ (λ (x : Standing). with_progress probed (asks plan 0 NullProc x)) t act (fine_probed plan commands t (fine_turned plan commands s fine) is.0)
-fine_moved plan commands s h order.Send act fine is =
+    let mid = mid_of plan commands s fine in
+    mid_tell plan commands (begun plan (length commands)) t act mid (λ m. mid_begun plan commands t m is.0 is.1 is.2 is.3 is.4 mid)
+mid_moved plan commands s order.Open act fine is = mid_open plan commands (with_progress turned s) act is (mid_of plan commands s fine)
+mid_moved plan commands s order.Clear act fine is =
+    let t = with_progress turned s in mid_put plan commands _ (with_progress cleared) t act (mid_cleared plan commands t is (mid_of plan commands s fine))
+mid_moved plan commands s order.Probe act fine is =
     let t = with_progress turned s in
-    fine_put plan commands _ (λ (x : Standing). with_progress sent (asks_first plan (drop (place_next commands x.progress) commands) x)) t act
-    (fine_sent plan commands t (fine_turned plan commands s fine) is.0 is.1 is.2 is.3)
-fine_moved plan commands s h order.Read act fine is = fine_read plan commands false (with_progress turned s) act (fine_turned plan commands s fine)
-fine_moved plan commands s h order.Rest act fine is = fine_read plan commands true (with_progress turned s) act (fine_turned plan commands s fine)
-fine_moved plan commands s h (order.Close why) act fine is = fine_close plan commands (with_progress turned s) why (fine_turned plan commands s fine) (close_done plan commands s h why fine is)
-fine_moved plan commands s h (order.Stop why) act fine is = fine_turned plan commands s fine
+    mid_put plan commands _ (λ (x : Standing). with_progress probed (asks_null plan x)) t act (mid_probed plan commands t (fine.anew (fine.probing is.0)).0 is.1.1 (mid_of plan commands s fine))
+mid_moved plan commands s order.Send act fine is =
+    let t = with_progress turned s in
+    mid_put plan commands _ (λ (x : Standing). with_progress sent (asks_next plan commands x)) t act (mid_sent plan commands t is.0 is.1 is.2 is.3.1 (mid_of plan commands s fine))
+mid_moved plan commands s order.Flush act fine is =
+    let t = with_progress turned s in
+    mid_put plan commands _ (λ (x : Standing). with_progress asking (asks_null plan x)) t act (mid_flushed plan commands t is.0 is.1 is.5.1 (mid_of plan commands s fine))
+mid_moved plan commands s order.Read act fine is = mid_read plan commands false (with_progress turned s) act (mid_of plan commands s fine)
+mid_moved plan commands s order.Rest act fine is = mid_read plan commands true (with_progress turned s) act (mid_of plan commands s fine)
+mid_moved plan commands s (order.Close why) act fine is = mid_close plan commands (with_progress turned s) why (close_done plan commands s (waiting_of s) why fine is) (mid_of plan commands s fine)
+mid_moved plan commands s (order.Stop why) act fine is = mid_of plan commands s fine
 
-fine_after : (plan : Plan) (commands : List Command) (s : Standing) (act : Act) → Fine plan commands s → Fine plan commands (after plan commands s act)
-fine_after plan commands s act fine = fine_moved plan commands s (is_hopeless s.client) (order_at plan s) act fine (order_for plan s.progress (length s.client.waiting) (is_hopeless s.client))
+pub fine_after : (plan : Plan) (commands : List Command) (s : Standing) (act : Act) → Fine plan commands s → Fine plan commands (after plan commands s act)
+fine_after plan commands s act fine =
+    fine_ended plan commands (moved plan commands (order_at plan s) (with_progress turned s) act) (mid_moved plan commands s (order_at plan s) act fine (order_for plan s.progress (waiting_of s)))
 
 fine_all : (plan : Plan) (commands : List Command) (s : Standing) (acts : List Act) → Fine plan commands s → Fine plan commands (after_all plan commands s acts)
 fine_all plan commands s [] fine = fine
 fine_all plan commands s (act ∷ acts) fine = fine_all plan commands (after plan commands s act) acts (fine_after plan commands s act fine)
 
-fine_opening : (plan : Plan) (commands : List Command) (turns : ℕ) → Fine plan commands (opening plan turns)
+pub fine_opening : (plan : Plan) (commands : List Command) (turns : ℕ) → Fine plan commands (opening plan turns)
 fine_opening plan commands turns =
     let none : plan.cycles - plan.cycles ≡ 0 = omega arith in
     record {
       unsent = omega arith;
       left = omega arith;
       begun = λ e. absurd (omega (arith, e));
-      within = λ e. omega arith;
-      idle = λ e. (refl, refl);
+      paired = refl;
+      window = omega arith;
+      digit = omega arith;
+      anew = λ e. (refl, refl);
+      ready = λ e. cc;
+      probing = λ e. refl;
+      alone = λ e up. cc;
+      bare = λ e. refl;
+      rest = λ e. refl;
+      over = λ e. refl;
       finished = λ e. cc;
       each = sym (ap (λ n. sent_by commands n (length commands - 0)) none);
     }
@@ -147,29 +175,29 @@ fine_opening plan commands turns =
 pub fine_stood : (plan : Plan) (commands : List Command) (turns : ℕ) (acts : List Act) → Fine plan commands (stood plan commands turns acts)
 fine_stood plan commands turns acts = fine_all plan commands (opening plan turns) acts (fine_opening plan commands turns)
 
-pub down_idle : (phase : Phase) → is_up phase ≡ false → is_idle phase ≡ true
-down_idle Down e = refl
-down_idle Resting e = refl
-down_idle Clearing e = cc
-down_idle Draining e = cc
-down_idle Probing e = cc
-down_idle Ready e = cc
-down_idle (Closing why) e = cc
-down_idle (Over why) e = refl
+-- where a run stopped no act follows
+pub stop_over : (plan : Plan) (p : Progress) (w : Waiting) (why : Cause) → IsFor plan p w (order.Stop why) → is_over p ≡ true
+stop_over plan p w why (down, inl over) = ap (λ (phase : Phase). is_over_in phase || (not (is_up phase) && nat_eq p.turns 0)) over
+stop_over plan p w why (down, inr turns) = either_way (is_over_in p.phase) (is_up p.phase) (nat_eq p.turns 0) down (ap (λ (n : ℕ). nat_eq n 0) turns.1) where
+  either_way : (o up none : Bool) → up ≡ false → none ≡ true → (o || (not up && none)) ≡ true
+  either_way true up none d n = refl
+  either_way false false true d n = refl
+  either_way false false false d n = cc
+  either_way false true none d n = cc
 
--- where a run stopped
 pub stopped : (plan : Plan) (commands : List Command) (s : Standing) (why : Cause) → Fine plan commands s → order_at plan s ≡ order.Stop why
     → (s.client.waiting ≡ []) × (map of_record s.records ≡ sent_by commands (plan.cycles - s.progress.left) (place_next commands s.progress)) × (why ≡ cause.Done → (s.progress.left ≡ 0) × (s.progress.unsent ≡ 0))
 stopped plan commands s why fine stop =
     let p = s.progress in
-    let is : IsFor plan p (length s.client.waiting) (is_hopeless s.client) (order.Stop why) = subst (λ (o : Order). IsFor plan p (length s.client.waiting) (is_hopeless s.client) o) stop (order_for plan p (length s.client.waiting) (is_hopeless s.client)) in
-    let nothing = none_waits s.client (fine.idle (down_idle p.phase is.0)).1 in (
+    let w = waiting_of s in
+    let is : IsFor plan p w (order.Stop why) = subst (λ (o : Order). IsFor plan p w o) stop (order_for plan p w) in
+    let nothing = fine.over (stop_over plan p w why is) in (
       nothing,
-      each_settled p.probe (plan.cycles - p.left) (place_next commands p) s.client.waiting s.records _ nothing fine.each,
+      each_empty s.marks s.client.waiting s.records (sent_by commands (plan.cycles - p.left) (place_next commands p)) nothing fine.each,
       by_reason is.1,
     ) where
       by_reason : ((s.progress.phase ≡ Over why) ⊎ ((why ≡ cause.Turns) × (s.progress.turns ≡ 0))) → why ≡ cause.Done → (s.progress.left ≡ 0) × (s.progress.unsent ≡ 0)
-      by_reason (inl over) e = fine.finished (ap says_done (over ∙ ap Over e))
+      by_reason (inl over) e = let it = fine.finished (ap says_done (over ∙ ap Over e)) in (it.0, it.1)
       by_reason (inr turns) e = let other : cause.Turns ≡ cause.Done = sym turns.0 ∙ e in cc
 
 -- each command once

@@ -1,21 +1,22 @@
 -- A run never goes back: behind a send the station is at a later place of the cycle, or in a later cycle.
-use Rattle.std.proofs.Common.{◌≡◌, ◌⊎◌, inl, inr, Bool, ℕ, ◌-◌, ◌<◌, ◌≤◌, List, [], ◌∷◌, ◌++◌, length, refl, sym, ap, ◌∙◌, subst, arith}
+use Rattle.std.proofs.Common.{◌≡◌, ◌⊎◌, inl, inr, ℕ, ◌-◌, ◌<◌, ◌≤◌, List, [], ◌∷◌, ◌++◌, length, refl, sym, ap, ◌∙◌, subst, arith}
 use Rattle.gc_texts.specs.declared.commands.Command.{Command}
 use Rattle.gc_station.specs.declared.plan.Plan.{Plan}
 use Rattle.gc_station.specs.declared.progress.Order.{Order}
 use Rattle.gc_station.specs.declared.progress.Order.TheVariants as order
 use Rattle.gc_station.specs.declared.progress.Progress.{Progress}
+use Rattle.gc_station.specs.declared.progress.Waiting.{Waiting}
 use Rattle.gc_station.specs.Acts.{Act}
 use Rattle.gc_station.specs.EachOnce.{IsFurther}
 use Rattle.gc_station.specs.Progressing.{turned}
 use Rattle.gc_station.specs.Reasons.{IsFor}
 use Rattle.gc_station.specs.Runs.{stood}
-use Rattle.gc_station.specs.Standing.{Standing, opening, order_at, is_hopeless, with_progress, moved, after, after_all}
-use Rattle.gc_station.proofs.Counts.{Kept, Counts, moved_counts}
+use Rattle.gc_station.specs.Standing.{Standing, opening, order_at, waiting_of, with_progress, moved, after, after_all}
+use Rattle.gc_station.proofs.Going.{after_all-append}
+use Rattle.gc_station.proofs.Counts.{Kept, Counts, moved_counts, ended_progress}
 use Rattle.gc_station.proofs.EachRun.{fine_stood}
 use Rattle.gc_station.proofs.Facts.{order_for}
 use Rattle.gc_station.proofs.Fine.{Fine}
-use Rattle.gc_station.proofs.Going.{after_all-append}
 
 -- no fewer cycles began, and in the same one no fewer commands were sent
 abbrev NotBack : Progress → Progress → Type 0
@@ -25,23 +26,18 @@ kept_there : (p t q : Progress) → t.left ≡ p.left → t.unsent ≡ p.unsent 
 kept_there p t q left unsent k = inr (k.left ∙ left, omega (arith, k.unsent, unsent))
 
 -- what an act does to the counts, of which its turn was taken first
-counts_on : (plan : Plan) (count n : ℕ) (h : Bool) (o : Order) (p t q : Progress) → t.left ≡ p.left → t.unsent ≡ p.unsent → IsFor plan p n h o → Counts count o t q → NotBack p q
-counts_on plan count n h order.Begin p t q left unsent needs (inl k) = kept_there p t q left unsent k
-counts_on plan count n h order.Begin p t q left unsent needs (inr k) = inl (omega (arith, k.left, left, needs.4))
-counts_on plan count n h order.Send p t q left unsent needs k = inr (k.left ∙ left, omega (arith, k.unsent, unsent))
-counts_on plan count n h order.Tell p t q left unsent needs k = kept_there p t q left unsent k
-counts_on plan count n h order.Open p t q left unsent needs k = kept_there p t q left unsent k
-counts_on plan count n h order.Clear p t q left unsent needs k = kept_there p t q left unsent k
-counts_on plan count n h order.Probe p t q left unsent needs k = kept_there p t q left unsent k
-counts_on plan count n h order.Read p t q left unsent needs k = kept_there p t q left unsent k
-counts_on plan count n h order.Rest p t q left unsent needs k = kept_there p t q left unsent k
-counts_on plan count n h (order.Close why) p t q left unsent needs k = kept_there p t q left unsent k
-counts_on plan count n h (order.Stop why) p t q left unsent needs k = kept_there p t q left unsent k
+counts_on : (plan : Plan) (count : ℕ) (w : Waiting) (o : Order) (p t q : Progress) → t.left ≡ p.left → t.unsent ≡ p.unsent → IsFor plan p w o → Counts count o t q → NotBack p q
+counts_on plan count w order.Begin p t q left unsent needs (inl k) = kept_there p t q left unsent k
+counts_on plan count w order.Begin p t q left unsent needs (inr k) = inl (omega (arith, k.left, left, needs.4))
+counts_on plan count w order.Send p t q left unsent needs k = inr (k.left ∙ left, omega (arith, k.unsent, unsent))
+counts_on plan count w o p t q left unsent needs k = kept_there p t q left unsent k
 
 after_on : (plan : Plan) (commands : List Command) (s : Standing) (act : Act) → NotBack s.progress (after plan commands s act).progress
 after_on plan commands s act =
-    counts_on plan (length commands) (length s.client.waiting) (is_hopeless s.client) (order_at plan s) s.progress (turned s.progress) (after plan commands s act).progress refl refl
-    (order_for plan s.progress (length s.client.waiting) (is_hopeless s.client)) (moved_counts plan commands (order_at plan s) (with_progress turned s) act)
+    let done = moved plan commands (order_at plan s) (with_progress turned s) act in
+    let on = counts_on plan (length commands) (waiting_of s) (order_at plan s) s.progress (turned s.progress) done.progress refl refl
+    (order_for plan s.progress (waiting_of s)) (moved_counts plan commands (order_at plan s) (with_progress turned s) act) in
+    subst (λ (p : Progress). NotBack s.progress p) (sym (ended_progress done)) on
 
 on_again : (p q r : Progress) → NotBack p q → NotBack q r → NotBack p r
 on_again p q r (inl a) (inl b) = inl (omega (arith, a, b))
@@ -64,10 +60,13 @@ pub send_goes_on : (plan : Plan) (commands : List Command) (turns : ℕ) (earlie
 send_goes_on plan commands turns earlier later act is =
     let s = stood plan commands turns earlier in
     let next = after plan commands s act in
-    let needs = subst (λ (o : Order). IsFor plan s.progress (length s.client.waiting) (is_hopeless s.client) o) is (order_for plan s.progress (length s.client.waiting) (is_hopeless s.client)) in
-    let moved_is : next ≡ moved plan commands order.Send (with_progress turned s) act = ap (λ (o : Order). moved plan commands o (with_progress turned s) act) is in
+    let w = waiting_of s in
+    let needs = subst (λ (o : Order). IsFor plan s.progress w o) is (order_for plan s.progress w) in
+    let done = moved plan commands (order_at plan s) (with_progress turned s) act in
+    let sends = moved plan commands order.Send (with_progress turned s) act in
+    let next_is : next.progress ≡ sends.progress = ended_progress done ∙ ap (λ (o : Order). (moved plan commands o (with_progress turned s) act).progress) is in
     let k = moved_counts plan commands order.Send (with_progress turned s) act in
     let whole = after_all-append plan commands (opening plan turns) earlier (act ∷ later) in
     let on = subst (λ (t : Standing). NotBack next.progress t.progress) (sym whole) (all_on plan commands next later) in
     further plan commands s (stood plan commands turns (earlier ++ act ∷ later)) next.progress (fine_stood plan commands turns earlier) (fine_stood plan commands turns (earlier ++ act ∷ later)) needs.2
-    (ap (λ (t : Standing). t.progress.left) moved_is ∙ k.left) (ap (λ (t : Standing). t.progress.unsent) moved_is ∙ k.unsent) on
+    (ap (λ (p : Progress). p.left) next_is ∙ k.left) (ap (λ (p : Progress). p.unsent) next_is ∙ k.unsent) on

@@ -1,24 +1,29 @@
 -- A piece on the way: what hearing what is left of it comes to.
-use Rattle.std.proofs.Common.{◌≡◌, ℕ, ◌-◌, List, [], ◌∷◌, ◌++◌, Bool, true, false, length, drop, Option, Some, None, Result, Ok, Err, OnOk, if◌then◌else◌, refl, sym, ap, ◌∙◌, subst, append_assoc}
+use Rattle.std.proofs.Common.{◌≡◌, ℕ, zero, suc, ◌+◌, ◌-◌, List, [], ◌∷◌, ◌++◌, Bool, true, false, length, drop, map, Option, Some, None, Result, Ok, Err, OnOk, refl, sym, ap, ◌∙◌, subst, append_assoc, append-nil, length-drop, arith}
 use Rattle.std.specs.List.{filter_map}
 use Rattle.std.specs.Option.{option_to_list}
 use Rattle.std.specs.Io.KnownBytes.{Appends}
+use Rattle.std.proofs.lemmas.List.{length-map}
 use Rattle.gc_lines.specs.Assembler.{Kept, StandsFor}
 use Rattle.gc_lines.specs.Frames.{line_in, rest_behind}
 use Rattle.gc_lines.specs.Passing.{completed, frames_behind}
 use Rattle.gc_lines.specs.declared.frame.Frame.{Frame}
 use Rattle.gc_lines.specs.declared.frame.Frame.TheVariants.{Line, Cleared, Overlong, More}
 use Rattle.gc_lines.proofs.Passing.{Takes}
-use Rattle.gc_client.specs.Rule.{ById, Settlement, hears, heard}
-use Rattle.gc_station.specs.Acts.{Act, Gave, Tells}
+use Rattle.gc_client.specs.declared.pending.Pending.{Pending}
+use Rattle.gc_client.specs.Rule.{ById, Windowed, Settled, Settlement, hears, heard, id_settled, settle, lost, restarts, place_in, deadlines, expires, expired}
+use Rattle.gc_station.specs.Acts.{Act, Tells}
 use Rattle.gc_station.specs.declared.link.Moment.{Moment}
-use Rattle.gc_texts.specs.declared.commands.Command.{Command}
+use Rattle.gc_station.specs.declared.mark.Mark.{Mark}
 use Rattle.gc_station.specs.declared.plan.Plan.{Plan}
 use Rattle.gc_station.specs.declared.progress.Progress.{Progress}
+use Rattle.gc_station.specs.declared.progress.Waiting.{Waiting}
 use Rattle.gc_station.specs.declared.station.Station.{Station}
-use Rattle.gc_station.specs.Records.{Record, records_from, texts_of, WritesPart, WritesAll}
-use Rattle.gc_station.specs.Standing.{Standing, place_next, line_came, lines_came, lines_behind, with_rest, with_client, with_settled, piece_came, piece_at, Obeys, moved}
-use Rattle.gc_station.specs.Stations.{Stands, Follows, read_order}
+use Rattle.gc_station.specs.Marks.{commands_in, records_of}
+use Rattle.gc_station.specs.Progressing.{noted, gave, reckoned_early}
+use Rattle.gc_station.specs.Records.{Record, texts_of, WritesPart, WritesAll}
+use Rattle.gc_station.specs.Standing.{Standing, line_came, lines_came, lines_behind, with_rest, with_progress, with_moment, waiting_of, settles, losing, piece_came}
+use Rattle.gc_station.specs.Stations.{waiting_in, Stands, Follows}
 use Rattle.gc_station.specs.Tallies.{none_yet, tallied}
 use Rattle.gc_station.proofs.Records.{tallied-append}
 
@@ -29,27 +34,28 @@ lines_split (Line line) later = refl
 lines_split Cleared later = refl
 lines_split Overlong later = refl
 
-pub lines_came-append : (plan : Plan) (commands : List Command) (s : Standing) (xs ys : List (List ℕ)) → lines_came plan commands s (xs ++ ys) ≡ lines_came plan commands (lines_came plan commands s xs) ys
-lines_came-append plan commands s [] ys = refl
-lines_came-append plan commands s (x ∷ xs) ys = lines_came-append plan commands (line_came plan commands s x) xs ys
+pub lines_came-append : (s : Standing) (xs ys : List (List ℕ)) → lines_came s (xs ++ ys) ≡ lines_came (lines_came s xs) ys
+lines_came-append s [] ys = refl
+lines_came-append s (x ∷ xs) ys = lines_came-append (line_came s x) xs ys
 
--- lines leave the rest and how far the station is
-pub lines_rest : (plan : Plan) (commands : List Command) (s : Standing) (rest : List ℕ) (lines : List (List ℕ)) → lines_came plan commands (with_rest rest s) lines ≡ with_rest rest (lines_came plan commands s lines)
-lines_rest plan commands s rest [] = refl
-lines_rest plan commands s rest (line ∷ others) = lines_rest plan commands (line_came plan commands s line) rest others
+-- lines leave the rest
+pub lines_rest : (s : Standing) (rest : List ℕ) (lines : List (List ℕ)) → lines_came (with_rest rest s) lines ≡ with_rest rest (lines_came s lines)
+lines_rest s rest [] = refl
+lines_rest s rest (line ∷ others) = lines_rest (line_came s line) rest others
 
 -- lines add records
-pub lines_records : (plan : Plan) (commands : List Command) (s : Standing) (lines : List (List ℕ)) → (more : List Record) × ((lines_came plan commands s lines).records ≡ s.records ++ more)
-lines_records plan commands s [] = ([], sym (append_nil s.records)) where
-  append_nil : (xs : List Record) → xs ++ [] ≡ xs
-  append_nil [] = refl
-  append_nil (x ∷ xs) = ap (λ ys. x ∷ ys) (append_nil xs)
-lines_records plan commands s (line ∷ others) =
-    let one = (line_came plan commands s line) in
-    let rest = lines_records plan commands one others in
+pub lines_records : (s : Standing) (lines : List (List ℕ)) → (more : List Record) × ((lines_came s lines).records ≡ s.records ++ more)
+lines_records s [] = ([], sym (append-nil s.records))
+lines_records s (line ∷ others) =
+    let rest = lines_records (line_came s line) others in
     let x = hears s.client line (heard line) in
-    let added : List Record = if s.progress.probe then [] else records_from s.progress.moment.utc (plan.cycles - s.progress.left) (place_next commands s.progress - length s.client.waiting) x.settlements in
+    let added : List Record = records_of s.progress.moment.utc s.marks x.settlements in
     (added ++ rest.0, rest.1 ∙ append_assoc s.records added rest.0)
+
+-- what is lost is written down behind the records
+pub losing_records : (b : Bool) (s : Standing) → (more : List Record) × ((losing b s).records ≡ s.records ++ more)
+losing_records true s = (records_of s.progress.moment.utc s.marks (restarts s.client).settlements, refl)
+losing_records false s = ([], sym (append-nil s.records))
 
 -- a part of some records is a part of more
 pub part_more : (text : Record → List ℕ) (records more : List Record) (old new : Option (List ℕ)) → WritesPart text records old new → WritesPart text (records ++ more) old new
@@ -64,121 +70,156 @@ part_more text records more old new w = record {
 }
 
 -- after some of a piece: hearing what is left of it comes to what hearing the whole piece comes to
-pub record Hearing (plan : Plan) (commands : List Command) (text : Record → List ℕ) (start taken : Option (List ℕ)) (station : Station) (s : Standing) (piece left : List ℕ) : Type 0 where
+pub record Hearing (text : Record → List ℕ) (start taken : Option (List ℕ)) (station : Station) (s : Standing) (piece left : List ℕ) : Type 0 where
   pub now : Standing
-  pub stands : Stands plan station now
+  pub stands : Stands station now
   pub wrote : Appends start taken (texts_of text now.records)
-  pub goes : piece_came plan commands left now ≡ piece_came plan commands piece s
+  pub goes : piece_came left now ≡ piece_came piece s
 
 -- a frame's line first, and then what is left
-pub frame_first : (plan : Plan) (commands : List Command) (s : Standing) (left later rest : List ℕ) (frame : Frame)
+pub frame_first : (s : Standing) (left later rest : List ℕ) (frame : Frame)
     → frames_behind s.rest left ≡ completed frame ++ frames_behind rest later → rest_behind s.rest left ≡ rest_behind rest later
-    → piece_came plan commands left s ≡ piece_came plan commands later (lines_came plan commands (with_rest rest s) (option_to_list (line_in frame)))
-frame_first plan commands s left later rest frame seen rests =
+    → piece_came left s ≡ piece_came later (lines_came (with_rest rest s) (option_to_list (line_in frame)))
+frame_first s left later rest frame seen rests =
     let line = option_to_list (line_in frame) in
     let lines : lines_behind s.rest left ≡ line ++ lines_behind rest later = ap (filter_map line_in) seen ∙ lines_split frame (frames_behind rest later) in
     let end = rest_behind rest later in
-    ap (λ xs. lines_came plan commands (with_rest (rest_behind s.rest left) s) xs) lines
-    ∙ ap (λ r. lines_came plan commands (with_rest r s) (line ++ lines_behind rest later)) rests
-    ∙ lines_came-append plan commands (with_rest end s) line (lines_behind rest later)
-    ∙ ap (λ x. lines_came plan commands x (lines_behind rest later)) (lines_rest plan commands (with_rest rest s) end line)
-    ∙ sym (ap (λ r. lines_came plan commands (with_rest (rest_behind r later) (lines_came plan commands (with_rest rest s) line)) (lines_behind r later)) (rest_kept rest line)) where
-      rest_kept : (rest : List ℕ) (line : List (List ℕ)) → (lines_came plan commands (with_rest rest s) line).rest ≡ rest
-      rest_kept rest line = ap (λ x. x.rest) (lines_rest plan commands s rest line)
+    ap (λ xs. lines_came (with_rest (rest_behind s.rest left) s) xs) lines
+    ∙ ap (λ r. lines_came (with_rest r s) (line ++ lines_behind rest later)) rests
+    ∙ lines_came-append (with_rest end s) line (lines_behind rest later)
+    ∙ ap (λ x. lines_came x (lines_behind rest later)) (lines_rest (with_rest rest s) end line)
+    ∙ sym (ap (λ r. lines_came (with_rest (rest_behind r later) (lines_came (with_rest rest s) line)) (lines_behind r later)) (rest_kept rest line)) where
+      rest_kept : (rest : List ℕ) (line : List (List ℕ)) → (lines_came (with_rest rest s) line).rest ≡ rest
+      rest_kept rest line = ap (λ (x : Standing). x.rest) (lines_rest s rest line)
 
 -- one more frame
-pub hearing_on : (plan : Plan) (commands : List Command) (text : Record → List ℕ) (start taken taken' : Option (List ℕ)) (station station' : Station) (s : Standing) (piece left : List ℕ) (used : ℕ) (frame : Frame) (kept : Kept)
-    → (h : Hearing plan commands text start taken station s piece left) → (t : Takes h.now.rest left used frame kept)
-    → (Stands plan station' (lines_came plan commands (with_rest t.now h.now) (option_to_list (line_in frame))) × Appends start taken' (texts_of text (lines_came plan commands (with_rest t.now h.now) (option_to_list (line_in frame))).records))
-    → Hearing plan commands text start taken' station' s piece (drop used left)
-hearing_on plan commands text start taken taken' station station' s piece left used frame kept h t more = record {
-  now = lines_came plan commands (with_rest t.now h.now) (option_to_list (line_in frame));
+pub hearing_on : (text : Record → List ℕ) (start taken taken' : Option (List ℕ)) (station station' : Station) (s : Standing) (piece left : List ℕ) (used : ℕ) (frame : Frame) (kept : Kept)
+    → (h : Hearing text start taken station s piece left) → (t : Takes h.now.rest left used frame kept)
+    → (Stands station' (lines_came (with_rest t.now h.now) (option_to_list (line_in frame))) × Appends start taken' (texts_of text (lines_came (with_rest t.now h.now) (option_to_list (line_in frame))).records))
+    → Hearing text start taken' station' s piece (drop used left)
+hearing_on text start taken taken' station station' s piece left used frame kept h t more = record {
+  now = lines_came (with_rest t.now h.now) (option_to_list (line_in frame));
   stands = more.0;
   wrote = more.1;
-  goes = sym (frame_first plan commands h.now left (drop used left) t.now frame t.seen t.rests) ∙ h.goes;
+  goes = sym (frame_first h.now left (drop used left) t.now frame t.seen t.rests) ∙ h.goes;
 }
 
 -- the book failed at a frame's line
-pub hearing_part : (plan : Plan) (commands : List Command) (text : Record → List ℕ) (start taken taken' : Option (List ℕ)) (station : Station) (s : Standing) (piece left : List ℕ) (used : ℕ) (frame : Frame) (kept : Kept)
-    → (h : Hearing plan commands text start taken station s piece left) → (t : Takes h.now.rest left used frame kept)
-    → WritesPart text (lines_came plan commands (with_rest t.now h.now) (option_to_list (line_in frame))).records start taken'
-    → WritesPart text (piece_came plan commands piece s).records start taken'
-hearing_part plan commands text start taken taken' station s piece left used frame kept h t part =
-    let mid = lines_came plan commands (with_rest t.now h.now) (option_to_list (line_in frame)) in
+pub hearing_part : (text : Record → List ℕ) (start taken taken' : Option (List ℕ)) (station : Station) (s : Standing) (piece left : List ℕ) (used : ℕ) (frame : Frame) (kept : Kept)
+    → (h : Hearing text start taken station s piece left) → (t : Takes h.now.rest left used frame kept)
+    → WritesPart text (lines_came (with_rest t.now h.now) (option_to_list (line_in frame))).records start taken'
+    → WritesPart text (piece_came piece s).records start taken'
+hearing_part text start taken taken' station s piece left used frame kept h t part =
+    let mid = lines_came (with_rest t.now h.now) (option_to_list (line_in frame)) in
     let later = drop used left in
-    let whole : piece_came plan commands later mid ≡ piece_came plan commands piece s = sym (frame_first plan commands h.now left later t.now frame t.seen t.rests) ∙ h.goes in
-    let more = lines_records plan commands (with_rest (rest_behind mid.rest later) mid) (lines_behind mid.rest later) in
-    subst (λ (rs : List Record). WritesPart text rs start taken') (sym more.1 ∙ ap (λ x. x.records) whole) (part_more text mid.records more.0 start taken' part)
+    let whole : piece_came later mid ≡ piece_came piece s = sym (frame_first h.now left later t.now frame t.seen t.rests) ∙ h.goes in
+    let more = lines_records (with_rest (rest_behind mid.rest later) mid) (lines_behind mid.rest later) in
+    subst (λ (rs : List Record). WritesPart text rs start taken') (sym more.1 ∙ ap (λ (x : Standing). x.records) whole) (part_more text mid.records more.0 start taken' part)
 
 -- nothing is left of the piece
-pub hearing_end : (plan : Plan) (commands : List Command) (text : Record → List ℕ) (start taken : Option (List ℕ)) (station : Station) (s : Standing) (piece : List ℕ)
-    → Hearing plan commands text start taken station s piece []
-    → Stands plan station (piece_came plan commands piece s) × Appends start taken (texts_of text (piece_came plan commands piece s).records)
-hearing_end plan commands text start taken station s piece h = (
-  subst (λ (x : Standing). Stands plan station x) h.goes h.stands,
+pub hearing_end : (text : Record → List ℕ) (start taken : Option (List ℕ)) (station : Station) (s : Standing) (piece : List ℕ)
+    → Hearing text start taken station s piece []
+    → Stands station (piece_came piece s) × Appends start taken (texts_of text (piece_came piece s).records)
+hearing_end text start taken station s piece h = (
+  subst (λ (x : Standing). Stands station x) h.goes h.stands,
   subst (λ (x : Standing). Appends start taken (texts_of text x.records)) h.goes h.wrote,
 )
 
--- what is written down of a line's settlements
-records_same : (plan : Plan) (commands : List Command) (p q : Progress) (c d : ById) (utc cycle place : ℕ) (xs ys : List Settlement)
-    → p ≡ q → c ≡ d → utc ≡ p.moment.utc → cycle ≡ plan.cycles - p.left → place ≡ place_next commands p - length c.waiting → xs ≡ ys
-    → (if p.probe then [] else records_from utc cycle place xs) ≡ (if q.probe then [] else records_from q.moment.utc (plan.cycles - q.left) (place_next commands q - length d.waiting) ys)
-records_same plan commands p q c d utc cycle place xs ys ep ec eu ey el ex =
-    ap (λ u. if p.probe then [] else records_from u cycle place xs) eu
-    ∙ ap (λ y. if p.probe then [] else records_from p.moment.utc y place xs) ey
-    ∙ ap (λ l. if p.probe then [] else records_from p.moment.utc (plan.cycles - p.left) l xs) el
-    ∙ ap (λ x. if p.probe then [] else records_from p.moment.utc (plan.cycles - p.left) (place_next commands p - length c.waiting) x) ex
-    ∙ ap (λ x. if p.probe then [] else records_from p.moment.utc (plan.cycles - p.left) (place_next commands p - length x.waiting) ys) ec
-    ∙ ap (λ x. if x.probe then [] else records_from x.moment.utc (plan.cycles - x.left) (place_next commands x - length d.waiting) ys) ep
+-- the rest of a station's line begins anew where it is taken up
+pub with_kept : (station : Station) (kept : Kept) (rest : List ℕ) (s : Standing) → Stands station s → StandsFor kept rest → Stands (record station { assembler = kept }) (with_rest rest s)
+with_kept station kept rest s stands is = record {
+  progress = stands.progress;
+  ids = stands.ids;
+  width = stands.width;
+  marks = stands.marks;
+  paired = stands.paired;
+  assembles = is;
+  tally = stands.tally;
+}
 
--- a station's fields, between a line and its records
+-- How many are settled, and how many marks go: as many.
+
+settle_less : (k : ℕ) (line : List ℕ) (ps : List Pending) → length ps - length (settle k line ps) ≡ length ps - (k + 1)
+settle_less k line [] = omega arith
+settle_less zero line (p ∷ ps) = omega arith
+settle_less (suc k) line (p ∷ ps) = let rest = settle_less k line ps in omega (arith, rest)
+
+-- each request that waits has a mark, once more
+abbrev pub StayPaired : List (Option Mark) → Settled ById → Type 0
+StayPaired marks x = length (drop (length x.settlements) marks) ≡ length x.client.waiting
+
+settled_paired : (marks : List (Option Mark)) (c : ById) (line : List ℕ) (k : ℕ) (b : Bool) → length marks ≡ length c.waiting → StayPaired marks (id_settled c line k b)
+settled_paired marks c line k true is =
+    let less = settle_less k line c.waiting in
+    let left = length-drop (length (settle k line c.waiting)) marks in
+    let right = length-drop (k + 1) c.waiting in
+    omega (arith, is, less, left, right)
+settled_paired marks c line k false is = is
+
+pub hears_paired : (marks : List (Option Mark)) (c : ById) (line : List ℕ) (id : Option ℕ) → length marks ≡ length c.waiting → StayPaired marks (hears c line id)
+hears_paired marks c line None is = is
+hears_paired marks c line (Some id) is = settled_paired marks c line (place_in c id) _ is
+
+pub restarts_paired : (marks : List (Option Mark)) (c : ById) → length marks ≡ length c.waiting → StayPaired marks (restarts c)
+restarts_paired marks c is =
+    let many = length-map c.waiting lost in
+    let left = length-drop (length (map lost c.waiting)) marks in
+    omega (arith, is, many, left)
+
+-- a station's fields, between what settles and its records
 pub record Between (old mid : Station) (ids : ById) : Type 0 where
   pub ids_are : mid.client.ids ≡ ids
   pub width : mid.client.width ≡ old.client.width
+  pub marks : mid.marks ≡ old.marks
   pub assembler : mid.assembler ≡ old.assembler
   pub progress : mid.progress ≡ old.progress
   pub tally : mid.tally ≡ old.tally
 
+-- what is written down there
+records_same : (old mid : Station) (s : Standing) (ids : ById) (xs ys : List Settlement) → Stands old s → Between old mid ids → xs ≡ ys
+    → records_of mid.progress.moment.utc mid.marks.items xs ≡ records_of s.progress.moment.utc s.marks ys
+records_same old mid s ids xs ys stands between e =
+    ap (λ (p : Progress). records_of p.moment.utc mid.marks.items xs) (between.progress ∙ stands.progress)
+    ∙ ap (λ (ms : List (Option Mark)). records_of s.progress.moment.utc ms xs) (ap (λ ms. ms.items) between.marks ∙ stands.marks)
+    ∙ ap (records_of s.progress.moment.utc s.marks) e
+
 -- settlements were written down, and the station went on with these ids
-pub settles_ok : (plan : Plan) (commands : List Command) (text : Record → List ℕ) (old mid new : Station) (s : Standing) (ids : ById) (xs ys : List Settlement) (utc cycle place : ℕ) (start taken' : Option (List ℕ))
-    → Stands plan old s → Between old mid ids → utc ≡ old.progress.moment.utc → cycle ≡ plan.cycles - old.progress.left → place ≡ place_next commands old.progress - length old.client.ids.waiting → xs ≡ ys
-    → Appends start taken' (texts_of text (s.records ++ (if mid.progress.probe then [] else records_from utc cycle place xs)))
-    → new ≡ record mid { tally = tallied mid.tally (if mid.progress.probe then [] else records_from utc cycle place xs) }
-    → Stands plan new (with_client ids (with_settled plan commands ys s)) × Appends start taken' (texts_of text (with_settled plan commands ys s).records)
-settles_ok plan commands text old mid new s ids xs ys utc cycle place start taken' stands between eu ey el ex wrote is =
-    let added : List Record = if mid.progress.probe then [] else records_from utc cycle place xs in
-    let same = records_same plan commands old.progress s.progress old.client.ids s.client utc cycle place xs ys stands.progress stands.ids eu ey el ex in
-    let probe : added ≡ (if old.progress.probe then [] else records_from utc cycle place xs) = ap (λ (p : Progress). if p.probe then [] else records_from utc cycle place xs) between.progress in
-    let records = probe ∙ same in (
+pub settles_ok : (text : Record → List ℕ) (old mid new : Station) (s : Standing) (x : Settled ById) (xs : List Settlement) (n : ℕ) (start taken' : Option (List ℕ))
+    → Stands old s → Between old mid x.client → xs ≡ x.settlements → n ≡ length x.settlements → StayPaired s.marks x
+    → Appends start taken' (texts_of text (s.records ++ records_of mid.progress.moment.utc mid.marks.items xs))
+    → new ≡ record mid { marks = record { items = drop n mid.marks.items }; tally = tallied mid.tally (records_of mid.progress.moment.utc mid.marks.items xs) }
+    → Stands new (settles x s) × Appends start taken' (texts_of text (settles x s).records)
+settles_ok text old mid new s x xs n start taken' stands between e many paired wrote is =
+    let added : List Record = records_of mid.progress.moment.utc mid.marks.items xs in
+    let records = records_same old mid s x.client xs x.settlements stands between e in (
       record {
         progress = ap (λ (n : Station). n.progress) is ∙ between.progress ∙ stands.progress;
         ids = ap (λ (n : Station). n.client.ids) is ∙ between.ids_are;
         width = ap (λ (n : Station). n.client.width) is ∙ between.width ∙ stands.width;
+        marks = ap (λ (n : Station). n.marks.items) is ∙ ap (λ k. drop k mid.marks.items) many ∙ ap (λ ms. drop (length x.settlements) ms) (ap (λ ms. ms.items) between.marks ∙ stands.marks);
+        paired = paired;
         assembles = subst (λ (k : Kept). StandsFor k s.rest) (sym (ap (λ (n : Station). n.assembler) is ∙ between.assembler)) stands.assembles;
         tally = ap (λ (n : Station). n.tally) is ∙ ap (λ t. tallied t added) (between.tally ∙ stands.tally) ∙ sym (tallied-append none_yet s.records added) ∙ ap (λ rs. tallied none_yet (s.records ++ rs)) records;
       },
       subst (λ (rs : List Record). Appends start taken' (texts_of text (s.records ++ rs))) records wrote,
     )
 
--- they were written down, or the book failed
-pub settles : {X E : Type 0} (plan : Plan) (commands : List Command) (text : Record → List ℕ) (old mid new : Station) (s : Standing) (ids : ById) (xs ys : List Settlement) (utc cycle place : ℕ) (start taken' : Option (List ℕ)) (result : Result X E)
-    → Stands plan old s → Between old mid ids → utc ≡ old.progress.moment.utc → cycle ≡ plan.cycles - old.progress.left → place ≡ place_next commands old.progress - length old.client.ids.waiting → xs ≡ ys
-    → WritesAll text (s.records ++ (if mid.progress.probe then [] else records_from utc cycle place xs)) start taken' result
-    → OnOk result (new ≡ record mid { tally = tallied mid.tally (if mid.progress.probe then [] else records_from utc cycle place xs) })
-    → Follows plan text new start taken' (with_client ids (with_settled plan commands ys s)) result
-settles plan commands text old mid new s ids xs ys utc cycle place start taken' (Ok x) stands between eu ey el ex wrote is =
-    settles_ok plan commands text old mid new s ids xs ys utc cycle place start taken' stands between eu ey el ex wrote is
-settles plan commands text old mid new s ids xs ys utc cycle place start taken' (Err e) stands between eu ey el ex wrote is =
-    let same = records_same plan commands old.progress s.progress old.client.ids s.client utc cycle place xs ys stands.progress stands.ids eu ey el ex in
-    let probe = ap (λ (p : Progress). if p.probe then [] else records_from utc cycle place xs) between.progress in
-    subst (λ (rs : List Record). WritesPart text (s.records ++ rs) start taken') (probe ∙ same) wrote
+-- the book failed at them
+pub settles_part : (text : Record → List ℕ) (old mid : Station) (s : Standing) (x : Settled ById) (xs : List Settlement) (start taken' : Option (List ℕ))
+    → Stands old s → Between old mid x.client → xs ≡ x.settlements
+    → WritesPart text (s.records ++ records_of mid.progress.moment.utc mid.marks.items xs) start taken'
+    → WritesPart text (settles x s).records start taken'
+settles_part text old mid s x xs start taken' stands between e wrote =
+    subst (λ (rs : List Record). WritesPart text (s.records ++ rs) start taken') (records_same old mid s x.client xs x.settlements stands between e) wrote
 
--- the book failed at a piece
-pub gave_part : (plan : Plan) (commands : List Command) (text : Record → List ℕ) (rested : Bool) (bytes : List ℕ) (m : Moment) (s : Standing) (start taken' : Option (List ℕ))
-    → WritesPart text (piece_at plan commands rested bytes m s).records start taken'
-    → Obeys commands s (read_order rested) (Gave bytes m) × WritesPart text (moved plan commands (read_order rested) s (Gave bytes m)).records start taken'
-gave_part plan commands text true bytes m s start taken' w = (tt, w)
-gave_part plan commands text false bytes m s start taken' w = (tt, w)
+-- they were written down, or the book failed
+pub settles_either : {X E : Type 0} (text : Record → List ℕ) (old mid new : Station) (s : Standing) (x : Settled ById) (xs : List Settlement) (n : ℕ) (start taken' : Option (List ℕ)) (result : Result X E)
+    → Stands old s → Between old mid x.client → xs ≡ x.settlements → n ≡ length x.settlements → StayPaired s.marks x
+    → WritesAll text (s.records ++ records_of mid.progress.moment.utc mid.marks.items xs) start taken' result
+    → OnOk result (new ≡ record mid { marks = record { items = drop n mid.marks.items }; tally = tallied mid.tally (records_of mid.progress.moment.utc mid.marks.items xs) })
+    → Follows text new start taken' (settles x s) result
+settles_either text old mid new s x xs n start taken' (Ok r) stands between e many paired wrote is = settles_ok text old mid new s x xs n start taken' stands between e many paired wrote is
+settles_either text old mid new s x xs n start taken' (Err r) stands between e many paired wrote is = settles_part text old mid s x xs start taken' stands between e wrote
 
 -- acts, and then more
 pub tells_more : (a b c : Option (List Act)) (xs ys : List Act) → Tells a b xs → Tells b c ys → Tells a c (xs ++ ys)
@@ -186,3 +227,42 @@ tells_more None b c xs ys p q = tt
 tells_more (Some a) None c xs ys p q = absurd p
 tells_more (Some a) (Some b) None xs ys p q = absurd q
 tells_more (Some a) (Some b) (Some c) xs ys p q = q ∙ ap (λ zs. zs ++ ys) p ∙ append_assoc a xs ys
+
+-- a line was noted
+pub with_noted : (mid : Station) (p : Progress) (b b' : Bool) (s : Standing) → Stands mid s → b ≡ b' → p ≡ noted b mid.progress → Stands (record mid { progress = p }) (with_progress (noted b') s)
+with_noted mid p b b' s stands e is = record {
+  progress = is ∙ ap (λ t. noted t mid.progress) e ∙ ap (noted b') stands.progress;
+  ids = stands.ids;
+  width = stands.width;
+  marks = stands.marks;
+  paired = stands.paired;
+  assembles = stands.assembles;
+  tally = stands.tally;
+}
+
+-- requests were given up at a moment
+pub stands_expired : (station : Station) (p q : Progress) (client : Windowed) (m : Moment) (s : Standing) → Stands station s → p ≡ q → client ≡ record station.client { ids = expires station.client.ids m.elapsed }
+    → Stands (record station { progress = p; client = client }) (with_moment m (with_progress (λ x. q) s))
+stands_expired station p q client m s stands e is = record {
+  progress = e;
+  ids = ap (λ (w : Windowed). w.ids) is ∙ ap (λ ids. expires ids m.elapsed) stands.ids;
+  width = ap (λ (w : Windowed). w.width) is ∙ stands.width;
+  marks = stands.marks;
+  paired = stands.paired ∙ sym (length-map s.client.waiting (expired m.elapsed));
+  assembles = stands.assembles;
+  tally = stands.tally;
+}
+
+-- how many wait
+pub waiting_same : (station : Station) (s : Standing) → Stands station s → waiting_in station ≡ waiting_of s
+waiting_same station s stands =
+    ap (λ (c : ById). waiting_with c.waiting station.marks.items) stands.ids ∙ ap (waiting_with s.client.waiting) stands.marks where
+      waiting_with : List Pending → List (Option Mark) → Waiting
+      waiting_with waiting marks = record { all = length waiting; current = length (deadlines waiting); commands = commands_in marks }
+
+-- how far a station is once it heard a piece
+pub reckoned_same : (plan : Plan) (rested : Bool) (b b' : ℕ) (w w' : Waiting) (p p' : Progress) → b ≡ b' → w ≡ w' → p ≡ p'
+    → reckoned_early plan w.commands (gave plan rested b w p) ≡ reckoned_early plan w'.commands (gave plan rested b' w' p')
+reckoned_same plan rested b b' w w' p p' eb ew ep =
+    ap (λ x. reckoned_early plan w.commands (gave plan rested x w p)) eb ∙ ap (λ (x : Waiting). reckoned_early plan x.commands (gave plan rested b' x p)) ew
+    ∙ ap (λ x. reckoned_early plan w'.commands (gave plan rested b' w' x)) ep

@@ -1,19 +1,31 @@
+pub mod Acting
 mod Answers
+pub mod Beginning
+mod Beginnings
+pub mod Booking
 mod Closings
 mod Counts
-mod Each
-mod EachRun
-mod Facts
-mod Fine
+mod Drains
+pub mod Each
+pub mod EachRun
+pub mod Facts
+pub mod Fine
+pub mod Following
 mod Further
+mod Givens
 mod Going
-mod Hearing
+pub mod Hearing
 mod Lists
+pub mod Lone
+mod Losing
+pub mod Meant
 mod Meets
+pub mod Midway
 mod Orders
+pub mod Parting
 mod Pieces
-mod Probing
+pub mod Probing
+mod Quiets
 mod Records
-mod Sides
 mod Turns
 mod Waiting

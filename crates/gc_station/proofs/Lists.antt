@@ -1,5 +1,5 @@
--- Lists: what each of a list is, alone, with where it stands, or by its place.
-use Rattle.std.proofs.Common.{◌≡◌, ℕ, zero, suc, ◌+◌, ◌<◌, List, [], ◌∷◌, ◌++◌, length, drop, map, sym, ◌∙◌, subst, arith, append_assoc}
+-- Lists: what each of a list is, alone, with where it stands, or by its place and beside one of another list; and lists cut at an element.
+use Rattle.std.proofs.Common.{◌≡◌, ℕ, zero, suc, ◌+◌, ◌<◌, ◌≤◌, List, [], ◌∷◌, ◌++◌, length, drop, map, refl, sym, ap, ◌∙◌, subst, arith, append_assoc}
 use Rattle.std.specs.List.{AllByRecursion}
 
 pub all_append : {A : Type 0} (P : A → Type 0) (xs ys : List A) → AllByRecursion P xs → AllByRecursion P ys → AllByRecursion P (xs ++ ys)
@@ -15,32 +15,128 @@ pub all_split : {A : Type 0} (P Q : A → Type 0) (front xs all : List A) → fr
 all_split P Q front [] all e step p = tt
 all_split P Q front (x ∷ xs) all e step p = (step front x xs e p.0, all_split P Q (front ++ x ∷ []) xs all (append_assoc front (x ∷ []) xs ∙ e) step p.1)
 
--- all of a list, with their places, the first of which is this
-abbrev pub AllAt : {A : Type 0} → (ℕ → A → Type 0) → ℕ → List A → Type 0
-AllAt P k [] = Unit {0}
-AllAt P k (x ∷ xs) = P k x × AllAt P (suc k) xs
+-- all of a list, each beside one of another list where there is one, with their places, the first of which is this
+abbrev pub AllAt : {A B : Type 0} → (ℕ → A → B → Type 0) → ℕ → List A → List B → Type 0
+AllAt P k [] ys = Unit {0}
+AllAt P k (x ∷ xs) [] = Unit {0}
+AllAt P k (x ∷ xs) (y ∷ ys) = P k x y × AllAt P (suc k) xs ys
+
+-- all of a list, each beside one of another list, with their places, the first of which is this; and each with a number, which is at least
+-- this, and higher than those before it
+abbrev pub Rows : {A B : Type 0} → (ℕ → ℕ → A → B → Type 0) → ℕ → ℕ → List A → List B → Type 0
+Rows P low k [] ys = Unit {0}
+Rows P low k (x ∷ xs) [] = ⊥
+Rows P low k (x ∷ xs) (y ∷ ys) = (n : ℕ) × (low ≤ n) × P n k x y × Rows P (suc n) (suc k) xs ys
+
+-- the numbers may be higher
+pub rows_from : {A B : Type 0} (P : ℕ → ℕ → A → B → Type 0) (low high k : ℕ) (xs : List A) (ys : List B) → low ≤ high → Rows P high k xs ys → Rows P low k xs ys
+rows_from P low high k [] ys le p = tt
+rows_from P low high k (x ∷ xs) [] le p = absurd p
+rows_from P low high k (x ∷ xs) (y ∷ ys) le p = let from : low ≤ p.0 = omega (arith, le, p.1) in (p.0, from, p.2, p.3)
 
 -- where what is said changes
-pub at_same : {A : Type 0} (P Q : ℕ → A → Type 0) (k : ℕ) (xs : List A) → ((j : ℕ) (x : A) → j < k + length xs → P j x → Q j x) → AllAt P k xs → AllAt Q k xs
-at_same P Q k [] step p = tt
-at_same P Q k (x ∷ xs) step p = (step k x (omega arith) p.0, at_same P Q (suc k) xs (λ j y low. step j y (omega (arith, low))) p.1)
+pub rows_same : {A B : Type 0} (P Q : ℕ → ℕ → A → B → Type 0) (low k : ℕ) (xs : List A) (ys : List B) → ((n j : ℕ) (x : A) (y : B) → P n j x y → Q n j x y) → Rows P low k xs ys → Rows Q low k xs ys
+rows_same P Q low k [] ys step p = tt
+rows_same P Q low k (x ∷ xs) [] step p = absurd p
+rows_same P Q low k (x ∷ xs) (y ∷ ys) step p = (p.0, p.1, step p.0 k x y p.2, rows_same P Q (suc p.0) (suc k) xs ys step p.3)
 
 -- and their places
-pub at_on : {A : Type 0} (P Q : ℕ → A → Type 0) (n k : ℕ) (xs : List A) → ((j : ℕ) (x : A) → j < k + length xs → P (n + j) x → Q j x) → AllAt P (n + k) xs → AllAt Q k xs
-at_on P Q n k [] step p = tt
-at_on P Q n k (x ∷ xs) step p =
-    let next : suc (n + k) ≡ n + suc k = omega arith in
-    (step k x (omega arith) p.0, at_on P Q n (suc k) xs (λ j y low. step j y (omega (arith, low))) (subst (λ (i : ℕ). AllAt P i xs) next p.1))
+pub rows_on : {A B : Type 0} (P Q : ℕ → ℕ → A → B → Type 0) (d low k : ℕ) (xs : List A) (ys : List B) → ((n j : ℕ) (x : A) (y : B) → j < k + length xs → P n (d + j) x y → Q n j x y) → Rows P low (d + k) xs ys → Rows Q low k xs ys
+rows_on P Q d low k [] ys step p = tt
+rows_on P Q d low k (x ∷ xs) [] step p = absurd p
+rows_on P Q d low k (x ∷ xs) (y ∷ ys) step p =
+    let next : suc (d + k) ≡ d + suc k = omega arith in
+    (p.0, p.1, step p.0 k x y (omega arith) p.2, rows_on P Q d (suc p.0) (suc k) xs ys (λ n j a b below. step n j a b (omega (arith, below))) (subst (λ (i : ℕ). Rows P (suc p.0) i xs ys) next p.3))
 
-pub at_map : {A B : Type 0} (P : ℕ → A → Type 0) (Q : ℕ → B → Type 0) (f : A → B) (k : ℕ) (xs : List A) → ((j : ℕ) (x : A) → P j x → Q j (f x)) → AllAt P k xs → AllAt Q k (map f xs)
-at_map P Q f k [] step p = tt
-at_map P Q f k (x ∷ xs) step p = (step k x p.0, at_map P Q f (suc k) xs step p.1)
+pub rows_map : {A B C : Type 0} (P : ℕ → ℕ → A → C → Type 0) (Q : ℕ → ℕ → B → C → Type 0) (f : A → B) (low k : ℕ) (xs : List A) (ys : List C) → ((n j : ℕ) (x : A) (y : C) → j < k + length xs → P n j x y → Q n j (f x) y)
+    → Rows P low k xs ys → Rows Q low k (map f xs) ys
+rows_map P Q f low k [] ys step p = tt
+rows_map P Q f low k (x ∷ xs) [] step p = absurd p
+rows_map P Q f low k (x ∷ xs) (y ∷ ys) step p = (p.0, p.1, step p.0 k x y (omega arith) p.2, rows_map P Q f (suc p.0) (suc k) xs ys (λ n j a b below. step n j a b (omega (arith, below))) p.3)
 
-pub at_drop : {A : Type 0} (P : ℕ → A → Type 0) (n k : ℕ) (xs : List A) → AllAt P k xs → AllAt P (n + k) (drop n xs)
-at_drop P zero k xs p = let here : 0 + k ≡ k = omega arith in subst (λ (i : ℕ). AllAt P i xs) (sym here) p
-at_drop P (suc n) k [] p = tt
-at_drop P (suc n) k (x ∷ xs) p = let next : n + suc k ≡ suc n + k = omega arith in subst (λ (i : ℕ). AllAt P i (drop n xs)) next (at_drop P n (suc k) xs p.1)
+pub rows_drop : {A B : Type 0} (P : ℕ → ℕ → A → B → Type 0) (d low k : ℕ) (xs : List A) (ys : List B) → Rows P low k xs ys → Rows P low (d + k) (drop d xs) (drop d ys)
+rows_drop P zero low k xs ys p = let here : 0 + k ≡ k = omega arith in subst (λ (i : ℕ). Rows P low i xs ys) (sym here) p
+rows_drop P (suc d) low k [] ys p = tt
+rows_drop P (suc d) low k (x ∷ xs) [] p = absurd p
+rows_drop P (suc d) low k (x ∷ xs) (y ∷ ys) p =
+    let next : d + suc k ≡ suc d + k = omega arith in
+    let from : low ≤ suc p.0 = omega (arith, p.1) in
+    rows_from P low (suc p.0) (suc d + k) (drop d xs) (drop d ys) from (subst (λ (i : ℕ). Rows P (suc p.0) i (drop d xs) (drop d ys)) next (rows_drop P d (suc p.0) (suc k) xs ys p.3))
 
-pub at_more : {A : Type 0} (P : ℕ → A → Type 0) (k n : ℕ) (xs : List A) (y : A) → n ≡ k + length xs → AllAt P k xs → P n y → AllAt P k (xs ++ y ∷ [])
-at_more P k n [] y is p last = let here : n ≡ k = omega (arith, is) in (subst (λ (i : ℕ). P i y) here last, tt)
-at_more P k n (x ∷ xs) y is p last = let next : n ≡ suc k + length xs = omega (arith, is) in (p.0, at_more P (suc k) n xs y next p.1 last)
+-- and one more at both ends, of a number above the others
+pub rows_more : {A B : Type 0} (P Q : ℕ → ℕ → A → B → Type 0) (low k last place : ℕ) (xs : List A) (ys : List B) (x : A) (y : B) → place ≡ k + length xs → length ys ≡ length xs → low ≤ last
+    → ((n j : ℕ) (a : A) (b : B) → j < k + length xs → P n j a b → (n < last) × Q n j a b) → Rows P low k xs ys → Q last place x y → Rows Q low k (xs ++ x ∷ []) (ys ++ y ∷ [])
+rows_more P Q low k last place [] [] x y is same from step p one = let here : place ≡ k = omega (arith, is) in (last, from, subst (λ (i : ℕ). Q last i x y) here one, tt)
+rows_more P Q low k last place [] (b ∷ ys) x y is same from step p one = absurd (omega (arith, same))
+rows_more P Q low k last place (a ∷ xs) [] x y is same from step p one = absurd p
+rows_more P Q low k last place (a ∷ xs) (b ∷ ys) x y is same from step p one =
+    let next : place ≡ suc k + length xs = omega (arith, is) in
+    let fewer : length ys ≡ length xs = omega (arith, same) in
+    let here = step p.0 k a b (omega arith) p.2 in
+    let above : suc p.0 ≤ last = omega (arith, here.0) in
+    (p.0, p.1, here.1, rows_more P Q (suc p.0) (suc k) last place xs ys x y next fewer above (λ n j c d below. step n j c d (omega (arith, below))) p.3 one)
+
+-- the one at a place
+pub record RowAt {A B : Type 0} (P : ℕ → ℕ → A → B → Type 0) (low place : ℕ) : Type 0 where
+  pub number : ℕ
+  pub least : low ≤ number
+  pub one : A
+  pub beside : B
+  pub holds : P number place one beside
+
+pub row_at : {A B : Type 0} (P : ℕ → ℕ → A → B → Type 0) (low k j place : ℕ) (xs : List A) (ys : List B) → place ≡ k + j → j < length xs → Rows P low k xs ys → RowAt P low place
+row_at P low k j place [] ys is below p = absurd (omega (arith, below))
+row_at P low k j place (x ∷ xs) [] is below p = absurd p
+row_at P low k zero place (x ∷ xs) (y ∷ ys) is below p = let here : k ≡ place = omega (arith, is) in record { number = p.0; least = p.1; one = x; beside = y; holds = subst (λ (i : ℕ). P p.0 i x y) here p.2 }
+row_at P low k (suc j) place (x ∷ xs) (y ∷ ys) is below p =
+    let next : place ≡ suc k + j = omega (arith, is) in
+    let low_next : j < length xs = omega (arith, below) in
+    let found = row_at P (suc p.0) (suc k) j place xs ys next low_next p.3 in
+    let from : low ≤ found.number = omega (arith, p.1, found.least) in
+    record { number = found.number; least = from; one = found.one; beside = found.beside; holds = found.holds }
+
+-- all of a list, and each beside it without a number
+pub rows_all : {A B C : Type 0} (P : ℕ → ℕ → A → B → Type 0) (Q : ℕ → C → B → Type 0) (f : A → C) (low k : ℕ) (xs : List A) (ys : List B) → ((n j : ℕ) (x : A) (y : B) → P n j x y → Q j (f x) y) → Rows P low k xs ys → AllAt Q k (map f xs) ys
+rows_all P Q f low k [] ys step p = tt
+rows_all P Q f low k (x ∷ xs) [] step p = tt
+rows_all P Q f low k (x ∷ xs) (y ∷ ys) step p = (step p.0 k x y p.2, rows_all P Q f (suc p.0) (suc k) xs ys step p.3)
+
+-- Lists cut at an element.
+
+-- of two cuts of a list, the longer front goes on behind the element of the shorter one
+pub record CutsOn {A : Type 0} (front behind longer : List A) (x y : A) (rest : List A) : Type 0 where
+  pub between : List A
+  pub goes_on : longer ≡ front ++ x ∷ between
+  pub splits : behind ≡ between ++ y ∷ rest
+
+pub cuts_on : {A : Type 0} (front longer behind rest : List A) (x y : A) → front ++ x ∷ behind ≡ longer ++ y ∷ rest → length front < length longer → CutsOn front behind longer x y rest
+cuts_on [] [] behind rest x y e low = absurd (omega (arith, low))
+cuts_on [] (b ∷ longer) behind rest x y e low = let head : x ≡ b = cc in let others : behind ≡ longer ++ y ∷ rest = cc in record { between = longer; goes_on = ap (λ z. z ∷ longer) (sym head); splits = others }
+cuts_on (a ∷ front) [] behind rest x y e low = absurd (omega (arith, low))
+cuts_on (a ∷ front) (b ∷ longer) behind rest x y e low =
+    let head : a ≡ b = cc in
+    let others : front ++ x ∷ behind ≡ longer ++ y ∷ rest = cc in
+    let fewer : length front < length longer = omega (arith, low) in
+    let on = cuts_on front longer behind rest x y others fewer in
+    record { between = on.between; goes_on = ap (λ z. z ∷ longer) (sym head) ∙ ap (λ zs. a ∷ zs) on.goes_on; splits = on.splits }
+
+-- a list with one more at its end, cut at an element: at that one, or before it
+pub data Cut {A : Type 0} (xs : List A) (last : A) (front behind : List A) (x : A) : Type 0 where
+  AtEnd : (same : xs ≡ front) → Cut xs last front behind x
+  Before : (between : List A) → (at : xs ≡ front ++ x ∷ between) → (rest : behind ≡ between ++ last ∷ []) → Cut xs last front behind x
+
+pub cut_at : {A : Type 0} (xs front behind : List A) (last x : A) → xs ++ last ∷ [] ≡ front ++ x ∷ behind → Cut xs last front behind x
+cut_at [] [] behind last x e = AtEnd refl
+cut_at [] (b ∷ []) behind last x e = cc
+cut_at [] (b ∷ c ∷ front) behind last x e = cc
+cut_at (a ∷ xs) [] behind last x e = let head : a ≡ x = cc in let others : xs ++ last ∷ [] ≡ behind = cc in Before xs (ap (λ z. z ∷ xs) head) (sym others)
+cut_at (a ∷ xs) (b ∷ front) behind last x e = on (cut_at xs front behind last x others) where
+  head : a ≡ b
+  head = cc
+
+  others : xs ++ last ∷ [] ≡ front ++ x ∷ behind
+  others = cc
+
+  on : Cut xs last front behind x → Cut (a ∷ xs) last (b ∷ front) behind x
+  on (AtEnd same) = AtEnd (ap (λ z. z ∷ xs) head ∙ ap (λ zs. b ∷ zs) same)
+  on (Before between at rest) = Before between (ap (λ z. z ∷ xs) head ∙ ap (λ zs. b ∷ zs) at) rest

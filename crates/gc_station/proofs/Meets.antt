@@ -3,91 +3,150 @@ use Rattle.std.proofs.Common.{◌≡◌, ℕ, zero, suc, ◌+◌, ◌-◌, ◌<�
 use Rattle.std.specs.List.{AllByRecursion}
 use Rattle.std.proofs.lemmas.Bool.{ltb-true}
 use Rattle.std.proofs.lemmas.List.{length-drop}
-use Rattle.gc_catalogue.specs.declared.call.Call.{Call}
 use Rattle.gc_client.specs.declared.pending.Pending.{Pending}
+use Rattle.gc_client.specs.Ids
 use Rattle.gc_client.specs.Ids.{id_at, IsWindow}
-use Rattle.gc_client.specs.Rule.{ById, Settlement, Answered, Late, place_in, met, settle, hears, id_settled}
+use Rattle.gc_client.specs.Rule.{ById, Settlement, Settled, Answered, Late, Lost, place_in, met, settle, hears, id_settled}
 use Rattle.gc_client.proofs.Digits.{settling}
 use Rattle.gc_texts.specs.declared.commands.Command.{Command}
+use Rattle.gc_station.specs.declared.mark.Mark.{Mark}
 use Rattle.gc_station.specs.declared.plan.Plan.{Plan}
 use Rattle.gc_station.specs.Acts.{Act}
-use Rattle.gc_station.specs.Records.{Record, records_from}
-use Rattle.gc_station.proofs.Lists.{AllAt, at_on, at_drop}
-use Rattle.gc_station.proofs.Waiting.{WaitsAt, sent_as}
+use Rattle.gc_station.specs.Marks.{record_of, records_of}
+use Rattle.gc_station.specs.Records.{Record}
+use Rattle.gc_station.proofs.Lists.{AllAt, Rows, RowAt, rows_on, rows_drop, row_at}
+use Rattle.gc_station.proofs.Waiting.{StayedAt, WaitsAt, asked_as}
 
--- an answer is of this line, and of the request that waits at this place and isn't given up, whose id the line has
-pub record MetBy (P : ℕ → Pending → Type 0) (c : ById) (o : Option ℕ) (line l : List ℕ) (j : ℕ) (call : Call) : Type 0 where
-  pub same : l ≡ line
-  pub pending : Pending
-  pub holds : P j pending
-  pub stays : pending.given_up ≡ false
-  pub asks : pending.call ≡ call
+-- the id that was heard has this place
+pub record HasPlace (c : ById) (o : Option ℕ) (at : ℕ) : Type 0 where
   pub id : ℕ
   pub has : o ≡ Some id
-  pub at : j ≡ place_in c id
+  pub is : at ≡ place_in c id
 
-abbrev pub IsMet : (ℕ → Pending → Type 0) → ById → Option ℕ → List ℕ → ℕ → Settlement → Type 0
-IsMet P c o line j x = (l : List ℕ) → x.outcome ≡ Answered l → MetBy P c o line l j x.call
+-- behind the request of this number and place another one waits, whose id was heard
+pub record Overtakes (P : ℕ → ℕ → Pending → Option Mark → Type 0) (c : ById) (o : Option ℕ) (number at : ℕ) : Type 0 where
+  pub place : ℕ
+  pub above : at < place
+  pub found : RowAt P (suc number) place
+  pub heard : HasPlace c o place
 
-pub met_met : (P : ℕ → Pending → Type 0) (c : ById) (o : Option ℕ) (line : List ℕ) (id j : ℕ) (p : Pending) → o ≡ Some id → j ≡ place_in c id → P j p → IsMet P c o line j (met p line)
-met_met P c o line id j p has at holds l e = by_test p.given_up refl e where
-  by_test : (b : Bool) → p.given_up ≡ b → (if b then Late else Answered line) ≡ Answered l → MetBy P c o line l j p.call
-  by_test true is e = cc
-  by_test false is e = let same : l ≡ line = cc in record { same = same; pending = p; holds = holds; stays = is; asks = refl; id = id; has = has; at = at }
+-- a settlement is of the request that waits at this place, with this mark. An answer is of this line, and the request isn't given up; a
+-- late one is; the id that was heard is its own; and where it is lost, it is that of one behind it
+pub record EndedBy (P : ℕ → ℕ → Pending → Option Mark → Type 0) (c : ById) (o : Option ℕ) (line : List ℕ) (at : ℕ) (x : Settlement) (mark : Option Mark) : Type 0 where
+  pub number : ℕ
+  pub pending : Pending
+  pub holds : P number at pending mark
+  pub asks : pending.call ≡ x.call
+  pub answered : (l : List ℕ) → x.outcome ≡ Answered l → (l ≡ line) × (pending.given_up ≡ false) × HasPlace c o at
+  pub late : x.outcome ≡ Late → (pending.given_up ≡ true) × HasPlace c o at
+  pub lost : x.outcome ≡ Lost → Overtakes P c o number at
 
-pub settle_met : (P : ℕ → Pending → Type 0) (c : ById) (o : Option ℕ) (line : List ℕ) (id there k j : ℕ) (ps : List Pending) → o ≡ Some id → there ≡ place_in c id → k + j ≡ there → AllAt P j ps → AllAt (IsMet P c o line) j (settle k line ps)
-settle_met P c o line id there k j [] has is at all = tt
-settle_met P c o line id there zero j (p ∷ ps) has is at all = let here : j ≡ there = omega (arith, at) in (met_met P c o line id j p has (here ∙ is) all.0, tt)
-settle_met P c o line id there (suc k) j (p ∷ ps) has is at all = let next : k + suc j ≡ there = omega (arith, at) in (λ l e. cc, settle_met P c o line id there k (suc j) ps has is next all.1)
+met_answered : (b : Bool) (line l : List ℕ) → (if b then Late else Answered line) ≡ Answered l → (l ≡ line) × (b ≡ false)
+met_answered true line l e = cc
+met_answered false line l e = let same : l ≡ line = cc in (same, refl)
 
-pub heard_met : (P : ℕ → Pending → Type 0) (c : ById) (line : List ℕ) (o : Option ℕ) → AllAt P 0 c.waiting → AllAt (IsMet P c o line) 0 (hears c line o).settlements
-heard_met P c line None all = tt
-heard_met P c line (Some id) all = by_test (place_in c id) refl (nat_lt (place_in c id) (length c.waiting)) where
-  by_test : (k : ℕ) → k ≡ place_in c id → (b : Bool) → AllAt (IsMet P c (Some id) line) 0 (id_settled c line k b).settlements
-  by_test k is true = let at : k + 0 ≡ k = omega arith in settle_met P c (Some id) line id k k 0 c.waiting refl is at all
-  by_test k is false = tt
+met_late : (b : Bool) (line : List ℕ) → (if b then Late else Answered line) ≡ Late → b ≡ true
+met_late true line e = refl
+met_late false line e = cc
 
--- the requests that a line leaves
-pub record Left (c d : ById) : Type 0 where
+met_lost : (b : Bool) (line : List ℕ) → (if b then Late else Answered line) ≡ Lost → ⊥
+met_lost true line e = cc
+met_lost false line e = cc
+
+met_ended : (P : ℕ → ℕ → Pending → Option Mark → Type 0) (c : ById) (o : Option ℕ) (line : List ℕ) (number at : ℕ) (p : Pending) (mark : Option Mark) → HasPlace c o at → P number at p mark → EndedBy P c o line at (met p line) mark
+met_ended P c o line number at p mark place holds = record {
+  number = number;
+  pending = p;
+  holds = holds;
+  asks = refl;
+  answered = λ l e. let it = met_answered p.given_up line l e in (it.0, it.1, place);
+  late = λ e. (met_late p.given_up line e, place);
+  lost = λ e. absurd (met_lost p.given_up line e);
+}
+
+settle_ended : (P : ℕ → ℕ → Pending → Option Mark → Type 0) (c : ById) (o : Option ℕ) (line : List ℕ) (there low k at : ℕ) (ps : List Pending) (marks : List (Option Mark)) → HasPlace c o there → there ≡ k + at → k < length ps
+    → Rows P low at ps marks → AllAt (EndedBy P c o line) at (settle k line ps) marks
+settle_ended P c o line there low k at [] marks has is below all = absurd (omega (arith, below))
+settle_ended P c o line there low k at (p ∷ ps) [] has is below all = absurd all
+settle_ended P c o line there low zero at (p ∷ ps) (mark ∷ marks) has is below all =
+    let here : there ≡ at = omega (arith, is) in (met_ended P c o line all.0 at p mark (subst (λ (i : ℕ). HasPlace c o i) here has) all.2, tt)
+settle_ended P c o line there low (suc k) at (p ∷ ps) (mark ∷ marks) has is below all =
+    let next : there ≡ k + suc at = omega (arith, is) in
+    let seen : there ≡ suc at + k = omega (arith, is) in
+    let fewer : k < length ps = omega (arith, below) in
+    let above : at < there = omega (arith, is) in (
+      record {
+        number = all.0;
+        pending = p;
+        holds = all.2;
+        asks = refl;
+        answered = λ l e. cc;
+        late = λ e. cc;
+        lost = λ e. record { place = there; above = above; found = row_at P (suc all.0) (suc at) k there ps marks seen fewer all.3; heard = has };
+      },
+      settle_ended P c o line there (suc all.0) k (suc at) ps marks has next fewer all.3,
+    )
+
+pub heard_ended : (P : ℕ → ℕ → Pending → Option Mark → Type 0) (c : ById) (marks : List (Option Mark)) (line : List ℕ) (o : Option ℕ) → Rows P 0 0 c.waiting marks → AllAt (EndedBy P c o line) 0 (hears c line o).settlements marks
+heard_ended P c marks line None all = tt
+heard_ended P c marks line (Some id) all = by_test (place_in c id) refl (nat_lt (place_in c id) (length c.waiting)) refl where
+  by_test : (k : ℕ) → k ≡ place_in c id → (b : Bool) → nat_lt (place_in c id) (length c.waiting) ≡ b → AllAt (EndedBy P c (Some id) line) 0 (id_settled c line k b).settlements marks
+  by_test k is true fits =
+      let at : k ≡ k + 0 = omega arith in
+      let there = ltb-true (place_in c id) (length c.waiting) fits in
+      let below : k < length c.waiting = omega (arith, is, there) in
+      settle_ended P c (Some id) line k 0 k 0 c.waiting marks (record { id = id; has = refl; is = is }) at below all
+  by_test k is false fits = tt
+
+-- the requests that a line leaves: all but the oldest, as many as it settled
+pub record Left (c : ById) (x : Settled ById) : Type 0 where
   pub count : ℕ
   pub enough : count ≤ length c.waiting
-  pub next : d.next ≡ c.next
-  pub waiting : d.waiting ≡ drop count c.waiting
+  pub next : x.client.next ≡ c.next
+  pub waiting : x.client.waiting ≡ drop count c.waiting
+  pub settled : length x.settlements ≡ count
 
-pub heard_left : (c : ById) (line : List ℕ) (o : Option ℕ) → Left c (hears c line o).client
-heard_left c line None = record { count = 0; enough = omega arith; next = refl; waiting = refl }
+settle_length : (k : ℕ) (line : List ℕ) (ps : List Pending) → k < length ps → length (settle k line ps) ≡ k + 1
+settle_length k line [] low = absurd (omega (arith, low))
+settle_length zero line (p ∷ ps) low = refl
+settle_length (suc k) line (p ∷ ps) low = let rest = settle_length k line ps (omega (arith, low)) in omega (arith, rest)
+
+pub heard_left : (c : ById) (line : List ℕ) (o : Option ℕ) → Left c (hears c line o)
+heard_left c line None = record { count = 0; enough = omega arith; next = refl; waiting = refl; settled = refl }
 heard_left c line (Some id) = by_test (place_in c id) (nat_lt (place_in c id) (length c.waiting)) refl where
-  by_test : (k : ℕ) (b : Bool) → nat_lt k (length c.waiting) ≡ b → Left c (id_settled c line k b).client
-  by_test k true fits = let low = ltb-true k (length c.waiting) fits in record { count = k + 1; enough = omega (arith, low); next = refl; waiting = refl }
-  by_test k false fits = record { count = 0; enough = omega arith; next = refl; waiting = refl }
+  by_test : (k : ℕ) (b : Bool) → nat_lt k (length c.waiting) ≡ b → Left c (id_settled c line k b)
+  by_test k true fits = let low = ltb-true k (length c.waiting) fits in record { count = k + 1; enough = omega (arith, low); next = refl; waiting = refl; settled = settle_length k line c.waiting low }
+  by_test k false fits = record { count = 0; enough = omega arith; next = refl; waiting = refl; settled = refl }
 
-pub left_count : (c d : ById) (l : Left c d) → length d.waiting ≡ length c.waiting - l.count
-left_count c d l = ap length l.waiting ∙ length-drop l.count c.waiting
+pub left_count : (c : ById) (x : Settled ById) (l : Left c x) → length x.client.waiting ≡ length c.waiting - l.count
+left_count c x l = ap length l.waiting ∙ length-drop l.count c.waiting
 
-pub left_waits : (plan : Plan) (commands : List Command) (turns : ℕ) (acts : List Act) (m cycle place : ℕ) (c d : ById) → Left c d → IsWindow c → length c.waiting ≤ place
-    → AllAt (WaitsAt plan commands turns acts m cycle (place - length c.waiting) c.next (length c.waiting)) 0 c.waiting
-    → AllAt (WaitsAt plan commands turns acts m cycle (place - length d.waiting) d.next (length d.waiting)) 0 d.waiting
-left_waits plan commands turns acts m cycle place c d l w within all =
+pub left_window : (c : ById) (x : Settled ById) → Left c x → IsWindow c → IsWindow x.client
+left_window c x l w = let many = left_count c x l in record { digit = subst (λ (n : ℕ). n < 8) (sym l.next) w.digit; few = omega (arith, many, w.few) }
+
+pub left_waits : (plan : Plan) (commands : List Command) (turns : ℕ) (acts : List Act) (first : ById) (now : ℕ) (c : ById) (x : Settled ById) (marks : List (Option Mark)) → Left c x → IsWindow c
+    → Rows (WaitsAt plan commands turns acts first now c.next (length c.waiting)) 0 0 c.waiting marks
+    → Rows (WaitsAt plan commands turns acts first now x.client.next (length x.client.waiting)) 0 0 x.client.waiting (drop (length x.settlements) marks)
+left_waits plan commands turns acts first now c x marks l w all =
     let n = l.count in
-    let none : n + 0 ≡ n = omega arith in
-    let W = WaitsAt plan commands turns acts m cycle (place - length c.waiting) c.next (length c.waiting) in
-    let dropped = at_drop W n 0 c.waiting all in
-    let there = subst (λ (ps : List Pending). AllAt W (n + 0) ps) (sym l.waiting) dropped in
-    at_on W (WaitsAt plan commands turns acts m cycle (place - length d.waiting) d.next (length d.waiting)) n 0 d.waiting
-    (λ j p low wait given.
-    let it = wait given in
-    let many = left_count c d l in
+    let d = x.client in
+    let W = WaitsAt plan commands turns acts first now c.next (length c.waiting) in
+    let dropped = rows_drop W n 0 0 c.waiting marks all in
+    let there = subst (λ (ps : List Pending). Rows W 0 (n + 0) ps (drop n marks)) (sym l.waiting) dropped in
+    let marked = subst (λ (k : ℕ). Rows W 0 (n + 0) d.waiting (drop k marks)) (sym l.settled) there in
+    rows_on W (WaitsAt plan commands turns acts first now d.next (length d.waiting)) n 0 0 d.waiting (drop (length x.settlements) marks)
+    (λ number j p mark low wait.
+    let many = left_count c x l in
     let enough = l.enough in
     let below : n + j < length c.waiting = omega (arith, low, many) in
-    let places : (place - length d.waiting) + j ≡ (place - length c.waiting) + (n + j) = omega (arith, many, enough, within) in
     let ids : id_at d.next (length d.waiting) j ≡ id_at c.next (length c.waiting) (n + j) =
-    ap (λ (x : ℕ). id_at x (length d.waiting) j) l.next ∙ ap (λ (x : ℕ). id_at c.next x j) many ∙ settling c.next (length c.waiting) w.few n j below in
-    (sent_as plan commands turns acts cycle _ _ _ _ p places ids it.0, it.1)) there
+    ap (λ (y : ℕ). id_at y (length d.waiting) j) l.next ∙ ap (λ (y : ℕ). id_at c.next y j) many ∙ settling c.next (length c.waiting) w.few n j below in
+    (asked_as plan commands turns acts (StayedAt now) number (n + j) j _ _ p mark (λ above. omega (arith, above)) ids wait.0, subst (λ (i : ℕ). Ids.Waits first i) (sym ids) wait.1)) marked
 
 -- the records of settlements
-pub records_all : (Q : ℕ → Settlement → Type 0) (R : Record → Type 0) (utc cycle place base j : ℕ) (xs : List Settlement) → place ≡ base + j
-    → ((i : ℕ) (x : Settlement) → Q i x → R (record { utc = utc; cycle = cycle; place = base + i; settlement = x })) → AllAt Q j xs → AllByRecursion R (records_from utc cycle place xs)
-records_all Q R utc cycle place base j [] is step all = tt
-records_all Q R utc cycle place base j (x ∷ xs) is step all =
-    let next : place + 1 ≡ base + suc j = omega (arith, is) in
-    (subst (λ (n : ℕ). R (record { utc = utc; cycle = cycle; place = n; settlement = x })) (sym is) (step j x all.0), records_all Q R utc cycle (place + 1) base (suc j) xs next step all.1)
+pub records_all : (Q : ℕ → Settlement → Option Mark → Type 0) (R : Record → Type 0) (utc j : ℕ) (xs : List Settlement) (marks : List (Option Mark))
+    → ((i : ℕ) (x : Settlement) (m : Mark) → Q i x (Some m) → R (record_of utc m x)) → AllAt Q j xs marks → AllByRecursion R (records_of utc marks xs)
+records_all Q R utc j xs [] step all = tt
+records_all Q R utc j [] (mark ∷ marks) step all = tt
+records_all Q R utc j (x ∷ xs) (None ∷ marks) step all = records_all Q R utc (suc j) xs marks step all.1
+records_all Q R utc j (x ∷ xs) (Some m ∷ marks) step all = (step j x m all.0, records_all Q R utc (suc j) xs marks step all.1)

@@ -1,72 +1,105 @@
--- Records, written one after the other.
-use Rattle.std.proofs.Common.{◌≡◌, ℕ, ◌+◌, ◌<◌, List, [], ◌∷◌, ◌++◌, length, take, drop, map, get_or, Option, refl, sym, ap, ◌∙◌, arith, append_assoc, append-nil}
-use Rattle.std.specs.Io.KnownBytes.{Appends}
-use Rattle.std.proofs.lemmas.List.{length-map, length-take, map-append, map_more, drop_more, take-append-drop}
-use Rattle.std.proofs.lemmas.Grind.{flat_map-append}
-use Rattle.gc_lines.proofs.Known.{Appends-append, Appends-is}
+-- Records, written one after the other by the marks of requests.
+use Rattle.std.proofs.Common.{◌≡◌, ℕ, ◌+◌, ◌<◌, Bool, true, false, List, [], ◌∷◌, ◌++◌, length, take, drop, map, get_or, Option, Some, None, is_some, if◌then◌else◌, refl, sym, ap, ◌∙◌, arith, append_assoc}
+use Rattle.std.specs.Prelude.{slice_get}
+use Rattle.std.proofs.lemmas.List.{length-map, length-take, map-append, map_more, take_more, take-append-drop}
 use Rattle.gc_client.specs.declared.settlement.Settlement.{Settlement}
 use Rattle.gc_client.specs.Rule
 use Rattle.gc_client.specs.Settlements.{settlement_seen}
-use Rattle.gc_station.specs.Records.{Record, records_from, texts_of, WritesPart}
+use Rattle.gc_station.specs.declared.mark.Mark.{Mark}
+use Rattle.gc_station.specs.Marks.{commands_in, record_of, records_of}
+use Rattle.gc_station.specs.Records.{Record, texts_of, WritesPart}
 use Rattle.gc_station.specs.Tallies.{counted, tallied}
 use Rattle.gc_station.specs.declared.tally.Tally.{Tally}
 
--- the records of some, and of those behind them
-pub records_from-append : (utc cycle place : ℕ) (xs ys : List Rule.Settlement) → records_from utc cycle place (xs ++ ys) ≡ records_from utc cycle place xs ++ records_from utc cycle (place + length xs) ys
-records_from-append utc cycle place [] ys = ap (λ p. records_from utc cycle p ys) (omega arith)
-records_from-append utc cycle place (x ∷ xs) ys =
-    let one : Record = record { utc = utc; cycle = cycle; place = place; settlement = x } in
-    let at : (place + 1) + length xs ≡ place + length (x ∷ xs) = omega arith in
-    ap (λ rs. one ∷ rs) (records_from-append utc cycle (place + 1) xs ys ∙ ap (λ p. records_from utc cycle (place + 1) xs ++ records_from utc cycle p ys) at)
+-- Marks.
 
--- the settlements in front of place i, and the one at it
-pub front_more : (utc cycle place : ℕ) (ss : List Settlement) (i : ℕ) (s : Settlement) → i < length ss → s ≡ get_or ss i s
-    → records_from utc cycle place (map settlement_seen (take (i + 1) ss))
-    ≡ records_from utc cycle place (map settlement_seen (take i ss)) ++ record { utc = utc; cycle = cycle; place = place + i; settlement = settlement_seen s } ∷ []
-front_more utc cycle place ss i s below is =
+pub commands-append : (xs ys : List (Option Mark)) → commands_in (xs ++ ys) ≡ commands_in xs + commands_in ys
+commands-append [] ys = omega arith
+commands-append (None ∷ xs) ys = commands-append xs ys
+commands-append (Some m ∷ xs) ys = let rest = commands-append xs ys in omega (arith, rest)
+
+-- a mark is a command's, or none
+commands_one : (mark : Option Mark) (b : Bool) → is_some mark ≡ b → commands_in (mark ∷ []) ≡ (if b then 1 else 0)
+commands_one None true e = cc
+commands_one None false e = refl
+commands_one (Some m) true e = refl
+commands_one (Some m) false e = cc
+
+pub commands_more : (marks : List (Option Mark)) (i : ℕ) (b : Bool) → i < length marks → b ≡ is_some (get_or marks i None)
+    → commands_in (take (i + 1) marks) ≡ commands_in (take i marks) + (if b then 1 else 0)
+commands_more marks i b below e =
+    ap commands_in (take_more marks i None below) ∙ commands-append (take i marks) (get_or marks i None ∷ [])
+    ∙ ap (λ n. commands_in (take i marks) + n) (commands_one (get_or marks i None) b (sym e))
+
+-- Records.
+
+pub records-none : (utc : ℕ) (marks : List (Option Mark)) → records_of utc marks [] ≡ []
+records-none utc [] = refl
+records-none utc (mark ∷ marks) = refl
+
+-- the oldest request's mark is that of its record
+mark_here : (utc : ℕ) (mark : Option Mark) (marks : List (Option Mark)) (x : Rule.Settlement) → records_of utc (mark ∷ marks) (x ∷ []) ≡ records_of utc (mark ∷ []) (x ∷ [])
+mark_here utc None marks x = records-none utc marks
+mark_here utc (Some mark) marks x = ap (λ rs. record_of utc mark x ∷ rs) (records-none utc marks)
+
+pub mark_first : (utc : ℕ) (marks : List (Option Mark)) (mark : Option Mark) (x : Rule.Settlement) → Some mark ≡ slice_get marks 0 → records_of utc marks (x ∷ []) ≡ records_of utc (mark ∷ []) (x ∷ [])
+mark_first utc [] mark x e = cc
+mark_first utc (m ∷ marks) mark x e = let same : m ≡ mark = cc in mark_here utc m marks x ∙ ap (λ k. records_of utc (k ∷ []) (x ∷ [])) same
+
+-- the records of some settlements, and of those behind them
+pub records-append : (utc : ℕ) (marks : List (Option Mark)) (xs ys : List Rule.Settlement) → records_of utc marks (xs ++ ys) ≡ records_of utc marks xs ++ records_of utc (drop (length xs) marks) ys
+records-append utc [] [] ys = refl
+records-append utc [] (x ∷ xs) ys = refl
+records-append utc (mark ∷ marks) [] ys = refl
+records-append utc (None ∷ marks) (x ∷ xs) ys = records-append utc marks xs ys
+records-append utc (Some mark ∷ marks) (x ∷ xs) ys = ap (λ rs. record_of utc mark x ∷ rs) (records-append utc marks xs ys)
+
+-- the settlements in front of place i, and the one at it, which has this mark
+pub front_more : (utc : ℕ) (marks : List (Option Mark)) (ss : List Settlement) (i : ℕ) (s : Settlement) (mark : Option Mark) → i < length ss → s ≡ get_or ss i s
+    → records_of utc (drop i marks) (settlement_seen s ∷ []) ≡ records_of utc (mark ∷ []) (settlement_seen s ∷ [])
+    → records_of utc marks (map settlement_seen (take (i + 1) ss)) ≡ records_of utc marks (map settlement_seen (take i ss)) ++ records_of utc (mark ∷ []) (settlement_seen s ∷ [])
+front_more utc marks ss i s mark below is here =
     let front = map settlement_seen (take i ss) in
-    let one : Record = record { utc = utc; cycle = cycle; place = place + i; settlement = settlement_seen s } in
     let len : length front ≡ i = length-map (take i ss) settlement_seen ∙ omega (arith, length-take i ss, below) in
-    ap (records_from utc cycle place) (map_more settlement_seen ss i s below ∙ ap (λ x. front ++ settlement_seen x ∷ []) (sym is))
-    ∙ records_from-append utc cycle place front (settlement_seen s ∷ [])
-    ∙ ap (λ n. records_from utc cycle place front ++ records_from utc cycle (place + n) (settlement_seen s ∷ [])) len
+    ap (records_of utc marks) (map_more settlement_seen ss i s below ∙ ap (λ x. front ++ settlement_seen x ∷ []) (sym is))
+    ∙ records-append utc marks front (settlement_seen s ∷ [])
+    ∙ ap (λ n. records_of utc marks front ++ records_of utc (drop n marks) (settlement_seen s ∷ [])) len
+    ∙ ap (λ rs. records_of utc marks front ++ rs) here
 
--- one more record
-pub wrote_more : (text : Record → List ℕ) (start mid new : Option (List ℕ)) (before front next : List Record) (r : Record)
-    → next ≡ front ++ r ∷ [] → Appends start mid (texts_of text (before ++ front)) → Appends mid new (text r) → Appends start new (texts_of text (before ++ next))
-wrote_more text start mid new before front next r is so more =
-    let whole : texts_of text (before ++ next) ≡ texts_of text (before ++ front) ++ text r =
-    ap (λ rs. texts_of text (before ++ rs)) is ∙ ap (texts_of text) (sym (append_assoc before front (r ∷ []))) ∙ flat_map-append text (before ++ front) (r ∷ []) ∙ ap (λ t. texts_of text (before ++ front) ++ t) (append-nil (text r)) in
-    Appends-is start new _ _ (sym whole) (Appends-append start mid new _ _ so more)
+-- those in front of place i, and the others
+pub front_rest : (utc : ℕ) (marks : List (Option Mark)) (ss : List Settlement) (i : ℕ)
+    → records_of utc marks (map settlement_seen ss) ≡ records_of utc marks (map settlement_seen (take i ss)) ++ records_of utc (drop (length (map settlement_seen (take i ss))) marks) (map settlement_seen (drop i ss))
+front_rest utc marks ss i =
+    ap (λ xs. records_of utc marks (map settlement_seen xs)) (sym (take-append-drop i ss))
+    ∙ ap (records_of utc marks) (map-append settlement_seen (take i ss) (drop i ss))
+    ∙ records-append utc marks (map settlement_seen (take i ss)) (map settlement_seen (drop i ss))
 
--- all but one record and those behind it, and a part of that one
-pub wrote_part : (text : Record → List ℕ) (start mid new : Option (List ℕ)) (before front later all : List Record) (r : Record) (part : ℕ)
-    → all ≡ front ++ r ∷ later → Appends start mid (texts_of text (before ++ front)) → part < length (text r) → Appends mid new (take part (text r)) → WritesPart text (before ++ all) start new
-wrote_part text start mid new before front later all r part is so not_all more = record {
-  earlier = before ++ front;
-  next = r;
-  later = later;
-  order = ap (λ rs. before ++ rs) is ∙ sym (append_assoc before front (r ∷ later));
-  part = part;
-  not_all = not_all;
-  took = Appends-append start mid new _ _ so more;
-}
+-- Texts.
 
--- the settlements in front of place i, the one at it, and those behind it
-pub front_rest : (utc cycle place : ℕ) (ss : List Settlement) (i : ℕ) (s : Settlement) → i < length ss → s ≡ get_or ss i s
-    → records_from utc cycle place (map settlement_seen ss)
-    ≡ records_from utc cycle place (map settlement_seen (take i ss)) ++ record { utc = utc; cycle = cycle; place = place + i; settlement = settlement_seen s } ∷ records_from utc cycle (place + i + 1) (map settlement_seen (drop (i + 1) ss))
-front_rest utc cycle place ss i s below is =
-    let front = map settlement_seen (take i ss) in
-    let len : length front ≡ i = length-map (take i ss) settlement_seen ∙ omega (arith, length-take i ss, below) in
-    let cut : ss ≡ take i ss ++ s ∷ drop (i + 1) ss =
-    sym (take-append-drop i ss) ∙ ap (λ xs. take i ss ++ xs) (drop_more ss i s below ∙ ap (λ y. y ∷ drop (i + 1) ss) (sym is)) in
-    ap (λ xs. records_from utc cycle place (map settlement_seen xs)) cut
-    ∙ ap (records_from utc cycle place) (map-append settlement_seen (take i ss) (s ∷ drop (i + 1) ss))
-    ∙ records_from-append utc cycle place front (settlement_seen s ∷ map settlement_seen (drop (i + 1) ss))
-    ∙ ap (λ n. records_from utc cycle place front ++ records_from utc cycle (place + n) (settlement_seen s ∷ map settlement_seen (drop (i + 1) ss))) len
+-- one more text behind those of some records
+pub texts_more : (text : Record → List ℕ) (before front next more : List Record) → next ≡ front ++ more → texts_of text (before ++ next) ≡ texts_of text ((before ++ front) ++ more)
+texts_more text before front next more is = ap (λ rs. texts_of text (before ++ rs)) is ∙ ap (texts_of text) (sym (append_assoc before front more))
+
+-- a part of some records is a part of more
+pub part_behind : (text : Record → List ℕ) (before front next more all later : List Record) (start new : Option (List ℕ)) → next ≡ front ++ more → all ≡ next ++ later
+    → WritesPart text ((before ++ front) ++ more) start new → WritesPart text (before ++ all) start new
+part_behind text before front next more all later start new is whole w =
+    let order : before ++ all ≡ ((before ++ front) ++ more) ++ later =
+    ap (λ rs. before ++ rs) (whole ∙ ap (λ rs. rs ++ later) is) ∙ ap (λ rs. before ++ rs) (append_assoc front more later) ∙ sym (append_assoc before front (more ++ later)) ∙ sym (append_assoc (before ++ front) more later) in
+    record {
+      earlier = w.earlier;
+      next = w.next;
+      later = w.later ++ later;
+      order = order ∙ ap (λ rs. rs ++ later) w.order ∙ append_assoc w.earlier (w.next ∷ w.later) later;
+      part = w.part;
+      not_all = w.not_all;
+      took = w.took;
+    }
 
 -- counting goes on
 pub tallied-append : (t : Tally) (xs ys : List Record) → tallied t (xs ++ ys) ≡ tallied (tallied t xs) ys
 tallied-append t [] ys = refl
 tallied-append t (x ∷ xs) ys = tallied-append (counted x.settlement.outcome t) xs ys
+
+pub tallied_more : (t u v : Tally) (front one next : List Record) → u ≡ tallied t front → v ≡ tallied u one → next ≡ front ++ one → v ≡ tallied t next
+tallied_more t u v front one next so more is = more ∙ ap (λ (x : Tally). tallied x one) so ∙ sym (tallied-append t front one) ∙ sym (ap (tallied t) is)

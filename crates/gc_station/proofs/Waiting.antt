@@ -1,184 +1,280 @@
--- The requests that wait: each was put among the acts, on the connection that stands, and its deadline wasn't told.
-use Rattle.std.proofs.Common.{◌≡◌, ℕ, ◌+◌, ◌-◌, ◌<◌, ◌≤◌, ◌||◌, Bool, true, false, List, [], ◌∷◌, ◌++◌, length, map, nat_le, refl, sym, ap, ◌∙◌, subst, arith, append_assoc}
+-- The requests that wait: each was put among the acts, in order; since then its deadline wasn't told, or it is given up and it was.
+use Rattle.std.proofs.Common.{◌≡◌, ◌⊎◌, inl, inr, ℕ, ◌+◌, ◌<◌, ◌≤◌, ◌||◌, Bool, true, false, List, [], ◌∷◌, ◌++◌, length, map, Option, Some, nat_le, refl, sym, ap, ◌∙◌, subst, arith, append_assoc, length-append}
 use Rattle.std.specs.List.{AllByRecursion}
 use Rattle.std.proofs.lemmas.Bool.Decides.{nat_tests}
 use Rattle.std.proofs.lemmas.List.{length-map}
 use Rattle.gc_client.specs.declared.pending.Pending.{Pending}
+use Rattle.gc_client.specs.Ids
 use Rattle.gc_client.specs.Ids.{id_at, IsWindow}
 use Rattle.gc_client.specs.Rule.{ById, expired}
 use Rattle.gc_texts.specs.declared.commands.Command.{Command}
+use Rattle.gc_station.specs.declared.mark.Mark.{Mark}
 use Rattle.gc_station.specs.declared.plan.Plan.{Plan}
+use Rattle.gc_station.specs.declared.progress.Order.{Order}
 use Rattle.gc_station.specs.declared.progress.Order.TheVariants as orders
 use Rattle.gc_station.specs.Acts.{Act, Gave}
 use Rattle.gc_station.specs.Answers.{IsBefore, deadline_behind, IsTrueRecord}
-use Rattle.gc_station.specs.EachOnce.{cycles_begun}
+use Rattle.gc_station.specs.Ends.{IsPast, TellsPast, IsTrulyLate, IsTrulyLost, IsOvertaken, BeginsAnew, IsLast, IsLostIn}
+use Rattle.gc_station.specs.Probing.{IsAsking}
 use Rattle.gc_station.specs.Records.{Record}
 use Rattle.gc_station.specs.Runs.{stood}
-use Rattle.gc_station.specs.Standing.{Standing, order_at, place_next, request_text, Puts}
-use Rattle.gc_station.proofs.Lists.{all_append, all_on, AllAt, at_same, at_map}
+use Rattle.gc_station.specs.Standing.{Standing, order_at, cycles_begun, place_next, request_text, Puts, Obeys}
+use Rattle.gc_station.proofs.Lists.{all_append, all_on, Rows, rows_same, rows_map}
 
--- the request of this cycle and place, with this id, was put among these acts, and since then the connection wasn't closed and its
--- deadline wasn't told
-pub record Sent (plan : Plan) (commands : List Command) (turns : ℕ) (acts : List Act) (in_cycle at_place with_id : ℕ) (p : Pending) : Type 0 where
+-- behind these acts, the command with this mark goes out
+pub record Marked (plan : Plan) (commands : List Command) (turns : ℕ) (acts : List Act) (mark : Mark) : Type 0 where
+  pub sends : order_at plan (stood plan commands turns acts) ≡ orders.Send
+  pub cycle : mark.cycle ≡ cycles_begun plan (stood plan commands turns acts).progress
+  pub place : mark.place ≡ place_next commands (stood plan commands turns acts).progress
+
+-- the request at a place, with this id, was put among these acts, behind so many; of those behind it this holds
+pub record Asked (plan : Plan) (commands : List Command) (turns : ℕ) (acts : List Act) (Stays : Bool → ℕ → List Act → Type 0) (number at with_id : ℕ) (p : Pending) (mark : Option Mark) : Type 0 where
   pub before : List Act
   pub request : Act
   pub between : List Act
   pub order : acts ≡ before ++ request ∷ between
-  pub sends : order_at plan (stood plan commands turns before) ≡ orders.Send
-  pub cycle : in_cycle ≡ cycles_begun plan (stood plan commands turns before)
-  pub place : at_place ≡ place_next commands (stood plan commands turns before).progress
+  pub many : length before ≡ number
+  pub asks : 0 < at → IsAsking (order_at plan (stood plan commands turns before))
+  pub its : (m : Mark) → mark ≡ Some m → Marked plan commands turns before m
   pub id : with_id ≡ (stood plan commands turns before).client.next
   pub put : Puts (request_text (stood plan commands turns before).client p.call) request
   pub deadline : p.deadline ≡ deadline_behind plan commands turns before
-  pub waits : AllByRecursion (IsBefore (deadline_behind plan commands turns before)) between
+  pub stays : Stays p.given_up p.deadline between
 
--- of each that isn't given up
-abbrev pub Waits : Plan → List Command → ℕ → List Act → (cycle base next count : ℕ) → ℕ → Pending → Type 0
-Waits plan commands turns acts cycle base next count k p = p.given_up ≡ false → Sent plan commands turns acts cycle (base + k) (id_at next count k) p
+-- its deadline wasn't told, or it is given up and its deadline was
+abbrev pub Stayed : Bool → ℕ → List Act → Type 0
+Stayed true deadline acts = TellsPast deadline acts
+Stayed false deadline acts = AllByRecursion (IsBefore deadline) acts
 
--- and a moment before its deadline
-abbrev pub WaitsAt : Plan → List Command → ℕ → List Act → ℕ → (cycle base next count : ℕ) → ℕ → Pending → Type 0
-WaitsAt plan commands turns acts m cycle base next count k p = p.given_up ≡ false → Sent plan commands turns acts cycle (base + k) (id_at next count k) p × (m < p.deadline)
+-- and now it is this moment
+abbrev pub StayedAt : ℕ → Bool → ℕ → List Act → Type 0
+StayedAt now true deadline acts = TellsPast deadline acts ⊎ (deadline ≤ now)
+StayedAt now false deadline acts = AllByRecursion (IsBefore deadline) acts × (now < deadline)
 
--- what every run keeps, of the standing's parts
-pub record Honest (plan : Plan) (commands : List Command) (turns : ℕ) (acts : List Act) (probe : Bool) (cycle place : ℕ) (c : ById) (records : List Record) : Type 0 where
-  pub window : IsWindow c
-  pub within : probe ≡ false → length c.waiting ≤ place
-  pub waiting : probe ≡ false → AllAt (Waits plan commands turns acts cycle (place - length c.waiting) c.next (length c.waiting)) 0 c.waiting
-  pub written : AllByRecursion (IsTrueRecord plan commands turns acts) records
+-- of each request, with the id that its place has
+abbrev pub Waits : Plan → List Command → ℕ → List Act → (next count : ℕ) → (number at : ℕ) → Pending → Option Mark → Type 0
+Waits plan commands turns acts next count number at p mark = Asked plan commands turns acts Stayed number at (id_at next count at) p mark
 
-abbrev pub IsHonest : Plan → List Command → ℕ → List Act → Standing → Type 0
-IsHonest plan commands turns acts s = Honest plan commands turns acts s.progress.probe (cycles_begun plan s) (place_next commands s.progress) s.client s.records
+-- at this moment, where the client was this before it
+abbrev pub WaitsAt : Plan → List Command → ℕ → List Act → ById → ℕ → (next count : ℕ) → (number at : ℕ) → Pending → Option Mark → Type 0
+WaitsAt plan commands turns acts client now next count number at p mark =
+    Asked plan commands turns acts (StayedAt now) number at (id_at next count at) p mark × Ids.Waits client (id_at next count at)
 
--- a request that was sent stays one
-pub sent_more : (plan : Plan) (commands : List Command) (turns : ℕ) (acts : List Act) (act : Act) (cycle place id : ℕ) (p : Pending) → IsBefore p.deadline act
-    → Sent plan commands turns acts cycle place id p → Sent plan commands turns (acts ++ act ∷ []) cycle place id p
-sent_more plan commands turns acts act cycle place id p on s = record {
+-- what a record says is true
+pub record IsTrue (plan : Plan) (commands : List Command) (turns : ℕ) (acts : List Act) (r : Record) : Type 0 where
+  pub answered : IsTrueRecord plan commands turns acts r
+  pub late : IsTrulyLate plan commands turns acts r
+  pub lost : IsTrulyLost plan commands turns acts r
+
+-- what every run keeps, of the standing's parts: of the requests that wait among these acts, and of the records among those
+pub record Honest (plan : Plan) (commands : List Command) (turns : ℕ) (acts all : List Act) (c : ById) (marks : List (Option Mark)) (records : List Record) : Type 0 where
+  pub waiting : Rows (Waits plan commands turns acts c.next (length c.waiting)) 0 0 c.waiting marks
+  pub written : AllByRecursion (IsTrue plan commands turns all) records
+
+abbrev pub IsHonest : Plan → List Command → ℕ → List Act → List Act → Standing → Type 0
+IsHonest plan commands turns acts all s = Honest plan commands turns acts all s.client s.marks s.records
+
+-- a request that was put is still among them where there is one act more
+pub asked_more : (plan : Plan) (commands : List Command) (turns : ℕ) (acts : List Act) (act : Act) (S T : Bool → ℕ → List Act → Type 0) (number at id : ℕ) (p : Pending) (mark : Option Mark)
+    → ((b : Bool) (d : ℕ) (xs : List Act) → S b d xs → T b d (xs ++ act ∷ []))
+    → Asked plan commands turns acts S number at id p mark → Asked plan commands turns (acts ++ act ∷ []) T number at id p mark
+asked_more plan commands turns acts act S T number at id p mark step s = record {
   before = s.before;
   request = s.request;
   between = s.between ++ act ∷ [];
   order = ap (λ xs. xs ++ act ∷ []) s.order ∙ append_assoc s.before (s.request ∷ s.between) (act ∷ []);
-  sends = s.sends;
-  cycle = s.cycle;
-  place = s.place;
+  many = s.many;
+  asks = s.asks;
+  its = s.its;
   id = s.id;
   put = s.put;
   deadline = s.deadline;
-  waits = all_append (IsBefore (deadline_behind plan commands turns s.before)) s.between (act ∷ []) s.waits (subst (λ (d : ℕ). IsBefore d act) s.deadline on, tt);
+  stays = step p.given_up p.deadline s.between s.stays;
 }
 
--- at the same place with the same id
-pub sent_as : (plan : Plan) (commands : List Command) (turns : ℕ) (acts : List Act) (cycle place place' id id' : ℕ) (p : Pending) → place' ≡ place → id' ≡ id
-    → Sent plan commands turns acts cycle place id p → Sent plan commands turns acts cycle place' id' p
-sent_as plan commands turns acts cycle place place' id id' p places ids s = record {
+-- at another place, with the same id
+pub asked_as : (plan : Plan) (commands : List Command) (turns : ℕ) (acts : List Act) (S : Bool → ℕ → List Act → Type 0) (number at at' id id' : ℕ) (p : Pending) (mark : Option Mark) → (0 < at' → 0 < at) → id' ≡ id
+    → Asked plan commands turns acts S number at id p mark → Asked plan commands turns acts S number at' id' p mark
+asked_as plan commands turns acts S number at at' id id' p mark places ids s = record {
   before = s.before;
   request = s.request;
   between = s.between;
   order = s.order;
-  sends = s.sends;
-  cycle = s.cycle;
-  place = places ∙ s.place;
+  many = s.many;
+  asks = λ above. s.asks (places above);
+  its = s.its;
   id = ids ∙ s.id;
   put = s.put;
   deadline = s.deadline;
-  waits = s.waits;
+  stays = s.stays;
 }
 
--- an answer stays one
-pub true_more : (plan : Plan) (commands : List Command) (turns : ℕ) (acts : List Act) (act : Act) (r : Record) → IsTrueRecord plan commands turns acts r → IsTrueRecord plan commands turns (acts ++ act ∷ []) r
-true_more plan commands turns acts act r is line e =
-    let a = is line e in
-    record {
-      before = a.before;
-      request = a.request;
-      between = a.between;
-      piece = a.piece;
-      moment = a.moment;
-      behind = a.behind ++ act ∷ [];
-      order = ap (λ xs. xs ++ act ∷ []) a.order ∙ append_assoc a.before (a.request ∷ (a.between ++ Gave a.piece a.moment ∷ a.behind)) (act ∷ [])
-          ∙ ap (λ xs. a.before ++ a.request ∷ xs) (append_assoc a.between (Gave a.piece a.moment ∷ a.behind) (act ∷ []));
-      sends = a.sends;
-      cycle = a.cycle;
-      place = a.place;
-      put = a.put;
-      waits = a.waits;
-      in_time = a.in_time;
-      front = a.front;
-      others = a.others;
-      came = a.came;
-      id = a.id;
-      earlier = a.earlier;
-      later = a.later;
-      written = a.written;
-    }
+-- it was put among so many acts
+pub asked_among : (plan : Plan) (commands : List Command) (turns : ℕ) (acts : List Act) (S : Bool → ℕ → List Act → Type 0) (number at id : ℕ) (p : Pending) (mark : Option Mark)
+    → Asked plan commands turns acts S number at id p mark → number < length acts
+asked_among plan commands turns acts S number at id p mark s =
+    let whole : length acts ≡ length s.before + length (s.request ∷ s.between) = ap length s.order ∙ length-append s.before (s.request ∷ s.between) in
+    let many = s.many in
+    omega (arith, whole, many)
 
-pub more_true : (plan : Plan) (commands : List Command) (turns : ℕ) (acts : List Act) (act : Act) (rs : List Record) → AllByRecursion (IsTrueRecord plan commands turns acts) rs → AllByRecursion (IsTrueRecord plan commands turns (acts ++ act ∷ [])) rs
-more_true plan commands turns acts act rs all = all_on (IsTrueRecord plan commands turns acts) (IsTrueRecord plan commands turns (acts ++ act ∷ [])) rs (true_more plan commands turns acts act) all
+-- a moment that was told stays told
+pub past_more : (d : ℕ) (xs ys : List Act) → TellsPast d xs → TellsPast d (xs ++ ys)
+past_more d xs ys t = record { earlier = t.earlier; telling = t.telling; later = t.later ++ ys; at = ap (λ zs. zs ++ ys) t.at ∙ append_assoc t.earlier (t.telling ∷ t.later) ys; past = t.past }
 
--- where nothing waits
-pub nothing_waits : (plan : Plan) (commands : List Command) (turns : ℕ) (acts : List Act) (probe : Bool) (cycle place : ℕ) (c : ById) (rs : List Record) → IsWindow c → c.waiting ≡ [] → AllByRecursion (IsTrueRecord plan commands turns acts) rs
-    → Honest plan commands turns acts probe cycle place c rs
-nothing_waits plan commands turns acts probe cycle place c rs window none written = record {
-  window = window;
-  within = λ e. let n : length c.waiting ≡ 0 = ap length none in omega (arith, n);
-  waiting = λ e. subst (λ (ps : List Pending). AllAt (Waits plan commands turns acts cycle (place - length ps) c.next (length ps)) 0 ps) (sym none) tt;
-  written = written;
-}
+pub past_here : (d : ℕ) (xs : List Act) (act : Act) → IsPast d act → TellsPast d (xs ++ act ∷ [])
+past_here d xs act on = record { earlier = xs; telling = act; later = []; at = refl; past = on }
 
--- an act that changes nothing of the client, closes nothing and tells no moment
-pub still : (plan : Plan) (commands : List Command) (turns : ℕ) (acts : List Act) (act : Act) (probe : Bool) (cycle place : ℕ) (c : ById) (rs : List Record) → ((d : ℕ) → IsBefore d act)
-    → Honest plan commands turns acts probe cycle place c rs → Honest plan commands turns (acts ++ act ∷ []) probe cycle place c rs
-still plan commands turns acts act probe cycle place c rs on h = record {
-  window = h.window;
-  within = h.within;
-  waiting = λ e. at_same (Waits plan commands turns acts cycle (place - length c.waiting) c.next (length c.waiting)) (Waits plan commands turns (acts ++ act ∷ []) cycle (place - length c.waiting) c.next (length c.waiting)) 0 c.waiting
-      (λ j p low w given. sent_more plan commands turns acts act cycle _ _ p (on p.deadline) (w given)) (h.waiting e);
-  written = more_true plan commands turns acts act rs h.written;
+-- what is recorded stays true; where a run stopped no act follows
+true_more : (plan : Plan) (commands : List Command) (turns : ℕ) (acts : List Act) (act : Act) (r : Record) → Obeys commands (stood plan commands turns acts) (order_at plan (stood plan commands turns acts)) act
+    → IsTrue plan commands turns acts r → IsTrue plan commands turns (acts ++ act ∷ []) r
+true_more plan commands turns acts act r obeys is = record { answered = answered_more; late = late_more; lost = lost_more } where
+  longer : (before : List Act) (request : Act) (between : List Act) (then : Act) (behind : List Act) → acts ≡ before ++ request ∷ (between ++ then ∷ behind) → acts ++ act ∷ [] ≡ before ++ request ∷ (between ++ then ∷ (behind ++ act ∷ []))
+  longer before request between then behind order = ap (λ xs. xs ++ act ∷ []) order ∙ append_assoc before (request ∷ (between ++ then ∷ behind)) (act ∷ []) ∙ ap (λ xs. before ++ request ∷ xs) (append_assoc between (then ∷ behind) (act ∷ []))
+
+  answered_more : IsTrueRecord plan commands turns (acts ++ act ∷ []) r
+  answered_more line e =
+      let a = is.answered line e in
+      record {
+        before = a.before;
+        request = a.request;
+        between = a.between;
+        piece = a.piece;
+        moment = a.moment;
+        behind = a.behind ++ act ∷ [];
+        order = longer a.before a.request a.between (Gave a.piece a.moment) a.behind a.order;
+        sends = a.sends;
+        cycle = a.cycle;
+        place = a.place;
+        put = a.put;
+        waits = a.waits;
+        in_time = a.in_time;
+        front = a.front;
+        others = a.others;
+        came = a.came;
+        id = a.id;
+        earlier = a.earlier;
+        later = a.later;
+        written = a.written;
+      }
+
+  late_more : IsTrulyLate plan commands turns (acts ++ act ∷ []) r
+  late_more e =
+      let a = is.late e in
+      record {
+        before = a.before;
+        request = a.request;
+        between = a.between;
+        piece = a.piece;
+        moment = a.moment;
+        behind = a.behind ++ act ∷ [];
+        order = longer a.before a.request a.between (Gave a.piece a.moment) a.behind a.order;
+        own = a.own;
+        too_late = a.too_late;
+        came = a.came;
+        written = a.written;
+      }
+
+  not_last : (before : List Act) (request : Act) (between : List Act) (then : Act) (behind : List Act) → acts ≡ before ++ request ∷ (between ++ then ∷ behind) → IsLast plan commands turns (before ++ request ∷ between) then behind → ⊥
+  not_last before request between then behind order last =
+      let whole : acts ≡ (before ++ request ∷ between) ++ then ∷ [] =
+      order ∙ ap (λ xs. before ++ request ∷ (between ++ then ∷ xs)) last.none ∙ sym (append_assoc before (request ∷ between) (then ∷ [])) in
+      let stopped : order_at plan (stood plan commands turns acts) ≡ orders.Stop last.why = ap (λ xs. order_at plan (stood plan commands turns xs)) whole ∙ last.stops in
+      subst (λ (o : Order). Obeys commands (stood plan commands turns acts) o act) stopped obeys
+
+  lost_more : IsTrulyLost plan commands turns (acts ++ act ∷ []) r
+  lost_more e =
+      let a = is.lost e in
+      record {
+        before = a.before;
+        request = a.request;
+        between = a.between;
+        act = a.act;
+        behind = a.behind ++ act ∷ [];
+        order = longer a.before a.request a.between a.act a.behind a.order;
+        own = a.own;
+        written = a.written;
+        shown = on a a.shown;
+      } where
+        on : (a : IsLostIn plan commands turns acts r) → IsOvertaken plan commands turns a.before a.request a.between a.act
+            ⊎ (BeginsAnew plan commands turns (a.before ++ a.request ∷ a.between) a.act ⊎ IsLast plan commands turns (a.before ++ a.request ∷ a.between) a.act a.behind)
+            → IsOvertaken plan commands turns a.before a.request a.between a.act
+            ⊎ (BeginsAnew plan commands turns (a.before ++ a.request ∷ a.between) a.act ⊎ IsLast plan commands turns (a.before ++ a.request ∷ a.between) a.act (a.behind ++ act ∷ []))
+        on a (inl over) = inl over
+        on a (inr (inl anew)) = inr (inl anew)
+        on a (inr (inr last)) = absurd (not_last a.before a.request a.between a.act a.behind a.order last)
+
+pub more_true : (plan : Plan) (commands : List Command) (turns : ℕ) (acts : List Act) (act : Act) (rs : List Record) → Obeys commands (stood plan commands turns acts) (order_at plan (stood plan commands turns acts)) act
+    → AllByRecursion (IsTrue plan commands turns acts) rs → AllByRecursion (IsTrue plan commands turns (acts ++ act ∷ [])) rs
+more_true plan commands turns acts act rs obeys all = all_on (IsTrue plan commands turns acts) (IsTrue plan commands turns (acts ++ act ∷ [])) rs (λ r is. true_more plan commands turns acts act r obeys is) all
+
+-- an act that tells no moment
+pub stays_still : (act : Act) → ((d : ℕ) → IsBefore d act) → (b : Bool) (d : ℕ) (xs : List Act) → Stayed b d xs → Stayed b d (xs ++ act ∷ [])
+stays_still act on true d xs told = past_more d xs (act ∷ []) told
+stays_still act on false d xs all = all_append (IsBefore d) xs (act ∷ []) all (on d, tt)
+
+-- and changes nothing of the client
+pub still : (plan : Plan) (commands : List Command) (turns : ℕ) (acts : List Act) (act : Act) (c : ById) (marks : List (Option Mark)) (rs : List Record) → ((d : ℕ) → IsBefore d act)
+    → Honest plan commands turns acts (acts ++ act ∷ []) c marks rs → Honest plan commands turns (acts ++ act ∷ []) (acts ++ act ∷ []) c marks rs
+still plan commands turns acts act c marks rs on h = record {
+  waiting = rows_same (Waits plan commands turns acts c.next (length c.waiting)) (Waits plan commands turns (acts ++ act ∷ []) c.next (length c.waiting)) 0 0 c.waiting marks
+      (λ n j p mark w. asked_more plan commands turns acts act Stayed Stayed n j _ p mark (stays_still act on) w) h.waiting;
+  written = h.written;
 }
 
 -- a moment
-pub not_expired : (a b : Bool) → (a || b) ≡ false → (a ≡ false) × (b ≡ false)
-not_expired true b e = cc
-not_expired false b e = (refl, e)
+stays_at : (now : ℕ) (b : Bool) (d : ℕ) (xs : List Act) → Stayed b d xs → StayedAt now (b || nat_le d now) d xs
+stays_at now true d xs told = inl told
+stays_at now false d xs all = by_test (nat_le d now) refl where
+  by_test : (t : Bool) → nat_le d now ≡ t → StayedAt now t d xs
+  by_test true e = let past : d ≤ now = grind (arith, nat_tests, e) in inr past
+  by_test false e = let low : now < d = grind (arith, nat_tests, e) in (all, low)
 
-pub at_moment : (plan : Plan) (commands : List Command) (turns : ℕ) (acts : List Act) (m cycle base next count j : ℕ) (p : Pending) → Waits plan commands turns acts cycle base next count j p
-    → WaitsAt plan commands turns acts m cycle base next count j (expired m p)
-at_moment plan commands turns acts m cycle base next count j p w given =
-    let both = not_expired p.given_up (nat_le p.deadline m) given in
-    let s = w both.0 in
-    (record { before = s.before; request = s.request; between = s.between; order = s.order; sends = s.sends; cycle = s.cycle; place = s.place; id = s.id; put = s.put; deadline = s.deadline; waits = s.waits }, below p.deadline both.1) where
-      below : (d : ℕ) → nat_le d m ≡ false → m < d
-      below d e = grind (arith, nat_tests, e)
+pub at_moment : (plan : Plan) (commands : List Command) (turns : ℕ) (acts : List Act) (now number at id : ℕ) (p : Pending) (mark : Option Mark) → Asked plan commands turns acts Stayed number at id p mark
+    → Asked plan commands turns acts (StayedAt now) number at id (expired now p) mark
+at_moment plan commands turns acts now number at id p mark s = record {
+  before = s.before;
+  request = s.request;
+  between = s.between;
+  order = s.order;
+  many = s.many;
+  asks = s.asks;
+  its = s.its;
+  id = s.id;
+  put = s.put;
+  deadline = s.deadline;
+  stays = stays_at now p.given_up p.deadline s.between s.stays;
+}
 
 abbrev pub at_expired : ById → ℕ → ById
-at_expired c m = record { next = c.next; waiting = map (expired m) c.waiting }
+at_expired c now = record { next = c.next; waiting = map (expired now) c.waiting }
 
 -- as many wait
-pub expired_waits : (plan : Plan) (commands : List Command) (turns : ℕ) (acts : List Act) (m cycle place : ℕ) (c : ById) → AllAt (Waits plan commands turns acts cycle (place - length c.waiting) c.next (length c.waiting)) 0 c.waiting
-    → AllAt (WaitsAt plan commands turns acts m cycle (place - length (map (expired m) c.waiting)) c.next (length (map (expired m) c.waiting))) 0 (map (expired m) c.waiting)
-expired_waits plan commands turns acts m cycle place c all =
-    subst (λ (n : ℕ). AllAt (WaitsAt plan commands turns acts m cycle (place - n) c.next n) 0 (map (expired m) c.waiting)) (sym (length-map c.waiting (expired m)))
-    (at_map (Waits plan commands turns acts cycle (place - length c.waiting) c.next (length c.waiting)) (WaitsAt plan commands turns acts m cycle (place - length c.waiting) c.next (length c.waiting)) (expired m) 0 c.waiting
-    (λ j p w. at_moment plan commands turns acts m cycle (place - length c.waiting) c.next (length c.waiting) j p w) all)
+pub expired_waits : (plan : Plan) (commands : List Command) (turns : ℕ) (acts : List Act) (now : ℕ) (c : ById) (marks : List (Option Mark)) → Rows (Waits plan commands turns acts c.next (length c.waiting)) 0 0 c.waiting marks
+    → Rows (WaitsAt plan commands turns acts c now c.next (length (map (expired now) c.waiting))) 0 0 (map (expired now) c.waiting) marks
+expired_waits plan commands turns acts now c marks all =
+    subst (λ (n : ℕ). Rows (WaitsAt plan commands turns acts c now c.next n) 0 0 (map (expired now) c.waiting) marks) (sym (length-map c.waiting (expired now)))
+    (rows_map (Waits plan commands turns acts c.next (length c.waiting)) (WaitsAt plan commands turns acts c now c.next (length c.waiting)) (expired now) 0 0 c.waiting marks
+    (λ n j p mark low w. let below : j < length c.waiting = omega (arith, low) in (at_moment plan commands turns acts now n j _ p mark w, (j, below, refl))) all)
 
-pub expired_window : (c : ById) (m : ℕ) → IsWindow c → IsWindow (at_expired c m)
-expired_window c m w = record { digit = w.digit; few = let n : length (map (expired m) c.waiting) ≡ length c.waiting = length-map c.waiting (expired m) in omega (arith, n, w.few) }
-
-pub expired_within : (c : ById) (m place : ℕ) → length c.waiting ≤ place → length (map (expired m) c.waiting) ≤ place
-expired_within c m place within = let n : length (map (expired m) c.waiting) ≡ length c.waiting = length-map c.waiting (expired m) in omega (arith, n, within)
+pub expired_window : (c : ById) (now : ℕ) → IsWindow c → IsWindow (at_expired c now)
+expired_window c now w = record { digit = w.digit; few = let n : length (map (expired now) c.waiting) ≡ length c.waiting = length-map c.waiting (expired now) in omega (arith, n, w.few) }
 
 -- the requests that wait behind an act that tells this moment
-pub behind_moment : (plan : Plan) (commands : List Command) (turns : ℕ) (acts : List Act) (act : Act) (m cycle base next count : ℕ) (ps : List Pending) → ((d : ℕ) → m < d → IsBefore d act)
-    → AllAt (WaitsAt plan commands turns acts m cycle base next count) 0 ps → AllAt (Waits plan commands turns (acts ++ act ∷ []) cycle base next count) 0 ps
-behind_moment plan commands turns acts act m cycle base next count ps on all =
-    at_same (WaitsAt plan commands turns acts m cycle base next count) (Waits plan commands turns (acts ++ act ∷ []) cycle base next count) 0 ps
-    (λ j p low w given. let it = w given in sent_more plan commands turns acts act cycle _ _ p (on p.deadline it.1) it.0) all
+stays_behind : (act : Act) (now : ℕ) → ((d : ℕ) → now < d → IsBefore d act) → ((d : ℕ) → d ≤ now → IsPast d act) → (b : Bool) (d : ℕ) (xs : List Act) → StayedAt now b d xs → Stayed b d (xs ++ act ∷ [])
+stays_behind act now on past true d xs (inl told) = past_more d xs (act ∷ []) told
+stays_behind act now on past true d xs (inr reached) = past_here d xs act (past d reached)
+stays_behind act now on past false d xs both = all_append (IsBefore d) xs (act ∷ []) both.0 (on d both.1, tt)
 
-pub moment_told : (plan : Plan) (commands : List Command) (turns : ℕ) (acts : List Act) (act : Act) (m : ℕ) (probe : Bool) (cycle place : ℕ) (c : ById) (rs : List Record) → ((d : ℕ) → m < d → IsBefore d act)
-    → Honest plan commands turns acts probe cycle place c rs → Honest plan commands turns (acts ++ act ∷ []) probe cycle place (at_expired c m) rs
-moment_told plan commands turns acts act m probe cycle place c rs on h = record {
-  window = expired_window c m h.window;
-  within = λ e. expired_within c m place (h.within e);
-  waiting = λ e. behind_moment plan commands turns acts act m cycle _ _ _ (map (expired m) c.waiting) on (expired_waits plan commands turns acts m cycle place c (h.waiting e));
-  written = more_true plan commands turns acts act rs h.written;
+pub behind_moment : (plan : Plan) (commands : List Command) (turns : ℕ) (acts : List Act) (act : Act) (client : ById) (now next count : ℕ) (ps : List Pending) (marks : List (Option Mark))
+    → ((d : ℕ) → now < d → IsBefore d act) → ((d : ℕ) → d ≤ now → IsPast d act)
+    → Rows (WaitsAt plan commands turns acts client now next count) 0 0 ps marks → Rows (Waits plan commands turns (acts ++ act ∷ []) next count) 0 0 ps marks
+behind_moment plan commands turns acts act client now next count ps marks on past all =
+    rows_same (WaitsAt plan commands turns acts client now next count) (Waits plan commands turns (acts ++ act ∷ []) next count) 0 0 ps marks
+    (λ n j p mark w. asked_more plan commands turns acts act (StayedAt now) Stayed n j _ p mark (stays_behind act now on past) w.0) all
+
+pub moment_told : (plan : Plan) (commands : List Command) (turns : ℕ) (acts : List Act) (act : Act) (now : ℕ) (c : ById) (marks : List (Option Mark)) (rs : List Record) → ((d : ℕ) → now < d → IsBefore d act) → ((d : ℕ) → d ≤ now → IsPast d act)
+    → Honest plan commands turns acts (acts ++ act ∷ []) c marks rs → Honest plan commands turns (acts ++ act ∷ []) (acts ++ act ∷ []) (at_expired c now) marks rs
+moment_told plan commands turns acts act now c marks rs on past h = record {
+  waiting = behind_moment plan commands turns acts act c now _ _ (map (expired now) c.waiting) marks on past (expired_waits plan commands turns acts now c marks h.waiting);
+  written = h.written;
 }

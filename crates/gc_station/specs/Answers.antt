@@ -1,33 +1,31 @@
--- Where an answer comes from, in an operator's words, this project's own: its own request went out on that connection, and the line came
--- behind it, with its id, before a moment at or past its deadline was told.
-use Rattle.std.specs.Prelude.{◌≡◌, ◌⊎◌, ℕ, ◌<◌, List, [], ◌∷◌, ◌++◌, Some}
+-- Where an answer comes from, in an operator's words, this project's own: its own request went out, and the line came behind it, with
+-- its id, before a moment at or past its deadline was told.
+use Rattle.std.specs.Prelude.{◌≡◌, ℕ, ◌<◌, List, [], ◌∷◌, ◌++◌, Some}
 use Rattle.std.specs.List.{AllByRecursion}
-use Rattle.gc_client.specs.Rule.{Answered, fresh, heard}
+use Rattle.gc_client.specs.Rule.{Answered, heard}
 use Rattle.gc_texts.specs.declared.commands.Command.{Command}
 use Rattle.gc_station.specs.declared.link.Moment.{Moment}
 use Rattle.gc_station.specs.declared.plan.Plan.{Plan}
 use Rattle.gc_station.specs.declared.progress.Order.TheVariants.{Send}
-use Rattle.gc_station.specs.Acts.{Act, Told, Gave, Silent, Closed}
-use Rattle.gc_station.specs.EachOnce.{cycles_begun}
-use Rattle.gc_station.specs.Progressing.{later}
+use Rattle.gc_station.specs.Acts.{Act, Told, Gave, Silent}
+use Rattle.gc_station.specs.Deciding.{later}
 use Rattle.gc_station.specs.Records.{Record}
 use Rattle.gc_station.specs.Runs.{stood}
-use Rattle.gc_station.specs.Standing.{Standing, Puts, order_at, place_next, request_text, lines_behind}
+use Rattle.gc_station.specs.Standing.{Puts, order_at, cycles_begun, place_next, request_text, lines_behind}
 
--- an act closes nothing, and tells no moment at or past this one
+-- an act tells no moment at or past this one
 abbrev pub IsBefore : ℕ → Act → Type 0
 IsBefore deadline (Told m) = m.elapsed < deadline
 IsBefore deadline (Gave bytes m) = m.elapsed < deadline
 IsBefore deadline (Silent m) = m.elapsed < deadline
-IsBefore deadline Closed = ⊥
 IsBefore deadline _ = Unit {0}
 
 -- the deadline of a request that goes out behind these acts
 abbrev pub deadline_behind : Plan → List Command → ℕ → List Act → ℕ
 deadline_behind plan commands turns acts = later (stood plan commands turns acts).progress.moment.elapsed plan.deadline
 
--- among these acts the request of a record, of its cycle and place, was put; then none closed the connection or told its deadline; then
--- a piece came, also before that, and with it this line with the request's id; and this act wrote the record down
+-- among these acts the request of a record, of its cycle and place, was put; then none told a moment at or
+-- past its deadline; then a piece came, also before that, and with it this line with the request's id; and this act wrote the record down
 pub record IsAnsweredIn (plan : Plan) (commands : List Command) (turns : ℕ) (acts : List Act) (r : Record) (line : List ℕ) : Type 0 where
   pub before : List Act
   pub request : Act
@@ -37,7 +35,7 @@ pub record IsAnsweredIn (plan : Plan) (commands : List Command) (turns : ℕ) (a
   pub behind : List Act
   pub order : acts ≡ before ++ request ∷ (between ++ Gave piece moment ∷ behind)
   pub sends : order_at plan (stood plan commands turns before) ≡ Send
-  pub cycle : r.cycle ≡ cycles_begun plan (stood plan commands turns before)
+  pub cycle : r.cycle ≡ cycles_begun plan (stood plan commands turns before).progress
   pub place : r.place ≡ place_next commands (stood plan commands turns before).progress
   pub put : Puts (request_text (stood plan commands turns before).client r.settlement.call) request
   pub waits : AllByRecursion (IsBefore (deadline_behind plan commands turns before)) between
@@ -54,19 +52,3 @@ pub record IsAnsweredIn (plan : Plan) (commands : List Command) (turns : ℕ) (a
 -- a record of an answer is of such a line
 abbrev pub IsTrueRecord : Plan → List Command → ℕ → List Act → Record → Type 0
 IsTrueRecord plan commands turns acts r = (line : List ℕ) → r.settlement.outcome ≡ Answered line → IsAnsweredIn plan commands turns acts r line
-
--- the request and the line of an answer stand both behind a close, or both before it
-abbrev pub IsBehind : {plan : Plan} {commands : List Command} {turns : ℕ} {acts : List Act} {r : Record} {line : List ℕ} → List Act → IsAnsweredIn plan commands turns acts r line → Type 0
-IsBehind earlier a = (mid : List Act) × (a.before ≡ earlier ++ Closed ∷ mid)
-
-abbrev pub IsAhead : {plan : Plan} {commands : List Command} {turns : ℕ} {acts : List Act} {r : Record} {line : List ℕ} → List Act → IsAnsweredIn plan commands turns acts r line → Type 0
-IsAhead earlier a = (mid : List Act) × (earlier ≡ a.before ++ a.request ∷ (a.between ++ Gave a.piece a.moment ∷ mid))
-
--- a record of an answer stands on one side of a close between these acts
-abbrev pub IsOnOneSide : Plan → List Command → ℕ → List Act → List Act → Record → Type 0
-IsOnOneSide plan commands turns earlier later r = (line : List ℕ) → r.settlement.outcome ≡ Answered line
-    → (a : IsAnsweredIn plan commands turns (earlier ++ Closed ∷ later) r line) × (IsBehind earlier a ⊎ IsAhead earlier a)
-
--- nothing waits, ids begin anew, and no bytes of a line are kept
-abbrev pub IsAnew : Standing → Type 0
-IsAnew s = (s.client ≡ fresh) × (s.rest ≡ [])

@@ -1,31 +1,31 @@
 -- Why each act is made, and why a connection is closed: this project's own.
-use Rattle.std.specs.Prelude.{◌≡◌, ◌⊎◌, ℕ, false, List, [], ◌∷◌, ◌++◌, length}
-use Rattle.gc_client.specs.Rule.{ById, fresh}
+use Rattle.std.specs.Prelude.{◌≡◌, ◌⊎◌, ℕ, false, List, [], ◌∷◌, ◌++◌, if◌then◌else◌}
+use Rattle.gc_client.specs.Rule.{fresh}
 use Rattle.gc_texts.specs.declared.commands.Command.{Command}
 use Rattle.gc_station.specs.declared.cause.Cause.{Cause}
 use Rattle.gc_station.specs.declared.cause.Cause.TheVariants as cause
 use Rattle.gc_station.specs.declared.plan.Plan.{Plan}
 use Rattle.gc_station.specs.declared.progress.Order.{Order}
-use Rattle.gc_station.specs.declared.progress.Order.TheVariants.{Clear, Probe, Close}
+use Rattle.gc_station.specs.declared.progress.Order.TheVariants.{Probe, Close}
 use Rattle.gc_station.specs.declared.progress.Progress.{Progress}
+use Rattle.gc_station.specs.declared.progress.Waiting.{Waiting}
 use Rattle.gc_station.specs.Acts.{Act, Untold, Cut, Ended, Broke, Closed, Unopened}
 use Rattle.gc_station.specs.Deciding.{is_up}
-use Rattle.gc_station.specs.Progressing.{is_finished, is_spared}
+use Rattle.gc_station.specs.Progressing.{is_finished, is_spared, begins_anew}
 use Rattle.gc_station.specs.Reasons.{IsFor, IsAtItsEnd}
 use Rattle.gc_station.specs.Runs.{stood}
-use Rattle.gc_station.specs.Standing.{Standing, order_at, is_hopeless, Obeys}
+use Rattle.gc_station.specs.Standing.{Standing, waiting_of, order_at, Obeys}
 
--- the clearing line feed and the null procedure go out where nothing waits and ids begin anew: the null procedure has id 0
-abbrev pub IsAlone : Order → ById → Type 0
-IsAlone Clear client = client ≡ fresh
-IsAlone Probe client = client ≡ fresh
-IsAlone _ client = Unit {0}
+-- the null procedure with which it begins anew goes out where nothing waits, ids begin anew and no bytes of a line are kept: it has id 0
+abbrev pub IsAlone : Order → Standing → Type 0
+IsAlone Probe s = (s.client ≡ fresh) × (s.rest ≡ [])
+IsAlone _ s = Unit {0}
 
 -- an act is that of the order that is next, and what that order needs is so
 pub record IsReasoned (plan : Plan) (commands : List Command) (s : Standing) (act : Act) : Type 0 where
   pub obeys : Obeys commands s (order_at plan s) act
-  pub needs : IsFor plan s.progress (length s.client.waiting) (is_hopeless s.client) (order_at plan s)
-  pub alone : IsAlone (order_at plan s) s.client
+  pub needs : IsFor plan s.progress (waiting_of s) (order_at plan s)
+  pub alone : IsAlone (order_at plan s) s
 
 -- an act shows a cause: the other end closed, a read failed, the clock couldn't be read, or a write was cut
 abbrev pub Shows : Cause → Act → Type 0
@@ -35,37 +35,40 @@ Shows cause.Clock act = act ≡ Untold
 Shows (cause.Write requests bytes) act = (text : List ℕ) × (act ≡ Cut text bytes)
 Shows _ act = ⊥
 
--- a connection is closed for a cause: the run's end or a dead line, or what the last act shows
+-- a connection is closed for a cause: the run's end, a quiet line or a dead one, or what the last act shows
 pub record ClosesForACause (plan : Plan) (commands : List Command) (turns : ℕ) (acts : List Act) : Type 0 where
   pub why : Cause
   pub closes : order_at plan (stood plan commands turns acts) ≡ Close why
-  pub shown : IsAtItsEnd plan (stood plan commands turns acts).progress (length (stood plan commands turns acts).client.waiting) (is_hopeless (stood plan commands turns acts).client) why
+  pub shown : IsAtItsEnd plan (stood plan commands turns acts).progress (waiting_of (stood plan commands turns acts)) why
       ⊎ ((earlier : List Act) × (last : Act) × (acts ≡ earlier ++ last ∷ []) × Shows why last)
 
--- the connection was closed for a cause, or none could be made
-abbrev pub IsGone : Order → Cause → Act → Type 0
-IsGone next why act = ((act ≡ Closed) × (next ≡ Close why)) ⊎ ((act ≡ Unopened) × (why ≡ cause.Open))
+-- nothing is left to be sent, and no command waits, and so a run is done
+abbrev pub EndsDone : Progress → ℕ → Cause → Type 0
+EndsDone p commands why = (why ≡ cause.Done) × (p.left ≡ 0) × (p.unsent ≡ 0) × (commands ≡ 0)
 
--- nothing is left to be sent, and so a run is done
-abbrev pub EndsDone : Progress → Cause → Type 0
-EndsDone p why = (why ≡ cause.Done) × (p.left ≡ 0) × (p.unsent ≡ 0)
+-- for what a run ends where the connection is gone for a cause, and so many commands wait: for a clock that can't be read, and for turns
+-- that are used up, at once. It is done where nothing is left to be sent and no command waits. Else it ends for that cause: a
+-- connection anew would take a try, and none is left
+abbrev pub EndsBehind : Plan → Progress → ℕ → Cause → Cause → Type 0
+EndsBehind plan p commands cause.Done why = EndsDone p commands why
+EndsBehind plan p commands cause.Clock why = why ≡ cause.Clock
+EndsBehind plan p commands cause.Turns why = why ≡ cause.Turns
+EndsBehind plan p commands other why =
+    EndsDone p commands why ⊎ ((why ≡ other) × (is_finished commands p ≡ false) × (is_spared plan other p ≡ false) × (p.tries ≡ 0))
 
--- for what a run ends where the connection is gone for a cause: for a clock that can't be read, and for turns that are used up, at
--- once. It is done where nothing is left to be sent. Where something is, it ends for that cause: a connection anew would take a try,
--- and none is left
-abbrev pub EndsBehind : Plan → Progress → Cause → Cause → Type 0
-EndsBehind plan p cause.Done why = EndsDone p why
-EndsBehind plan p cause.Clock why = why ≡ cause.Clock
-EndsBehind plan p cause.Turns why = why ≡ cause.Turns
-EndsBehind plan p other why = EndsDone p why ⊎ ((why ≡ other) × (is_finished p ≡ false) × (is_spared plan other p ≡ false) × (p.tries ≡ 0))
+-- how many commands wait behind a close for a cause: none where the next connection would begin anew, since they are lost then
+abbrev pub commands_behind : Waiting → Cause → Progress → ℕ
+commands_behind w why p = if begins_anew why p then 0 else w.commands
 
--- the connection is gone, and no other is made
-abbrev pub EndsGone : Plan → Progress → Order → Cause → Act → Type 0
-EndsGone plan p next why act = (other : Cause) × IsGone next other act × EndsBehind plan p other why
+-- the connection was closed for a cause, or none could be made, and no other is made
+abbrev pub EndsGone : Plan → Progress → Waiting → Order → Cause → Act → Type 0
+EndsGone plan p w next why act =
+    ((other : Cause) × (act ≡ Closed) × (next ≡ Close other) × EndsBehind plan p (commands_behind w other p) other why)
+    ⊎ ((act ≡ Unopened) × EndsBehind plan p w.commands cause.Open why)
 
 -- an act ends a run for a cause: a call failed where there was no connection, or the connection is gone, and no other is made
 abbrev pub Ends : Plan → Standing → Cause → Act → Type 0
-Ends plan s why act = ((is_up s.progress.phase ≡ false) × Shows why act) ⊎ EndsGone plan s.progress (order_at plan s) why act
+Ends plan s why act = ((is_up s.progress.phase ≡ false) × Shows why act) ⊎ EndsGone plan s.progress (waiting_of s) (order_at plan s) why act
 
 -- a run stops without a connection, and for a cause: all turns are used up, or what the last act shows
 pub record StopsForACause (plan : Plan) (commands : List Command) (turns : ℕ) (acts : List Act) (why : Cause) : Type 0 where

@@ -1,16 +1,18 @@
--- Each command once, this project's own: the records of a run, and behind them the requests that wait, are the commands that were
+-- Each command once, this project's own: the records of a run, and behind them the commands that wait, are the commands that were
 -- sent, cycle by cycle and in order, each once.
-use Rattle.std.specs.Prelude.{◌≡◌, ◌⊎◌, ◌<◌, ℕ, zero, suc, ◌+◌, ◌-◌, List, [], ◌∷◌, ◌++◌, length, take, map, if◌then◌else◌}
+use Rattle.std.specs.Prelude.{◌≡◌, ◌⊎◌, ◌<◌, ℕ, zero, suc, ◌+◌, List, [], ◌∷◌, ◌++◌, take, map, Option, Some, None}
+use Rattle.gc_client.specs.declared.pending.Pending.{Pending}
 use Rattle.gc_client.specs.OneForOne.{Asked, of_settled, of_pending}
 use Rattle.gc_texts.specs.declared.commands.Command.{Command}
 use Rattle.gc_station.specs.declared.plan.Plan.{Plan}
 use Rattle.gc_station.specs.declared.cause.Cause.{Cause}
 use Rattle.gc_station.specs.declared.cause.Cause.TheVariants.{Done}
+use Rattle.gc_station.specs.declared.mark.Mark.{Mark}
 use Rattle.gc_station.specs.declared.progress.Order.TheVariants.{Stop}
 use Rattle.gc_station.specs.Acts.{Act}
 use Rattle.gc_station.specs.Records.{Record}
 use Rattle.gc_station.specs.Runs.{stood}
-use Rattle.gc_station.specs.Standing.{Standing, order_at, place_next}
+use Rattle.gc_station.specs.Standing.{Standing, order_at, cycles_begun, place_next}
 
 -- a request of a run: of which cycle and place it is, whom it is for, and what it asks for
 pub record Request : Type 0 where
@@ -37,33 +39,35 @@ abbrev pub sent_by : List Command → ℕ → ℕ → List Request
 sent_by commands zero place = []
 sent_by commands (suc n) place = all_cycles commands n ++ requests (suc n) 0 (map of_command (take place commands))
 
--- how many cycles began
-abbrev pub cycles_begun : Plan → Standing → ℕ
-cycles_begun plan s = plan.cycles - s.progress.left
-
 -- the request that a record is of
 abbrev pub of_record : Record → Request
 of_record r = record { cycle = r.cycle; place = r.place; asked = of_settled r.settlement }
 
--- the requests of the cycle that wait
-abbrev pub still_waiting : Plan → List Command → Standing → List Request
-still_waiting plan commands s =
-    if s.progress.probe then []
-    else requests (cycles_begun plan s) (place_next commands s.progress - length s.client.waiting) (map of_pending s.client.waiting)
+-- the request of a command that waits
+abbrev pub of_waiting : Mark → Pending → Request
+of_waiting mark p = record { cycle = mark.cycle; place = mark.place; asked = of_pending p }
 
--- the records, and behind them the requests that wait, are the commands that were sent
+-- the requests of commands among those that wait, by their marks
+abbrev pub still_waiting : List (Option Mark) → List Pending → List Request
+still_waiting [] pendings = []
+still_waiting (mark ∷ marks) [] = []
+still_waiting (None ∷ marks) (p ∷ others) = still_waiting marks others
+still_waiting (Some mark ∷ marks) (p ∷ others) = of_waiting mark p ∷ still_waiting marks others
+
+-- the records, and behind them the commands that wait, are the commands that were sent
 abbrev pub IsEachOnce : Plan → List Command → Standing → Type 0
 IsEachOnce plan commands s =
-    map of_record s.records ++ still_waiting plan commands s ≡ sent_by commands (cycles_begun plan s) (place_next commands s.progress)
+    map of_record s.records ++ still_waiting s.marks s.client.waiting ≡ sent_by commands (cycles_begun plan s.progress) (place_next commands s.progress)
 
 -- after each run, and where it stopped: nothing waits, and where it is done all commands of all cycles were sent
 pub record EachOnce (plan : Plan) (commands : List Command) (turns : ℕ) (acts : List Act) : Type 0 where
   pub each : IsEachOnce plan commands (stood plan commands turns acts)
   pub settled : (cause : Cause) → order_at plan (stood plan commands turns acts) ≡ Stop cause
-      → map of_record (stood plan commands turns acts).records ≡ sent_by commands (cycles_begun plan (stood plan commands turns acts)) (place_next commands (stood plan commands turns acts).progress)
+      → map of_record (stood plan commands turns acts).records ≡ sent_by commands (cycles_begun plan (stood plan commands turns acts).progress) (place_next commands (stood plan commands turns acts).progress)
   pub done : order_at plan (stood plan commands turns acts) ≡ Stop Done → map of_record (stood plan commands turns acts).records ≡ all_cycles commands plan.cycles
 
 -- a station is further than it was: in a later cycle, or at a later place in the same
 abbrev pub IsFurther : Plan → List Command → Standing → Standing → Type 0
 IsFurther plan commands s t =
-    (cycles_begun plan s < cycles_begun plan t) ⊎ ((cycles_begun plan s ≡ cycles_begun plan t) × (place_next commands s.progress < place_next commands t.progress))
+    (cycles_begun plan s.progress < cycles_begun plan t.progress)
+    ⊎ ((cycles_begun plan s.progress ≡ cycles_begun plan t.progress) × (place_next commands s.progress < place_next commands t.progress))

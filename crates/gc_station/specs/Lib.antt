@@ -1,6 +1,7 @@
 pub mod Acts
 pub mod Causes
 pub mod Records
+pub mod Marks
 pub mod Deciding
 pub mod Progressing
 pub mod Standing
@@ -11,5 +12,10 @@ pub mod Reasons
 pub mod Closing
 pub mod Answers
 pub mod Probing
+pub mod Ends
+pub mod Quiet
+pub mod Given
+pub mod Beginnings
 pub mod Stations
 pub mod Pace
+pub mod Parts

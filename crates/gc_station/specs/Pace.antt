@@ -1,27 +1,41 @@
 -- How long a read waits, and which overrun is told: this project's own.
 use Rattle.std.specs.Prelude.{ℕ, ◌-◌, ◌&&◌, Bool, true, false, not, if◌then◌else◌, nat_lt, min, max, Option, Some, None}
 use Rattle.gc_station.specs.declared.plan.Plan.{Plan}
+use Rattle.gc_station.specs.declared.progress.Phase.{Phase}
+use Rattle.gc_station.specs.declared.progress.Phase.TheVariants as phase
 use Rattle.gc_station.specs.declared.progress.Progress.{Progress}
-use Rattle.gc_station.specs.Deciding.{is_up, is_due}
-use Rattle.gc_station.specs.Progressing.{later, is_resting}
+use Rattle.gc_station.specs.Deciding.{later, drain_of, patience_of, is_due}
+use Rattle.gc_station.specs.Progressing.{is_resting}
 
--- the moment at which the line counts as quiet, and the one at which the next cycle is due
+-- the moment at which the line counts as quiet, at which it is dead, and at which the next cycle is due
 abbrev pub quiet_at : Plan → Progress → ℕ
 quiet_at plan p = later p.since plan.quiet
+
+abbrev pub dead_at : Plan → Progress → ℕ
+dead_at plan p = later p.alive (patience_of plan)
 
 abbrev pub due_at : Plan → Progress → ℕ
 due_at plan p = later p.began plan.every
 
--- the moment at which a read that brings nothing is over, where no request has a deadline any more: the due moment, where all that is left
--- is to wait for it; without a connection, where none is wanted before it, the later of both; and else the quiet moment
-abbrev pub ends_without_deadline : Plan → Progress → Bool → ℕ
-ends_without_deadline plan p rested =
-    if rested then due_at plan p else if not (is_up p.phase) && is_resting plan p then max (quiet_at plan p) (due_at plan p) else quiet_at plan p
+-- the moment at which a rest without a connection is over: where none is wanted before the next cycle is due, the later of both
+abbrev pub rested_at : Plan → Progress → ℕ
+rested_at plan p = if is_resting plan p then max (later p.since p.pause) (due_at plan p) else later p.since p.pause
+
+-- the moment at which a read that brings nothing is over at the latest, whatever deadlines there are: at the end of a rest or a drain, or
+-- where the line is dead, or quiet while all that wait are given up
+abbrev pub ends_in : Phase → Plan → Progress → Bool → ℕ
+ends_in phase.Resting plan p hopeless = rested_at plan p
+ends_in phase.Draining plan p hopeless = later p.since (drain_of plan p)
+ends_in _ plan p hopeless = if hopeless then min (quiet_at plan p) (dead_at plan p) else dead_at plan p
+
+-- the due moment, where all that is left is to wait for it
+abbrev pub ends_without_deadline : Plan → Progress → Bool → Bool → ℕ
+ends_without_deadline plan p rested hopeless = if rested then due_at plan p else ends_in p.phase plan p hopeless
 
 -- the moment at which it is over, where this is the next deadline, if a request still has one
 abbrev pub ends_at : Plan → Progress → Bool → Option ℕ → ℕ
-ends_at plan p rested (Some deadline) = deadline
-ends_at plan p rested None = ends_without_deadline plan p rested
+ends_at plan p rested (Some deadline) = min deadline (ends_without_deadline plan p rested false)
+ends_at plan p rested None = ends_without_deadline plan p rested true
 
 -- how many milliseconds it waits: until that moment, at least one, and at most a minute
 abbrev pub patience : Plan → Progress → Bool → Option ℕ → ℕ

@@ -1,9 +1,12 @@
--- The null procedure, this project's own: on its connection no command goes out before it was answered.
+-- The null procedure with which a station begins anew, this project's own: no other request goes out on its connection before it was
+-- answered.
 use Rattle.std.specs.Prelude.{◌≡◌, ℕ, List, ◌∷◌, ◌++◌, Some}
 use Rattle.gc_client.specs.Rule.{heard}
 use Rattle.gc_texts.specs.declared.commands.Command.{Command}
 use Rattle.gc_station.specs.declared.link.Moment.{Moment}
 use Rattle.gc_station.specs.declared.plan.Plan.{Plan}
+use Rattle.gc_station.specs.declared.progress.Order.{Order}
+use Rattle.gc_station.specs.declared.progress.Order.TheVariants.{Send, Flush}
 use Rattle.gc_station.specs.Acts.{Act, Gave, Closed}
 use Rattle.gc_station.specs.Runs.{stood}
 use Rattle.gc_station.specs.Standing.{lines_behind}
@@ -12,6 +15,12 @@ use Rattle.gc_station.specs.Standing.{lines_behind}
 abbrev pub KeepsOpen : Act → Type 0
 KeepsOpen Closed = ⊥
 KeepsOpen _ = Unit {0}
+
+-- a request goes out, which isn't the null procedure with which a station begins anew
+abbrev pub IsAsking : Order → Type 0
+IsAsking Send = Unit {0}
+IsAsking Flush = Unit {0}
+IsAsking _ = ⊥
 
 -- among these acts, which follow others, a line came with the null procedure's id
 pub record IsAnsweredWithin (plan : Plan) (commands : List Command) (turns : ℕ) (before between : List Act) : Type 0 where

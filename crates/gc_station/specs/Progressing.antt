@@ -1,31 +1,33 @@
 -- What each act does to how far a station is, this project's own.
-use Rattle.std.specs.Prelude.{ℕ, ◌+◌, ◌-◌, ◌&&◌, ◌||◌, Bool, true, false, not, if◌then◌else◌, nat_lt, nat_eq, min}
+use Rattle.std.specs.Prelude.{ℕ, ◌-◌, ◌&&◌, ◌||◌, Bool, true, false, not, if◌then◌else◌, nat_lt, nat_eq, min, max}
 use Rattle.gc_station.specs.declared.link.Moment.{Moment}
 use Rattle.gc_station.specs.declared.plan.Plan.{Plan}
 use Rattle.gc_station.specs.declared.cause.Cause.{Cause}
 use Rattle.gc_station.specs.declared.cause.Cause.TheVariants as cause
 use Rattle.gc_station.specs.declared.progress.Phase.{Phase}
-use Rattle.gc_station.specs.declared.progress.Phase.TheVariants.{Down, Resting, Clearing, Draining, Probing, Ready, Closing, Over}
+use Rattle.gc_station.specs.declared.progress.Phase.TheVariants as phase
 use Rattle.gc_station.specs.declared.progress.Progress.{Progress}
-use Rattle.gc_station.specs.Deciding.{is_up, is_quiet, is_due}
+use Rattle.gc_station.specs.declared.progress.Waiting.{Waiting}
+use Rattle.gc_station.specs.Deciding.{later, is_up, is_past, is_due, drain_of}
 
--- so much later than a moment, or the last moment that there is
-abbrev pub later : ℕ → ℕ → ℕ
-later moment wait = min (moment + wait) 18446744073709551615
-
--- nothing was done
+-- nothing was done, and the first connection begins anew
 abbrev pub at_start : Plan → ℕ → Progress
 at_start plan turns = record {
-  phase = Down;
-  probe = false;
+  phase = phase.Down;
+  anew = true;
+  alone = false;
+  drain = 1;
   stale = false;
   moment = record { elapsed = 0; utc = 0 };
   since = 0;
+  alive = 0;
+  asked = false;
   began = 0;
   early = false;
   left = plan.cycles;
   unsent = 0;
   tries = plan.retries;
+  pause = 0;
   turns = turns;
 }
 
@@ -34,9 +36,9 @@ abbrev pub turned : Progress → Progress
 turned p = record p { turns = p.turns - 1 }
 
 -- the moment was told behind bytes that went, or a connection that was closed or not made: the time of quiet begins. Where the
--- clock went back, the cycle began now at the latest, so that the next one isn't put off
+-- clock went back, the cycle began now at the latest, so that the next one isn't put off, and the line was alive now at the latest
 abbrev pub told : Moment → Progress → Progress
-told m p = record p { moment = m; since = m.elapsed; began = min p.began m.elapsed; stale = false }
+told m p = record p { moment = m; since = m.elapsed; alive = min p.alive m.elapsed; began = min p.began m.elapsed; stale = false }
 
 -- when a cycle begins that begins at this moment: when it was due, where the one before it was done by then and the next after it
 -- isn't due yet; and else now
@@ -47,19 +49,21 @@ beginning plan m p =
 
 -- a cycle of so many commands began
 abbrev pub begun : Plan → ℕ → Moment → Progress → Progress
-begun plan count m p = record p { moment = m; since = m.elapsed; stale = false; began = beginning plan m p; early = false; left = p.left - 1; unsent = count }
+begun plan count m p =
+    let q = told m p in
+    record q { began = beginning plan m p; early = false; left = p.left - 1; unsent = count }
 
 -- it can't go on so: the connection is to be closed, if there is one
 abbrev pub failing : Cause → Progress → Progress
-failing cause p = record p { phase = if is_up p.phase then Closing cause else Over cause }
+failing cause p = record p { phase = if is_up p.phase then phase.Closing cause else phase.Over cause }
 
 -- a connection was made
 abbrev pub opened : Progress → Progress
-opened p = record p { phase = Clearing }
+opened p = record p { phase = phase.Clearing }
 
--- no command of any cycle is left to be sent
-abbrev pub is_finished : Progress → Bool
-is_finished p = nat_eq p.left 0 && nat_eq p.unsent 0
+-- no command of any cycle is left to be sent, and none waits
+abbrev pub is_finished : ℕ → Progress → Bool
+is_finished commands p = nat_eq p.left 0 && nat_eq p.unsent 0 && nat_eq commands 0
 
 -- the cycle was done before the next was due, and that isn't due yet: no connection is wanted
 abbrev pub is_resting : Plan → Progress → Bool
@@ -70,58 +74,132 @@ abbrev pub is_spared : Plan → Cause → Progress → Bool
 is_spared plan cause.Open p = false
 is_spared plan _ p = is_resting plan p
 
--- where a station is that has no connection: it is done, tries again, or doesn't
-abbrev pub phase_again : Plan → Cause → Progress → Phase
-phase_again plan why p = if is_finished p then Over cause.Done else if is_spared plan why p || nat_lt 0 p.tries then Resting else Over why
+-- where a station is that has no connection, while so many commands wait: it is done, tries again, or doesn't
+abbrev pub phase_again : Plan → ℕ → Cause → Progress → Phase
+phase_again plan commands why p =
+    if is_finished commands p then phase.Over cause.Done
+    else if is_spared plan why p || nat_lt 0 p.tries then phase.Resting
+    else phase.Over why
+
+-- how long it rests before the next connection: the quiet time, and at each further failure twice as long as the last time, up to a
+-- minute and never below the quiet time. Where none is wanted, as long as the last time
+abbrev pub pause_again : Plan → Cause → Progress → ℕ
+pause_again plan why p = if is_spared plan why p then max p.pause plan.quiet else max (min (later p.pause p.pause) 60000) plan.quiet
 
 -- none was made, or one was closed: that takes a try, unless it is spared
-abbrev pub again : Plan → Cause → Progress → Progress
-again plan why p = record p { phase = phase_again plan why p; probe = false; stale = true; tries = if is_spared plan why p then p.tries else p.tries - 1 }
+abbrev pub again : Plan → ℕ → Cause → Progress → Progress
+again plan commands why p = record p {
+  phase = phase_again plan commands why p;
+  stale = true;
+  tries = if is_spared plan why p then p.tries else p.tries - 1;
+  pause = pause_again plan why p;
+}
 
 -- the line feed went out
 abbrev pub cleared : Progress → Progress
-cleared p = record p { phase = Draining; stale = true }
+cleared p = record p { phase = phase.Draining; stale = true }
 
--- the null procedure went out
+-- a request went out: where none did since the last reply line, the time of a dead line begins
+abbrev pub asking : Progress → Progress
+asking p = record p { alive = if p.asked then p.alive else p.moment.elapsed; asked = true; stale = true }
+
+-- the null procedure went out with which it begins anew
 abbrev pub probed : Progress → Progress
-probed p = record p { phase = Ready; probe = true; stale = true }
+probed p = let q = asking p in record q { phase = phase.Ready; anew = false; alone = true }
 
 -- the next command went out
 abbrev pub sent : Progress → Progress
-sent p = record p { unsent = p.unsent - 1; stale = true }
+sent p = let q = asking p in record q { unsent = p.unsent - 1 }
 
--- bytes came, and so many requests waited before and after these: where a command is settled, all tries are left again
-abbrev pub gave : Plan → Bool → ℕ → ℕ → Progress → Progress
-gave plan rested before after p =
-    record p { probe = p.probe && not (nat_eq after 0); early = if rested then true else p.early; tries = if nat_lt after before && not p.probe then plan.retries else p.tries }
+-- a line was heard: a reply line shows that the line is alive
+abbrev pub noted : Bool → Progress → Progress
+noted is_reply p = record p { alive = if is_reply then p.moment.elapsed else p.alive; asked = if is_reply then false else p.asked }
 
--- where a station is once the line is quiet: it connects anew where a connection is wanted
-abbrev pub quieted : Plan → Bool → Phase → Phase
-quieted plan resting Resting = if resting then Resting else Down
-quieted plan resting Draining = if plan.settle then Probing else Ready
-quieted plan resting phase = phase
+-- bytes came, so many commands waited before them, and so many requests wait behind them: where a command was settled, all tries are
+-- left again, and the next rest is short
+abbrev pub gave : Plan → Bool → ℕ → Waiting → Progress → Progress
+gave plan rested before after p = record p {
+  alone = p.alone && not (nat_eq after.all 0);
+  early = if rested then true else p.early;
+  tries = if nat_lt after.commands before then plan.retries else p.tries;
+  pause = if nat_lt after.commands before then 0 else p.pause;
+}
 
--- the moment was told behind a read that gave nothing. Where the clock went back, the time of quiet, and the cycle, began now at the latest
+-- it rested long enough, and connects anew where a connection is wanted
+abbrev pub rested_down : Plan → Progress → Progress
+rested_down plan p = record p { phase = if is_past p.pause p && not (is_resting plan p) then phase.Down else p.phase }
+
+-- the connection was drained until it was quiet: where it begins anew, a null procedure is next; else requests go out at once
+abbrev pub drained : Progress → Progress
+drained p = record p { phase = if p.anew then phase.Probing else phase.Ready; alive = p.moment.elapsed; asked = false }
+
+-- where a station is once nothing came until this moment
+abbrev pub quieted : Plan → Phase → Progress → Progress
+quieted plan phase.Resting p = rested_down plan p
+quieted plan phase.Draining p = if is_past (drain_of plan p) p then drained p else p
+quieted plan _ p = p
+
+-- the moment was told behind a read that gave nothing. Where the clock went back, the time of quiet, and the cycle, began now at the
+-- latest, and the line was alive now at the latest
 abbrev pub waited : Bool → Moment → Progress → Progress
-waited rested m p = record p { moment = m; since = min p.since m.elapsed; began = min p.began m.elapsed; stale = false; early = if rested then true else p.early }
+waited rested m p = record p {
+  moment = m;
+  since = min p.since m.elapsed;
+  alive = min p.alive m.elapsed;
+  began = min p.began m.elapsed;
+  stale = false;
+  early = if rested then true else p.early;
+}
 
 -- nothing came
 abbrev pub silent : Plan → Bool → Moment → Progress → Progress
-silent plan rested m p =
-    let q = waited rested m p in
-    record q { phase = if is_quiet plan q then quieted plan (is_resting plan q) q.phase else q.phase }
+silent plan rested m p = quieted plan p.phase (waited rested m p)
 
 -- a moment gave requests up, or didn't: for the replies that are a little late the time of quiet begins anew
 abbrev pub waiting_on : Bool → Moment → Progress → Progress
 waiting_on gave_up m p = record p { since = if gave_up then m.elapsed else p.since }
 
--- so many requests wait: where the cycle is done, and the next isn't due yet, it was done early
+-- so many commands wait: where the cycle is done, and the next isn't due yet, it was done early
 abbrev pub reckoned_early : Plan → ℕ → Progress → Progress
-reckoned_early plan waiting p = record p { early = p.early || (nat_eq waiting 0 && nat_eq p.unsent 0 && not (is_due plan p)) }
+reckoned_early plan commands p = record p { early = p.early || (nat_eq commands 0 && nat_eq p.unsent 0 && not (is_due plan p)) }
 
--- the connection was closed: after these causes for good, and else to be made anew
-abbrev pub closed : Plan → Cause → Progress → Progress
-closed plan cause.Done p = record p { phase = Over cause.Done; probe = false }
-closed plan cause.Clock p = record p { phase = Over cause.Clock; probe = false }
-closed plan cause.Turns p = record p { phase = Over cause.Turns; probe = false }
-closed plan cause p = again plan cause p
+-- the next connection begins anew: seven were given up, or this one hasn't begun
+abbrev pub begins_anew : Cause → Progress → Bool
+begins_anew cause.Silence p = true
+begins_anew _ p = p.alone || p.anew
+
+-- the next connection begins anew, while so many requests wait, and is drained the longer the more do; where this one hadn't been
+-- drained, as long as that
+abbrev pub beginning_anew : ℕ → Progress → Progress
+beginning_anew waiting p = record p { anew = true; alone = false; drain = if p.anew then p.drain else waiting }
+
+-- a connection that ended is to be made again, anew or not; all that wait are lost where it begins anew
+abbrev pub closed_again : Plan → Waiting → Cause → Bool → Progress → Progress
+closed_again plan w cause true p = again plan 0 cause (beginning_anew w.all p)
+closed_again plan w cause false p = again plan w.commands cause p
+
+-- the connection was closed: after these causes for good, and else to be made again
+abbrev pub closed : Plan → Waiting → Cause → Progress → Progress
+closed plan w cause.Done p = record p { phase = phase.Over cause.Done }
+closed plan w cause.Clock p = record p { phase = phase.Over cause.Clock }
+closed plan w cause.Turns p = record p { phase = phase.Over cause.Turns }
+closed plan w cause p = closed_again plan w cause (begins_anew cause p) p
+
+-- the end is decided
+abbrev pub is_over_in : Phase → Bool
+is_over_in phase.Down = false
+is_over_in phase.Resting = false
+is_over_in phase.Clearing = false
+is_over_in phase.Draining = false
+is_over_in phase.Probing = false
+is_over_in phase.Ready = false
+is_over_in (phase.Closing cause) = false
+is_over_in (phase.Over cause) = true
+
+-- no act follows: the end is decided, or there is no connection and no turn is left
+abbrev pub is_over : Progress → Bool
+is_over p = is_over_in p.phase || (not (is_up p.phase) && nat_eq p.turns 0)
+
+-- all that wait are lost: where it begins anew, and where no act follows
+abbrev pub loses_all : Progress → Bool
+loses_all p = p.anew || is_over p

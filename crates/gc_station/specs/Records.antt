@@ -1,5 +1,5 @@
 -- Records: what a station writes of each request that ended, this project's own.
-use Rattle.std.specs.Prelude.{◌≡◌, ℕ, ◌+◌, ◌<◌, List, [], ◌∷◌, ◌++◌, length, take, Option, Result, Ok, Err}
+use Rattle.std.specs.Prelude.{◌≡◌, ℕ, ◌<◌, List, ◌∷◌, ◌++◌, length, take, Option, Result, Ok, Err}
 use Rattle.std.specs.List.{flat_map}
 use Rattle.std.specs.Io.KnownBytes.{Appends}
 use Rattle.gc_client.specs.Rule
@@ -17,11 +17,6 @@ pub record Record : Type 0 where
 -- a record as the rule speaks of it
 abbrev pub record_seen : Stamp → Settlement → Record
 record_seen stamp settlement = record { utc = stamp.utc; cycle = stamp.cycle; place = stamp.place; settlement = settlement_seen settlement }
-
--- settlements at one moment of one cycle, the first of them at this place
-abbrev pub records_from : ℕ → ℕ → ℕ → List Rule.Settlement → List Record
-records_from utc cycle place [] = []
-records_from utc cycle place (s ∷ later) = record { utc = utc; cycle = cycle; place = place; settlement = s } ∷ records_from utc cycle (place + 1) later
 
 -- a text was written whole, or a first part of it, which isn't all
 abbrev pub Writes : {X E : Type 0} → Option (List ℕ) → Option (List ℕ) → List ℕ → Result X E → Type 0

@@ -29,17 +29,12 @@ pub record RanTo (plan : Plan) (commands : List Command) (turns : ℕ) (text : R
   pub took : Appends taken taken' (texts_of text (stood plan commands turns acts).records)
   pub counts : tally ≡ tallied none_yet (stood plan commands turns acts).records
 
--- what closes the connection where the book failed at an act's records
-abbrev pub closing : Act → List Act
-closing Closed = []
-closing _ = Closed ∷ []
-
--- a link told these acts, each the one that was to be made next; the book failed at the records of the last one, of which it took
--- a part, and the connection was closed
+-- a link told these acts, each the one that was to be made next; the book failed, and took a part, from the front, of the records through
+-- the last act; and the connection was closed
 pub record BrokeAt (plan : Plan) (commands : List Command) (turns : ℕ) (text : Record → List ℕ) (told told' : Option (List Act)) (taken taken' : Option (List ℕ)) : Type 0 where
   pub acts : List Act
   pub last : Act
-  pub tells : Tells told told' (acts ++ last ∷ closing last)
+  pub tells : Tells told told' (acts ++ last ∷ (Closed ∷ []))
   pub runs : Runs plan commands (opening plan turns) (acts ++ last ∷ [])
   pub took : WritesPart text (stood plan commands turns (acts ++ last ∷ [])).records taken taken'
 

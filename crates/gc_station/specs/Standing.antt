@@ -1,14 +1,16 @@
 -- What a station is after the acts of its link, this project's own: the client's rule over what really happened, and how far
 -- the station is. Each act is the one that the station was to make next.
-use Rattle.std.specs.Prelude.{◌≡◌, ℕ, ◌-◌, ◌<◌, Bool, true, false, List, [], ◌∷◌, ◌++◌, length, drop, Option, Some, None, if◌then◌else◌, nat_eq, not}
+use Rattle.std.specs.Prelude.{◌≡◌, ℕ, ◌-◌, ◌<◌, Bool, true, false, List, [], ◌∷◌, ◌++◌, length, drop, Option, Some, None, Result, Ok, Err, if◌then◌else◌, nat_eq, not}
 use Rattle.std.specs.List.{filter_map}
 use Rattle.gc_lines.specs.Frames.{line_in, rest_behind}
 use Rattle.gc_lines.specs.Lines.{with_end}
 use Rattle.gc_lines.specs.Passing.{frames_behind}
+use Rattle.gc_lines.specs.Readers.{reply_at}
 use Rattle.gc_catalogue.specs.declared.call.Call.{Call}
 use Rattle.gc_catalogue.specs.declared.call.Call.TheVariants.{NullProc}
 use Rattle.gc_catalogue.specs.Texts.{request_line}
-use Rattle.gc_client.specs.Rule.{ById, Settlement, Sending, fresh, sends, hears, heard, expires, expiring, restarts, deadlines}
+use Rattle.gc_client.specs.declared.window.TheConstants.{WINDOW}
+use Rattle.gc_client.specs.Rule.{ById, Settlement, Settled, Sending, fresh, sends, hears, heard, expires, expiring, restarts, deadlines}
 use Rattle.gc_texts.specs.declared.commands.Command.{Command}
 use Rattle.gc_station.specs.declared.link.Moment.{Moment}
 use Rattle.gc_station.specs.declared.plan.Plan.{Plan}
@@ -17,40 +19,53 @@ use Rattle.gc_station.specs.declared.cause.Cause.TheVariants as cause
 use Rattle.gc_station.specs.declared.progress.Phase.{Phase}
 use Rattle.gc_station.specs.declared.progress.Phase.TheVariants as phase
 use Rattle.gc_station.specs.declared.progress.Order.{Order}
-use Rattle.gc_station.specs.declared.progress.Order.TheVariants.{Tell, Begin, Open, Clear, Probe, Send, Read, Rest, Close, Stop}
+use Rattle.gc_station.specs.declared.progress.Order.TheVariants.{Tell, Begin, Open, Clear, Probe, Send, Flush, Read, Rest, Close, Stop}
 use Rattle.gc_station.specs.declared.progress.Progress.{Progress}
+use Rattle.gc_station.specs.declared.progress.Waiting.{Waiting}
+use Rattle.gc_station.specs.declared.mark.Mark.{Mark}
 use Rattle.gc_station.specs.Acts.{Act, Told, Untold, Put, Cut, Gave, Silent, Ended, Broke, Closed, Opened, Unopened}
-use Rattle.gc_station.specs.Deciding.{width_of, order_of}
-use Rattle.gc_station.specs.Progressing.{later, at_start, turned, told, begun, failing, opened, again, cleared, probed, sent, gave, silent, waiting_on, reckoned_early, closed}
-use Rattle.gc_station.specs.Records.{Record, records_from}
+use Rattle.gc_station.specs.Deciding.{later, order_of}
+use Rattle.gc_station.specs.Marks.{commands_in, records_of}
+use Rattle.gc_station.specs.Progressing.{at_start, turned, told, begun, failing, opened, again, cleared, asking, probed, sent, noted, gave, silent, waiting_on, reckoned_early, closed, loses_all}
+use Rattle.gc_station.specs.Records.{Record}
 
--- where a station stands: how far it is, the bytes since the last line feed, the client, and the records so far
+-- where a station stands: how far it is, the bytes since the last line feed that it heard on this connection, the client, which command
+-- each request that waits is of, and the records so far
 pub record Standing : Type 0 where
   pub progress : Progress
   pub rest : List ℕ
   pub client : ById
+  pub marks : List (Option Mark)
   pub records : List Record
 
 -- nothing was done
 abbrev pub opening : Plan → ℕ → Standing
-opening plan turns = record { progress = at_start plan turns; rest = []; client = fresh; records = [] }
+opening plan turns = record { progress = at_start plan turns; rest = []; client = fresh; marks = []; records = [] }
 
 -- a list has no element
 abbrev pub is_nil : {A : Type 0} → List A → Bool
 is_nil [] = true
 is_nil (x ∷ xs) = false
 
--- all that wait are given up
-abbrev pub is_hopeless : ById → Bool
-is_hopeless client = is_nil (deadlines client.waiting)
+-- how many requests wait: in all, of those that aren't given up, and of commands
+abbrev pub waiting_of : Standing → Waiting
+waiting_of s = record { all = length s.client.waiting; current = length (deadlines s.client.waiting); commands = commands_in s.marks }
 
 -- what is next
 abbrev pub order_at : Plan → Standing → Order
-order_at plan s = order_of plan s.progress (length s.client.waiting) (is_hopeless s.client)
+order_at plan s = order_of plan s.progress (waiting_of s)
 
 -- a command of the cycle, counted from 0
 abbrev pub place_next : List Command → Progress → ℕ
 place_next commands p = length commands - p.unsent
+
+-- how many cycles began
+abbrev pub cycles_begun : Plan → Progress → ℕ
+cycles_begun plan p = plan.cycles - p.left
+
+-- the next command, and the cycle that it is of
+abbrev pub mark_next : Plan → List Command → Progress → Mark
+mark_next plan commands p = record { cycle = cycles_begun plan p; place = place_next commands p }
 
 -- how many requests of the cycle went out: none before the first cycle
 abbrev pub requests_out : Plan → List Command → Progress → ℕ
@@ -97,6 +112,7 @@ Obeys commands s Open act = IsOpening act
 Obeys commands s Clear act = Puts (10 ∷ []) act
 Obeys commands s Probe act = Puts (request_text s.client NullProc) act
 Obeys commands s Send act = Puts (first_text s.client (drop (place_next commands s.progress) commands)) act
+Obeys commands s Flush act = Puts (request_text s.client NullProc) act
 Obeys commands s Read act = IsReading act
 Obeys commands s Rest act = IsReading act
 Obeys commands s (Close cause) act = act ≡ Closed
@@ -117,34 +133,56 @@ abbrev pub client_sent : ById → Option (Sending ById) → ById
 client_sent client None = client
 client_sent client (Some x) = x.client
 
--- a request is sent, with its deadline so long after the moment that was told last
-abbrev pub asks : Plan → ℕ → Call → Standing → Standing
-asks plan target call s =
-    record s { client = client_sent s.client (sends (width_of plan) s.client target call (later s.progress.moment.elapsed plan.deadline)) }
+-- a request is sent, with its deadline so long after the moment that was told last; it has this mark
+abbrev pub asks : Plan → ℕ → Call → Option Mark → Standing → Standing
+asks plan target call mark s = record s {
+  client = client_sent s.client (sends WINDOW s.client target call (later s.progress.moment.elapsed plan.deadline));
+  marks = s.marks ++ mark ∷ [];
+}
 
--- the first of these commands is sent
-abbrev pub asks_first : Plan → List Command → Standing → Standing
-asks_first plan [] s = s
-asks_first plan (command ∷ others) s = asks plan command.target command.call s
+-- a null procedure of the station's own is sent
+abbrev pub asks_null : Plan → Standing → Standing
+asks_null plan s = asks plan 0 NullProc None s
 
--- settlements are written down as the ends of the oldest requests of the cycle that waited; those of the null procedure aren't
-abbrev pub with_settled : Plan → List Command → List Settlement → Standing → Standing
-with_settled plan commands settlements s =
-    record s { records = s.records ++ (if s.progress.probe then [] else records_from s.progress.moment.utc (plan.cycles - s.progress.left) (place_next commands s.progress - length s.client.waiting) settlements) }
+-- the first of these commands is sent, with this mark
+abbrev pub asks_first : Plan → Mark → List Command → Standing → Standing
+asks_first plan mark [] s = s
+asks_first plan mark (command ∷ others) s = asks plan command.target command.call (Some mark) s
+
+-- the next command is sent
+abbrev pub asks_next : Plan → List Command → Standing → Standing
+asks_next plan commands s = asks_first plan (mark_next plan commands s.progress) (drop (place_next commands s.progress) commands) s
 
 -- the client is another
 abbrev pub with_client : ById → Standing → Standing
 with_client client s = record s { client = client }
 
--- a line came
-abbrev pub line_came : Plan → List Command → Standing → List ℕ → Standing
-line_came plan commands s line =
-    let x = hears s.client line (heard line) in
-    with_client x.client (with_settled plan commands x.settlements s)
+-- settlements of the oldest requests that wait are written down by their marks, which go
+abbrev pub with_settled : List Settlement → Standing → Standing
+with_settled settlements s = record s {
+  records = s.records ++ records_of s.progress.moment.utc s.marks settlements;
+  marks = drop (length settlements) s.marks;
+}
 
-abbrev pub lines_came : Plan → List Command → Standing → List (List ℕ) → Standing
-lines_came plan commands s [] = s
-lines_came plan commands s (line ∷ others) = lines_came plan commands (line_came plan commands s line) others
+-- what was settled, and the client behind it
+abbrev pub settles : Settled ById → Standing → Standing
+settles x s = with_client x.client (with_settled x.settlements s)
+
+-- whether a line reads as a reply
+abbrev pub is_ok : {A E : Type 0} → Result A E → Bool
+is_ok (Ok _) = true
+is_ok (Err _) = false
+
+abbrev pub is_reply : List ℕ → Bool
+is_reply line = is_ok (reply_at line)
+
+-- a line came
+abbrev pub line_came : Standing → List ℕ → Standing
+line_came s line = with_progress (noted (is_reply line)) (settles (hears s.client line (heard line)) s)
+
+abbrev pub lines_came : Standing → List (List ℕ) → Standing
+lines_came s [] = s
+lines_came s (line ∷ others) = lines_came (line_came s line) others
 
 -- the lines that a piece completes behind a rest
 abbrev pub lines_behind : List ℕ → List ℕ → List (List ℕ)
@@ -154,8 +192,8 @@ abbrev pub with_rest : List ℕ → Standing → Standing
 with_rest rest s = record s { rest = rest }
 
 -- the lines of a piece are heard, in order
-abbrev pub piece_came : Plan → List Command → List ℕ → Standing → Standing
-piece_came plan commands piece s = lines_came plan commands (with_rest (rest_behind s.rest piece) s) (lines_behind s.rest piece)
+abbrev pub piece_came : List ℕ → Standing → Standing
+piece_came piece s = lines_came (with_rest (rest_behind s.rest piece) s) (lines_behind s.rest piece)
 
 -- what comes is heard where requests go out, and is dropped before that
 abbrev pub is_heard : Phase → Bool
@@ -168,28 +206,27 @@ is_heard phase.Ready = true
 is_heard (phase.Closing cause) = false
 is_heard (phase.Over cause) = false
 
-abbrev pub came : Bool → Plan → List Command → List ℕ → Standing → Standing
-came true plan commands piece s = piece_came plan commands piece s
-came false plan commands piece s = s
+abbrev pub came : Bool → List ℕ → Standing → Standing
+came true piece s = piece_came piece s
+came false piece s = s
 
--- how far a station is once it heard a piece
+-- how far a station is once it heard a piece, before which so many commands waited
 abbrev pub reckoned : Plan → Bool → ℕ → Standing → Standing
-reckoned plan rested before s =
-    with_progress (λ p. reckoned_early plan (length s.client.waiting) (gave plan rested before (length s.client.waiting) p)) s
+reckoned plan rested before s = with_progress (λ p. reckoned_early plan (commands_in s.marks) (gave plan rested before (waiting_of s) p)) s
 
 -- a piece came, and then it was this moment: it gives up what has reached its deadline, and then hears
-abbrev pub piece_at : Plan → List Command → Bool → List ℕ → Moment → Standing → Standing
-piece_at plan commands rested piece m s =
-    reckoned plan rested (length s.client.waiting) (came (is_heard s.progress.phase) plan commands piece (with_moment m (with_progress (told m) s)))
+abbrev pub piece_at : Plan → Bool → List ℕ → Moment → Standing → Standing
+piece_at plan rested piece m s =
+    reckoned plan rested (commands_in s.marks) (came (is_heard s.progress.phase) piece (with_moment m (with_progress (told m) s)))
 
 -- what was read
-abbrev pub after_read : Plan → List Command → Bool → Standing → Act → Standing
-after_read plan commands rested s (Gave bytes m) = piece_at plan commands rested bytes m s
-after_read plan commands rested s (Silent m) =
+abbrev pub after_read : Plan → Bool → Standing → Act → Standing
+after_read plan rested s (Gave bytes m) = piece_at plan rested bytes m s
+after_read plan rested s (Silent m) =
     with_moment m (with_progress (λ p. waiting_on (not (is_nil (expiring m.elapsed s.client.waiting))) m (silent plan rested m p)) s)
-after_read plan commands rested s Ended = with_progress (failing cause.End) s
-after_read plan commands rested s Broke = with_progress (failing cause.Read) s
-after_read plan commands rested s _ = with_progress (failing cause.Clock) s
+after_read plan rested s Ended = with_progress (failing cause.End) s
+after_read plan rested s Broke = with_progress (failing cause.Read) s
+after_read plan rested s _ = with_progress (failing cause.Clock) s
 
 -- the clock was read
 abbrev pub after_tell : (Moment → Progress → Progress) → Standing → Act → Standing
@@ -204,30 +241,38 @@ after_put requests f s _ = f s
 -- a connection was asked for
 abbrev pub after_open : Plan → Standing → Act → Standing
 after_open plan s Opened = with_progress opened s
-after_open plan s _ = with_progress (again plan cause.Open) s
+after_open plan s _ = with_progress (again plan (commands_in s.marks) cause.Open) s
 
--- the connection was closed: what waits is lost, and ids and lines begin anew
-abbrev pub after_close : Plan → List Command → Cause → Standing → Standing
-after_close plan commands cause s =
-    let x = restarts s.client in
-    with_progress (closed plan cause) (with_rest [] (with_client x.client (with_settled plan commands x.settlements s)))
+-- the connection was closed: bytes of a line are forgotten; what waits goes on waiting
+abbrev pub after_close : Plan → Cause → Standing → Standing
+after_close plan cause s = with_progress (closed plan (waiting_of s) cause) (with_rest [] s)
 
 -- what an act of this order does, apart from the turn
 abbrev pub moved : Plan → List Command → Order → Standing → Act → Standing
-moved plan commands Tell s act = after_tell (λ m p. reckoned_early plan (length s.client.waiting) (told m p)) s act
+moved plan commands Tell s act = after_tell (λ m p. reckoned_early plan (commands_in s.marks) (told m p)) s act
 moved plan commands Begin s act = after_tell (begun plan (length commands)) s act
 moved plan commands Open s act = after_open plan s act
 moved plan commands Clear s act = after_put (requests_out plan commands s.progress) (with_progress cleared) s act
-moved plan commands Probe s act = after_put (requests_out plan commands s.progress) (λ (s : Standing). with_progress probed (asks plan 0 NullProc s)) s act
-moved plan commands Send s act = after_put (requests_out plan commands s.progress) (λ (s : Standing). with_progress sent (asks_first plan (drop (place_next commands s.progress) commands) s)) s act
-moved plan commands Read s act = after_read plan commands false s act
-moved plan commands Rest s act = after_read plan commands true s act
-moved plan commands (Close cause) s act = after_close plan commands cause s
+moved plan commands Probe s act = after_put (requests_out plan commands s.progress) (λ (s : Standing). with_progress probed (asks_null plan s)) s act
+moved plan commands Send s act = after_put (requests_out plan commands s.progress) (λ (s : Standing). with_progress sent (asks_next plan commands s)) s act
+moved plan commands Flush s act = after_put (requests_out plan commands s.progress) (λ (s : Standing). with_progress asking (asks_null plan s)) s act
+moved plan commands Read s act = after_read plan false s act
+moved plan commands Rest s act = after_read plan true s act
+moved plan commands (Close cause) s act = after_close plan cause s
 moved plan commands (Stop cause) s act = s
+
+-- all that wait are lost, and ids begin anew, or not
+abbrev pub losing : Bool → Standing → Standing
+losing true s = settles (restarts s.client) s
+losing false s = s
+
+-- all that wait are lost where the next connection begins anew, and where no act follows
+abbrev pub ended : Standing → Standing
+ended s = losing (loses_all s.progress) s
 
 -- an act takes a turn, and does what it does by the order that it obeys
 abbrev pub after : Plan → List Command → Standing → Act → Standing
-after plan commands s act = moved plan commands (order_at plan s) (with_progress turned s) act
+after plan commands s act = ended (moved plan commands (order_at plan s) (with_progress turned s) act)
 
 -- after all acts, in order
 abbrev pub after_all : Plan → List Command → Standing → List Act → Standing

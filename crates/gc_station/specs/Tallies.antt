@@ -1,7 +1,7 @@
 -- How many requests ended how, this project's own.
 use Rattle.std.specs.Prelude.{ℕ, List, [], ◌∷◌}
 use Rattle.gc_client.specs.Rule.{Outcome, Answered, Late, Lost}
-use Rattle.gc_station.specs.Progressing.{later}
+use Rattle.gc_station.specs.Deciding.{later}
 use Rattle.gc_station.specs.Records.{Record}
 use Rattle.gc_station.specs.declared.tally.Tally.{Tally}
 

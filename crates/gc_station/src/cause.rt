@@ -11,8 +11,11 @@ pub enum Cause {
     /// Each command of each cycle is settled.
     Done,
     /// All requests that wait are given up, no other may go out, and nothing came and nothing more was given up for the
-    /// quiet time.
+    /// quiet time. The next connection begins anew.
     Silence,
+    /// Nothing may go out, and no reply line came for twice the deadline and the quiet time: since the last one, or since the
+    /// first request that was sent behind it.
+    Dead,
     /// A read failed.
     Read,
     /// The other end closed the connection.
@@ -35,6 +38,7 @@ impl Cause {
         match self {
             Cause::Done => None,
             Cause::Silence => Some(RunFault::Read),
+            Cause::Dead => Some(RunFault::Read),
             Cause::Read => Some(RunFault::Read),
             Cause::End => Some(RunFault::LinkClosed),
             Cause::Write { requests, bytes } => Some(RunFault::Write {

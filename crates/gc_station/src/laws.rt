@@ -1,16 +1,21 @@
 //! Laws of a station's runs, whatever its link tells.
 
-ghost use Rattle.std.specs.Prelude.{◌≡◌, ℕ, List, [], ◌∷◌, ◌++◌};
+ghost use Rattle.std.specs.Prelude.{◌≡◌, ◌⊎◌, ℕ, ◌≤◌, true, List, [], ◌∷◌, ◌++◌};
 ghost use Rattle.std.specs.List.{AllByRecursion};
+ghost use Rattle.gc_lines.specs.Frames.{rest_of};
 ghost use Rattle.gc_texts.specs.declared.commands.Command.{Command};
 ghost use Rattle.gc_station.specs.declared.cause.Cause.{Cause};
 ghost use Rattle.gc_station.specs.declared.progress.Order.TheVariants.{Probe, Send, Stop};
 ghost use Rattle.gc_station.specs.declared.plan.Plan.{Plan};
 ghost use Rattle.gc_station.specs.Acts.{Act, Closed};
-ghost use Rattle.gc_station.specs.Answers.{IsTrueRecord, IsOnOneSide, IsAnew};
+ghost use Rattle.gc_station.specs.Answers.{IsTrueRecord};
+ghost use Rattle.gc_station.specs.Beginnings.{IsFirst, IsAnsweredAmong};
 ghost use Rattle.gc_station.specs.Closing.{IsReasoned, ClosesForACause, StopsForACause};
 ghost use Rattle.gc_station.specs.EachOnce.{EachOnce, IsFurther};
-ghost use Rattle.gc_station.specs.Probing.{KeepsOpen, IsAnsweredWithin};
+ghost use Rattle.gc_station.specs.Ends.{IsTrulyLate, IsTrulyLost};
+ghost use Rattle.gc_station.specs.Given.{given};
+ghost use Rattle.gc_station.specs.Probing.{KeepsOpen, IsAsking, IsAnsweredWithin};
+ghost use Rattle.gc_station.specs.Quiet.{IsRequest, IsClearedAndQuiet};
 ghost use Rattle.gc_station.specs.Runs.{stood};
 ghost use Rattle.gc_station.specs.Standing.{opening, order_at, Runs};
 
@@ -20,17 +25,17 @@ pub fn each_command_once()
     ensures { (plan : Plan) (commands : List Command) (turns : ℕ) (acts : List Act) → EachOnce plan commands turns acts }
 {}
 
-/// Each act of a run is that of the order that was next, and what that order needs was so: where a command was sent, the
-/// window had room, and its bytes are the line of the next command of the cycle; where the line feed or the null procedure
-/// went out, nothing waited, and the null procedure had id 0.
+/// Each act of a run is that of the order that was next, and what that order needs was so: where a command was sent, fewer
+/// were under way than the plan has it and fewer than seven waited, and its bytes are the line of the next command of the
+/// cycle; where the null procedure of a beginning went out, nothing waited, no bytes of a line were kept, and it had id 0.
 pub fn each_act_is_due()
     ensures { (plan : Plan) (commands : List Command) (turns : ℕ) (earlier later : List Act) (act : Act)
         → Runs plan commands (opening plan turns) (earlier ++ act ∷ later) → IsReasoned plan commands (stood plan commands turns earlier) act }
 {}
 
-/// A connection is closed only for a cause: nothing was left to be done; or the line was dead, that is, all that waited was
-/// given up, no other request could go out, and it was quiet; or all turns were used up; or the act before it shows that a call
-/// failed or that the other end closed.
+/// A connection is closed only for a cause: nothing was left to be done; or nothing could go out, and all that waited was
+/// given up and the line was quiet, or it was dead; or all turns were used up; or the act before it shows that a call failed
+/// or that the other end closed.
 pub fn closes_for_a_cause()
     ensures { (plan : Plan) (commands : List Command) (turns : ℕ) (earlier later : List Act)
         → Runs plan commands (opening plan turns) (earlier ++ Closed ∷ later) → ClosesForACause plan commands turns earlier }
@@ -45,42 +50,69 @@ pub fn each_send_goes_on()
 {}
 
 /// Each record of an answer is of a line that came with the id of its very request, of the same cycle and place: behind it,
-/// on the connection on which it went out, and before a moment at or past its deadline was told. No close stands between
-/// them, and the act that brought the line is the one at which the record was written. Its target is that of its command by
-/// `each_command_once`.
+/// on its connection or a later one, and before a moment at or past its deadline was told. The act that brought the line is
+/// the one at which the record was written. Its target is that of its command by `each_command_once`.
 pub fn answers_come_in_time()
     ensures { (plan : Plan) (commands : List Command) (turns : ℕ) (acts : List Act)
         → Runs plan commands (opening plan turns) acts → AllByRecursion (IsTrueRecord plan commands turns acts) (stood plan commands turns acts).records }
 {}
 
-/// A line that came after a close is never booked for a request from before it, nor the other way round: of each record of
-/// an answer, the request and the line stand on one side of each close.
-pub fn no_answer_crosses_a_close()
-    ensures { (plan : Plan) (commands : List Command) (turns : ℕ) (earlier later : List Act) → Runs plan commands (opening plan turns) (earlier ++ Closed ∷ later)
-        → AllByRecursion (IsOnOneSide plan commands turns earlier later) (stood plan commands turns (earlier ++ Closed ∷ later)).records }
+/// Each record of a request that is late is so: its very request was put, of the same cycle and place; then a moment at or past
+/// its deadline was told, at the latest with the piece that brought the line; then a line came with the request's id, and the act
+/// that brought it is the one at which the record was written.
+pub fn late_ones_came_late()
+    ensures { (plan : Plan) (commands : List Command) (turns : ℕ) (acts : List Act)
+        → Runs plan commands (opening plan turns) acts → AllByRecursion (IsTrulyLate plan commands turns acts) (stood plan commands turns acts).records }
 {}
 
-/// Where the null procedure goes out on a new connection (`settle`), no command follows on that connection before a line came
-/// with the null procedure's id.
+/// Each record of a request that is lost is so for a cause: its very request was put, of the same cycle and place; and the act at
+/// which the record was written brought a line with the id of another request, which was put behind it and waited; or it closed the
+/// connection since all that waited was given up, nothing could go out and the line was quiet, and the next one begins anew; or it
+/// is the last act of the run, which stops there.
+pub fn lost_ones_are_lost_for_a_cause()
+    ensures { (plan : Plan) (commands : List Command) (turns : ℕ) (acts : List Act)
+        → Runs plan commands (opening plan turns) acts → AllByRecursion (IsTrulyLost plan commands turns acts) (stood plan commands turns acts).records }
+{}
+
+/// Where the null procedure of a beginning goes out, no other request follows on that connection before a line came with
+/// the null procedure's id.
 pub fn null_procedure_is_answered_first()
     ensures { (plan : Plan) (commands : List Command) (turns : ℕ) (earlier between : List Act) (act : Act)
         → Runs plan commands (opening plan turns) ((earlier ++ act ∷ []) ++ between)
         → order_at plan (stood plan commands turns earlier) ≡ Probe → AllByRecursion KeepsOpen between
-        → order_at plan (stood plan commands turns ((earlier ++ act ∷ []) ++ between)) ≡ Send
+        → IsAsking (order_at plan (stood plan commands turns ((earlier ++ act ∷ []) ++ between)))
         → IsAnsweredWithin plan commands turns (earlier ++ act ∷ []) between }
-{}
-
-/// Behind a close nothing waits, ids begin anew, and no bytes of a line are kept.
-pub fn each_connection_begins_anew()
-    ensures { (plan : Plan) (commands : List Command) (turns : ℕ) (earlier : List Act)
-        → Runs plan commands (opening plan turns) (earlier ++ Closed ∷ []) → IsAnew (stood plan commands turns (earlier ++ Closed ∷ [])) }
 {}
 
 /// A run stops without a connection, and only for a cause: all turns are used up, or what the last act shows. Either a call
 /// failed while there was no connection; or the connection was closed, or none could be made, and no other is made: for `Done`
-/// where nothing was left to be sent; for the clock and the turns at once; and for another cause where something was left, a
-/// connection anew would take a try, and no try was left. That all is settled then is `each_command_once`.
+/// where nothing was left to be sent and no command waited; for the clock and the turns at once; and for another cause where
+/// something was left, a connection anew would take a try, and no try was left. That all is settled then is
+/// `each_command_once`.
 pub fn stops_for_a_cause()
     ensures { (plan : Plan) (commands : List Command) (turns : ℕ) (acts : List Act) (why : Cause) → Runs plan commands (opening plan turns) acts
         → order_at plan (stood plan commands turns acts) ≡ Stop why → StopsForACause plan commands turns acts why }
+{}
+
+/// Where a request goes out, its connection was cleared, and quiet: as soon as it was made a line feed went out, alone and whole,
+/// and before anything else went out on it nothing came for the quiet time, by the clock.
+pub fn each_connection_is_cleared_and_quiet()
+    ensures { (plan : Plan) (commands : List Command) (turns : ℕ) (earlier later : List Act) (act : Act) → plan.quiet ≤ 18446744073709551615
+        → Runs plan commands (opening plan turns) (earlier ++ act ∷ later) → IsRequest act → IsClearedAndQuiet plan.quiet earlier }
+{}
+
+/// The bytes of a line that a station keeps are those that came on this connection while bytes were heard, behind the last line
+/// feed, in whatever pieces they came.
+pub fn rest_is_what_came()
+    ensures { (plan : Plan) (commands : List Command) (turns : ℕ) (acts : List Act) → Runs plan commands (opening plan turns) acts
+        → (stood plan commands turns acts).rest ≡ rest_of (given plan commands turns acts) }
+{}
+
+/// Behind the start of a run, and behind each act at which the station begins anew, the null procedure with id 0 goes out first,
+/// on a connection that was cleared and quiet. Any other request goes out only once a line with that id came behind it, on its
+/// connection; where that was closed before, the null procedure goes out again, as the first request of another.
+pub fn each_beginning_is_answered_first()
+    ensures { (plan : Plan) (commands : List Command) (turns : ℕ) (earlier between later : List Act) (act : Act) → plan.quiet ≤ 18446744073709551615
+        → Runs plan commands (opening plan turns) ((earlier ++ between) ++ act ∷ later) → (stood plan commands turns earlier).progress.anew ≡ true
+        → IsRequest act → IsFirst plan.quiet (earlier ++ between) act ⊎ IsAnsweredAmong between }
 {}

@@ -5,6 +5,7 @@ mod book;
 mod cause;
 pub mod laws;
 mod link;
+mod mark;
 mod pace;
 mod plan;
 mod progress;

@@ -5,27 +5,84 @@ ghost use Rattle.std.specs.Prelude.{◌≡◌, ℕ, Option};
 ghost use Rattle.std.specs.Option.{option_to_list};
 ghost use Rattle.std.specs.Io.KnownBytes.{Appends};
 ghost use Rattle.gc_client.specs.Rule.{IsEarliest, deadlines};
-ghost use Rattle.gc_station.specs.Pace.{patience, ends_without_deadline, cycle_of, overrun, told_then};
+ghost use Rattle.gc_station.specs.Pace.{quiet_at, dead_at, due_at, rested_at, ends_in, ends_without_deadline, ends_at, patience, cycle_of, overrun, told_then};
 
 use crate::book::Book;
 use crate::plan::Plan;
-use crate::progress::Progress;
+use crate::progress::{Phase, Progress, patience_of};
 use crate::progressing::later;
 use crate::station::Station;
 
 impl Progress {
-    // When a read that brings nothing is over, where no request has a deadline any more.
-    fn ends_without_deadline(&self, plan: &Plan, rested: bool) -> u64
-        ensures { result ≡ ends_without_deadline plan.now self.now rested }
+    // When the line counts as quiet.
+    fn quiet_at(&self, plan: &Plan) -> u64
+        ensures { result ≡ quiet_at plan.now self.now }
     {
-        let quiet = later(self.since, plan.quiet);
-        let due = later(self.began, plan.every);
-        if rested {
-            due
-        } else if !self.phase.is_up() && self.is_resting(plan) {
-            quiet.max(due)
+        later(self.since, plan.quiet)
+    }
+
+    // When the line is dead.
+    fn dead_at(&self, plan: &Plan) -> u64
+        ensures { result ≡ dead_at plan.now self.now }
+    {
+        later(self.alive, patience_of(plan))
+    }
+
+    // When the next cycle is due.
+    fn due_at(&self, plan: &Plan) -> u64
+        ensures { result ≡ due_at plan.now self.now }
+    {
+        later(self.began, plan.every)
+    }
+
+    // When a rest without a connection is over.
+    fn rested_at(&self, plan: &Plan) -> u64
+        ensures { result ≡ rested_at plan.now self.now }
+    {
+        let rested = later(self.since, self.pause);
+        if self.is_resting(plan) {
+            rested.max(self.due_at(plan))
         } else {
-            quiet
+            rested
+        }
+    }
+
+    // When a read that brings nothing is over at the latest, whatever deadlines there are; where all that wait are given up, or
+    // not.
+    fn ends(&self, plan: &Plan, hopeless: bool) -> u64
+        ensures { result ≡ ends_in self.now.phase plan.now self.now hopeless }
+    {
+        match self.phase {
+            Phase::Resting => self.rested_at(plan),
+            Phase::Draining => later(self.since, self.drain(plan)),
+            _ => {
+                if hopeless {
+                    self.quiet_at(plan).min(self.dead_at(plan))
+                } else {
+                    self.dead_at(plan)
+                }
+            }
+        }
+    }
+
+    // The same, and where all that is left is to wait for the next cycle, when that is due.
+    fn ends_without_deadline(&self, plan: &Plan, rested: bool, hopeless: bool) -> u64
+        ensures { result ≡ ends_without_deadline plan.now self.now rested hopeless }
+    {
+        if rested {
+            self.due_at(plan)
+        } else {
+            self.ends(plan, hopeless)
+        }
+    }
+
+    // When it is over, where this is the next deadline, if a request still has one.
+    fn ends_at(&self, plan: &Plan, rested: bool, deadline: Option<u64>) -> u64
+        ensures { result ≡ ends_at plan.now self.now rested deadline }
+    {
+        match deadline {
+            Some(deadline) => deadline.min(self.ends_without_deadline(plan, rested, false)),
+            None => self.ends_without_deadline(plan, rested, true),
         }
     }
 
@@ -55,11 +112,9 @@ impl Station {
         ensures { (deadline : Option ℕ) × IsEarliest (deadlines self.now.client.ids.waiting) deadline
             × (result ≡ patience plan.now self.now.progress rested deadline) }
     {
-        let until = match self.client.next_deadline() {
-            Some(deadline) => deadline,
-            None => self.progress.ends_without_deadline(plan, rested),
-        };
-        until
+        let deadline = self.client.next_deadline();
+        self.progress
+            .ends_at(plan, rested, deadline)
             .saturating_sub(self.progress.moment.elapsed)
             .max(1)
             .min(60_000)

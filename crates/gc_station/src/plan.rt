@@ -3,7 +3,7 @@
 /// What an operator chooses. Times are in milliseconds.
 #[derive(Clone, Copy, Debug, PartialEq, Eq)]
 pub struct Plan {
-    /// How many requests may wait at a time: 1 to 7. Below and above, the nearest of these.
+    /// How many requests may be under way that aren't given up: 1 to 7. Below and above, the nearest of these.
     pub width: u8,
     /// How long a request waits before it is given up.
     pub deadline: u64,
@@ -12,12 +12,11 @@ pub struct Plan {
     pub every: u64,
     /// How many cycles are measured.
     pub cycles: u32,
-    /// How long nothing may come or go, and no request be given up, before the line counts as quiet.
+    /// How long nothing may come or go, and no request be given up, before the line counts as quiet. So long it rests before
+    /// it connects again, too; twice as long at each further failure, up to a minute.
     pub quiet: u64,
     /// How many times in a row it connects anew without a reply that settles a command's request. A connection that ends
     /// once a cycle is done and before the next is due takes none, and the next is made when that cycle is due; one that
     /// can't be made always takes one.
     pub retries: u32,
-    /// Whether a null procedure has to be answered on each new connection before commands go out.
-    pub settle: bool,
 }

@@ -1,25 +1,28 @@
 //! Progress: how far a station is, and what it does next. All decisions are made here, by looking at nothing else.
 
 ghost use Rattle.std.specs.Prelude.{◌≡◌};
-ghost use Rattle.gc_station.specs.Deciding.{width_of, is_up, is_quiet, is_due, order_of, order_on, order_ready, order_room, order_done, order_waiting};
+ghost use Rattle.gc_station.specs.Deciding.{width_of, is_up, is_past, is_quiet, drain_of, patience_of, is_dead, is_due, has_room, order_of, order_on, order_ready, order_room, order_sent, order_done, order_waiting};
 ghost use Rattle.gc_station.specs.Progressing.{at_start};
+ghost use Rattle.gc_station.specs.Standing.{is_heard};
 
 use crate::cause::Cause;
 use crate::link::Moment;
 use crate::plan::Plan;
+use crate::progressing::later;
+use gc_client::WINDOW;
 
 /// Where a station is.
 #[derive(Clone, Copy)]
 pub(crate) enum Phase {
     /// Without a connection, and one is to be made.
     Down,
-    /// Without a connection, and one is to be made after the quiet time.
+    /// Without a connection, and one is to be made after a rest.
     Resting,
     /// A connection was made; the line feed that clears half a request is to go out.
     Clearing,
     /// What comes is dropped until the line is quiet.
     Draining,
-    /// The null procedure is to go out.
+    /// The null procedure with which it begins anew is to go out.
     Probing,
     /// Requests go out, and their replies are heard.
     Ready,
@@ -40,10 +43,12 @@ pub(crate) enum Order {
     Open,
     /// To send a lone line feed.
     Clear,
-    /// To send the null procedure.
+    /// To send the null procedure with which it begins anew.
     Probe,
     /// To send the next command.
     Send,
+    /// To send a null procedure behind requests that are all given up: its reply settles them.
+    Flush,
     /// To read.
     Read,
     /// To read while the next cycle isn't due.
@@ -54,19 +59,38 @@ pub(crate) enum Order {
     Stop(Cause),
 }
 
+/// How many requests wait.
+#[derive(Clone, Copy)]
+pub(crate) struct Waiting {
+    /// In all.
+    pub all: usize,
+    /// Of these, that aren't given up.
+    pub current: usize,
+    /// Of these, commands of the cycle. The others are null procedures.
+    pub commands: usize,
+}
+
 /// How far a station is.
 #[derive(Clone, Copy)]
 pub(crate) struct Progress {
     /// Where it is.
     pub phase: Phase,
-    /// Whether what waits is the null procedure.
-    pub probe: bool,
+    /// Whether the next connection, or this one, begins anew.
+    pub anew: bool,
+    /// Whether the null procedure with which it began isn't answered yet.
+    pub alone: bool,
+    /// How many quiet times a connection that begins anew is drained.
+    pub drain: usize,
     /// Whether something was done since the moment was told.
     pub stale: bool,
     /// The moment that was told last.
     pub moment: Moment,
     /// The moment behind the last bytes that came or went, or at which a request was given up.
     pub since: u64,
+    /// When the last reply line came, or the first request behind it went out, or else the connection was drained.
+    pub alive: u64,
+    /// Whether a request went out behind the last reply line.
+    pub asked: bool,
     /// When the cycle began.
     pub began: u64,
     /// Whether the cycle was done before the next was due.
@@ -77,15 +101,24 @@ pub(crate) struct Progress {
     pub unsent: usize,
     /// How many times more it may connect anew.
     pub tries: u32,
+    /// How long it rests, or rested last, before it connects again. 0: a reply settled a command since.
+    pub pause: u64,
     /// How many turns are left.
     pub turns: u64,
 }
 
-// How many requests may wait.
+// How many requests may be under way.
 pub(crate) fn width(plan: &Plan) -> u8
     ensures { result ≡ width_of plan.now }
 {
     plan.width.max(1).min(7)
+}
+
+// How long no reply line has to come before the line is dead.
+pub(crate) fn patience_of(plan: &Plan) -> u64
+    ensures { result ≡ patience_of plan.now }
+{
+    later(later(plan.deadline, plan.deadline), plan.quiet)
 }
 
 impl Phase {
@@ -104,33 +137,79 @@ impl Phase {
             Phase::Over(_) => false,
         }
     }
+
+    // Whether what comes is heard.
+    pub(crate) fn is_heard(self) -> bool
+        ensures { result ≡ is_heard self }
+    {
+        match self {
+            Phase::Down => false,
+            Phase::Resting => false,
+            Phase::Clearing => false,
+            Phase::Draining => false,
+            Phase::Probing => false,
+            Phase::Ready => true,
+            Phase::Closing(_) => false,
+            Phase::Over(_) => false,
+        }
+    }
 }
 
 impl Progress {
-    // Nothing was done.
+    // Nothing was done, and the first connection begins anew.
     pub(crate) fn at_start(plan: &Plan, max_turns: u64) -> Progress
         ensures { result ≡ at_start plan.now max_turns }
     {
         Progress {
             phase: Phase::Down,
-            probe: false,
+            anew: true,
+            alone: false,
+            drain: 1,
             stale: false,
             moment: Moment { elapsed: 0, utc: 0 },
             since: 0,
+            alive: 0,
+            asked: false,
             began: 0,
             early: false,
             left: plan.cycles,
             unsent: 0,
             tries: plan.retries,
+            pause: 0,
             turns: max_turns,
         }
     }
 
-    // Whether the quiet time has passed since bytes came or went, or a request was given up.
+    // Whether so long has passed since bytes came or went, or a request was given up.
+    pub(crate) fn is_past(&self, wait: u64) -> bool
+        ensures { result ≡ is_past wait self.now }
+    {
+        wait <= self.moment.elapsed.saturating_sub(self.since)
+    }
+
+    // Whether the quiet time has.
     pub(crate) fn is_quiet(&self, plan: &Plan) -> bool
         ensures { result ≡ is_quiet plan.now self.now }
     {
-        plan.quiet <= self.moment.elapsed.saturating_sub(self.since)
+        self.is_past(plan.quiet)
+    }
+
+    // How long a new connection is drained.
+    pub(crate) fn drain(&self, plan: &Plan) -> u64
+        ensures { result ≡ drain_of plan.now self.now }
+    {
+        if self.anew {
+            (self.drain as u64).saturating_mul(plan.quiet)
+        } else {
+            plan.quiet
+        }
+    }
+
+    // Whether something waits, and no reply line came for too long.
+    fn is_dead(&self, plan: &Plan, waiting: Waiting) -> bool
+        ensures { result ≡ is_dead plan.now self.now waiting }
+    {
+        waiting.all > 0 && patience_of(plan) <= self.moment.elapsed.saturating_sub(self.alive)
     }
 
     // Whether the next cycle may begin.
@@ -143,20 +222,20 @@ impl Progress {
         plan.every <= self.moment.elapsed.saturating_sub(self.began)
     }
 
-    // What is next, where so many requests wait, and all of them are given up or not.
-    pub(crate) fn order(&self, plan: &Plan, waiting: usize, hopeless: bool) -> Order
-        ensures { result ≡ order_of plan.now self.now waiting hopeless }
+    // What is next, where so many requests wait.
+    pub(crate) fn order(&self, plan: &Plan, waiting: Waiting) -> Order
+        ensures { result ≡ order_of plan.now self.now waiting }
     {
         match self.phase {
             Phase::Over(cause) => Order::Stop(cause),
             Phase::Closing(cause) => Order::Close(cause),
-            _ => self.order_on(plan, waiting, hopeless),
+            _ => self.order_on(plan, waiting),
         }
     }
 
     // Where the end isn't decided.
-    fn order_on(&self, plan: &Plan, waiting: usize, hopeless: bool) -> Order
-        ensures { result ≡ order_on plan.now self.now waiting hopeless }
+    fn order_on(&self, plan: &Plan, waiting: Waiting) -> Order
+        ensures { result ≡ order_on plan.now self.now waiting }
     {
         if self.turns == 0 {
             return if self.phase.is_up() {
@@ -173,36 +252,47 @@ impl Progress {
             Phase::Resting => Order::Read,
             Phase::Clearing => Order::Clear,
             Phase::Draining => Order::Read,
-            Phase::Probing => self.order_room(plan, waiting, hopeless, Order::Probe),
-            Phase::Ready => self.order_ready(plan, waiting, hopeless),
+            Phase::Probing => self.order_room(plan, waiting, Order::Probe),
+            Phase::Ready => self.order_ready(plan, waiting),
             Phase::Closing(cause) => Order::Close(cause),
             Phase::Over(cause) => Order::Stop(cause),
         }
     }
 
-    fn order_ready(&self, plan: &Plan, waiting: usize, hopeless: bool) -> Order
-        ensures { result ≡ order_ready plan.now self.now waiting hopeless }
+    // Requests go out, once the null procedure with which it began is answered.
+    fn order_ready(&self, plan: &Plan, waiting: Waiting) -> Order
+        ensures { result ≡ order_ready plan.now self.now waiting }
     {
-        if self.probe {
-            return self.order_waiting(plan, hopeless);
-        }
-        if self.unsent > 0 {
-            self.order_room(plan, waiting, hopeless, Order::Send)
-        } else if waiting == 0 {
-            self.order_done(plan)
+        if self.alone {
+            self.order_waiting(plan, waiting)
+        } else if self.unsent > 0 {
+            self.order_room(plan, waiting, Order::Send)
         } else {
-            self.order_waiting(plan, hopeless)
+            self.order_sent(plan, waiting)
         }
     }
 
-    // A request is to be sent, as soon as the window has room.
-    fn order_room(&self, plan: &Plan, waiting: usize, hopeless: bool, order: Order) -> Order
-        ensures { result ≡ order_room plan.now self.now waiting hopeless order }
+    // Each command of the cycle was sent.
+    fn order_sent(&self, plan: &Plan, waiting: Waiting) -> Order
+        ensures { result ≡ order_sent plan.now self.now waiting }
     {
-        if waiting < usize::from(width(plan)) {
+        if waiting.commands == 0 {
+            self.order_done(plan)
+        } else if waiting.current == 0 {
+            self.order_room(plan, waiting, Order::Flush)
+        } else {
+            self.order_waiting(plan, waiting)
+        }
+    }
+
+    // A request is to be sent, as soon as there is room.
+    fn order_room(&self, plan: &Plan, waiting: Waiting, order: Order) -> Order
+        ensures { result ≡ order_room plan.now self.now waiting order }
+    {
+        if waiting.has_room(plan) {
             order
         } else {
-            self.order_waiting(plan, hopeless)
+            self.order_waiting(plan, waiting)
         }
     }
 
@@ -219,14 +309,25 @@ impl Progress {
         }
     }
 
-    // Nothing more may go out.
-    fn order_waiting(&self, plan: &Plan, hopeless: bool) -> Order
-        ensures { result ≡ order_waiting plan.now self.now hopeless }
+    // Nothing may go out.
+    fn order_waiting(&self, plan: &Plan, waiting: Waiting) -> Order
+        ensures { result ≡ order_waiting plan.now self.now waiting }
     {
-        if hopeless && self.is_quiet(plan) {
+        if waiting.current == 0 && self.is_quiet(plan) {
             Order::Close(Cause::Silence)
+        } else if self.is_dead(plan, waiting) {
+            Order::Close(Cause::Dead)
         } else {
             Order::Read
         }
+    }
+}
+
+impl Waiting {
+    // Whether another request may go out: fewer are under way than the plan has it, and fewer wait in all than the window is wide.
+    pub(crate) fn has_room(self, plan: &Plan) -> bool
+        ensures { result ≡ has_room plan.now self }
+    {
+        self.current < usize::from(width(plan)) && self.all < WINDOW
     }
 }

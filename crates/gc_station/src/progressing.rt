@@ -1,37 +1,19 @@
 //! What each act does to how far a station is.
 
 ghost use Rattle.std.specs.Prelude.{◌≡◌};
-ghost use Rattle.gc_station.specs.Progressing.{later, turned, told, beginning, begun, failing, opened, again, is_finished, is_spared, phase_again, is_resting, quieted, cleared, probed, sent, gave, waited, silent, waiting_on, reckoned_early, closed};
+ghost use Rattle.gc_station.specs.Deciding.{later};
+ghost use Rattle.gc_station.specs.Progressing.{turned, told, beginning, begun, failing, opened, is_finished, is_resting, is_spared, phase_again, pause_again, again, cleared, asking, probed, sent, noted, gave, rested_down, drained, quieted, waited, silent, waiting_on, reckoned_early, begins_anew, beginning_anew, closed_again, closed, is_over, loses_all};
 
 use crate::cause::Cause;
 use crate::link::Moment;
 use crate::plan::Plan;
-use crate::progress::{Phase, Progress};
+use crate::progress::{Phase, Progress, Waiting};
 
 // So much later than a moment, or the last moment that there is.
 pub(crate) fn later(moment: u64, wait: u64) -> u64
     ensures { result ≡ later moment wait }
 {
     moment.saturating_add(wait)
-}
-
-impl Phase {
-    // Where a station is once the line is quiet: it connects anew where a connection is wanted.
-    fn quieted(self, plan: &Plan, resting: bool) -> Phase
-        ensures { result ≡ quieted plan.now resting self }
-    {
-        match self {
-            Phase::Resting => { if resting { Phase::Resting } else { Phase::Down } }
-            Phase::Draining => {
-                if plan.settle {
-                    Phase::Probing
-                } else {
-                    Phase::Ready
-                }
-            }
-            phase => phase,
-        }
-    }
 }
 
 impl Progress {
@@ -46,6 +28,7 @@ impl Progress {
     {
         self.moment = moment;
         self.since = moment.elapsed;
+        self.alive = self.alive.min(moment.elapsed);
         self.began = self.began.min(moment.elapsed);
         self.stale = false;
     }
@@ -89,11 +72,11 @@ impl Progress {
         self.phase = Phase::Clearing;
     }
 
-    // Whether no command of any cycle is left to be sent.
-    fn is_finished(&self) -> bool
-        ensures { result ≡ is_finished self.now }
+    // Whether no command of any cycle is left to be sent, and none waits.
+    fn is_finished(&self, commands: usize) -> bool
+        ensures { result ≡ is_finished commands self.now }
     {
-        self.left == 0 && self.unsent == 0
+        self.left == 0 && self.unsent == 0 && commands == 0
     }
 
     // Whether no connection is wanted: the cycle was done before the next was due, and that isn't due yet.
@@ -113,11 +96,11 @@ impl Progress {
         }
     }
 
-    // Where a station is that has no connection.
-    fn phase_again(&self, plan: &Plan, cause: Cause) -> Phase
-        ensures { result ≡ phase_again plan.now cause self.now }
+    // Where a station is that has no connection, while so many commands wait.
+    fn phase_again(&self, plan: &Plan, commands: usize, cause: Cause) -> Phase
+        ensures { result ≡ phase_again plan.now commands cause self.now }
     {
-        if self.is_finished() {
+        if self.is_finished(commands) {
             Phase::Over(Cause::Done)
         } else if self.is_spared(plan, cause) || self.tries > 0 {
             Phase::Resting
@@ -126,12 +109,23 @@ impl Progress {
         }
     }
 
-    pub(crate) fn try_again(&mut self, plan: &Plan, cause: Cause)
-        ensures { self.new ≡ again plan.now cause self.old }
+    // How long it rests before the next connection.
+    fn pause_again(&self, plan: &Plan, cause: Cause) -> u64
+        ensures { result ≡ pause_again plan.now cause self.now }
+    {
+        if self.is_spared(plan, cause) {
+            self.pause.max(plan.quiet)
+        } else {
+            later(self.pause, self.pause).min(60_000).max(plan.quiet)
+        }
+    }
+
+    pub(crate) fn try_again(&mut self, plan: &Plan, commands: usize, cause: Cause)
+        ensures { self.new ≡ again plan.now commands cause self.old }
     {
         let spared = self.is_spared(plan, cause);
-        self.phase = self.phase_again(plan, cause);
-        self.probe = false;
+        self.pause = self.pause_again(plan, cause);
+        self.phase = self.phase_again(plan, commands, cause);
         self.stale = true;
         if !spared {
             self.tries = self.tries.saturating_sub(1);
@@ -145,30 +139,87 @@ impl Progress {
         self.stale = true;
     }
 
+    pub(crate) fn ask(&mut self)
+        ensures { self.new ≡ asking self.old }
+    {
+        if !self.asked {
+            self.alive = self.moment.elapsed;
+        }
+        self.asked = true;
+        self.stale = true;
+    }
+
     pub(crate) fn probe(&mut self)
         ensures { self.new ≡ probed self.old }
     {
+        self.ask();
         self.phase = Phase::Ready;
-        self.probe = true;
-        self.stale = true;
+        self.anew = false;
+        self.alone = true;
     }
 
     pub(crate) fn send(&mut self)
         ensures { self.new ≡ sent self.old }
     {
+        self.ask();
         self.unsent = self.unsent.saturating_sub(1);
-        self.stale = true;
     }
 
-    pub(crate) fn give(&mut self, plan: &Plan, rested: bool, before: usize, after: usize)
+    pub(crate) fn note(&mut self, is_reply: bool)
+        ensures { self.new ≡ noted is_reply self.old }
+    {
+        if is_reply {
+            self.alive = self.moment.elapsed;
+            self.asked = false;
+        }
+    }
+
+    pub(crate) fn give(&mut self, plan: &Plan, rested: bool, before: usize, after: Waiting)
         ensures { self.new ≡ gave plan.now rested before after self.old }
     {
-        if after < before && !self.probe {
+        if after.commands < before {
             self.tries = plan.retries;
+            self.pause = 0;
         }
-        self.probe = self.probe && after != 0;
+        self.alone = self.alone && after.all != 0;
         if rested {
             self.early = true;
+        }
+    }
+
+    // It rested long enough, and connects anew where a connection is wanted.
+    fn end_rest(&mut self, plan: &Plan)
+        ensures { self.new ≡ rested_down plan.now self.old }
+    {
+        if self.is_past(self.pause) && !self.is_resting(plan) {
+            self.phase = Phase::Down;
+        }
+    }
+
+    // The connection was drained until it was quiet.
+    fn end_drain(&mut self)
+        ensures { self.new ≡ drained self.old }
+    {
+        self.phase = if self.anew {
+            Phase::Probing
+        } else {
+            Phase::Ready
+        };
+        self.alive = self.moment.elapsed;
+        self.asked = false;
+    }
+
+    fn quiet(&mut self, plan: &Plan)
+        ensures { self.new ≡ quieted plan.now self.old.phase self.old }
+    {
+        match self.phase {
+            Phase::Resting => self.end_rest(plan),
+            Phase::Draining => {
+                if self.is_past(self.drain(plan)) {
+                    self.end_drain();
+                }
+            }
+            _ => {}
         }
     }
 
@@ -177,6 +228,7 @@ impl Progress {
     {
         self.moment = moment;
         self.since = self.since.min(moment.elapsed);
+        self.alive = self.alive.min(moment.elapsed);
         self.began = self.began.min(moment.elapsed);
         self.stale = false;
         if rested {
@@ -188,9 +240,7 @@ impl Progress {
         ensures { self.new ≡ silent plan.now rested moment self.old }
     {
         self.wait(rested, moment);
-        if self.is_quiet(plan) {
-            self.phase = self.phase.quieted(plan, self.is_resting(plan));
-        }
+        self.quiet(plan);
     }
 
     pub(crate) fn wait_on(&mut self, gave_up: bool, moment: Moment)
@@ -201,21 +251,67 @@ impl Progress {
         }
     }
 
-    pub(crate) fn reckon_early(&mut self, plan: &Plan, waiting: usize)
-        ensures { self.new ≡ reckoned_early plan.now waiting self.old }
+    pub(crate) fn reckon_early(&mut self, plan: &Plan, commands: usize)
+        ensures { self.new ≡ reckoned_early plan.now commands self.old }
     {
-        self.early = self.early || (waiting == 0 && self.unsent == 0 && !self.is_due(plan));
+        self.early = self.early || (commands == 0 && self.unsent == 0 && !self.is_due(plan));
     }
 
-    pub(crate) fn close(&mut self, plan: &Plan, cause: Cause)
-        ensures { self.new ≡ closed plan.now cause self.old }
+    // Whether the next connection begins anew, where this one is closed for a cause.
+    fn begins_anew(&self, cause: Cause) -> bool
+        ensures { result ≡ begins_anew cause self.now }
     {
         match cause {
-            Cause::Done | Cause::Clock | Cause::Turns => {
-                self.phase = Phase::Over(cause);
-                self.probe = false;
-            }
-            _ => self.try_again(plan, cause),
+            Cause::Silence => true,
+            _ => self.alone || self.anew,
         }
+    }
+
+    fn begin_anew(&mut self, waiting: usize)
+        ensures { self.new ≡ beginning_anew waiting self.old }
+    {
+        if !self.anew {
+            self.drain = waiting;
+        }
+        self.anew = true;
+        self.alone = false;
+    }
+
+    // A connection that ended is to be made again, anew or not.
+    fn close_again(&mut self, plan: &Plan, waiting: Waiting, cause: Cause, anew: bool)
+        ensures { self.new ≡ closed_again plan.now waiting cause anew self.old }
+    {
+        if anew {
+            self.begin_anew(waiting.all);
+            self.try_again(plan, 0, cause);
+        } else {
+            self.try_again(plan, waiting.commands, cause);
+        }
+    }
+
+    pub(crate) fn close(&mut self, plan: &Plan, waiting: Waiting, cause: Cause)
+        ensures { self.new ≡ closed plan.now waiting cause self.old }
+    {
+        match cause {
+            Cause::Done | Cause::Clock | Cause::Turns => self.phase = Phase::Over(cause),
+            _ => self.close_again(plan, waiting, cause, self.begins_anew(cause)),
+        }
+    }
+
+    // Whether no act follows.
+    fn is_over(&self) -> bool
+        ensures { result ≡ is_over self.now }
+    {
+        match self.phase {
+            Phase::Over(_) => true,
+            _ => !self.phase.is_up() && self.turns == 0,
+        }
+    }
+
+    // Whether all that wait are lost: where it begins anew, and where no act follows.
+    pub(crate) fn loses_all(&self) -> bool
+        ensures { result ≡ loses_all self.now }
+    {
+        self.anew || self.is_over()
     }
 }

@@ -36,8 +36,8 @@ pub(crate) fn run<L: Link, B: Book>(
             return Ok((cause, station.tally));
         }
         told = station.tell_overrun(book, plan, told);
-        station.progress.turn();
-        if let Err(failed) = station.obey(link, book, plan, commands, order) {
+        if let Err(failed) = station.step(link, book, plan, commands, order) {
+            link.close();
             return Err(failed);
         }
     }
@@ -46,18 +46,26 @@ pub(crate) fn run<L: Link, B: Book>(
 /// Sends the commands over a link, in cycles, as the plan has it, and writes into a book how each request ended.
 ///
 /// What it does next is a function of what the link told: `order_at`. It connects, sends a lone line feed, and drops what
-/// comes until nothing came for the quiet time; with `settle` a null procedure is sent then, and a line with its id has to
-/// come, in time or late. Then the commands of a cycle go out, each once, as long as the window has room. A moment gives up
-/// what has reached its deadline before the bytes that came before that moment are heard. A connection that failed, ended
-/// or is dead is closed, which loses what waits. It connects anew after the quiet time, and once a cycle is done not before
-/// the next is due. A command is never sent again in its cycle.
+/// comes until nothing came for the quiet time. The first connection begins anew: a null procedure goes out alone, with id
+/// 0, and has to be answered first. Then the commands of a cycle go out, each once, while fewer are under way than the plan
+/// has it, and fewer than seven wait in all. A moment gives up what has reached its deadline before the bytes that came
+/// before that moment are heard. What is given up keeps its id and no longer holds up the others: its own reply settles it
+/// as late, and the reply to a later request as lost. Where all commands of the cycle were sent, and all that wait are given
+/// up, a null procedure goes out behind them, so that its reply settles them; it is in no record. A command is never sent
+/// again in its cycle.
+///
+/// A connection that failed, ended or is dead is closed, and what waits goes on waiting on the next one, with ids that go on.
+/// Before that it rests: for the quiet time, at each further failure twice as long, up to a minute, and once a cycle is done
+/// not before the next is due. It begins anew where nothing may go out, all that wait are given up, and the line is quiet:
+/// then all that wait are lost, and the next connection is drained for as many quiet times as waited. Where nothing is left
+/// to be sent then, the run is done in its place. A beginning that was cut begins again.
 ///
 /// `Ok`: each command of each cycle is settled, and the tally counts how. Where the clock can't be read it is over, and
-/// where no try is left: `Read` comes where the clock or a read failed or the line was dead, `Write` where a write was cut,
-/// with the cycle's requests that had gone out (0 before the first cycle), `LinkClosed` where the other end closed the
-/// connection, and `Socket` where no connection could be made. `TooManyReads` comes where `max_turns` acts were made; a
+/// where no try is left: `Read` comes where the clock or a read failed, or the line was quiet or dead, `Write` where a write
+/// was cut, with the cycle's requests that had gone out (0 before the first cycle), `LinkClosed` where the other end closed
+/// the connection, and `Socket` where no connection could be made. `TooManyReads` comes where `max_turns` acts were made; a
 /// connection that stands then is closed by one more. In all of these the connection is closed, and what waited is written
-/// as lost. `Output` comes where the book failed; the connection is closed then too, and what waited isn't written.
+/// as lost. `Output` comes where the book failed; the link is closed then, and what waits isn't written.
 pub fn run_station<L: Link, B: Book>(
     link: &mut L,
     book: &mut B,

@@ -1,36 +1,37 @@
 //! A station's steps: each makes the one call of the link that is next, and does by the client what came of it.
 
-ghost use Rattle.std.specs.Prelude.{◌≡◌, ℕ, ◌+◌, ◌-◌, ◌<◌, ◌≤◌, ◌^◌, ◌++◌, List, [], ◌∷◌, length, map, Option, if◌then◌else◌, OnOk, IfSome};
+ghost use Rattle.std.specs.Prelude.{◌≡◌, ℕ, ◌<◌, ◌≤◌, ◌++◌, List, [], ◌∷◌, length, drop, map, Option, OnOk};
 ghost use Rattle.std.specs.Option.{option_to_list};
 ghost use Rattle.std.specs.Io.KnownBytes.{Appends};
-ghost use Rattle.gc_lines.specs.Assembler.{StandsFor};
 ghost use Rattle.gc_lines.specs.Frames.{line_in};
 ghost use Rattle.gc_lines.specs.Lent.{lent_seen, IsLineWithin};
 ghost use Rattle.gc_lines.specs.Ports.{FailsWith};
-ghost use Rattle.gc_client.specs.Rule.{sends};
+ghost use Rattle.gc_client.specs.Hearing.{HearsInto};
+ghost use Rattle.gc_client.specs.Rule.{ById, sends};
 ghost use Rattle.gc_client.specs.Settlements.{settlement_seen};
+ghost use Rattle.gc_client.specs.declared.settlement.Settlement.{Settlement};
 ghost use Rattle.gc_station.specs.Acts.{Tells, put_as, IsPart};
-ghost use Rattle.gc_station.specs.Deciding.{width_of};
-ghost use Rattle.gc_station.specs.Progressing.{later};
-ghost use Rattle.gc_station.specs.Records.{Record, records_from, texts_of, WritesAll};
-ghost use Rattle.gc_station.specs.Standing.{Standing, opening, order_at, place_next, requests_out, request_text, client_sent, is_heard, lines_came, piece_came, came, piece_at};
-ghost use Rattle.gc_station.specs.Stations.{Stands, Does, Obeyed, OnCall, Follows, HasRoom, cut_progress, read_order};
-ghost use Rattle.gc_station.specs.Tallies.{none_yet, tallied};
-ghost use Rattle.gc_station.specs.declared.progress.Order.TheVariants.{Tell, Begin, Open, Clear, Probe, Send, Close};
-ghost use Rattle.gc_station.specs.declared.plan.Plan.{Plan};
+ghost use Rattle.gc_station.specs.Deciding.{later};
+ghost use Rattle.gc_station.specs.Marks.{commands_in, records_of};
+ghost use Rattle.gc_station.specs.Records.{Record, texts_of, WritesAll};
+ghost use Rattle.gc_station.specs.Standing.{Standing, opening, order_at, place_next, mark_next, requests_out, request_text, client_sent, is_heard, is_reply, lines_came, piece_came, came, piece_at, moved, ended};
+ghost use Rattle.gc_station.specs.Stations.{waiting_in, IsPaired, Stands, Does, Made, stepped, OnCall, Follows, IsFitting, cut_progress, read_order};
+ghost use Rattle.gc_station.specs.Tallies.{tallied};
+ghost use Rattle.gc_station.specs.declared.progress.Order.TheVariants.{Tell, Begin, Open, Clear, Probe, Send, Flush, Close};
 ghost use Rattle.gc_texts.specs.declared.commands.Command.{Command};
 
-use crate::book::{Book, Stamp};
+use crate::book::Book;
 use crate::cause::Cause;
 use crate::link::{Came, Link, Moment};
+use crate::mark::{Mark, commands_in};
 use crate::plan::Plan;
-use crate::progress::{Order, Phase, Progress, width};
+use crate::progress::{Order, Progress, Waiting};
 use crate::progressing::later;
 use crate::tally::Tally;
 use crate::writing::write_settlements;
 use arrayvec::ArrayVec;
 use gc_catalogue::Call;
-use gc_client::{Client, Settlement, Slots, WINDOW};
+use gc_client::{Client, Hearing, Settlement, Slots, WINDOW};
 use gc_lines::{Assembler, Lent, Line, PortFailed, append};
 use gc_texts::Command;
 
@@ -38,38 +39,23 @@ use gc_texts::Command;
 #[derive(Drop)]
 pub(crate) struct Station {
     pub(crate) client: Client<Slots>,
+    // One for each request that waits, in order: which command it is, or none for a null procedure.
+    pub(crate) marks: ArrayVec<Option<Mark>, WINDOW>,
     pub(crate) assembler: Assembler,
     pub(crate) progress: Progress,
     pub(crate) tally: Tally,
-    // What the last line settled.
+    // What was settled last.
     pub(crate) settled: ArrayVec<Settlement, WINDOW>,
-}
-
-impl Phase {
-    // Whether what comes is heard.
-    fn is_heard(self) -> bool
-        ensures { result ≡ is_heard self }
-    {
-        match self {
-            Phase::Down => false,
-            Phase::Resting => false,
-            Phase::Clearing => false,
-            Phase::Draining => false,
-            Phase::Probing => false,
-            Phase::Ready => true,
-            Phase::Closing(_) => false,
-            Phase::Over(_) => false,
-        }
-    }
 }
 
 impl Station {
     // A station that has done nothing.
     pub(crate) fn new(plan: &Plan, max_turns: u64) -> Station
-        ensures { Stands plan.now result (opening plan.now max_turns) }
+        ensures { Stands result (opening plan.now max_turns) }
     {
         Station {
-            client: Client::with_width(Slots::new(), width(plan)),
+            client: Client::new(Slots::new()),
+            marks: ArrayVec::new(),
             assembler: Assembler::new(),
             progress: Progress::at_start(plan, max_turns),
             tally: Tally::new(),
@@ -77,16 +63,30 @@ impl Station {
         }
     }
 
+    // How many requests wait.
+    fn waiting(&self) -> Waiting
+        ensures { result ≡ waiting_in self.now }
+    {
+        Waiting {
+            all: self.client.waiting(),
+            current: self.client.current(),
+            commands: self.commands(),
+        }
+    }
+
+    // How many of them are commands.
+    fn commands(&self) -> usize
+        ensures { result ≡ commands_in self.now.marks.items }
+    {
+        commands_in(self.marks.as_slice())
+    }
+
     // What is next.
     pub(crate) fn order(&self, plan: &Plan) -> Order
-        ensures order { (s : Standing) → Stands plan.now self.now s → result ≡ order_at plan.now s }
-        ensures room { HasRoom plan.now self.now.progress (length self.now.client.ids.waiting) result }
+        ensures order { (s : Standing) → Stands self.now s → result ≡ order_at plan.now s }
+        ensures room { IsFitting self.now.progress (length self.now.client.ids.waiting) result }
     {
-        self.progress.order(
-            plan,
-            self.client.waiting(),
-            self.client.next_deadline().is_none(),
-        )
+        self.progress.order(plan, self.waiting())
     }
 
     // How many commands of the cycle were sent.
@@ -94,6 +94,16 @@ impl Station {
         ensures { result ≡ place_next commands.now self.now.progress }
     {
         commands.len().saturating_sub(self.progress.unsent)
+    }
+
+    // The mark of the next command.
+    fn mark(&self, plan: &Plan, commands: &[Command]) -> Mark
+        ensures { result ≡ mark_next plan.now commands.now self.now.progress }
+    {
+        Mark {
+            cycle: plan.cycles.saturating_sub(self.progress.left),
+            place: self.place(commands),
+        }
     }
 
     // How many requests of the cycle went out: none before the first cycle.
@@ -106,20 +116,6 @@ impl Station {
         self.place(commands)
     }
 
-    // The stamp of the oldest request of the cycle that waits.
-    fn stamp(&self, plan: &Plan, commands: &[Command]) -> Stamp
-        ensures utc { result.utc ≡ self.now.progress.moment.utc }
-        ensures cycle { result.cycle ≡ plan.now.cycles - self.now.progress.left }
-        ensures place { result.place ≡ place_next commands.now self.now.progress - length self.now.client.ids.waiting }
-        ensures fits { result.place + 7 ≤ 2 ^ 64 }
-    {
-        Stamp {
-            utc: self.progress.moment.utc,
-            cycle: plan.cycles.saturating_sub(self.progress.left),
-            place: self.place(commands).saturating_sub(self.client.waiting()),
-        }
-    }
-
     // Reads the clock.
     fn tell<L: Link>(&mut self, link: &mut L, plan: &Plan)
         ensures { (commands : List Command) (text : Record → List ℕ) (known : Option (List ℕ))
@@ -127,8 +123,9 @@ impl Station {
     {
         match link.now() {
             Ok(moment) => {
+                let commands = self.commands();
                 self.progress.tell(moment);
-                self.progress.reckon_early(plan, self.client.waiting());
+                self.progress.reckon_early(plan, commands);
                 self.client.expire(moment.elapsed);
             }
             Err(_) => self.progress.fail(Cause::Clock),
@@ -154,9 +151,10 @@ impl Station {
         ensures { (commands : List Command) (text : Record → List ℕ) (known : Option (List ℕ))
             → Does plan.now commands Open text (L.acts link.old) (L.acts link.new) known known self.old self.new }
     {
+        let commands = self.commands();
         match link.open() {
             Ok(()) => self.progress.open(),
-            Err(_) => self.progress.try_again(plan, Cause::Open),
+            Err(_) => self.progress.try_again(plan, commands, Cause::Open),
         }
     }
 
@@ -180,22 +178,26 @@ impl Station {
         self.cut(put, requests);
     }
 
-    // Sends a request.
+    // Sends a request, which has this mark.
     fn ask<L: Link>(
         &mut self,
         link: &mut L,
         plan: &Plan,
         target: u32,
         call: &Call,
+        mark: Option<Mark>,
     ) -> Result<(), usize>
-        requires { length self.old.client.ids.waiting < self.old.client.width }
+        requires width { self.old.client.width ≡ WINDOW }
+        requires room { length self.old.client.ids.waiting < WINDOW }
+        requires paired { IsPaired self.old }
         ensures tells { Tells (L.acts link.old) (L.acts link.new) (put_as result (request_text self.old.client.ids call.now) ∷ []) }
         ensures part { IsPart result (request_text self.old.client.ids call.now) }
-        ensures client { self.new ≡ record self.old {
+        ensures asks { self.new ≡ record self.old {
           client = record self.old.client {
             ids =
                 client_sent self.old.client.ids (sends self.old.client.width self.old.client.ids target call.now (later self.old.progress.moment.elapsed plan.now.deadline));
           };
+          marks = record { items = self.old.marks.items ++ mark ∷ [] };
         } }
     {
         let deadline = later(self.progress.moment.elapsed, plan.deadline);
@@ -203,84 +205,102 @@ impl Station {
         let Ok(()) = self.client.send_into(target, call, deadline, &mut line) else {
             unreachable!()
         };
+        self.marks.push(mark);
         let mut text = ArrayVec::<u8, 514>::new();
         append(&mut text, &line);
         append(&mut text, b"\r\n");
         link.put(text.as_slice())
     }
 
-    // Sends the null procedure.
+    // Sends the null procedure with which it begins anew.
     fn probe<L: Link>(&mut self, link: &mut L, plan: &Plan, commands: &[Command])
-        requires { length self.old.client.ids.waiting < self.old.client.width }
+        requires width { self.old.client.width ≡ WINDOW }
+        requires room { length self.old.client.ids.waiting < WINDOW }
+        requires paired { IsPaired self.old }
         ensures { (text : Record → List ℕ) (known : Option (List ℕ))
             → Does plan.now commands.now Probe text (L.acts link.old) (L.acts link.new) known known self.old self.new }
     {
         let requests = self.requests_out(plan, commands);
-        let put = self.ask(link, plan, 0, &Call::NullProc);
+        let put = self.ask(link, plan, 0, &Call::NullProc, None);
         self.progress.probe();
         self.cut(put, requests);
     }
 
     // Sends the next command.
     fn send<L: Link>(&mut self, link: &mut L, plan: &Plan, commands: &[Command])
-        requires room { length self.old.client.ids.waiting < self.old.client.width }
+        requires width { self.old.client.width ≡ WINDOW }
+        requires room { length self.old.client.ids.waiting < WINDOW }
+        requires paired { IsPaired self.old }
         requires unsent { 0 < self.old.progress.unsent }
         requires within { self.old.progress.unsent ≤ length commands.now }
         ensures { (text : Record → List ℕ) (known : Option (List ℕ))
             → Does plan.now commands.now Send text (L.acts link.old) (L.acts link.new) known known self.old self.new }
     {
         let requests = self.requests_out(plan, commands);
+        let mark = self.mark(plan, commands);
         let command = &commands[self.place(commands)];
-        let put = self.ask(link, plan, command.target, &command.call);
+        let put = self.ask(link, plan, command.target, &command.call, Some(mark));
         self.progress.send();
         self.cut(put, requests);
     }
 
-    // Writes down what was settled, unless it is the null procedure's end.
-    fn write<B: Book>(&mut self, book: &mut B, first: Stamp) -> Result<(), PortFailed>
-        requires { first.place + length self.old.settled.items ≤ 2 ^ 64 }
+    // Sends a null procedure behind requests that are all given up.
+    fn flush<L: Link>(&mut self, link: &mut L, plan: &Plan, commands: &[Command])
+        requires width { self.old.client.width ≡ WINDOW }
+        requires room { length self.old.client.ids.waiting < WINDOW }
+        requires paired { IsPaired self.old }
+        ensures { (text : Record → List ℕ) (known : Option (List ℕ))
+            → Does plan.now commands.now Flush text (L.acts link.old) (L.acts link.new) known known self.old self.new }
+    {
+        let requests = self.requests_out(plan, commands);
+        let put = self.ask(link, plan, 0, &Call::NullProc, None);
+        self.progress.ask();
+        self.cut(put, requests);
+    }
+
+    // Writes down what was settled, by the marks of the oldest that waited, which go.
+    fn write<B: Book>(&mut self, book: &mut B) -> Result<(), PortFailed>
         ensures wrote { (start : Option (List ℕ)) (before : List Record) → Appends start (B.taken book.old) (texts_of B.text before)
-            → WritesAll B.text (before ++ (if self.old.progress.probe then [] else records_from first.utc first.cycle first.place (map settlement_seen self.old.settled.items))) start (B.taken book.new) result }
-        ensures tally { OnOk result (self.new ≡ record self.old { tally = tallied self.old.tally (if self.old.progress.probe then [] else records_from first.utc first.cycle first.place (map settlement_seen self.old.settled.items)) }) }
+            → WritesAll B.text (before ++ records_of self.old.progress.moment.utc self.old.marks.items (map settlement_seen self.old.settled.items)) start (B.taken book.new) result }
+        ensures after { OnOk result (self.new ≡ record self.old {
+          marks = record { items = drop (length self.old.settled.items) self.old.marks.items };
+          tally =
+              tallied self.old.tally (records_of self.old.progress.moment.utc self.old.marks.items (map settlement_seen self.old.settled.items));
+        }) }
         ensures fails { FailsWith result (B.failed book.old) (B.failed book.new) }
     {
-        if self.progress.probe {
-            return Ok(());
-        }
-        write_settlements(book, &mut self.tally, first, self.settled.as_slice())
+        let utc = self.progress.moment.utc;
+        write_settlements(
+            book,
+            &mut self.tally,
+            &mut self.marks,
+            utc,
+            self.settled.as_slice(),
+        )
     }
 
     // Takes the line of a frame, if it is one, and writes down what it settles.
-    fn hear<B: Book>(
-        &mut self,
-        book: &mut B,
-        plan: &Plan,
-        commands: &[Command],
-        frame: Lent<'_>,
-    ) -> Result<(), PortFailed>
+    fn hear<B: Book>(&mut self, book: &mut B, frame: Lent<'_>) -> Result<(), PortFailed>
         requires { IsLineWithin frame }
-        ensures hears { (s : Standing) (start : Option (List ℕ)) → Stands plan.now self.old s → Appends start (B.taken book.old) (texts_of B.text s.records)
-            → Follows plan.now B.text self.new start (B.taken book.new) (lines_came plan.now commands.now s (option_to_list (line_in (lent_seen frame.entry)))) result }
+        ensures hears { (s : Standing) (start : Option (List ℕ)) → Stands self.old s → Appends start (B.taken book.old) (texts_of B.text s.records)
+            → Follows B.text self.new start (B.taken book.new) (lines_came s (option_to_list (line_in (lent_seen frame.entry)))) result }
         ensures fails { FailsWith result (B.failed book.old) (B.failed book.new) }
     {
         let Lent::Line(line) = frame else {
             return Ok(());
         };
-        let first = self.stamp(plan, commands);
-        self.client.hear(line, &mut self.settled);
-        self.write(book, first)
+        let hearing = self.client.hear(line, &mut self.settled);
+        if let Err(failed) = self.write(book) {
+            return Err(failed);
+        }
+        self.progress.note(is_reply(hearing));
+        Ok(())
     }
 
     // Takes the lines of a piece.
-    fn listen<B: Book>(
-        &mut self,
-        book: &mut B,
-        plan: &Plan,
-        commands: &[Command],
-        piece: &[u8],
-    ) -> Result<(), PortFailed>
-        ensures listens { (s : Standing) (start : Option (List ℕ)) → Stands plan.now self.old s → Appends start (B.taken book.old) (texts_of B.text s.records)
-            → Follows plan.now B.text self.new start (B.taken book.new) (piece_came plan.now commands.now piece.now s) result }
+    fn listen<B: Book>(&mut self, book: &mut B, piece: &[u8]) -> Result<(), PortFailed>
+        ensures listens { (s : Standing) (start : Option (List ℕ)) → Stands self.old s → Appends start (B.taken book.old) (texts_of B.text s.records)
+            → Follows B.text self.new start (B.taken book.new) (piece_came piece.now s) result }
         ensures fails { FailsWith result (B.failed book.old) (B.failed book.new) }
     {
         let mut cut = Line::new();
@@ -288,7 +308,7 @@ impl Station {
         while at < piece.len() {
             let (used, frame) = self.assembler.next(&piece[at..], &mut cut);
             at += used;
-            if let Err(failed) = self.hear(book, plan, commands, frame) {
+            if let Err(failed) = self.hear(book, frame) {
                 return Err(failed);
             }
         }
@@ -296,21 +316,15 @@ impl Station {
     }
 
     // Takes the lines of a piece where they are heard.
-    fn take_lines<B: Book>(
-        &mut self,
-        book: &mut B,
-        plan: &Plan,
-        commands: &[Command],
-        piece: &[u8],
-    ) -> Result<(), PortFailed>
-        ensures takes { (s : Standing) (start : Option (List ℕ)) → Stands plan.now self.old s → Appends start (B.taken book.old) (texts_of B.text s.records)
-            → Follows plan.now B.text self.new start (B.taken book.new) (came (is_heard s.progress.phase) plan.now commands.now piece.now s) result }
+    fn take_lines<B: Book>(&mut self, book: &mut B, piece: &[u8]) -> Result<(), PortFailed>
+        ensures takes { (s : Standing) (start : Option (List ℕ)) → Stands self.old s → Appends start (B.taken book.old) (texts_of B.text s.records)
+            → Follows B.text self.new start (B.taken book.new) (came (is_heard s.progress.phase) piece.now s) result }
         ensures fails { FailsWith result (B.failed book.old) (B.failed book.new) }
     {
         if !self.progress.phase.is_heard() {
             return Ok(());
         }
-        self.listen(book, plan, commands, piece)
+        self.listen(book, piece)
     }
 
     // Takes a piece, behind which it was this moment.
@@ -318,56 +332,42 @@ impl Station {
         &mut self,
         book: &mut B,
         plan: &Plan,
-        commands: &[Command],
         rested: bool,
         piece: &[u8],
         now: Moment,
     ) -> Result<(), PortFailed>
-        ensures takes { (s : Standing) (start : Option (List ℕ)) → Stands plan.now self.old s → Appends start (B.taken book.old) (texts_of B.text s.records)
-            → Follows plan.now B.text self.new start (B.taken book.new) (piece_at plan.now commands.now rested piece.now now s) result }
+        ensures takes { (s : Standing) (start : Option (List ℕ)) → Stands self.old s → Appends start (B.taken book.old) (texts_of B.text s.records)
+            → Follows B.text self.new start (B.taken book.new) (piece_at plan.now rested piece.now now s) result }
         ensures fails { FailsWith result (B.failed book.old) (B.failed book.new) }
     {
-        let before = self.client.waiting();
+        let before = self.commands();
         self.progress.tell(now);
         self.client.expire(now.elapsed);
-        if let Err(failed) = self.take_lines(book, plan, commands, piece) {
+        if let Err(failed) = self.take_lines(book, piece) {
             return Err(failed);
         }
-        let after = self.client.waiting();
+        let after = self.waiting();
         self.progress.give(plan, rested, before, after);
-        self.progress.reckon_early(plan, after);
+        self.progress.reckon_early(plan, after.commands);
         Ok(())
     }
 
-    // Reads, and takes what came. Where the book fails, the connection is closed.
+    // Reads, and takes what came.
     fn read<L: Link, B: Book>(
         &mut self,
         link: &mut L,
         book: &mut B,
         plan: &Plan,
-        commands: &[Command],
         rested: bool,
     ) -> Result<(), PortFailed>
-        ensures does { Obeyed plan.now commands.now (read_order rested) B.text (L.acts link.old) (L.acts link.new) (B.taken book.old) (B.taken book.new) self.old self.new result }
+        ensures does { (commands : List Command)
+            → Made commands (read_order rested) (moved plan.now commands (read_order rested)) B.text (L.acts link.old) (L.acts link.new) (B.taken book.old) (B.taken book.new) self.old self.new result }
         ensures fails { FailsWith result (B.failed book.old) (B.failed book.new) }
     {
         let mut buf = [0u8; 256];
         let millis = self.patience(plan, rested);
         match link.read(&mut buf, millis) {
-            Came::Bytes(n, moment) => {
-                if let Err(failed) = self.take_piece(
-                    book,
-                    plan,
-                    commands,
-                    rested,
-                    &buf[..n],
-                    moment,
-                ) {
-                    link.close();
-                    return Err(failed);
-                }
-                Ok(())
-            }
+            Came::Bytes(n, moment) => self.take_piece(book, plan, rested, &buf[..n], moment),
             Came::Silence(moment) => {
                 let given_up = self.client.expire(moment.elapsed);
                 self.progress.be_silent(plan, rested, moment);
@@ -389,31 +389,19 @@ impl Station {
         }
     }
 
-    // Closes the connection, and writes down what is lost.
-    fn close<L: Link, B: Book>(
-        &mut self,
-        link: &mut L,
-        book: &mut B,
-        plan: &Plan,
-        commands: &[Command],
-        cause: Cause,
-    ) -> Result<(), PortFailed>
-        ensures does { Obeyed plan.now commands.now (Close cause) B.text (L.acts link.old) (L.acts link.new) (B.taken book.old) (B.taken book.new) self.old self.new result }
-        ensures fails { FailsWith result (B.failed book.old) (B.failed book.new) }
+    // Closes the connection. What waits goes on waiting.
+    fn close<L: Link>(&mut self, link: &mut L, plan: &Plan, cause: Cause)
+        ensures { (commands : List Command) (text : Record → List ℕ) (known : Option (List ℕ))
+            → Does plan.now commands (Close cause) text (L.acts link.old) (L.acts link.new) known known self.old self.new }
     {
         link.close();
-        let first = self.stamp(plan, commands);
-        self.settled = self.client.restart();
-        if let Err(failed) = self.write(book, first) {
-            return Err(failed);
-        }
+        let waiting = self.waiting();
         self.assembler = Assembler::new();
-        self.progress.close(plan, cause);
-        Ok(())
+        self.progress.close(plan, waiting, cause);
     }
 
     // Makes the one call of an order, and does what comes of it.
-    pub(crate) fn obey<L: Link, B: Book>(
+    fn obey<L: Link, B: Book>(
         &mut self,
         link: &mut L,
         book: &mut B,
@@ -421,10 +409,11 @@ impl Station {
         commands: &[Command],
         order: Order,
     ) -> Result<(), PortFailed>
-        requires width { self.old.client.width ≡ width_of plan.now }
+        requires width { self.old.client.width ≡ WINDOW }
+        requires paired { IsPaired self.old }
         requires within { self.old.progress.unsent ≤ length commands.now }
-        requires room { HasRoom plan.now self.old.progress (length self.old.client.ids.waiting) order }
-        ensures does { OnCall order (Obeyed plan.now commands.now order B.text (L.acts link.old) (L.acts link.new) (B.taken book.old) (B.taken book.new) self.old self.new result) }
+        requires room { IsFitting self.old.progress (length self.old.client.ids.waiting) order }
+        ensures does { OnCall order (Made commands.now order (moved plan.now commands.now order) B.text (L.acts link.old) (L.acts link.new) (B.taken book.old) (B.taken book.new) self.old self.new result) }
         ensures fails { FailsWith result (B.failed book.old) (B.failed book.new) }
     {
         match order {
@@ -452,10 +441,64 @@ impl Station {
                 self.send(link, plan, commands);
                 Ok(())
             }
-            Order::Read => self.read(link, book, plan, commands, false),
-            Order::Rest => self.read(link, book, plan, commands, true),
-            Order::Close(cause) => self.close(link, book, plan, commands, cause),
+            Order::Flush => {
+                self.flush(link, plan, commands);
+                Ok(())
+            }
+            Order::Read => self.read(link, book, plan, false),
+            Order::Rest => self.read(link, book, plan, true),
+            Order::Close(cause) => {
+                self.close(link, plan, cause);
+                Ok(())
+            }
             Order::Stop(_) => Ok(()),
         }
+    }
+
+    // Writes all that wait down as lost, where the next connection begins anew and where no act follows.
+    fn end<B: Book>(&mut self, book: &mut B) -> Result<(), PortFailed>
+        ensures ends { (s : Standing) (start : Option (List ℕ)) → Stands self.old s → Appends start (B.taken book.old) (texts_of B.text s.records)
+            → Follows B.text self.new start (B.taken book.new) (ended s) result }
+        ensures fails { FailsWith result (B.failed book.old) (B.failed book.new) }
+    {
+        if !self.progress.loses_all() {
+            return Ok(());
+        }
+        self.settled = self.client.restart();
+        self.write(book)
+    }
+
+    // Takes a turn: makes the one call of an order, does what comes of it, and writes down what is lost.
+    pub(crate) fn step<L: Link, B: Book>(
+        &mut self,
+        link: &mut L,
+        book: &mut B,
+        plan: &Plan,
+        commands: &[Command],
+        order: Order,
+    ) -> Result<(), PortFailed>
+        requires width { self.old.client.width ≡ WINDOW }
+        requires paired { IsPaired self.old }
+        requires within { self.old.progress.unsent ≤ length commands.now }
+        requires room { IsFitting self.old.progress (length self.old.client.ids.waiting) order }
+        ensures does { OnCall order (Made commands.now order (stepped plan.now commands.now order) B.text (L.acts link.old) (L.acts link.new) (B.taken book.old) (B.taken book.new) self.old self.new result) }
+        ensures fails { FailsWith result (B.failed book.old) (B.failed book.new) }
+    {
+        self.progress.turn();
+        if let Err(failed) = self.obey(link, book, plan, commands, order) {
+            return Err(failed);
+        }
+        self.end(book)
+    }
+}
+
+// Whether a line was a reply.
+fn is_reply(hearing: Hearing) -> bool
+    ensures { (old new : ById) (line : List ℕ) (settlements : List Settlement) → HearsInto old line hearing settlements new → result ≡ is_reply line }
+{
+    match hearing {
+        Hearing::Settled => true,
+        Hearing::Stray => true,
+        Hearing::Unread(_) => false,
     }
 }

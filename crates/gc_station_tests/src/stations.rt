@@ -1,11 +1,15 @@
-//! Worked runs over a link that plays a script: what is put on it, and what is written down.
+//! Worked runs over a link that plays a script: what is put on it, and what is written down. Each first connection begins
+//! anew: a lone line feed, the quiet time, and a null procedure with id 0, which is answered before anything else goes out.
 
+mod beginnings;
 mod drills;
+mod faults;
 mod places;
 mod rests;
 mod script;
 mod stalls;
 mod tcp;
+mod waits;
 
 use gc_catalogue::Call;
 use gc_station::{Plan, run_station};
@@ -14,7 +18,7 @@ use script::{Ends, Script, Step};
 use std::process::Abort;
 use std::test::Fail;
 
-// One at a time, given up after 100, quiet after 10, and one new try.
+// One at a time, given up after 100, quiet after 10, and one new try. So a line is dead after 210.
 fn plan() -> Plan {
     Plan {
         width: 1,
@@ -23,7 +27,6 @@ fn plan() -> Plan {
         cycles: 1,
         quiet: 10,
         retries: 1,
-        settle: false,
     }
 }
 
@@ -35,7 +38,43 @@ fn null(target: u32) -> Command {
     command(target, Call::NullProc)
 }
 
-// What two commands come to over a script: what was put, what was written, and the end.
+// What commands come to over a script, with so many turns and such a book: what was put, what was written, and the end.
+fn ends_so(
+    rt: &impl Abort,
+    name: &str,
+    plan: Plan,
+    commands: &[Command],
+    link: Script<'_>,
+    book: Ends,
+    max_turns: u64,
+    put: &[u8],
+    ends: &[u8],
+    fault: Option<RunFault>,
+) {
+    let mut link = link;
+    let mut book = book;
+    let result = run_station(&mut link, &mut book, commands, &plan, max_turns);
+    assert!(rt; link.text.as_slice() == put, "{name}, {max_turns}: put");
+    assert!(rt; book.text.as_slice() == ends, "{name}, {max_turns}: ends");
+    assert!(rt; result.err() == fault, "{name}, {max_turns}: fault");
+}
+
+// The same with ample turns, and a book that takes all.
+fn comes_to(
+    rt: &impl Abort,
+    name: &str,
+    plan: Plan,
+    commands: &[Command],
+    link: Script<'_>,
+    put: &[u8],
+    ends: &[u8],
+    fault: Option<RunFault>,
+) {
+    let book = Ends::new();
+    ends_so(rt, name, plan, commands, link, book, 300, put, ends, fault);
+}
+
+// The same of two commands.
 fn runs_to(
     rt: &impl Abort,
     name: &str,
@@ -45,28 +84,32 @@ fn runs_to(
     ends: &[u8],
     fault: Option<RunFault>,
 ) {
-    let mut link = link;
-    let mut book = Ends::new();
     let commands = [null(7), null(8)];
-    let result = run_station(&mut link, &mut book, commands.as_slice(), &plan, 60);
-    assert!(rt; link.text.as_slice() == put, "{name}: put");
-    assert!(rt; book.text.as_slice() == ends, "{name}: ends");
-    assert!(rt; result.err() == fault, "{name}: fault");
+    comes_to(rt, name, plan, commands.as_slice(), link, put, ends, fault);
 }
 
-const FIRST: Step = Step::Line(b"%R1P,0,0:0\r\n", 5);
+// The reply to the null procedure of a beginning, and those to the commands behind it.
+const BEGUN: Step = Step::Line(b"%R1P,0,0:0\r\n", 5);
 
-const SECOND: Step = Step::Line(b"%R1P,0,1:0\r\n", 5);
+const FIRST: Step = Step::Line(b"%R1P,0,1:0\r\n", 5);
 
-const THIRD: Step = Step::Line(b"%R1P,0,2:0\r\n", 5);
+const SECOND: Step = Step::Line(b"%R1P,0,2:0\r\n", 5);
 
-const FOURTH: Step = Step::Line(b"%R1P,0,3:0\r\n", 5);
+const THIRD: Step = Step::Line(b"%R1P,0,3:0\r\n", 5);
+
+const FOURTH: Step = Step::Line(b"%R1P,0,4:0\r\n", 5);
 
 const QUIET: Step = Step::Silence(10);
 
-const BOTH: &[u8] = b"open lf %R1Q,0,0: %R1Q,0,1: close ";
+// Nothing comes until a deadline.
+const GIVEN_UP: Step = Step::Silence(100);
 
-const EACH: &[u8] = b"open lf %R1Q,0,0: close open lf %R1Q,0,0: close ";
+const BOTH: &[u8] = b"open lf %R1Q,0,0: %R1Q,0,1: %R1Q,0,2: close ";
+
+const EACH: &[u8] = b"open lf %R1Q,0,0: %R1Q,0,1: close open lf %R1Q,0,2: close ";
+
+// A null procedure behind both.
+const FLUSHED: &[u8] = b"open lf %R1Q,0,0: %R1Q,0,1: %R1Q,0,2: %R1Q,0,3: close ";
 
 // Given up after 5.
 fn hasty() -> Plan {
@@ -82,7 +125,7 @@ fn replies(rt: HostRuntime) -> Result<(), Fail> {
         &rt,
         "in time",
         plan(),
-        Script::new([QUIET, FIRST, SECOND].as_slice()),
+        Script::new([QUIET, BEGUN, FIRST, SECOND].as_slice()),
         BOTH,
         b"10a 11a ",
         None,
@@ -93,8 +136,9 @@ fn replies(rt: HostRuntime) -> Result<(), Fail> {
         hasty(),
         Script::new([
             QUIET,
+            BEGUN,
             Step::Silence(6),
-            Step::Line(b"%R1P,0,0:0\r\n", 2),
+            Step::Line(b"%R1P,0,1:0\r\n", 2),
             SECOND,
         ]
         .as_slice()),
@@ -104,9 +148,18 @@ fn replies(rt: HostRuntime) -> Result<(), Fail> {
     );
     runs_to(
         &rt,
-        "lost",
+        "lost, since a later one was answered",
         Plan { width: 2, ..plan() },
-        Script::new([QUIET, SECOND].as_slice()),
+        Script::new([QUIET, BEGUN, SECOND].as_slice()),
+        BOTH,
+        b"10x 11a ",
+        None,
+    );
+    runs_to(
+        &rt,
+        "given up, and lost once a later one was answered",
+        plan(),
+        Script::new([QUIET, BEGUN, GIVEN_UP, SECOND].as_slice()),
         BOTH,
         b"10x 11a ",
         None,
@@ -125,7 +178,7 @@ fn deadlines(rt: HostRuntime) -> Result<(), Fail> {
             &rt,
             "a reply about the deadline",
             plan(),
-            Script::new([QUIET, Step::Line(b"%R1P,0,0:0\r\n", row.0), SECOND].as_slice()),
+            Script::new([QUIET, BEGUN, Step::Line(b"%R1P,0,1:0\r\n", row.0), SECOND].as_slice()),
             BOTH,
             row.1,
             None,
@@ -137,7 +190,8 @@ fn deadlines(rt: HostRuntime) -> Result<(), Fail> {
         plan(),
         Script::new([
             QUIET,
-            Step::Line(b"%R1P,0,0:", 99),
+            BEGUN,
+            Step::Line(b"%R1P,0,1:", 99),
             Step::Line(b"0\r\n", 1),
             SECOND,
         ]
@@ -155,20 +209,8 @@ fn clocks_and_cycles(rt: HostRuntime) -> Result<(), Fail> {
         &rt,
         "the clock goes back",
         plan(),
-        Script::new([QUIET, Step::Back(500), FIRST, SECOND].as_slice()),
+        Script::new([QUIET, BEGUN, Step::Back(500), FIRST, SECOND].as_slice()),
         BOTH,
-        b"10a 11a ",
-        None,
-    );
-    runs_to(
-        &rt,
-        "settle",
-        Plan {
-            settle: true,
-            ..plan()
-        },
-        Script::new([QUIET, FIRST, SECOND, THIRD].as_slice()),
-        b"open lf %R1Q,0,0: %R1Q,0,1: %R1Q,0,2: close ",
         b"10a 11a ",
         None,
     );
@@ -180,8 +222,17 @@ fn clocks_and_cycles(rt: HostRuntime) -> Result<(), Fail> {
             every: 1000,
             ..plan()
         },
-        Script::new([QUIET, FIRST, SECOND, Step::Silence(990), THIRD, FOURTH].as_slice()),
-        b"open lf %R1Q,0,0: %R1Q,0,1: %R1Q,0,2: %R1Q,0,3: close ",
+        Script::new([
+            QUIET,
+            BEGUN,
+            FIRST,
+            SECOND,
+            Step::Silence(990),
+            THIRD,
+            FOURTH,
+        ]
+        .as_slice()),
+        b"open lf %R1Q,0,0: %R1Q,0,1: %R1Q,0,2: %R1Q,0,3: %R1Q,0,4: close ",
         b"10a 11a 20a 21a ",
         None,
     );
@@ -193,46 +244,58 @@ fn clocks_and_cycles(rt: HostRuntime) -> Result<(), Fail> {
             every: 9,
             ..plan()
         },
-        Script::new([QUIET, FIRST, SECOND, THIRD, FOURTH].as_slice()),
-        b"open lf %R1Q,0,0: %R1Q,0,1: %R1Q,0,2: %R1Q,0,3: close ",
+        Script::new([QUIET, BEGUN, FIRST, SECOND, THIRD, FOURTH].as_slice()),
+        b"open lf %R1Q,0,0: %R1Q,0,1: %R1Q,0,2: %R1Q,0,3: %R1Q,0,4: close ",
         b"10a 11a 1! 20a 21a ",
         None,
     );
     Ok(())
 }
 
+// Ids go on, and what waits goes on waiting.
 #[test]
 fn reconnections(rt: HostRuntime) -> Result<(), Fail> {
     runs_to(
         &rt,
-        "silence",
+        "a reply to a request of the connection before is booked for that request",
         plan(),
-        Script::new([QUIET].as_slice()),
+        Script::new([QUIET, BEGUN, Step::End, QUIET, QUIET, FIRST, SECOND].as_slice()),
         EACH,
-        b"10x 11x ",
+        b"10a 11a ",
         None,
     );
     runs_to(
         &rt,
-        "the end",
-        plan(),
-        Script::new([QUIET, Step::End, QUIET, QUIET, FIRST].as_slice()),
-        EACH,
-        b"10x 11a ",
-        None,
-    );
-    runs_to(
-        &rt,
-        "half a line before the end",
+        "and where it was given up, it is late",
         plan(),
         Script::new([
             QUIET,
-            Step::Line(b"%R1P,0,0:", 1),
+            BEGUN,
             Step::End,
             QUIET,
             QUIET,
-            Step::Line(b"0\r\n", 1),
+            GIVEN_UP,
             FIRST,
+            SECOND,
+        ]
+        .as_slice()),
+        EACH,
+        b"10l 11a ",
+        None,
+    );
+    runs_to(
+        &rt,
+        "what came while the new connection was drained is dropped",
+        plan(),
+        Script::new([
+            QUIET,
+            BEGUN,
+            Step::End,
+            QUIET,
+            FIRST,
+            QUIET,
+            GIVEN_UP,
+            SECOND,
         ]
         .as_slice()),
         EACH,
@@ -241,59 +304,67 @@ fn reconnections(rt: HostRuntime) -> Result<(), Fail> {
     );
     runs_to(
         &rt,
-        "a line in the quiet time",
+        "a request that is given up while it is drained drains it for longer",
         plan(),
-        Script::new([QUIET, Step::End, QUIET, FIRST, QUIET].as_slice()),
-        EACH,
-        b"10x 11x ",
+        timed([
+            QUIET,
+            BEGUN,
+            Step::End,
+            Step::Silence(95),
+            Step::Silence(5),
+            QUIET,
+            SECOND,
+        ]
+        .as_slice()),
+        b"open@0 lf@0 #0@10 #1@15 close@15 open@110 lf@110 #2@125 close@130 ",
+        b"10x 11a ",
         None,
     );
     Ok(())
 }
 
+// Half a line from before is dropped, and what comes first is no end of it.
 #[test]
-fn faults(rt: HostRuntime) -> Result<(), Fail> {
-    let once = Plan {
-        retries: 0,
-        ..plan()
-    };
-    let first = b"open lf %R1Q,0,0: close ".as_slice();
-    let lost = b"10x ".as_slice();
+fn half_lines_and_reconnections(rt: HostRuntime) -> Result<(), Fail> {
     runs_to(
         &rt,
-        "silence",
-        once,
-        Script::new([QUIET].as_slice()),
-        first,
-        lost,
-        Some(RunFault::Read),
-    );
-    runs_to(
-        &rt,
-        "the end",
-        once,
-        Script::new([QUIET, Step::End].as_slice()),
-        first,
-        lost,
-        Some(RunFault::LinkClosed),
-    );
-    runs_to(
-        &rt,
-        "a failed read",
-        once,
-        Script::new([QUIET, Step::Failure].as_slice()),
-        first,
-        lost,
-        Some(RunFault::Read),
-    );
-    runs_to(
-        &rt,
-        "no moment",
+        "that came before it",
         plan(),
-        Script::new([QUIET, Step::NoMoment].as_slice()),
-        first,
-        lost,
-        Some(RunFault::Read),
+        Script::new([
+            QUIET,
+            BEGUN,
+            Step::Line(b"%R1P,0,1:", 1),
+            Step::End,
+            QUIET,
+            QUIET,
+            Step::Line(b"0\r\n", 1),
+            GIVEN_UP,
+            SECOND,
+        ]
+        .as_slice()),
+        EACH,
+        b"10x 11a ",
+        None,
+    );
+    runs_to(
+        &rt,
+        "that came while the next connection was drained",
+        plan(),
+        Script::new([
+            QUIET,
+            BEGUN,
+            Step::End,
+            QUIET,
+            Step::Line(b"%R1P,0,1:", 1),
+            QUIET,
+            Step::Line(b"0\r\n", 1),
+            GIVEN_UP,
+            SECOND,
+        ]
+        .as_slice()),
+        EACH,
+        b"10x 11a ",
+        None,
     );
     Ok(())
 }
@@ -307,112 +378,16 @@ fn failing<'a>(steps: &'a [Step], closed_doors: usize, cut: usize, blind: bool) 
     link
 }
 
-#[test]
-fn failing_opens_and_clocks(rt: HostRuntime) -> Result<(), Fail> {
-    runs_to(
-        &rt,
-        "no clock",
-        plan(),
-        failing([].as_slice(), 0, 0, true),
-        b"open lf close ",
-        b"",
-        Some(RunFault::Read),
-    );
-    runs_to(
-        &rt,
-        "no connection",
-        plan(),
-        failing([].as_slice(), 2, 0, false),
-        b"shut shut ",
-        b"",
-        Some(RunFault::Socket),
-    );
-    runs_to(
-        &rt,
-        "a connection at last",
-        plan(),
-        failing([QUIET, QUIET, FIRST, SECOND].as_slice(), 1, 0, false),
-        b"shut open lf %R1Q,0,0: %R1Q,0,1: close ",
-        b"10a 11a ",
-        None,
-    );
-    Ok(())
+// A link that keeps when each call was made.
+fn timed<'a>(steps: &'a [Step]) -> Script<'a> {
+    let mut link = Script::new(steps);
+    link.timed = true;
+    link
 }
 
-#[test]
-fn cut_writes(rt: HostRuntime) -> Result<(), Fail> {
-    let once = Plan {
-        retries: 0,
-        ..plan()
-    };
-    runs_to(
-        &rt,
-        "a cut line feed",
-        plan(),
-        failing([QUIET, QUIET, FIRST, SECOND].as_slice(), 0, 1, false),
-        b"open cut close open lf %R1Q,0,0: %R1Q,0,1: close ",
-        b"10a 11a ",
-        None,
-    );
-    runs_to(
-        &rt,
-        "a cut line feed, and no new try",
-        once,
-        failing([].as_slice(), 0, 1, false),
-        b"open cut close ",
-        b"",
-        Some(RunFault::Write {
-            replies: 0,
-            bytes: 0,
-        }),
-    );
-    runs_to(
-        &rt,
-        "a cut request",
-        plan(),
-        failing([QUIET, QUIET, QUIET, FIRST].as_slice(), 0, 2, false),
-        b"open lf cut close open lf %R1Q,0,0: close ",
-        b"10x 11a ",
-        None,
-    );
-    runs_to(
-        &rt,
-        "the last request cut",
-        plan(),
-        failing([QUIET, FIRST].as_slice(), 0, 3, false),
-        b"open lf %R1Q,0,0: cut close ",
-        b"10a 11x ",
-        None,
-    );
-    runs_to(
-        &rt,
-        "a cut request, and no new try",
-        once,
-        failing([QUIET].as_slice(), 0, 2, false),
-        b"open lf cut close ",
-        b"10x ",
-        Some(RunFault::Write {
-            replies: 0,
-            bytes: 0,
-        }),
-    );
-    Ok(())
-}
-
-#[test]
-fn ends_early(rt: HostRuntime) -> Result<(), Fail> {
-    let commands = [null(7), null(8)];
-    let mut link = Script::new([QUIET].as_slice());
+// A book that fails at this write, counted from 1.
+fn failing_book(write: usize) -> Ends {
     let mut book = Ends::new();
-    let result = run_station(&mut link, &mut book, commands.as_slice(), &plan(), 6);
-    assert_eq!(rt; result.err(), Some(RunFault::TooManyReads));
-    assert!(rt; link.text.as_slice() == b"open lf %R1Q,0,0: close ".as_slice());
-    assert!(rt; book.text.as_slice() == b"10x ".as_slice());
-    let mut link = Script::new([QUIET, FIRST].as_slice());
-    let mut book = Ends::new();
-    book.fails = 1;
-    let result = run_station(&mut link, &mut book, commands.as_slice(), &plan(), 60);
-    assert_eq!(rt; result.err(), Some(RunFault::Output));
-    assert!(rt; link.text.as_slice() == b"open lf %R1Q,0,0: close ".as_slice());
-    Ok(())
+    book.fails = write;
+    book
 }

@@ -63,7 +63,12 @@ impl Station {
         Ok(())
     }
 
-    /// Begins anew on a connection that was closed and opened again.
+    /// Goes on over a connection that was closed, opened again and drained: half a line is dropped, and ids go on.
+    fn go_on(&mut self) {
+        self.assembler = Assembler::new();
+    }
+
+    /// Begins anew on such a connection: what waits is lost. A null procedure has to be answered next.
     fn begin_anew(&mut self, told: &mut String) -> Result<(), AllocError> {
         self.assembler = Assembler::new();
         tell_all(&self.client.restart(), told)
@@ -109,16 +114,23 @@ fn measuring_over_a_slow_line(rt: HostRuntime) -> Result<(), Fail> {
         &mut told,
     )?;
 
-    // The connection fails with one request under way.
+    // The connection fails with two requests under way, and half a reply. That to the second one comes on the next.
     assert!(rt; station.ask(&mut connection, 3, 30)?);
+    assert!(rt; station.ask(&mut connection, 4, 30)?);
+    station.hear(b"%R1P,0,2:0,", 16, &mut told)?;
+    station.go_on();
+    station.hear(b"%R1P,0,3:1285\r\n", 18, &mut told)?;
+
+    // It begins anew with one under way.
+    assert!(rt; station.ask(&mut connection, 5, 40)?);
     station.begin_anew(&mut told)?;
     assert_eq!(rt;
         told.as_str(),
-        "target 1: late\ntarget 2: 2.25 rad, 1.625 rad, 110.0625 m\ntarget 3: lost\n"
+        "target 1: late\ntarget 2: 2.25 rad, 1.625 rad, 110.0625 m\ntarget 3: lost\ntarget 4: Refused(1285)\ntarget 5: lost\n"
     );
     assert_eq!(rt;
         connection.as_slice(),
-        b"%R1Q,2108,0:5000,1\r\n%R1Q,2108,1:5000,1\r\n%R1Q,2108,2:5000,1\r\n".as_slice()
+        b"%R1Q,2108,0:5000,1\r\n%R1Q,2108,1:5000,1\r\n%R1Q,2108,2:5000,1\r\n%R1Q,2108,3:5000,1\r\n%R1Q,2108,4:5000,1\r\n".as_slice()
     );
     Ok(())
 }

@@ -9,17 +9,19 @@ use std::process::Abort;
 
 const COMMANDS: &[u8] = b"7 5003\n8 0\n";
 
-const FIRST_REPLY: &[u8] = b"%R1P,0,0:0,123456\r\n";
+const NULL_REPLY: &[u8] = b"%R1P,0,0:0\r\n";
 
-const SECOND_REPLY: &[u8] = b"%R1P,0,1:0\r\n";
+const FIRST_REPLY: &[u8] = b"%R1P,0,1:0,123456\r\n";
+
+const SECOND_REPLY: &[u8] = b"%R1P,0,2:0\r\n";
 
 const LINES: &[u8] =
-    b"2026-11-22T23:08:27.123Z 0 7 answered %R1P,0,0:0,123456\n2026-11-22T23:08:27.123Z 1 8 answered %R1P,0,1:0\n";
+    b"2026-11-22T23:08:27.123Z 0 7 answered %R1P,0,1:0,123456\n2026-11-22T23:08:27.123Z 1 8 answered %R1P,0,2:0\n";
 
 const ROWS: &[u8] =
     b"time,cycle,place,target,procedure,outcome,rc_com,rc,values\n2026-11-22T23:08:27.123Z,1,0,7,5003,answered,0,0,123456\n2026-11-22T23:08:27.123Z,1,1,8,0,answered,0,0,\n";
 
-// A link at whose other end the two requests are answered at once. By its second clock it is always the same moment.
+// A link at whose other end the null procedure and the two requests are answered at once. By its second clock it is always the same moment.
 #[derive(Drop)]
 struct Answering {
     sent: usize,
@@ -40,6 +42,8 @@ impl Answering {
         if self.answered == self.sent {
             None
         } else if self.answered == 0 {
+            Some(NULL_REPLY)
+        } else if self.answered == 1 {
             Some(FIRST_REPLY)
         } else {
             Some(SECOND_REPLY)
@@ -111,7 +115,6 @@ fn expect_measured(
         cycles: 1,
         quiet: 10,
         retries: 0,
-        settle: false,
     };
     let mut source = PieceSource::new(COMMANDS, &[1; 100], reads);
     let sink = PieceSink::new(alloc, 1, writes);
@@ -140,8 +143,8 @@ fn both_forms(rt: HostRuntime) {
         lost: 0,
     });
     let all = u64::MAX;
-    expect_measured(&rt, rt.alloc(), Form::Lines, all, all, done, 2, LINES);
-    expect_measured(&rt, rt.alloc(), Form::Csv, all, all, done, 2, ROWS);
+    expect_measured(&rt, rt.alloc(), Form::Lines, all, all, done, 3, LINES);
+    expect_measured(&rt, rt.alloc(), Form::Csv, all, all, done, 3, ROWS);
 }
 
 #[test]
@@ -160,9 +163,9 @@ fn each_write_of_a_record_fails(rt: HostRuntime) {
         let sent = if k < 59 {
             0
         } else if k < 59 + 56 {
-            1
-        } else {
             2
+        } else {
+            3
         };
         expect_measured(
             &rt,

@@ -52,13 +52,12 @@ fn a_link_tells_what_a_socket_answers(rt: HostRuntime) -> Result<(), Fail> {
     Ok(())
 }
 
-// Runs `station` on a port with two commands and no retries, and expects status 1 and this fault. What it wrote of the first
-// stands behind the moment.
-fn expect_lost(
+// Runs `station` on a port with two commands and no retries, and expects status 1, this fault, and no record: where the null
+// procedure isn't answered no command goes out.
+fn expect_fault(
     rt: &(impl Abort + Net<Listener = TcpListener, Stream = TcpStream> + Clock),
     alloc: Global,
     port: u16,
-    settled: &[u8],
     fault: &[u8],
 ) -> Result<(), Fail> {
     let mut words = Vec::new(alloc);
@@ -82,8 +81,7 @@ fn expect_lost(
     let words = Ok(words.into_iter());
     let status = run_program(rt, alloc, words, input, &mut written, &mut told)?;
     assert_eq!(rt; status, ExitCode::from(1));
-    let behind = written.as_slice().get(24..).unwrap_or(b"");
-    assert_eq!(rt; behind, settled);
+    assert_eq!(rt; written.as_slice(), b"".as_slice());
     assert_eq!(rt; told.as_slice(), fault);
     Ok(())
 }
@@ -92,7 +90,7 @@ fn expect_lost(
 fn nobody_answers_a_station(rt: HostRuntime) -> Result<(), Fail> {
     let listener = TcpListener::bind(&rt, any_port())?;
     let port = listener.local_addr()?.port();
-    expect_lost(&rt, rt.alloc(), port, b" 0 7 lost\n", b"geocom: fault 42\n")?;
+    expect_fault(&rt, rt.alloc(), port, b"geocom: fault 42\n")?;
     drop(listener);
-    expect_lost(&rt, rt.alloc(), port, b"", b"geocom: fault 54\n")
+    expect_fault(&rt, rt.alloc(), port, b"geocom: fault 54\n")
 }

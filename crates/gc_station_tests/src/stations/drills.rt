@@ -1,9 +1,11 @@
 //! Worked schedules of `drill`, over a link that plays a script.
 
-use super::script::{Ends, Script, Step};
-use super::{BOTH, FIRST, QUIET, SECOND, THIRD, command, null, plan};
+use super::script::{Script, Step};
+use super::{
+    BEGUN, BOTH, FIRST, FLUSHED, GIVEN_UP, QUIET, SECOND, THIRD, comes_to, command, null, plan,
+};
 use gc_catalogue::Call;
-use gc_station::{Plan, run_station};
+use gc_station::Plan;
 use gc_texts::Command;
 use std::process::Abort;
 use std::test::Fail;
@@ -18,17 +20,21 @@ pub(super) fn plays(
     put: &[u8],
     ends: &[u8],
 ) {
-    let mut link = Script::new(steps);
-    let mut book = Ends::new();
     let plan = Plan { width, ..plan() };
-    let result = run_station(&mut link, &mut book, commands, &plan, 90);
-    assert!(rt; link.text.as_slice() == put, "{name}: put");
-    assert!(rt; book.text.as_slice() == ends, "{name}: ends");
-    assert!(rt; result.is_ok(), "{name}: fault");
+    comes_to(
+        rt,
+        name,
+        plan,
+        commands,
+        Script::new(steps),
+        put,
+        ends,
+        None,
+    );
 }
 
 // Eight commands.
-fn eight() -> [Command; 8] {
+pub(super) fn eight() -> [Command; 8] {
     [
         null(1),
         null(2),
@@ -48,8 +54,8 @@ fn schedules_of_few(rt: HostRuntime) -> Result<(), Fail> {
         "late reply",
         1,
         [null(1), null(2)].as_slice(),
-        [QUIET, Step::Silence(100), FIRST, SECOND].as_slice(),
-        b"open lf %R1Q,0,0: %R1Q,0,1: close ",
+        [QUIET, BEGUN, GIVEN_UP, FIRST, SECOND].as_slice(),
+        BOTH,
         b"10l 11a ",
     );
     plays(
@@ -57,8 +63,8 @@ fn schedules_of_few(rt: HostRuntime) -> Result<(), Fail> {
         "overtaken",
         3,
         [null(1), null(2), null(3)].as_slice(),
-        [QUIET, FIRST, THIRD].as_slice(),
-        b"open lf %R1Q,0,0: %R1Q,0,1: %R1Q,0,2: close ",
+        [QUIET, BEGUN, FIRST, THIRD].as_slice(),
+        FLUSHED,
         b"10a 11x 12a ",
     );
     Ok(())
@@ -73,8 +79,16 @@ fn schedules_of_bytes(rt: HostRuntime) -> Result<(), Fail> {
         "bytes of two lines",
         2,
         [null(1), null(2)].as_slice(),
-        [QUIET, Step::Line(b"%R1P,0,0:0\r", 5), Step::Line(b"\n", 5)].as_slice(),
-        BOTH,
+        [
+            QUIET,
+            BEGUN,
+            Step::Line(b"%R1P,0,1:0\r", 5),
+            Step::Line(b"\n", 5),
+            Step::Silence(90),
+            THIRD,
+        ]
+        .as_slice(),
+        FLUSHED,
         b"10a 11x ",
     );
     plays(
@@ -84,13 +98,14 @@ fn schedules_of_bytes(rt: HostRuntime) -> Result<(), Fail> {
         [null(1)].as_slice(),
         [
             QUIET,
+            BEGUN,
             Step::Silence(1),
             Step::Silence(0),
             Step::Silence(1),
             FIRST,
         ]
         .as_slice(),
-        b"open lf %R1Q,0,0: close ",
+        b"open lf %R1Q,0,0: %R1Q,0,1: close ",
         b"10a ",
     );
     plays(
@@ -100,12 +115,13 @@ fn schedules_of_bytes(rt: HostRuntime) -> Result<(), Fail> {
         [null(1), command(2, Call::InstrumentNo)].as_slice(),
         [
             QUIET,
-            Step::Line(b"%R1P,0,0:0\r\n%", 5),
+            BEGUN,
+            Step::Line(b"%R1P,0,1:0\r\n%", 5),
             Step::Silence(95),
-            Step::Line(b"R1P,0,1:0,123456\r\n", 5),
+            Step::Line(b"R1P,0,2:0,123456\r\n", 5),
         ]
         .as_slice(),
-        b"open lf %R1Q,0,0: %R1Q,5003,1: close ",
+        b"open lf %R1Q,0,0: %R1Q,0,1: %R1Q,5003,2: %R1Q,0,3: close ",
         b"10a 11l ",
     );
     Ok(())
@@ -128,8 +144,8 @@ fn schedules_of_values(rt: HostRuntime) -> Result<(), Fail> {
             command(2, Call::GetPrecision),
         ]
         .as_slice(),
-        [QUIET, FIRST, Step::Line(b"%R1P,0,1:0,3\r\n", 5)].as_slice(),
-        b"open lf %R1Q,107,0:3 %R1Q,108,1: close ",
+        [QUIET, BEGUN, FIRST, Step::Line(b"%R1P,0,2:0,3\r\n", 5)].as_slice(),
+        b"open lf %R1Q,0,0: %R1Q,107,1:3 %R1Q,108,2: close ",
         b"10a 11a3 ",
     );
     plays(
@@ -137,8 +153,15 @@ fn schedules_of_values(rt: HostRuntime) -> Result<(), Fail> {
         "repeat that acts",
         2,
         [command(1, turn), command(2, Call::GetFace)].as_slice(),
-        [QUIET, FIRST, FIRST, Step::Line(b"%R1P,0,1:0,1\r\n", 5)].as_slice(),
-        b"open lf %R1Q,9028,0:0,0,0 %R1Q,2026,1: close ",
+        [
+            QUIET,
+            BEGUN,
+            FIRST,
+            FIRST,
+            Step::Line(b"%R1P,0,2:0,1\r\n", 5),
+        ]
+        .as_slice(),
+        b"open lf %R1Q,0,0: %R1Q,9028,1:0,0,0 %R1Q,2026,2: close ",
         b"10a 11a1 ",
     );
     Ok(())
@@ -151,17 +174,27 @@ fn schedules_of_eight(rt: HostRuntime) -> Result<(), Fail> {
         "boundary of eight",
         7,
         eight().as_slice(),
-        [QUIET, FIRST, FIRST, SECOND].as_slice(),
-        b"open lf %R1Q,0,0: %R1Q,0,1: %R1Q,0,2: %R1Q,0,3: %R1Q,0,4: %R1Q,0,5: %R1Q,0,6: %R1Q,0,7: close ",
-        b"10a 11a 12x 13x 14x 15x 16x 17x ",
+        [QUIET, BEGUN, FIRST, FIRST, SECOND, BEGUN].as_slice(),
+        b"open lf %R1Q,0,0: %R1Q,0,1: %R1Q,0,2: %R1Q,0,3: %R1Q,0,4: %R1Q,0,5: %R1Q,0,6: %R1Q,0,7: %R1Q,0,0: close ",
+        b"10a 11a 12x 13x 14x 15x 16x 17a ",
     );
     plays(
         &rt,
         "way out",
         7,
         eight().as_slice(),
-        [QUIET, Step::Silence(100), QUIET, QUIET, QUIET, FIRST].as_slice(),
-        b"open lf %R1Q,0,0: %R1Q,0,1: %R1Q,0,2: %R1Q,0,3: %R1Q,0,4: %R1Q,0,5: %R1Q,0,6: close open lf %R1Q,0,0: close ",
+        [
+            QUIET,
+            BEGUN,
+            GIVEN_UP,
+            QUIET,
+            QUIET,
+            Step::Silence(70),
+            BEGUN,
+            FIRST,
+        ]
+        .as_slice(),
+        b"open lf %R1Q,0,0: %R1Q,0,1: %R1Q,0,2: %R1Q,0,3: %R1Q,0,4: %R1Q,0,5: %R1Q,0,6: %R1Q,0,7: close open lf %R1Q,0,0: %R1Q,0,1: close ",
         b"10x 11x 12x 13x 14x 15x 16x 17a ",
     );
     Ok(())

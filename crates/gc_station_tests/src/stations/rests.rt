@@ -1,7 +1,7 @@
 //! Rests between two cycles: what becomes of a connection then, and when a cycle that takes too long is told.
 
 use super::script::{Script, Step};
-use super::{FIRST, QUIET, SECOND, plan, runs_to};
+use super::{BEGUN, FIRST, FOURTH, QUIET, SECOND, THIRD, comes_to, null, plan, runs_to, timed};
 use gc_station::Plan;
 use gc_texts::RunFault;
 use std::test::Fail;
@@ -22,19 +22,20 @@ fn rests_between_cycles(rt: HostRuntime) -> Result<(), Fail> {
         &rt,
         "an end in a rest takes no try, and the next connection is made when the cycle is due",
         two_cycles(1000, 0),
-        Script::new([
+        timed([
             QUIET,
+            BEGUN,
             FIRST,
             SECOND,
             Step::End,
             Step::Silence(500),
             Step::Silence(490),
             QUIET,
-            FIRST,
-            SECOND,
+            THIRD,
+            FOURTH,
         ]
         .as_slice()),
-        b"open lf %R1Q,0,0: %R1Q,0,1: close open lf %R1Q,0,0: %R1Q,0,1: close ",
+        b"open@0 lf@0 #0@10 #1@15 #2@20 close@25 open@1015 lf@1015 #3@1025 #4@1030 close@1035 ",
         b"10a 11a 20a 21a ",
         None,
     );
@@ -42,18 +43,19 @@ fn rests_between_cycles(rt: HostRuntime) -> Result<(), Fail> {
         &rt,
         "an end behind the rest takes a try",
         two_cycles(1000, 1),
-        Script::new([
+        timed([
             QUIET,
+            BEGUN,
             FIRST,
             SECOND,
             Step::End,
             Step::Silence(990),
             Step::End,
-            QUIET,
+            Step::Silence(20),
             Step::End,
         ]
         .as_slice()),
-        b"open lf %R1Q,0,0: %R1Q,0,1: close open lf close open lf close ",
+        b"open@0 lf@0 #0@10 #1@15 #2@20 close@25 open@1015 lf@1015 close@1015 open@1035 lf@1035 close@1035 ",
         b"10a 11a ",
         Some(RunFault::LinkClosed),
     );
@@ -63,16 +65,45 @@ fn rests_between_cycles(rt: HostRuntime) -> Result<(), Fail> {
         two_cycles(9, 0),
         Script::new([
             QUIET,
+            BEGUN,
             FIRST,
             Step::Silence(5),
             Step::Silence(5),
             SECOND,
-            Step::Line(b"%R1P,0,2:0\r\n", 1),
             Step::Line(b"%R1P,0,3:0\r\n", 1),
+            Step::Line(b"%R1P,0,4:0\r\n", 1),
         ]
         .as_slice()),
-        b"open lf %R1Q,0,0: %R1Q,0,1: %R1Q,0,2: %R1Q,0,3: close ",
+        b"open lf %R1Q,0,0: %R1Q,0,1: %R1Q,0,2: %R1Q,0,3: %R1Q,0,4: close ",
         b"10a 1! 11a 20a 21a ",
+        None,
+    );
+    Ok(())
+}
+
+// Seven given up are the whole cycle: the next connection begins anew, and is made when the next cycle is due.
+#[test]
+fn a_beginning_between_cycles(rt: HostRuntime) -> Result<(), Fail> {
+    let commands = [
+        null(1),
+        null(2),
+        null(3),
+        null(4),
+        null(5),
+        null(6),
+        null(7),
+    ];
+    comes_to(
+        &rt,
+        "seven given up",
+        Plan {
+            width: 7,
+            ..two_cycles(1000, 1)
+        },
+        commands.as_slice(),
+        timed([QUIET, BEGUN, Step::Dead, Step::Answers].as_slice()),
+        b"open@0 lf@0 #0@10 #1@15 #2@15 #3@15 #4@15 #5@15 #6@15 #7@15 close@125 open@1015 lf@1015 #0@1085 #1@1090 #2@1090 #3@1090 #4@1090 #5@1090 #6@1090 #7@1090 close@1095 ",
+        b"10x 11x 12x 13x 14x 15x 16x 20x 21x 22x 23x 24x 25x 26a5 ",
         None,
     );
     Ok(())

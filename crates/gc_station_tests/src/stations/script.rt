@@ -12,17 +12,25 @@ use gc_station::{Book, Came, Link, Moment, Stamp};
 pub(super) enum Step {
     Line(&'static [u8], u64),
     Silence(u64),
-    // The reply to the last request that went out, with its number among all of them, counted from 1.
+    // The reply to the last request that went out, with its number among all of them, counted from 0; its last
+    // digit.
     Reply(u64),
     // The clock goes back.
     Back(u64),
     // Nothing comes any more, until the connection is closed.
     Dead,
+    // A line that is no reply comes each 5 milliseconds, until the connection is closed.
+    Noise,
+    // From now on the last request that went out on this connection is answered, if it isn't yet.
+    Answers,
     #[default]
     End,
     Failure,
     NoMoment,
 }
+
+// When the clock of a link starts.
+const START: u64 = 1000;
 
 // A link that plays steps, and then is silent for as long as it is asked to wait. What is put is kept as text.
 #[derive(Drop)]
@@ -36,15 +44,20 @@ pub(super) struct Script<'a> {
     // How many bytes of it go out.
     pub(super) kept: usize,
     puts: usize,
-    // How many requests went out, and the id of the last, which has no parameters.
+    // How many requests went out, the id of the last, which has no parameters, and how many had when it was answered.
     requests: u8,
     id: u8,
+    answered: u8,
     // The call that fails, counted from 0; `close` isn't counted.
     pub(super) failing: usize,
     calls: usize,
     clock: u64,
+    // Whether there is a connection.
+    up: bool,
     // Whether the clock can't be read.
     pub(super) blind: bool,
+    // Whether each call is kept with its time since the start, and of a request its id alone.
+    pub(super) timed: bool,
     pub(super) text: ArrayVec<u8, 1024>,
 }
 
@@ -59,16 +72,31 @@ impl<'a> Script<'a> {
             puts: 0,
             requests: 0,
             id: b'0',
+            answered: 0,
             failing: usize::MAX,
             calls: 0,
-            clock: 1000,
+            clock: START,
+            up: false,
             blind: false,
+            timed: false,
             text: ArrayVec::new(),
         }
     }
 
     fn note(&mut self, text: &[u8]) {
         let _ = self.text.try_extend_from_slice(text);
+    }
+
+    // Keeps a word, and when it was.
+    fn note_now(&mut self, word: &[u8]) {
+        self.note(word);
+        if self.timed {
+            self.note(b"@");
+            let mut digits = itoa::Buffer::new();
+            let since = self.clock.saturating_sub(START);
+            self.note(digits.format(since).as_bytes());
+        }
+        self.note(b" ");
     }
 
     // Counts a call, and says whether it fails.
@@ -101,6 +129,17 @@ impl<'a> Script<'a> {
         }
         Came::Bytes(n, moment)
     }
+
+    // The reply to the last request comes.
+    fn reply(&mut self, buf: &mut [u8], later: u64) -> Came
+        ensures { IsWithin result buf.new }
+    {
+        self.answered = self.requests;
+        let mut line = *b"%R1P,0,0:0,0\r\n";
+        line[7] = self.id;
+        line[11] = b'0'.wrapping_add(self.requests.wrapping_sub(1) % 10);
+        self.bring(buf, &line, later)
+    }
 }
 
 impl<'a> Link for Script<'a> {
@@ -125,16 +164,22 @@ impl<'a> Link for Script<'a> {
         self.at = self.at.saturating_add(1);
         match step {
             Step::Line(line, later) => self.bring(buf, line, later),
-            Step::Reply(later) => {
-                let mut line = *b"%R1P,0,0:0,0\r\n";
-                line[7] = self.id;
-                line[11] = b'0'.wrapping_add(self.requests);
-                self.bring(buf, &line, later)
-            }
+            Step::Reply(later) => self.reply(buf, later),
             Step::Silence(later) => Came::Silence(self.moment(later)),
             Step::Dead => {
                 self.at = self.at.saturating_sub(1);
                 Came::Silence(self.moment(millis))
+            }
+            Step::Noise => {
+                self.at = self.at.saturating_sub(1);
+                self.bring(buf, b"noise\r\n", millis.min(5))
+            }
+            Step::Answers => {
+                self.at = self.at.saturating_sub(1);
+                if self.answered == self.requests || !self.up {
+                    return Came::Silence(self.moment(millis));
+                }
+                self.reply(buf, millis.min(5))
             }
             Step::Back(earlier) => {
                 self.clock = self.clock.saturating_sub(earlier);
@@ -151,41 +196,48 @@ impl<'a> Link for Script<'a> {
         if self.is_failing() || self.puts == self.cut {
             let n = self.kept.min(bytes.len().saturating_sub(1));
             self.note(&bytes[..n]);
-            self.note(b"cut ");
+            self.note_now(b"cut");
             return Err(n);
         }
         if bytes == b"\n".as_slice() {
-            self.note(b"lf ");
+            self.note_now(b"lf");
+            return Ok(());
+        }
+        let end = bytes.len().saturating_sub(2);
+        self.requests = self.requests.wrapping_add(1);
+        if end > 1 {
+            self.id = bytes[end - 2];
+        }
+        if self.timed {
+            let id = [b'#', self.id];
+            self.note_now(&id);
         } else {
-            let end = bytes.len().saturating_sub(2);
-            self.note(&bytes[..end]);
-            self.note(b" ");
-            self.requests = self.requests.wrapping_add(1);
-            if end > 1 {
-                self.id = bytes[end - 2];
-            }
+            self.note_now(&bytes[..end]);
         }
         Ok(())
     }
 
     fn close(&mut self) {
-        self.note(b"close ");
-        if let Some(Step::Dead) = self.steps.get(self.at).copied() {
+        self.note_now(b"close");
+        self.up = false;
+        self.answered = self.requests;
+        if let Some(Step::Dead | Step::Noise) = self.steps.get(self.at).copied() {
             self.at = self.at.saturating_add(1);
         }
     }
 
     fn open(&mut self) -> Result<(), PortFailed> {
         if self.is_failing() {
-            self.note(b"shut ");
+            self.note_now(b"shut");
             return Err(PortFailed);
         }
         if self.closed_doors > 0 {
             self.closed_doors = self.closed_doors.saturating_sub(1);
-            self.note(b"shut ");
+            self.note_now(b"shut");
             return Err(PortFailed);
         }
-        self.note(b"open ");
+        self.note_now(b"open");
+        self.up = true;
         Ok(())
     }
 }

@@ -1,7 +1,7 @@
 //! Runs in which a write stalls behind so many of its bytes: what is told, and what goes out next.
 
 use super::script::{Ends, Script, Step};
-use super::{FIRST, QUIET, SECOND, null, plan};
+use super::{BEGUN, FIRST, FOURTH, GIVEN_UP, QUIET, SECOND, null, plan};
 use arrayvec::ArrayVec;
 use gc_station::{Plan, run_station};
 use gc_texts::RunFault;
@@ -54,38 +54,50 @@ fn told(replies: u64, bytes: usize) -> Option<RunFault> {
 
 const REQUEST: &[u8] = b"%R1Q,0,0:\r\n";
 
-// The half request is cleared on the next connection, and the request isn't sent again.
+const FIRST_REQUEST: &[u8] = b"%R1Q,0,1:\r\n";
+
+const SECOND_REQUEST: &[u8] = b"%R1Q,0,2:\r\n";
+
+const THIRD_REQUEST: &[u8] = b"%R1Q,0,3:\r\n";
+
+// Behind a null procedure that is cut it begins again. A command that is cut waits on the next connection, which clears what
+// went out of it, and isn't sent again.
 #[test]
 fn a_request_cut_at_every_place_and_a_new_try(rt: HostRuntime) -> Result<(), Fail> {
     for n in 0..REQUEST.len() {
-        let after = b"cut close open lf %R1Q,0,0: close ".as_slice();
+        let after = b"cut close open lf %R1Q,0,0: %R1Q,0,1: %R1Q,0,2: close ".as_slice();
         let parts = (b"open lf ".as_slice(), &REQUEST[..n], after);
-        let steps = [QUIET, QUIET, QUIET, FIRST];
-        stalls(&rt, plan(), steps.as_slice(), 2, parts, b"10x 11a ", None);
+        let steps = [QUIET, QUIET, QUIET, BEGUN, FIRST, SECOND];
+        stalls(&rt, plan(), steps.as_slice(), 2, parts, b"10a 11a ", None);
+        let after = b"cut close open lf %R1Q,0,2: close ".as_slice();
+        let before = b"open lf %R1Q,0,0: ".as_slice();
+        let parts = (before, &FIRST_REQUEST[..n], after);
+        let steps = [QUIET, BEGUN, QUIET, QUIET, GIVEN_UP, SECOND];
+        stalls(&rt, plan(), steps.as_slice(), 3, parts, b"10x 11a ", None);
     }
     Ok(())
 }
 
-const SECOND_REQUEST: &[u8] = b"%R1Q,0,1:\r\n";
-
-// A cycle's first request, and its second.
+// The null procedure of a beginning, a cycle's first request, its second, and the null procedure behind them.
 #[test]
 fn a_request_cut_at_every_place_and_no_new_try(rt: HostRuntime) -> Result<(), Fail> {
     let after = b"cut close ".as_slice();
     for n in 0..REQUEST.len() {
-        let steps = [QUIET, FIRST];
+        let steps = [QUIET, BEGUN, FIRST, GIVEN_UP];
         let parts = (b"open lf ".as_slice(), &REQUEST[..n], after);
+        stalls(&rt, twice(0), steps.as_slice(), 2, parts, b"", told(0, n));
+        let parts = (b"open lf %R1Q,0,0: ".as_slice(), &FIRST_REQUEST[..n], after);
         stalls(
             &rt,
             twice(0),
             steps.as_slice(),
-            2,
+            3,
             parts,
             b"10x ",
             told(0, n),
         );
         let parts = (
-            b"open lf %R1Q,0,0: ".as_slice(),
+            b"open lf %R1Q,0,0: %R1Q,0,1: ".as_slice(),
             &SECOND_REQUEST[..n],
             after,
         );
@@ -93,10 +105,24 @@ fn a_request_cut_at_every_place_and_no_new_try(rt: HostRuntime) -> Result<(), Fa
             &rt,
             twice(0),
             steps.as_slice(),
-            3,
+            4,
             parts,
             b"10a 11x ",
             told(1, n),
+        );
+        let parts = (
+            b"open lf %R1Q,0,0: %R1Q,0,1: %R1Q,0,2: ".as_slice(),
+            &THIRD_REQUEST[..n],
+            after,
+        );
+        stalls(
+            &rt,
+            twice(0),
+            steps.as_slice(),
+            5,
+            parts,
+            b"10a 11x ",
+            told(2, n),
         );
     }
     Ok(())
@@ -109,11 +135,11 @@ fn a_later_put_cut(rt: HostRuntime) -> Result<(), Fail> {
     stalls(
         &rt,
         twice(0),
-        [QUIET, FIRST, SECOND].as_slice(),
-        4,
+        [QUIET, BEGUN, FIRST, SECOND].as_slice(),
+        5,
         (
-            b"open lf %R1Q,0,0: %R1Q,0,1: ".as_slice(),
-            b"%R1Q,0,2:\r".as_slice(),
+            b"open lf %R1Q,0,0: %R1Q,0,1: %R1Q,0,2: ".as_slice(),
+            b"%R1Q,0,3:\r".as_slice(),
             b"cut close ".as_slice(),
         ),
         b"10a 11a 20x ",
@@ -122,10 +148,26 @@ fn a_later_put_cut(rt: HostRuntime) -> Result<(), Fail> {
     stalls(
         &rt,
         plan(),
-        [QUIET, Step::End, QUIET].as_slice(),
-        3,
+        [
+            QUIET, BEGUN, FIRST, GIVEN_UP, QUIET, QUIET, GIVEN_UP, FOURTH,
+        ]
+        .as_slice(),
+        5,
         (
-            b"open lf %R1Q,0,0: close open ".as_slice(),
+            b"open lf %R1Q,0,0: %R1Q,0,1: %R1Q,0,2: ".as_slice(),
+            b"%R1Q,0,3:".as_slice(),
+            b"cut close open lf %R1Q,0,4: close ".as_slice(),
+        ),
+        b"10a 11x ",
+        None,
+    );
+    stalls(
+        &rt,
+        plan(),
+        [QUIET, BEGUN, Step::End, QUIET].as_slice(),
+        4,
+        (
+            b"open lf %R1Q,0,0: %R1Q,0,1: close open ".as_slice(),
             none,
             b"cut close ".as_slice(),
         ),
@@ -138,14 +180,24 @@ fn a_later_put_cut(rt: HostRuntime) -> Result<(), Fail> {
             retries: 2,
             ..plan()
         },
-        [QUIET, Step::End, QUIET, QUIET, QUIET, FIRST].as_slice(),
-        3,
+        [
+            QUIET,
+            BEGUN,
+            Step::End,
+            QUIET,
+            Step::Silence(20),
+            QUIET,
+            FIRST,
+            SECOND,
+        ]
+        .as_slice(),
+        4,
         (
-            b"open lf %R1Q,0,0: close open ".as_slice(),
+            b"open lf %R1Q,0,0: %R1Q,0,1: close open ".as_slice(),
             none,
-            b"cut close open lf %R1Q,0,0: close ".as_slice(),
+            b"cut close open lf %R1Q,0,2: close ".as_slice(),
         ),
-        b"10x 11a ",
+        b"10a 11a ",
         None,
     );
     Ok(())

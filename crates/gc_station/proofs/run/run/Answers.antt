@@ -1,5 +1,4 @@
-use Rattle.std.proofs.Common.{ap, ◌∙◌}
-use Rattle.gc_station.specs.Progressing.{turned}
+use Rattle.std.proofs.Common.{◌∙◌}
 use Rattle.gc_station.specs.Runs.{stood}
 use Rattle.gc_station.proofs.Going.{on_call, went_same, went_on, went_wrong, went_nearer}
 use Rattle.gc_station.proofs.run.run.Goals as goal
@@ -8,13 +7,15 @@ pub returns-in-Err : goal.returns-in-Err
 returns-in-Err g c =
     let plan = c.args.plan.now in
     let commands = c.args.commands.now in
-    let w = went_same plan commands c.args.max_turns g.B.Book.text _ (g.L.Link.acts c.loop-cause.link) _ (g.B.Book.taken c.loop-cause.book) (g.B.Book.taken c.tell_overrun-told.new.book) c.loop-cause.station c.tell_overrun-told.ensures.taken c.loop-cause.invariant.went in
+    let told = g.L.Link.acts c.args.link.now in
+    let taken = g.B.Book.taken c.args.book.now in
+    let w = went_same plan commands c.args.max_turns g.B.Book.text told (g.L.Link.acts c.loop-cause.link) taken (g.B.Book.taken c.loop-cause.book) (g.B.Book.taken c.tell_overrun-told.new.book) c.loop-cause.station c.tell_overrun-told.ensures.taken c.loop-cause.invariant.went in
     let s = stood plan commands c.args.max_turns w.acts in
     record {
-      ran = went_wrong plan commands c.args.max_turns g.B.Book.text _ (g.L.Link.acts c.loop-cause.link) _ _ (g.B.Book.taken c.tell_overrun-told.new.book) _ c.loop-cause.station _ c.order-order.result w
+      ran = went_wrong plan commands c.args.max_turns g.B.Book.text told (g.L.Link.acts c.loop-cause.link) (g.L.Link.acts c.step.new.link) (g.L.Link.acts c.close.new.self) taken (g.B.Book.taken c.tell_overrun-told.new.book) (g.B.Book.taken c.step.new.book) c.loop-cause.station c.order-order.result w
           (c.order-order.ensures.order s w.stands)
-          (record { progress = c.turn.ensures ∙ ap turned w.stands.progress; ids = w.stands.ids; width = w.stands.width; assembles = w.stands.assembles; tally = w.stands.tally })
-          (on_call c.order-order.result _ c.in_default.not-Stop c.in-Err.ensures.does);
+          (on_call c.order-order.result _ c.in_default.not-Stop c.in-Err.ensures.does)
+          c.close.ensures;
       fails = c.in-Err.ensures.fails;
     }
 
@@ -22,29 +23,30 @@ pub loop-cause-smaller : goal.loop-cause-smaller
 loop-cause-smaller g c =
     let plan = c.args.plan.now in
     let commands = c.args.commands.now in
-    let w = went_same plan commands c.args.max_turns g.B.Book.text _ (g.L.Link.acts c.loop-cause.link) _ (g.B.Book.taken c.loop-cause.book) (g.B.Book.taken c.tell_overrun-told.new.book) c.loop-cause.station c.tell_overrun-told.ensures.taken c.loop-cause.invariant.went in
+    let told = g.L.Link.acts c.args.link.now in
+    let taken = g.B.Book.taken c.args.book.now in
+    let w = went_same plan commands c.args.max_turns g.B.Book.text told (g.L.Link.acts c.loop-cause.link) taken (g.B.Book.taken c.loop-cause.book) (g.B.Book.taken c.tell_overrun-told.new.book) c.loop-cause.station c.tell_overrun-told.ensures.taken c.loop-cause.invariant.went in
     let s = stood plan commands c.args.max_turns w.acts in
-    (went_nearer plan commands c.args.max_turns g.B.Book.text _ (g.L.Link.acts c.loop-cause.link) _ _ (g.B.Book.taken c.tell_overrun-told.new.book) _ c.loop-cause.station _ c.obey.new.self c.order-order.result w
+    (went_nearer plan commands c.args.max_turns g.B.Book.text told (g.L.Link.acts c.loop-cause.link) (g.L.Link.acts c.step.new.link) taken (g.B.Book.taken c.tell_overrun-told.new.book) (g.B.Book.taken c.step.new.book) c.loop-cause.station c.step.new.self c.order-order.result w
     (c.order-order.ensures.order s w.stands)
-    (record { progress = c.turn.ensures ∙ ap turned w.stands.progress; ids = w.stands.ids; width = w.stands.width; assembles = w.stands.assembles; tally = w.stands.tally })
-    (on_call c.order-order.result _ c.in_default.not-Stop c.in_default-obey.ensures.does)
+    (on_call c.order-order.result _ c.in_default.not-Stop c.in_default-step.ensures.does)
     c.loop-cause.invariant.within).less
 
 pub loop-cause-preserved : goal.loop-cause-preserved
 loop-cause-preserved g c =
     let plan = c.args.plan.now in
     let commands = c.args.commands.now in
-    let w = went_same plan commands c.args.max_turns g.B.Book.text _ (g.L.Link.acts c.loop-cause.link) _ (g.B.Book.taken c.loop-cause.book) (g.B.Book.taken c.tell_overrun-told.new.book) c.loop-cause.station c.tell_overrun-told.ensures.taken c.loop-cause.invariant.went in
+    let told = g.L.Link.acts c.args.link.now in
+    let taken = g.B.Book.taken c.args.book.now in
+    let w = went_same plan commands c.args.max_turns g.B.Book.text told (g.L.Link.acts c.loop-cause.link) taken (g.B.Book.taken c.loop-cause.book) (g.B.Book.taken c.tell_overrun-told.new.book) c.loop-cause.station c.tell_overrun-told.ensures.taken c.loop-cause.invariant.went in
     let s = stood plan commands c.args.max_turns w.acts in
     record {
-      within = (went_nearer plan commands c.args.max_turns g.B.Book.text _ (g.L.Link.acts c.loop-cause.link) _ _ (g.B.Book.taken c.tell_overrun-told.new.book) _ c.loop-cause.station _ c.obey.new.self c.order-order.result w
+      within = (went_nearer plan commands c.args.max_turns g.B.Book.text told (g.L.Link.acts c.loop-cause.link) (g.L.Link.acts c.step.new.link) taken (g.B.Book.taken c.tell_overrun-told.new.book) (g.B.Book.taken c.step.new.book) c.loop-cause.station c.step.new.self c.order-order.result w
           (c.order-order.ensures.order s w.stands)
-          (record { progress = c.turn.ensures ∙ ap turned w.stands.progress; ids = w.stands.ids; width = w.stands.width; assembles = w.stands.assembles; tally = w.stands.tally })
-          (on_call c.order-order.result _ c.in_default.not-Stop c.in_default-obey.ensures.does)
+          (on_call c.order-order.result _ c.in_default.not-Stop c.in_default-step.ensures.does)
           c.loop-cause.invariant.within).within;
-      went = went_on plan commands c.args.max_turns g.B.Book.text _ (g.L.Link.acts c.loop-cause.link) _ _ (g.B.Book.taken c.tell_overrun-told.new.book) _ c.loop-cause.station _ c.obey.new.self c.order-order.result w
+      went = went_on plan commands c.args.max_turns g.B.Book.text told (g.L.Link.acts c.loop-cause.link) (g.L.Link.acts c.step.new.link) taken (g.B.Book.taken c.tell_overrun-told.new.book) (g.B.Book.taken c.step.new.book) c.loop-cause.station c.step.new.self c.order-order.result w
           (c.order-order.ensures.order s w.stands)
-          (record { progress = c.turn.ensures ∙ ap turned w.stands.progress; ids = w.stands.ids; width = w.stands.width; assembles = w.stands.assembles; tally = w.stands.tally })
-          (on_call c.order-order.result _ c.in_default.not-Stop c.in_default-obey.ensures.does);
-      failed = c.in_default-obey.ensures.fails ∙ c.tell_overrun-told.ensures.failed ∙ c.loop-cause.invariant.failed;
+          (on_call c.order-order.result _ c.in_default.not-Stop c.in_default-step.ensures.does);
+      failed = c.in_default-step.ensures.fails ∙ c.tell_overrun-told.ensures.failed ∙ c.loop-cause.invariant.failed;
     }

@@ -1,6 +1,9 @@
-use Rattle.std.proofs.Common.{◌≤◌, length, ap, ◌∙◌, refl}
+use Rattle.std.proofs.Common.{◌≤◌, length, map, ap, sym, ◌∙◌, refl}
+use Rattle.std.proofs.lemmas.List.{length-map}
 use Rattle.gc_client.specs.Rule.{hears, heard}
-use Rattle.gc_station.proofs.Hearing.{settles}
+use Rattle.gc_client.specs.Settlements.{settlement_seen}
+use Rattle.gc_station.specs.Standing.{is_reply, settles}
+use Rattle.gc_station.proofs.Hearing.{hears_paired, settles_ok, with_noted}
 use Rattle.gc_station.proofs.station.Station.hear.Goals as goal
 
 pub returns-clause-hears : goal.returns-clause-hears
@@ -9,11 +12,15 @@ returns-clause-hears g c s start stands so =
     let short : length line ≤ 512 = rw c.in-Line.is at c.requires in
     let x = hears s.client line (heard line) in
     let seen = ap (λ ids. hears ids line (heard line)) stands.ids in
-    let client = c.hear.ensures.client short in
-    rw c.in-Line.is (settles c.args.plan.now c.args.commands.now g.B.Book.text c.args.self.now _ c.write.new.self s x.client _ x.settlements
-    c.stamp-first.result.utc c.stamp-first.result.cycle c.stamp-first.result.place start (g.B.Book.taken c.write.new.book) c.write.result
+    let client = c.hear-hearing.ensures.client short in
+    let items = c.hear-hearing.new.settled.items in
+    let same = (c.hear-hearing.ensures.settled short).seen ∙ ap (λ y. y.settlements) seen in
+    let reply = c.is_reply.ensures _ _ line _ (c.hear-hearing.ensures.heard short) in
+    let t = settles_ok g.B.Book.text c.args.self.now _ c.write.new.self s x (map settlement_seen items) (length items) start (g.B.Book.taken c.write.new.book)
     stands
-    (record { ids_are = ap (λ w. w.ids) client ∙ ap (λ y. y.client) seen; width = ap (λ w. w.width) client; assembler = refl; progress = refl; tally = refl })
-    c.stamp-first.ensures.utc c.stamp-first.ensures.cycle c.stamp-first.ensures.place
-    ((c.hear.ensures.settled short).seen ∙ ap (λ y. y.settlements) seen)
-    (c.write.ensures.wrote start s.records so) c.write.ensures.tally)
+    (record { ids_are = ap (λ w. w.ids) client ∙ ap (λ y. y.client) seen; width = ap (λ w. w.width) client; marks = refl; assembler = refl; progress = refl; tally = refl })
+    same
+    (sym (length-map items settlement_seen) ∙ ap length same)
+    (hears_paired s.marks s.client line (heard line) stands.paired)
+    (c.in_default-write.ensures.wrote start s.records so) c.in_default-write.ensures.after in
+    rw c.in-Line.is (with_noted c.write.new.self c.note.new.self c.is_reply.result (is_reply line) (settles x s) t.0 reply c.note.ensures, t.1)

@@ -2,7 +2,8 @@ use Rattle.std.proofs.Common.{◌∙◌, drop, arith, length-drop, drop-drop}
 use Rattle.std.proofs.lemmas.List.{take_rest}
 use Rattle.gc_lines.specs.Lent.{lent_seen}
 use Rattle.gc_lines.proofs.Passing.{Takes, takes}
-use Rattle.gc_station.proofs.Hearing.{hearing_on, hearing_part}
+use Rattle.gc_station.specs.Standing.{with_rest}
+use Rattle.gc_station.proofs.Hearing.{hearing_on, hearing_part, with_kept}
 use Rattle.gc_station.proofs.station.Station.listen.Goals as goal
 
 pub loop-at-preserved : goal.loop-at-preserved
@@ -19,10 +20,10 @@ loop-at-preserved g c =
       within = omega (arith, fewer, length-drop at piece, c.loop-at.invariant.within);
       hearing = λ s start stands so.
           let h = c.loop-at.invariant.hearing s start stands so in
-          let t : Takes h.now.rest left used frame c.next-used.new.self = takes h.now.rest left used frame _
+          let t : Takes h.now.rest left used frame c.next-used.new.self = takes h.now.rest left used frame c.next-used.new.self
           (λ e. let m = more e in (m.0, m.1, m.2 h.now.rest h.stands.assembles)) (λ i e. let m = whole i e in (m.0, m.1 h.now.rest h.stands.assembles, m.2)) in
-          rw (← drop-drop used at piece) (hearing_on c.args.plan.now c.args.commands.now g.B.Book.text start _ _ _ _ s piece left used frame _ h t
-          (c.in_default.ensures.hears _ start (record { progress = h.stands.progress; ids = h.stands.ids; width = h.stands.width; assembles = t.stands; tally = h.stands.tally }) h.wrote));
+          rw (← drop-drop used at piece) (hearing_on g.B.Book.text start (g.B.Book.taken c.loop-at.book) (g.B.Book.taken c.hear.new.book) c.loop-at.self c.hear.new.self s piece left used frame c.next-used.new.self h t
+          (c.in_default.ensures.hears (with_rest t.now h.now) start (with_kept c.loop-at.self c.next-used.new.self t.now h.now h.stands t.stands) h.wrote));
       failed = c.in_default.ensures.fails ∙ c.loop-at.invariant.failed;
     }
 
@@ -36,7 +37,7 @@ returns-in-Err-clause-listens g c s start stands so =
     let more = rw (take_rest piece at) at c.next-used.ensures.more in
     let whole = rw (take_rest piece at) at c.next-used.ensures.frame in
     let h = c.loop-at.invariant.hearing s start stands so in
-    let t : Takes h.now.rest left used frame c.next-used.new.self = takes h.now.rest left used frame _
+    let t : Takes h.now.rest left used frame c.next-used.new.self = takes h.now.rest left used frame c.next-used.new.self
     (λ e. let m = more e in (m.0, m.1, m.2 h.now.rest h.stands.assembles)) (λ i e. let m = whole i e in (m.0, m.1 h.now.rest h.stands.assembles, m.2)) in
-    hearing_part c.args.plan.now c.args.commands.now g.B.Book.text start (g.B.Book.taken c.loop-at.book) _ c.loop-at.self s piece left used frame _ h t
-    (c.in-Err.ensures.hears _ start (record { progress = h.stands.progress; ids = h.stands.ids; width = h.stands.width; assembles = t.stands; tally = h.stands.tally }) h.wrote)
+    hearing_part g.B.Book.text start (g.B.Book.taken c.loop-at.book) (g.B.Book.taken c.hear.new.book) c.loop-at.self s piece left used frame c.next-used.new.self h t
+    (c.in-Err.ensures.hears (with_rest t.now h.now) start (with_kept c.loop-at.self c.next-used.new.self t.now h.now h.stands t.stands) h.wrote)

@@ -1,21 +1,15 @@
-use Rattle.std.proofs.Common.{length, ap, ◌∙◌}
-use Rattle.gc_client.specs.Rule.{expires}
-use Rattle.gc_station.specs.Progressing.{told, gave, reckoned_early}
-use Rattle.gc_station.specs.Standing.{Standing, with_moment, with_progress, came, is_heard}
+use Rattle.std.proofs.Common.{ap, ◌∙◌}
+use Rattle.gc_station.specs.Marks.{commands_in}
+use Rattle.gc_station.specs.Progressing.{told, reckoned_early}
+use Rattle.gc_station.specs.Standing.{Standing, with_moment, with_progress, waiting_of, came, is_heard}
+use Rattle.gc_station.proofs.Hearing.{stands_expired, waiting_same, reckoned_same}
 use Rattle.gc_station.proofs.station.Station.take_piece.Goals as goal
 
 pub returns-in-Err-clause-takes : goal.returns-in-Err-clause-takes
 returns-in-Err-clause-takes g c s start stands so =
     let m = c.args.now in
     c.in-Err.ensures.takes (with_moment m (with_progress (told m) s)) start
-    (record {
-      progress = c.tell.ensures ∙ ap (told m) stands.progress;
-      ids = ap (λ w. w.ids) c.expire.ensures.client ∙ ap (λ ids. expires ids m.elapsed) stands.ids;
-      width = ap (λ w. w.width) c.expire.ensures.client ∙ stands.width;
-      assembles = stands.assembles;
-      tally = stands.tally;
-    })
-    so
+    (stands_expired c.args.self.now c.tell.new.self (told m s.progress) c.expire.new.self m s stands (c.tell.ensures ∙ ap (told m) stands.progress) c.expire.ensures.client) so
 
 pub returns-clause-takes : goal.returns-clause-takes
 returns-clause-takes g c s start stands so =
@@ -24,25 +18,17 @@ returns-clause-takes g c s start stands so =
     let rested = c.args.rested in
     let t =
     c.in_default.ensures.takes (with_moment m (with_progress (told m) s)) start
-    (record {
-      progress = c.tell.ensures ∙ ap (told m) stands.progress;
-      ids = ap (λ w. w.ids) c.expire.ensures.client ∙ ap (λ ids. expires ids m.elapsed) stands.ids;
-      width = ap (λ w. w.width) c.expire.ensures.client ∙ stands.width;
-      assembles = stands.assembles;
-      tally = stands.tally;
-    })
-    so in
-    let before = c.waiting-before.ensures.waiting ∙ ap (λ ids. length ids.waiting) stands.ids in
-    let heard : Standing = came (is_heard s.progress.phase) plan c.args.commands.now c.args.piece.now (with_moment m (with_progress (told m) s)) in
-    let waiting = length heard.client.waiting in
-    let after = c.waiting-after.ensures.waiting ∙ ap (λ ids. length ids.waiting) t.0.ids in (
+    (stands_expired c.args.self.now c.tell.new.self (told m s.progress) c.expire.new.self m s stands (c.tell.ensures ∙ ap (told m) stands.progress) c.expire.ensures.client) so in
+    let heard : Standing = came (is_heard s.progress.phase) c.args.piece.now (with_moment m (with_progress (told m) s)) in
+    let before = c.commands-before.ensures ∙ ap commands_in stands.marks in
+    let after = c.waiting-after.ensures ∙ waiting_same c.take_lines.new.self heard t.0 in (
       record {
-        progress = c.reckon_early.ensures ∙ ap (reckoned_early plan c.waiting-after.result) c.give.ensures
-            ∙ ap (λ b. reckoned_early plan c.waiting-after.result (gave plan rested b c.waiting-after.result c.take_lines.new.self.progress)) before
-            ∙ ap (λ a. reckoned_early plan a (gave plan rested (length s.client.waiting) a c.take_lines.new.self.progress)) after
-            ∙ ap (λ p. reckoned_early plan waiting (gave plan rested (length s.client.waiting) waiting p)) t.0.progress;
+        progress = c.reckon_early.ensures ∙ ap (reckoned_early plan c.waiting-after.result.commands) c.give.ensures
+            ∙ reckoned_same plan rested c.commands-before.result (commands_in s.marks) c.waiting-after.result (waiting_of heard) c.take_lines.new.self.progress heard.progress before after t.0.progress;
         ids = t.0.ids;
         width = t.0.width;
+        marks = t.0.marks;
+        paired = t.0.paired;
         assembles = t.0.assembles;
         tally = t.0.tally;
       },

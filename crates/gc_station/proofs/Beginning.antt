@@ -1,0 +1,353 @@
+-- Where a station begins anew nothing but moments is told to its client until the null procedure goes out, and no other request behind
+-- that before a reply came.
+use Rattle.std.proofs.Common.{◌≡◌, ◌⊎◌, inl, inr, ℕ, ◌&&◌, ◌||◌, Bool, true, false, not, List, [], ◌∷◌, ◌++◌, length, map, if◌then◌else◌, nat_eq, Option, Some, None, refl, sym, ◌∙◌, ap, subst}
+use Rattle.gc_lines.specs.Frames.{rest_behind}
+use Rattle.gc_catalogue.specs.declared.call.Call.{Call}
+use Rattle.gc_catalogue.specs.declared.call.Call.TheVariants.{NullProc}
+use Rattle.gc_client.specs.OneForOne.{Step, Send, Hear, Expire, Restart}
+use Rattle.gc_client.specs.Rule.{heard}
+use Rattle.gc_texts.specs.declared.commands.Command.{Command}
+use Rattle.gc_station.specs.declared.cause.Cause.{Cause}
+use Rattle.gc_station.specs.declared.cause.Cause.TheVariants as cause
+use Rattle.gc_station.specs.declared.link.Moment.{Moment}
+use Rattle.gc_station.specs.declared.plan.Plan.{Plan}
+use Rattle.gc_station.specs.declared.progress.Order.{Order}
+use Rattle.gc_station.specs.declared.progress.Order.TheVariants as order
+use Rattle.gc_station.specs.declared.progress.Phase.{Phase}
+use Rattle.gc_station.specs.declared.progress.Phase.TheVariants as phase
+use Rattle.gc_station.specs.declared.progress.Progress.{Progress}
+use Rattle.gc_station.specs.declared.progress.Waiting.{Waiting}
+use Rattle.gc_station.specs.Acts.{Act, Told, Untold, Put, Cut, Gave, Silent, Ended, Broke, Closed, Opened, Unopened}
+use Rattle.gc_station.specs.Deciding.{is_up, is_past, drain_of, later, order_in, order_on}
+use Rattle.gc_station.specs.Marks.{commands_in}
+use Rattle.gc_station.specs.Parts.{Part, only, asking, putting, hearing, acting}
+use Rattle.gc_station.specs.Progressing.{told, turned, begun, waited, quieted, drained, reckoned_early, begins_anew, closed, closed_again, is_over_in, is_over, loses_all}
+use Rattle.gc_station.specs.Reasons.{IsFor}
+use Rattle.gc_station.specs.Standing.{Standing, order_at, waiting_of, request_text, Puts, IsTelling, IsOpening, IsReading, Obeys, with_progress, with_moment, with_rest, lines_came, lines_behind, is_heard, came, reckoned, after_read, after_tell, after_open, moved}
+use Rattle.gc_station.proofs.Acting.{heard_ready}
+use Rattle.gc_station.proofs.Fine.{Fine}
+use Rattle.gc_station.proofs.Midway.{clash}
+use Rattle.gc_station.proofs.Probing.{Alone, Goes, alone_moved, alone_told, alone_lines, some_wait, over_stops}
+
+-- moments alone
+abbrev pub Quiet : List Step → Type 0
+Quiet [] = Unit {0}
+Quiet (Expire now ∷ steps) = Quiet steps
+Quiet (Send target call deadline ∷ steps) = ⊥
+Quiet (Hear line ∷ steps) = ⊥
+Quiet (Restart ∷ steps) = ⊥
+
+-- behind a reply, whatever follows; and behind another line this
+abbrev pub IfForeign : Option ℕ → Type 0 → Type 0
+IfForeign None claim = claim
+IfForeign (Some id) claim = Unit {0}
+
+-- the first request goes out alone: no other before a reply. It is told whether the first went out
+abbrev pub IsAloneIn : Bool → List Step → Type 0
+IsAloneIn out [] = Unit {0}
+IsAloneIn false (Send target call deadline ∷ steps) = IsAloneIn true steps
+IsAloneIn true (Send target call deadline ∷ steps) = ⊥
+IsAloneIn out (Hear line ∷ steps) = IfForeign (heard line) (IsAloneIn out steps)
+IsAloneIn out (Expire now ∷ steps) = IsAloneIn out steps
+IsAloneIn out (Restart ∷ steps) = IsAloneIn out steps
+
+pub quiet_first : (first later : List Step) → Quiet first → IsAloneIn false later → IsAloneIn false (first ++ later)
+quiet_first [] later q h = h
+quiet_first (Expire now ∷ first) later q h = quiet_first first later q h
+quiet_first (Send target call deadline ∷ first) later q h = absurd q
+quiet_first (Hear line ∷ first) later q h = absurd q
+quiet_first (Restart ∷ first) later q h = absurd q
+
+-- lines let pass what holds behind them; and with an id among them anything may follow
+lines_pass : (lines : List (List ℕ)) (later : List Step) → IsAloneIn true later → IsAloneIn true (map Hear lines ++ later)
+lines_pass [] later h = h
+lines_pass (line ∷ lines) later h = foreign (heard line) (IsAloneIn true (map Hear lines ++ later)) (lines_pass lines later h) where
+  foreign : (o : Option ℕ) (claim : Type 0) → claim → IfForeign o claim
+  foreign None claim c = c
+  foreign (Some id) claim c = tt
+
+lines_reply : (front others : List (List ℕ)) (line : List ℕ) (later : List Step) → heard line ≡ Some 0 → IsAloneIn true (map Hear (front ++ line ∷ others) ++ later)
+lines_reply [] others line later id = subst (λ o. IfForeign o (IsAloneIn true (map Hear others ++ later))) (sym id) tt
+lines_reply (first ∷ front) others line later id = foreign (heard first) (IsAloneIn true (map Hear (front ++ line ∷ others) ++ later)) (lines_reply front others line later id) where
+  foreign : (o : Option ℕ) (claim : Type 0) → claim → IfForeign o claim
+  foreign None claim c = c
+  foreign (Some id) claim c = tt
+
+-- Until the null procedure goes out.
+
+-- an act that tells moments alone, and leaves it to begin
+pub record IsQuiet (p : Part) (t : Standing) : Type 0 where
+  pub steps : Quiet p.steps
+  pub marks : p.marks ≡ []
+  pub anew : t.progress.anew ≡ true
+
+-- or the null procedure goes out
+pub record IsProbed (p : Part) (t : Standing) : Type 0 where
+  pub target : ℕ
+  pub call : Call
+  pub deadline : ℕ
+  pub part : p ≡ asking target call deadline None
+  pub anew : t.progress.anew ≡ false
+  pub alone : t.progress.alone ≡ true
+  pub goes_on : is_over t.progress ≡ false
+
+module _ (plan : Plan) (commands : List Command) where
+  abbrev Begins : Part → Standing → Type 0
+  Begins p t = IsQuiet p t ⊎ IsProbed p t
+
+  begins_tell : (s : Standing) (f : Moment → Progress → Progress) (o : Order) (act : Act) → ((m : Moment) → (f m (turned s.progress)).anew ≡ s.progress.anew) → s.progress.anew ≡ true → IsTelling act
+      → Begins (acting plan commands s o act) (after_tell f (with_progress turned s) act)
+  begins_tell s f o (Told m) same w tells = inl (record { steps = tt; marks = refl; anew = same m ∙ w })
+  begins_tell s f o Untold same w tells = inl (record { steps = tt; marks = refl; anew = w })
+  begins_tell s f o (Put bytes) same w tells = absurd tells
+  begins_tell s f o (Cut bytes count) same w tells = absurd tells
+  begins_tell s f o (Gave bytes m) same w tells = absurd tells
+  begins_tell s f o (Silent m) same w tells = absurd tells
+  begins_tell s f o Ended same w tells = absurd tells
+  begins_tell s f o Broke same w tells = absurd tells
+  begins_tell s f o Closed same w tells = absurd tells
+  begins_tell s f o Opened same w tells = absurd tells
+  begins_tell s f o Unopened same w tells = absurd tells
+
+  begins_open : (s : Standing) (o : Order) (act : Act) → s.progress.anew ≡ true → IsOpening act → Begins (acting plan commands s o act) (after_open plan (with_progress turned s) act)
+  begins_open s o Opened w asked = inl (record { steps = tt; marks = refl; anew = w })
+  begins_open s o Unopened w asked = inl (record { steps = tt; marks = refl; anew = w })
+  begins_open s o (Told m) w asked = absurd asked
+  begins_open s o Untold w asked = absurd asked
+  begins_open s o (Put bytes) w asked = absurd asked
+  begins_open s o (Cut bytes count) w asked = absurd asked
+  begins_open s o (Gave bytes m) w asked = absurd asked
+  begins_open s o (Silent m) w asked = absurd asked
+  begins_open s o Ended w asked = absurd asked
+  begins_open s o Broke w asked = absurd asked
+  begins_open s o Closed w asked = absurd asked
+
+  -- a line feed
+  begins_clear : (s : Standing) (act : Act) (bytes : List ℕ) → s.progress.anew ≡ true → Puts bytes act → Begins (acting plan commands s order.Clear act) (moved plan commands order.Clear (with_progress turned s) act)
+  begins_clear s (Put out) bytes w puts = inl (record { steps = tt; marks = refl; anew = w })
+  begins_clear s (Cut out count) bytes w puts = inl (record { steps = tt; marks = refl; anew = w })
+  begins_clear s (Told m) bytes w puts = absurd puts
+  begins_clear s Untold bytes w puts = absurd puts
+  begins_clear s (Gave piece m) bytes w puts = absurd puts
+  begins_clear s (Silent m) bytes w puts = absurd puts
+  begins_clear s Ended bytes w puts = absurd puts
+  begins_clear s Broke bytes w puts = absurd puts
+  begins_clear s Closed bytes w puts = absurd puts
+  begins_clear s Opened bytes w puts = absurd puts
+  begins_clear s Unopened bytes w puts = absurd puts
+
+  -- the null procedure
+  begins_probe : (s : Standing) (act : Act) (bytes : List ℕ) → Puts bytes act → Begins (acting plan commands s order.Probe act) (moved plan commands order.Probe (with_progress turned s) act)
+  begins_probe s (Put out) bytes puts = inr (record { target = 0; call = NullProc; deadline = later s.progress.moment.elapsed plan.deadline; part = refl; anew = refl; alone = refl; goes_on = refl })
+  begins_probe s (Cut out count) bytes puts = inr (record { target = 0; call = NullProc; deadline = later s.progress.moment.elapsed plan.deadline; part = refl; anew = refl; alone = refl; goes_on = refl })
+  begins_probe s (Told m) bytes puts = absurd puts
+  begins_probe s Untold bytes puts = absurd puts
+  begins_probe s (Gave piece m) bytes puts = absurd puts
+  begins_probe s (Silent m) bytes puts = absurd puts
+  begins_probe s Ended bytes puts = absurd puts
+  begins_probe s Broke bytes puts = absurd puts
+  begins_probe s Closed bytes puts = absurd puts
+  begins_probe s Opened bytes puts = absurd puts
+  begins_probe s Unopened bytes puts = absurd puts
+
+  -- a piece is dropped
+  begins_piece : (s : Standing) (rested h : Bool) (piece : List ℕ) (m : Moment) → h ≡ false → s.progress.anew ≡ true
+      → IsQuiet (only (Expire m.elapsed ∷ hearing h s.rest piece)) (reckoned plan rested (commands_in s.marks) (came h piece (with_moment m (with_progress (told m) (with_progress turned s)))))
+  begins_piece s rested true piece m is w = cc
+  begins_piece s rested false piece m is w = record { steps = tt; marks = refl; anew = w }
+
+  drained_anew : (p : Progress) (b : Bool) → (if b then drained p else p).anew ≡ p.anew
+  drained_anew p true = refl
+  drained_anew p false = refl
+
+  quieted_anew : (at : Phase) (p : Progress) → (quieted plan at p).anew ≡ p.anew
+  quieted_anew phase.Down p = refl
+  quieted_anew phase.Resting p = refl
+  quieted_anew phase.Clearing p = refl
+  quieted_anew phase.Draining p = drained_anew p (is_past (drain_of plan p) p)
+  quieted_anew phase.Probing p = refl
+  quieted_anew phase.Ready p = refl
+  quieted_anew (phase.Closing why) p = refl
+  quieted_anew (phase.Over why) p = refl
+
+  begins_read : (s : Standing) (rested : Bool) (o : Order) (act : Act) → is_heard s.progress.phase ≡ false → s.progress.anew ≡ true → IsReading act
+      → Begins (acting plan commands s o act) (after_read plan rested (with_progress turned s) act)
+  begins_read s rested o (Gave bytes m) unheard w reads = inl (begins_piece s rested (is_heard s.progress.phase) bytes m unheard w)
+  begins_read s rested o (Silent m) unheard w reads = inl (record { steps = tt; marks = refl; anew = quieted_anew s.progress.phase (waited rested m (turned s.progress)) ∙ w })
+  begins_read s rested o Ended unheard w reads = inl (record { steps = tt; marks = refl; anew = w })
+  begins_read s rested o Broke unheard w reads = inl (record { steps = tt; marks = refl; anew = w })
+  begins_read s rested o Untold unheard w reads = inl (record { steps = tt; marks = refl; anew = w })
+  begins_read s rested o (Told m) unheard w reads = absurd reads
+  begins_read s rested o (Put bytes) unheard w reads = absurd reads
+  begins_read s rested o (Cut bytes count) unheard w reads = absurd reads
+  begins_read s rested o Closed unheard w reads = absurd reads
+  begins_read s rested o Opened unheard w reads = absurd reads
+  begins_read s rested o Unopened unheard w reads = absurd reads
+
+  again_anew : (w : Waiting) (why : Cause) (p : Progress) (b : Bool) → p.anew ≡ true → (closed_again plan w why b p).anew ≡ true
+  again_anew w why p true is = refl
+  again_anew w why p false is = is
+
+  closed_anew : (w : Waiting) (why : Cause) (p : Progress) → p.anew ≡ true → (closed plan w why p).anew ≡ true
+  closed_anew w cause.Done p is = is
+  closed_anew w cause.Clock p is = is
+  closed_anew w cause.Turns p is = is
+  closed_anew w cause.Silence p is = refl
+  closed_anew w cause.Dead p is = again_anew w cause.Dead p (begins_anew cause.Dead p) is
+  closed_anew w cause.Read p is = again_anew w cause.Read p (begins_anew cause.Read p) is
+  closed_anew w cause.End p is = again_anew w cause.End p (begins_anew cause.End p) is
+  closed_anew w (cause.Write n m) p is = again_anew w (cause.Write n m) p (begins_anew (cause.Write n m) p) is
+  closed_anew w cause.Open p is = again_anew w cause.Open p (begins_anew cause.Open p) is
+
+  -- where it begins anew it isn't ready
+  unheard_anew : (s : Standing) → Fine plan commands s → s.progress.anew ≡ true → (h : Bool) → is_heard s.progress.phase ≡ h → is_heard s.progress.phase ≡ false
+  unheard_anew s fine w true is = absurd (clash s.progress.anew w (fine.ready (heard_ready s.progress.phase is)))
+  unheard_anew s fine w false is = is
+
+  begins_order : (s : Standing) (o : Order) (act : Act) → Fine plan commands s → IsFor plan s.progress (waiting_of s) o → Obeys commands s o act → s.progress.anew ≡ true
+      → Begins (acting plan commands s o act) (moved plan commands o (with_progress turned s) act)
+  begins_order s order.Tell act fine is obeys w = begins_tell s (λ m p. reckoned_early plan (commands_in s.marks) (told m p)) order.Tell act (λ m. refl) w obeys
+  begins_order s order.Begin act fine is obeys w = begins_tell s (begun plan (length commands)) order.Begin act (λ m. refl) w obeys
+  begins_order s order.Open act fine is obeys w = begins_open s order.Open act w obeys
+  begins_order s order.Clear act fine is obeys w = begins_clear s act (10 ∷ []) w obeys
+  begins_order s order.Probe act fine is obeys w = begins_probe s act (request_text s.client NullProc) obeys
+  begins_order s order.Send act fine is obeys w = absurd (clash s.progress.anew w (fine.ready is.0))
+  begins_order s order.Flush act fine is obeys w = absurd (clash s.progress.anew w (fine.ready is.0))
+  begins_order s order.Read act fine is obeys w = begins_read s false order.Read act (unheard_anew s fine w (is_heard s.progress.phase) refl) w obeys
+  begins_order s order.Rest act fine is obeys w = begins_read s true order.Rest act (unheard_anew s fine w (is_heard s.progress.phase) refl) w obeys
+  begins_order s (order.Close why) act fine is obeys w =
+      subst (λ (a : Act). Begins (acting plan commands s (order.Close why) a) (moved plan commands (order.Close why) (with_progress turned s) a)) (sym obeys)
+      (inl (record { steps = tt; marks = refl; anew = closed_anew (waiting_of (with_rest [] (with_progress turned s))) why (turned s.progress) w }))
+  begins_order s (order.Stop why) act fine is obeys w = absurd obeys
+
+  pub begins : (s : Standing) (o : Order) (act : Act) → Fine plan commands s → IsFor plan s.progress (waiting_of s) o → Obeys commands s o act → s.progress.anew ≡ true
+      → IsQuiet (acting plan commands s o act) (moved plan commands o (with_progress turned s) act) ⊎ IsProbed (acting plan commands s o act) (moved plan commands o (with_progress turned s) act)
+  begins s o act fine is obeys w = begins_order s o act fine is obeys w
+
+  -- While the null procedure waits.
+
+  abbrev Passes : Part → Type 0
+  Passes p = (later : List Step) → IsAloneIn true later → IsAloneIn true (p.steps ++ later)
+
+  abbrev Replies : Part → Type 0
+  Replies p = (later : List Step) → IsAloneIn true (p.steps ++ later)
+
+  -- a reply comes; or it waits still; or all that wait are lost
+  abbrev Waits : Part → Standing → Type 0
+  Waits p t = Passes p × (Replies p ⊎ ((t.progress.alone ≡ true) ⊎ (loses_all t.progress ≡ true)))
+
+  waits_piece : (s : Standing) (rested h : Bool) (piece : List ℕ) (m : Moment) → Alone s
+      → Waits (only (Expire m.elapsed ∷ hearing h s.rest piece)) (reckoned plan rested (commands_in s.marks) (came h piece (with_moment m (with_progress (told m) (with_progress turned s)))))
+  waits_piece s rested true piece m w =
+      let x = with_rest (rest_behind s.rest piece) (with_moment m (with_progress (told m) (with_progress turned s))) in
+      let lines = lines_behind s.rest piece in
+      let t = lines_came x lines in (
+        λ later h. lines_pass lines later h,
+        elim (alone_lines x lines (w.0, alone_told s.client m.elapsed w.1)) [
+          | inl c ↦ inl (λ later. subst (λ (xs : List (List ℕ)). IsAloneIn true (map Hear xs ++ later)) (sym c.order) (lines_reply c.front c.others c.line later c.id))
+          | inr a ↦ inr (inl (some_wait t.progress.alone (length t.client.waiting) a.0 a.1.1))
+        ],
+      )
+  waits_piece s rested false piece m w =
+      let x = with_moment m (with_progress (told m) (with_progress turned s)) in
+      (λ later h. h, inr (inl (some_wait x.progress.alone (length x.client.waiting) w.0 (alone_told s.client m.elapsed w.1).1)))
+
+  -- of an act that isn't a piece
+  still_waits : (s : Standing) (o : Order) (act : Act) → ((piece : List ℕ) (m : Moment) → act ≡ Gave piece m → ⊥) → Goes s act (moved plan commands o (with_progress turned s) act) → (moved plan commands o (with_progress turned s) act).progress.alone ≡ true
+  still_waits s o act other (inl c) = absurd (other c.0 c.1 c.2)
+  still_waits s o act other (inr w) = w
+
+  -- no request goes out
+  no_request : (s : Standing) (o : Order) → Fine plan commands s → IsFor plan s.progress (waiting_of s) o → s.progress.alone ≡ true → s.progress.anew ≡ false → Passes (putting plan commands s o)
+  no_request s order.Tell fine is w n = λ later h. h
+  no_request s order.Begin fine is w n = λ later h. h
+  no_request s order.Open fine is w n = λ later h. h
+  no_request s order.Clear fine is w n = λ later h. h
+  no_request s order.Probe fine is w n = absurd (clash s.progress.anew (fine.probing is.0) n)
+  no_request s order.Send fine is w n = absurd (clash s.progress.alone w is.1)
+  no_request s order.Flush fine is w n = absurd (clash s.progress.alone w is.1)
+  no_request s order.Read fine is w n = λ later h. h
+  no_request s order.Rest fine is w n = λ later h. h
+  no_request s (order.Close why) fine is w n = λ later h. h
+  no_request s (order.Stop why) fine is w n = λ later h. h
+
+  gave_waits : (s : Standing) (o : Order) (piece : List ℕ) (m : Moment) → Obeys commands s o (Gave piece m) → Alone s → Waits (acting plan commands s o (Gave piece m)) (moved plan commands o (with_progress turned s) (Gave piece m))
+  gave_waits s order.Read piece m obeys w = waits_piece s false (is_heard s.progress.phase) piece m w
+  gave_waits s order.Rest piece m obeys w = waits_piece s true (is_heard s.progress.phase) piece m w
+  gave_waits s order.Tell piece m obeys w = absurd obeys
+  gave_waits s order.Begin piece m obeys w = absurd obeys
+  gave_waits s order.Open piece m obeys w = absurd obeys
+  gave_waits s order.Clear piece m obeys w = absurd obeys
+  gave_waits s order.Probe piece m obeys w = absurd obeys
+  gave_waits s order.Send piece m obeys w = absurd obeys
+  gave_waits s order.Flush piece m obeys w = absurd obeys
+  gave_waits s (order.Close why) piece m obeys w = cc
+  gave_waits s (order.Stop why) piece m obeys w = absurd obeys
+
+  or_true : (a : Bool) → (a || true) ≡ true
+  or_true true = refl
+  or_true false = refl
+
+  again_loses : (w : Waiting) (why : Cause) (p : Progress) (b : Bool) → b ≡ true → loses_all (closed_again plan w why b p) ≡ true
+  again_loses w why p true is = refl
+  again_loses w why p false is = cc
+
+  closed_loses : (w : Waiting) (why : Cause) (p : Progress) → p.alone ≡ true → loses_all (closed plan w why p) ≡ true
+  closed_loses w cause.Done p is = or_true p.anew
+  closed_loses w cause.Clock p is = or_true p.anew
+  closed_loses w cause.Turns p is = or_true p.anew
+  closed_loses w cause.Silence p is = refl
+  closed_loses w cause.Dead p is = again_loses w cause.Dead p (begins_anew cause.Dead p) (ap (λ b. b || p.anew) is)
+  closed_loses w cause.Read p is = again_loses w cause.Read p (begins_anew cause.Read p) (ap (λ b. b || p.anew) is)
+  closed_loses w cause.End p is = again_loses w cause.End p (begins_anew cause.End p) (ap (λ b. b || p.anew) is)
+  closed_loses w (cause.Write n m) p is = again_loses w (cause.Write n m) p (begins_anew (cause.Write n m) p) (ap (λ b. b || p.anew) is)
+  closed_loses w cause.Open p is = again_loses w cause.Open p (begins_anew cause.Open p) (ap (λ b. b || p.anew) is)
+
+  closed_waits : (s : Standing) (o : Order) → Obeys commands s o Closed → s.progress.alone ≡ true → loses_all (moved plan commands o (with_progress turned s) Closed).progress ≡ true
+  closed_waits s (order.Close why) obeys w = closed_loses (waiting_of (with_rest [] (with_progress turned s))) why (turned s.progress) w
+  closed_waits s order.Tell obeys w = absurd obeys
+  closed_waits s order.Begin obeys w = absurd obeys
+  closed_waits s order.Open obeys w = absurd obeys
+  closed_waits s order.Clear obeys w = absurd obeys
+  closed_waits s order.Probe obeys w = absurd obeys
+  closed_waits s order.Send obeys w = absurd obeys
+  closed_waits s order.Flush obeys w = absurd obeys
+  closed_waits s order.Read obeys w = absurd obeys
+  closed_waits s order.Rest obeys w = absurd obeys
+  closed_waits s (order.Stop why) obeys w = absurd obeys
+
+  pub waits : (s : Standing) (o : Order) (act : Act) → Fine plan commands s → IsFor plan s.progress (waiting_of s) o → Obeys commands s o act → Alone s → s.progress.anew ≡ false
+      → Waits (acting plan commands s o act) (moved plan commands o (with_progress turned s) act)
+  waits s o (Gave piece m) fine is obeys w n = gave_waits s o piece m obeys w
+  waits s o Closed fine is obeys w n = (λ later h. h, inr (inr (closed_waits s o obeys w.0)))
+  waits s o (Put bytes) fine is obeys w n = (no_request s o fine is w.0 n, inr (inl (still_waits s o (Put bytes) (λ piece m e. cc) (alone_moved plan commands s o (Put bytes) obeys tt w))))
+  waits s o (Cut bytes count) fine is obeys w n = (no_request s o fine is w.0 n, inr (inl (still_waits s o (Cut bytes count) (λ piece m e. cc) (alone_moved plan commands s o (Cut bytes count) obeys tt w))))
+  waits s o (Told m) fine is obeys w n = (λ later h. h, inr (inl (still_waits s o (Told m) (λ piece m e. cc) (alone_moved plan commands s o (Told m) obeys tt w))))
+  waits s o (Silent m) fine is obeys w n = (λ later h. h, inr (inl (still_waits s o (Silent m) (λ piece m e. cc) (alone_moved plan commands s o (Silent m) obeys tt w))))
+  waits s o Untold fine is obeys w n = (λ later h. h, inr (inl (still_waits s o Untold (λ piece m e. cc) (alone_moved plan commands s o Untold obeys tt w))))
+  waits s o Ended fine is obeys w n = (λ later h. h, inr (inl (still_waits s o Ended (λ piece m e. cc) (alone_moved plan commands s o Ended obeys tt w))))
+  waits s o Broke fine is obeys w n = (λ later h. h, inr (inl (still_waits s o Broke (λ piece m e. cc) (alone_moved plan commands s o Broke obeys tt w))))
+  waits s o Opened fine is obeys w n = (λ later h. h, inr (inl (still_waits s o Opened (λ piece m e. cc) (alone_moved plan commands s o Opened obeys tt w))))
+  waits s o Unopened fine is obeys w n = (λ later h. h, inr (inl (still_waits s o Unopened (λ piece m e. cc) (alone_moved plan commands s o Unopened obeys tt w))))
+
+  -- Where it is over no act follows.
+
+  pub over_stays : (s : Standing) (act : Act) → is_over s.progress ≡ true → Obeys commands s (order_at plan s) act → ⊥
+  over_stays s act over obeys = by_phase s.progress.phase refl over where
+    none_left : (up zero_left : Bool) → is_up s.progress.phase ≡ up → nat_eq s.progress.turns 0 ≡ zero_left → (not up && zero_left) ≡ true → order_on plan s.progress (waiting_of s) ≡ order.Stop cause.Turns
+    none_left true z e f both = cc
+    none_left false false e f both = cc
+    none_left false true e f both = rw (f, e) refl
+
+    stops : order_at plan s ≡ order_on plan s.progress (waiting_of s) → (not (is_up s.progress.phase) && nat_eq s.progress.turns 0) ≡ true → ⊥
+    stops e both = subst (λ (o : Order). Obeys commands s o act) (e ∙ none_left (is_up s.progress.phase) (nat_eq s.progress.turns 0) refl refl both) obeys
+
+    by_phase : (at : Phase) → s.progress.phase ≡ at → (is_over_in s.progress.phase || (not (is_up s.progress.phase) && nat_eq s.progress.turns 0)) ≡ true → ⊥
+    by_phase phase.Down is o = stops (ap (λ at. order_in at plan s.progress (waiting_of s)) is) (sym (ap (λ at. is_over_in at || (not (is_up s.progress.phase) && nat_eq s.progress.turns 0)) is) ∙ o)
+    by_phase phase.Resting is o = stops (ap (λ at. order_in at plan s.progress (waiting_of s)) is) (sym (ap (λ at. is_over_in at || (not (is_up s.progress.phase) && nat_eq s.progress.turns 0)) is) ∙ o)
+    by_phase phase.Clearing is o = stops (ap (λ at. order_in at plan s.progress (waiting_of s)) is) (sym (ap (λ at. is_over_in at || (not (is_up s.progress.phase) && nat_eq s.progress.turns 0)) is) ∙ o)
+    by_phase phase.Draining is o = stops (ap (λ at. order_in at plan s.progress (waiting_of s)) is) (sym (ap (λ at. is_over_in at || (not (is_up s.progress.phase) && nat_eq s.progress.turns 0)) is) ∙ o)
+    by_phase phase.Probing is o = stops (ap (λ at. order_in at plan s.progress (waiting_of s)) is) (sym (ap (λ at. is_over_in at || (not (is_up s.progress.phase) && nat_eq s.progress.turns 0)) is) ∙ o)
+    by_phase phase.Ready is o = stops (ap (λ at. order_in at plan s.progress (waiting_of s)) is) (sym (ap (λ at. is_over_in at || (not (is_up s.progress.phase) && nat_eq s.progress.turns 0)) is) ∙ o)
+    by_phase (phase.Closing why) is o = let never : false ≡ true = sym (ap (λ at. is_over_in at || (not (is_up at) && nat_eq s.progress.turns 0)) is) ∙ o in cc
+    by_phase (phase.Over why) is o = over_stops plan commands s act obeys why is

@@ -1,0 +1,395 @@
+-- Behind a beginning the null procedure goes out first, and is answered before any other request goes out.
+use Rattle.std.proofs.Common.{◌≡◌, ℕ, ◌≤◌, ◌⊎◌, inl, inr, ◌||◌, Bool, true, false, List, [], ◌∷◌, ◌++◌, map, if◌then◌else◌, refl, sym, ap, ◌∙◌, subst, append_assoc, append-nil}
+use Rattle.std.specs.List.{AllByRecursion, filter_map}
+use Rattle.std.proofs.lemmas.List.{map-append}
+use Rattle.std.proofs.lemmas.List.Elements.{filter_map-append}
+use Rattle.gc_lines.specs.Frames.{frame_of, line_in, lines, pieces_behind, rest_behind, rest_of}
+use Rattle.gc_lines.proofs.Cutting.{pieces-append, rest-append}
+use Rattle.gc_catalogue.specs.declared.call.Call.TheVariants.{NullProc}
+use Rattle.gc_client.specs.Rule.{ById, heard}
+use Rattle.gc_texts.specs.declared.commands.Command.{Command}
+use Rattle.gc_station.specs.declared.link.Moment.{Moment}
+use Rattle.gc_station.specs.declared.plan.Plan.{Plan}
+use Rattle.gc_station.specs.declared.cause.Cause.{Cause}
+use Rattle.gc_station.specs.declared.cause.Cause.TheVariants as cause
+use Rattle.gc_station.specs.declared.progress.Phase.{Phase}
+use Rattle.gc_station.specs.declared.progress.Phase.TheVariants as phase
+use Rattle.gc_station.specs.declared.progress.Order.{Order}
+use Rattle.gc_station.specs.declared.progress.Order.TheVariants as orders
+use Rattle.gc_station.specs.declared.progress.Progress.{Progress}
+use Rattle.gc_station.specs.declared.progress.Waiting.{Waiting}
+use Rattle.gc_station.specs.Acts.{Act, Told, Untold, Put, Cut, Gave, Silent, Ended, Broke, Closed, Opened}
+use Rattle.gc_station.specs.Beginnings.{null_text, IsFirst, bytes_in, IsAnsweredAmong}
+use Rattle.gc_station.specs.Deciding.{is_up, is_past, drain_of, order_in}
+use Rattle.gc_station.specs.Marks.{commands_in}
+use Rattle.gc_station.specs.Probing.{KeepsOpen}
+use Rattle.gc_station.specs.Progressing.{turned, told, reckoned_early, cleared, probed, waited, quieted, drained, begins_anew, closed_again, closed}
+use Rattle.gc_station.specs.Quiet.{IsRequest, AsksNothing, StaysConnected}
+use Rattle.gc_station.specs.Reasons.{IsFor}
+use Rattle.gc_station.specs.Runs.{stood}
+use Rattle.gc_station.specs.Standing.{Standing, opening, order_at, waiting_of, with_progress, with_moment, with_rest, line_came, lines_came, lines_behind, came, is_heard, request_text, asks_null, after_tell, after_put, after_open, after_read, IsTelling, IsReading, Puts, Obeys, moved, after, after_all, Runs}
+use Rattle.gc_station.proofs.Closings.{runs_split}
+use Rattle.gc_station.proofs.Counts.{ended_progress}
+use Rattle.gc_station.proofs.Drains.{along}
+use Rattle.gc_station.proofs.EachRun.{fine_stood}
+use Rattle.gc_station.proofs.Facts.{order_for}
+use Rattle.gc_station.proofs.Fine.{Fine, is_bare}
+use Rattle.gc_station.proofs.Givens.{rest_with, after_rest}
+use Rattle.gc_station.proofs.Going.{after_all-append}
+use Rattle.gc_station.proofs.Lists.{all_append}
+use Rattle.gc_station.proofs.Midway.{clash}
+use Rattle.gc_station.proofs.Probing.{Comes, Goes, alone_moved, alone_fine, over_stops}
+use Rattle.gc_station.proofs.Quiets.{stage_in, stage_stood, not_telling, not_opening, not_reading, not_clearing, not_closing}
+
+-- While it begins anew it goes on doing so, until the null procedure goes out.
+
+anew_tell : (f : Moment → Progress → Progress) (s : Standing) (act : Act) → ((m : Moment) → (f m s.progress).anew ≡ true) → s.progress.anew ≡ true → (after_tell f s act).progress.anew ≡ true
+anew_tell f s (Told m) step d = step m
+anew_tell f s act step d = d
+
+anew_put : (requests : ℕ) (f : Standing → Standing) (s : Standing) (act : Act) → (f s).progress.anew ≡ true → (after_put requests f s act).progress.anew ≡ true
+anew_put requests f s (Cut out n) d = d
+anew_put requests f s act d = d
+
+anew_open : (plan : Plan) (s : Standing) (act : Act) → s.progress.anew ≡ true → (after_open plan s act).progress.anew ≡ true
+anew_open plan s Opened d = d
+anew_open plan s act d = d
+
+anew_lines : (s : Standing) (lines : List (List ℕ)) → s.progress.anew ≡ true → (lines_came s lines).progress.anew ≡ true
+anew_lines s [] d = d
+anew_lines s (line ∷ others) d = anew_lines (line_came s line) others d
+
+anew_came : (heard : Bool) (piece : List ℕ) (s : Standing) → s.progress.anew ≡ true → (came heard piece s).progress.anew ≡ true
+anew_came true piece s d = anew_lines (with_rest (rest_behind s.rest piece) s) (lines_behind s.rest piece) d
+anew_came false piece s d = d
+
+anew_test : (p : Progress) (b : Bool) → p.anew ≡ true → (if b then drained p else p).anew ≡ true
+anew_test p true d = d
+anew_test p false d = d
+
+anew_quiet : (plan : Plan) (at : Phase) (p : Progress) → p.anew ≡ true → (quieted plan at p).anew ≡ true
+anew_quiet plan phase.Draining p d = anew_test p (is_past (drain_of plan p) p) d
+anew_quiet plan phase.Resting p d = d
+anew_quiet plan at p d = d
+
+anew_read : (plan : Plan) (rested : Bool) (s : Standing) (act : Act) → s.progress.anew ≡ true → (after_read plan rested s act).progress.anew ≡ true
+anew_read plan rested s (Gave bytes m) d = anew_came (is_heard s.progress.phase) bytes (with_moment m (with_progress (told m) s)) d
+anew_read plan rested s (Silent m) d = anew_quiet plan s.progress.phase (waited rested m s.progress) d
+anew_read plan rested s act d = d
+
+anew_again : (plan : Plan) (w : Waiting) (why : Cause) (b : Bool) (p : Progress) → p.anew ≡ true → (closed_again plan w why b p).anew ≡ true
+anew_again plan w why true p d = refl
+anew_again plan w why false p d = d
+
+anew_close : (plan : Plan) (w : Waiting) (why : Cause) (p : Progress) → p.anew ≡ true → (closed plan w why p).anew ≡ true
+anew_close plan w cause.Done p d = d
+anew_close plan w cause.Clock p d = d
+anew_close plan w cause.Turns p d = d
+anew_close plan w why p d = anew_again plan w why (begins_anew why p) p d
+
+-- A line with its id, behind all that came.
+
+lines_behind-append : (xs ys : List ℕ) → lines (xs ++ ys) ≡ lines xs ++ lines_behind (rest_of xs) ys
+lines_behind-append xs ys =
+    ap (λ ps. filter_map line_in (map frame_of ps)) (pieces-append [] xs ys) ∙ ap (λ fs. filter_map line_in fs) (map-append frame_of (pieces_behind [] xs) (pieces_behind (rest_of xs) ys))
+    ∙ filter_map-append line_in (map frame_of (pieces_behind [] xs)) (map frame_of (pieces_behind (rest_of xs) ys))
+
+bytes-append : (xs : List Act) (act : Act) → bytes_in (xs ++ act ∷ []) ≡ bytes_in xs ++ bytes_in (act ∷ [])
+bytes-append [] act = refl
+bytes-append (Gave piece m ∷ xs) act = ap (λ bs. piece ++ bs) (bytes-append xs act) ∙ sym (append_assoc piece (bytes_in xs) (bytes_in (act ∷ [])))
+bytes-append (x ∷ xs) act = bytes-append xs act
+
+-- a piece more
+bytes_more : (xs : List Act) (piece : List ℕ) (m : Moment) → bytes_in (xs ++ Gave piece m ∷ []) ≡ bytes_in xs ++ piece
+bytes_more xs piece m = bytes-append xs (Gave piece m) ∙ ap (λ bs. bytes_in xs ++ bs) (append-nil piece)
+
+rest_more : (xs : List Act) (act : Act) → StaysConnected act → rest_with true act (rest_of (bytes_in xs)) ≡ rest_of (bytes_in (xs ++ act ∷ []))
+rest_more xs (Gave piece m) stays = sym (rest-append [] (bytes_in xs) piece) ∙ ap rest_of (sym (bytes_more xs piece m))
+rest_more xs Closed stays = absurd stays
+rest_more xs act stays = ap rest_of (sym (bytes-append xs act ∙ append-nil (bytes_in xs)))
+
+-- What was done since it began anew.
+
+-- the null procedure went out, and isn't answered
+record IsLone (at : Phase) (alone : Bool) (rest : List ℕ) (acts : List Act) : Type 0 where
+  first : List Act
+  null : Act
+  waits : List Act
+  order : acts ≡ first ++ null ∷ waits
+  stays : AllByRecursion StaysConnected waits
+  none : AllByRecursion AsksNothing waits
+  whole : at ≡ phase.Ready → (null ≡ Put null_text) × (rest ≡ rest_of (bytes_in waits))
+  is : alone ≡ true
+
+-- it begins anew still; or that; or it is over; or it was answered
+abbrev Begun : Progress → List ℕ → List Act → Type 0
+Begun p rest acts = (p.anew ≡ true) ⊎ (IsLone p.phase p.alone rest acts ⊎ (((why : Cause) × (p.phase ≡ phase.Over why)) ⊎ IsAnsweredAmong acts))
+
+answered_more : (acts : List Act) (act : Act) → IsAnsweredAmong acts → IsAnsweredAmong (acts ++ act ∷ [])
+answered_more acts act a = record {
+  first = a.first;
+  waits = a.waits;
+  behind = a.behind ++ act ∷ [];
+  order = ap (λ xs. xs ++ act ∷ []) a.order ∙ append_assoc a.first (Put null_text ∷ (a.waits ++ a.behind)) (act ∷ [])
+      ∙ ap (λ (xs : List Act). a.first ++ Put null_text ∷ xs) (append_assoc a.waits a.behind (act ∷ []));
+  stays = a.stays;
+  alone = a.alone;
+  front = a.front;
+  line = a.line;
+  others = a.others;
+  came = a.came;
+  id = a.id;
+}
+
+-- its answer comes
+lone_answered : (s : Standing) (acts : List Act) (piece : List ℕ) (m : Moment) → s.progress.phase ≡ phase.Ready → IsLone s.progress.phase s.progress.alone s.rest acts → Comes (lines_behind s.rest piece) → IsAnsweredAmong (acts ++ Gave piece m ∷ [])
+lone_answered s acts piece m ready l c =
+    let it = l.whole ready in
+    record {
+      first = l.first;
+      waits = l.waits ++ Gave piece m ∷ [];
+      behind = [];
+      order = ap (λ xs. xs ++ Gave piece m ∷ []) l.order ∙ append_assoc l.first (l.null ∷ l.waits) (Gave piece m ∷ [])
+          ∙ ap (λ (x : Act). l.first ++ x ∷ (l.waits ++ Gave piece m ∷ [])) it.0
+          ∙ ap (λ (xs : List Act). l.first ++ Put null_text ∷ xs) (sym (append-nil (l.waits ++ Gave piece m ∷ [])));
+      stays = all_append StaysConnected l.waits (Gave piece m ∷ []) l.stays (tt, tt);
+      alone = all_append AsksNothing l.waits (Gave piece m ∷ []) l.none (λ e. e, tt);
+      front = lines (bytes_in l.waits) ++ c.front;
+      line = c.line;
+      others = c.others;
+      came = ap lines (bytes_more l.waits piece m) ∙ lines_behind-append (bytes_in l.waits) piece
+          ∙ ap (λ r. lines (bytes_in l.waits) ++ lines_behind r piece) (sym it.1)
+          ∙ ap (λ ls. lines (bytes_in l.waits) ++ ls) c.order ∙ sym (append_assoc (lines (bytes_in l.waits)) c.front (c.line ∷ c.others));
+      id = c.id;
+    }
+
+-- an act neither closes nor asks
+record IsCalm (act : Act) : Type 0 where
+  open_ : KeepsOpen act
+  stays : StaysConnected act
+  none : AsksNothing act
+
+calm_telling : (act : Act) → IsTelling act → IsCalm act
+calm_telling (Told m) o = record { open_ = tt; stays = tt; none = λ e. e }
+calm_telling Untold o = record { open_ = tt; stays = tt; none = λ e. e }
+calm_telling act o = absurd o
+
+calm_reading : (act : Act) → IsReading act → IsCalm act
+calm_reading (Gave bytes m) o = record { open_ = tt; stays = tt; none = λ e. e }
+calm_reading (Silent m) o = record { open_ = tt; stays = tt; none = λ e. e }
+calm_reading Untold o = record { open_ = tt; stays = tt; none = λ e. e }
+calm_reading Ended o = record { open_ = tt; stays = tt; none = λ e. e }
+calm_reading Broke o = record { open_ = tt; stays = tt; none = λ e. e }
+calm_reading act o = absurd o
+
+-- while it waits and there is a connection, only a close is no such act
+lone_act : (commands : List Command) (plan : Plan) (next : Order) (s : Standing) (act : Act) → Obeys commands s next act → IsFor plan s.progress (waiting_of s) next → s.progress.phase ≡ phase.Ready → s.progress.alone ≡ true
+    → ((why : Cause) × (next ≡ orders.Close why) × (act ≡ Closed)) ⊎ IsCalm act
+lone_act commands plan orders.Tell s act o needs is alone = inr (calm_telling act o)
+lone_act commands plan orders.Begin s act o needs is alone = absurd (clash s.progress.alone alone needs.1)
+lone_act commands plan orders.Open s act o needs is alone = let other : phase.Ready ≡ phase.Down = sym is ∙ needs in cc
+lone_act commands plan orders.Clear s act o needs is alone = let other : phase.Ready ≡ phase.Clearing = sym is ∙ needs in cc
+lone_act commands plan orders.Probe s act o needs is alone = let other : phase.Ready ≡ phase.Probing = sym is ∙ needs.0 in cc
+lone_act commands plan orders.Send s act o needs is alone = absurd (clash s.progress.alone alone needs.1)
+lone_act commands plan orders.Flush s act o needs is alone = absurd (clash s.progress.alone alone needs.1)
+lone_act commands plan orders.Read s act o needs is alone = inr (calm_reading act o)
+lone_act commands plan orders.Rest s act o needs is alone = inr (calm_reading act o)
+lone_act commands plan (orders.Close why) s act o needs is alone = inl (why, refl, o)
+lone_act commands plan (orders.Stop why) s act o needs is alone = absurd o
+
+-- where it is while it waits
+lone_at : (at : Phase) (alone : Bool) → (is_bare at ≡ true → alone ≡ false) → alone ≡ true → (at ≡ phase.Ready) ⊎ (((why : Cause) × (at ≡ phase.Closing why)) ⊎ ((why : Cause) × (at ≡ phase.Over why)))
+lone_at phase.Down alone bare is = absurd (clash alone is (bare refl))
+lone_at phase.Resting alone bare is = absurd (clash alone is (bare refl))
+lone_at phase.Clearing alone bare is = absurd (clash alone is (bare refl))
+lone_at phase.Draining alone bare is = absurd (clash alone is (bare refl))
+lone_at phase.Probing alone bare is = absurd (clash alone is (bare refl))
+lone_at phase.Ready alone bare is = inl refl
+lone_at (phase.Closing why) alone bare is = inr (inl (why, refl))
+lone_at (phase.Over why) alone bare is = inr (inr (why, refl))
+
+-- a connection that ends before it is answered begins again, or none does
+lone_again : (plan : Plan) (w : Waiting) (why : Cause) (b : Bool) (p : Progress) → b ≡ true → (closed_again plan w why b p).anew ≡ true
+lone_again plan w why true p is = refl
+lone_again plan w why false p is = cc
+
+lone_close : (plan : Plan) (w : Waiting) (why : Cause) (p : Progress) → p.alone ≡ true → ((closed plan w why p).anew ≡ true) ⊎ ((c : Cause) × ((closed plan w why p).phase ≡ phase.Over c))
+lone_close plan w cause.Done p is = inr (cause.Done, refl)
+lone_close plan w cause.Clock p is = inr (cause.Clock, refl)
+lone_close plan w cause.Turns p is = inr (cause.Turns, refl)
+lone_close plan w cause.Silence p is = inl refl
+lone_close plan w why p is = inl (lone_again plan w why (begins_anew why p) p (ap (λ b. b || p.anew) is))
+
+-- One act more.
+
+-- the null procedure goes out
+lone_put : (requests : ℕ) (f : Standing → Standing) (s : Standing) (act : Act) (acts : List Act) (heard : Bool) (rest : List ℕ) → Puts null_text act → s.rest ≡ [] → rest ≡ rest_with heard act s.rest
+    → (f s).progress.phase ≡ phase.Ready → (f s).progress.alone ≡ true → IsLone (after_put requests f s act).progress.phase (after_put requests f s act).progress.alone rest (acts ++ act ∷ [])
+lone_put requests f s (Put out) acts heard rest o none left is alone = record {
+  first = acts;
+  null = Put out;
+  waits = [];
+  order = refl;
+  stays = tt;
+  none = tt;
+  whole = λ ready. (ap Put o, left ∙ none);
+  is = alone;
+}
+lone_put requests f s (Cut out n) acts heard rest o none left is alone = record {
+  first = acts;
+  null = Cut out n;
+  waits = [];
+  order = refl;
+  stays = tt;
+  none = tt;
+  whole = λ ready. absurd (cut (is_up (f s).progress.phase) ready);
+  is = alone;
+} where
+  cut : (up : Bool) → (if up then phase.Closing (cause.Write requests n) else phase.Over (cause.Write requests n)) ≡ phase.Ready → ⊥
+  cut true there = cc
+  cut false there = cc
+lone_put requests f s act acts heard rest o none left is alone = absurd o
+
+anew_moved : (plan : Plan) (commands : List Command) (next : Order) (s : Standing) (act : Act) (acts : List Act) (rest : List ℕ) → Obeys commands s next act → IsFor plan s.progress (waiting_of s) next → Fine plan commands s → s.progress.anew ≡ true
+    → rest ≡ rest_with (is_heard s.progress.phase) act s.rest → Begun (moved plan commands next (with_progress turned s) act).progress rest (acts ++ act ∷ [])
+anew_moved plan commands orders.Tell s act acts rest o needs fine d left = inl (anew_tell (λ (m : Moment) (p : Progress). reckoned_early plan (commands_in s.marks) (told m p)) (with_progress turned s) act (λ m. d) d)
+anew_moved plan commands orders.Begin s act acts rest o needs fine d left = absurd (clash s.progress.anew d (fine.ready needs.0))
+anew_moved plan commands orders.Open s act acts rest o needs fine d left = inl (anew_open plan (with_progress turned s) act d)
+anew_moved plan commands orders.Clear s act acts rest o needs fine d left = inl (anew_put _ (with_progress cleared) (with_progress turned s) act d)
+anew_moved plan commands orders.Probe s act acts rest o needs fine d left =
+    let none = fine.rest (ap is_bare needs.0) in
+    let puts = subst (λ (c : ById). Puts (request_text c NullProc) act) (fine.anew d).0 o in
+    inr (inl (lone_put _ (λ (x : Standing). with_progress probed (asks_null plan x)) (with_progress turned s) act acts (is_heard s.progress.phase) rest puts none left refl refl))
+anew_moved plan commands orders.Send s act acts rest o needs fine d left = absurd (clash s.progress.anew d (fine.ready needs.0))
+anew_moved plan commands orders.Flush s act acts rest o needs fine d left = absurd (clash s.progress.anew d (fine.ready needs.0))
+anew_moved plan commands orders.Read s act acts rest o needs fine d left = inl (anew_read plan false (with_progress turned s) act d)
+anew_moved plan commands orders.Rest s act acts rest o needs fine d left = inl (anew_read plan true (with_progress turned s) act d)
+anew_moved plan commands (orders.Close why) s act acts rest o needs fine d left = inl (anew_close plan (waiting_of s) why (turned s.progress) d)
+anew_moved plan commands (orders.Stop why) s act acts rest o needs fine d left = absurd o
+
+-- it waits on
+lone_more : (s : Standing) (act : Act) (acts : List Act) (at : Phase) (alone : Bool) (rest : List ℕ) → IsCalm act → s.progress.phase ≡ phase.Ready → alone ≡ true → rest ≡ rest_with (is_heard s.progress.phase) act s.rest
+    → IsLone s.progress.phase s.progress.alone s.rest acts → IsLone at alone rest (acts ++ act ∷ [])
+lone_more s act acts at alone rest calm ready is left l =
+    let it = l.whole ready in
+    record {
+      first = l.first;
+      null = l.null;
+      waits = l.waits ++ act ∷ [];
+      order = ap (λ xs. xs ++ act ∷ []) l.order ∙ append_assoc l.first (l.null ∷ l.waits) (act ∷ []);
+      stays = all_append StaysConnected l.waits (act ∷ []) l.stays (calm.stays, tt);
+      none = all_append AsksNothing l.waits (act ∷ []) l.none (calm.none, tt);
+      whole = λ there. (it.0, left ∙ ap (λ h. rest_with h act s.rest) (ap is_heard ready) ∙ ap (λ r. rest_with true act r) it.1 ∙ rest_more l.waits act calm.stays);
+      is = is;
+    }
+
+-- a close before it is answered
+lone_closed : (plan : Plan) (commands : List Command) (s : Standing) (act : Act) (acts : List Act) (why : Cause) (rest : List ℕ) → order_at plan s ≡ orders.Close why → s.progress.alone ≡ true
+    → Begun (moved plan commands (order_at plan s) (with_progress turned s) act).progress rest (acts ++ act ∷ [])
+lone_closed plan commands s act acts why rest is alone =
+    subst (λ (next : Order). Begun (moved plan commands next (with_progress turned s) act).progress rest (acts ++ act ∷ [])) (sym is) (on (lone_close plan (waiting_of s) why (turned s.progress) alone)) where
+      on : ((closed plan (waiting_of s) why (turned s.progress)).anew ≡ true) ⊎ ((c : Cause) × ((closed plan (waiting_of s) why (turned s.progress)).phase ≡ phase.Over c))
+          → Begun (closed plan (waiting_of s) why (turned s.progress)) rest (acts ++ act ∷ [])
+      on (inl anew) = inl anew
+      on (inr over) = inr (inr (inl over))
+
+lone_moved : (plan : Plan) (commands : List Command) (s : Standing) (act : Act) (acts : List Act) (rest : List ℕ) → Obeys commands s (order_at plan s) act → Fine plan commands s
+    → rest ≡ rest_with (is_heard s.progress.phase) act s.rest → IsLone s.progress.phase s.progress.alone s.rest acts
+    → Begun (moved plan commands (order_at plan s) (with_progress turned s) act).progress rest (acts ++ act ∷ [])
+lone_moved plan commands s act acts rest o fine left l = by_phase (lone_at s.progress.phase s.progress.alone fine.bare l.is) where
+  goes : s.progress.phase ≡ phase.Ready → IsCalm act → Goes s act (moved plan commands (order_at plan s) (with_progress turned s) act)
+      → Begun (moved plan commands (order_at plan s) (with_progress turned s) act).progress rest (acts ++ act ∷ [])
+  goes ready calm (inl (piece, m, is, c)) = inr (inr (inr (subst (λ (x : Act). IsAnsweredAmong (acts ++ x ∷ [])) (sym is) (lone_answered s acts piece m ready l c))))
+  goes ready calm (inr alone) =
+      let t = moved plan commands (order_at plan s) (with_progress turned s) act in
+      inr (inl (lone_more s act acts t.progress.phase t.progress.alone rest calm ready alone left l))
+
+  acts_on : s.progress.phase ≡ phase.Ready → (((why : Cause) × (order_at plan s ≡ orders.Close why) × (act ≡ Closed)) ⊎ IsCalm act)
+      → Begun (moved plan commands (order_at plan s) (with_progress turned s) act).progress rest (acts ++ act ∷ [])
+  acts_on ready (inl closes) = lone_closed plan commands s act acts closes.0 rest closes.1 l.is
+  acts_on ready (inr calm) = goes ready calm (alone_moved plan commands s (order_at plan s) act o calm.open_ (alone_fine plan commands s act fine o l.is))
+
+  by_phase : (s.progress.phase ≡ phase.Ready) ⊎ (((why : Cause) × (s.progress.phase ≡ phase.Closing why)) ⊎ ((why : Cause) × (s.progress.phase ≡ phase.Over why)))
+      → Begun (moved plan commands (order_at plan s) (with_progress turned s) act).progress rest (acts ++ act ∷ [])
+  by_phase (inl ready) = acts_on ready (lone_act commands plan (order_at plan s) s act o (order_for plan s.progress (waiting_of s)) ready l.is)
+  by_phase (inr (inl closing)) = lone_closed plan commands s act acts closing.0 rest (ap (λ (x : Phase). order_in x plan s.progress (waiting_of s)) closing.1) l.is
+  by_phase (inr (inr over)) = absurd (over_stops plan commands s act o over.0 over.1)
+
+begun_moved : (plan : Plan) (commands : List Command) (s : Standing) (act : Act) (acts : List Act) (rest : List ℕ) → Obeys commands s (order_at plan s) act → Fine plan commands s
+    → rest ≡ rest_with (is_heard s.progress.phase) act s.rest → Begun s.progress s.rest acts
+    → Begun (moved plan commands (order_at plan s) (with_progress turned s) act).progress rest (acts ++ act ∷ [])
+begun_moved plan commands s act acts rest o fine left (inl anew) = anew_moved plan commands (order_at plan s) s act acts rest o (order_for plan s.progress (waiting_of s)) fine anew left
+begun_moved plan commands s act acts rest o fine left (inr (inl l)) = lone_moved plan commands s act acts rest o fine left l
+begun_moved plan commands s act acts rest o fine left (inr (inr (inl over))) = absurd (over_stops plan commands s act o over.0 over.1)
+begun_moved plan commands s act acts rest o fine left (inr (inr (inr a))) = inr (inr (inr (answered_more acts act a)))
+
+begun_after : (plan : Plan) (commands : List Command) (s : Standing) (act : Act) (acts : List Act) → Obeys commands s (order_at plan s) act → Fine plan commands s → Begun s.progress s.rest acts
+    → Begun (after plan commands s act).progress (after plan commands s act).rest (acts ++ act ∷ [])
+begun_after plan commands s act acts o fine b =
+    let t = moved plan commands (order_at plan s) (with_progress turned s) act in
+    subst (λ (p : Progress). Begun p (after plan commands s act).rest (acts ++ act ∷ [])) (sym (ended_progress t))
+    (begun_moved plan commands s act acts (after plan commands s act).rest o fine (after_rest plan commands s act o) b)
+
+-- Whole runs.
+
+begun_stood : (plan : Plan) (commands : List Command) (turns : ℕ) (earlier between : List Act) → (stood plan commands turns earlier).progress.anew ≡ true → Runs plan commands (stood plan commands turns earlier) between
+    → Begun (stood plan commands turns (earlier ++ between)).progress (stood plan commands turns (earlier ++ between)).rest between
+begun_stood plan commands turns earlier between anew runs =
+    subst (λ (s : Standing). Begun s.progress s.rest between) (sym (after_all-append plan commands (opening plan turns) earlier between))
+    (along plan commands (stood plan commands turns earlier)
+    (λ (xs : List Act). Begun (after_all plan commands (stood plan commands turns earlier) xs).progress (after_all plan commands (stood plan commands turns earlier) xs).rest xs) step [] between runs (inl anew)) where
+      step : (done later : List Act) (act : Act) → Runs plan commands (stood plan commands turns earlier) (done ++ act ∷ later)
+          → Begun (after_all plan commands (stood plan commands turns earlier) done).progress (after_all plan commands (stood plan commands turns earlier) done).rest done
+          → Begun (after_all plan commands (stood plan commands turns earlier) (done ++ act ∷ [])).progress (after_all plan commands (stood plan commands turns earlier) (done ++ act ∷ [])).rest (done ++ act ∷ [])
+      step done later act runs b =
+          let from = stood plan commands turns earlier in
+          let s = after_all plan commands from done in
+          let fine = subst (λ (x : Standing). Fine plan commands x) (after_all-append plan commands (opening plan turns) earlier done) (fine_stood plan commands turns (earlier ++ done)) in
+          subst (λ (x : Standing). Begun x.progress x.rest (done ++ act ∷ [])) (sym (after_all-append plan commands from done (act ∷ [])))
+          (begun_after plan commands s act done (runs_split plan commands from done later act runs).1 fine b)
+
+-- the request that goes out where it begins anew
+first_act : (plan : Plan) (commands : List Command) (next : Order) (s : Standing) (act : Act) → Obeys commands s next act → IsRequest act → IsFor plan s.progress (waiting_of s) next → Fine plan commands s → s.progress.anew ≡ true
+    → (s.progress.phase ≡ phase.Probing) × Puts null_text act
+first_act plan commands orders.Tell s act o asks needs fine d = absurd (not_telling act o asks)
+first_act plan commands orders.Begin s act o asks needs fine d = absurd (not_telling act o asks)
+first_act plan commands orders.Open s act o asks needs fine d = absurd (not_opening act o asks)
+first_act plan commands orders.Clear s act o asks needs fine d = absurd (not_clearing act o asks)
+first_act plan commands orders.Probe s act o asks needs fine d = (needs.0, subst (λ (c : ById). Puts (request_text c NullProc) act) (fine.anew d).0 o)
+first_act plan commands orders.Send s act o asks needs fine d = absurd (clash s.progress.anew d (fine.ready needs.0))
+first_act plan commands orders.Flush s act o asks needs fine d = absurd (clash s.progress.anew d (fine.ready needs.0))
+first_act plan commands orders.Read s act o asks needs fine d = absurd (not_reading act o asks)
+first_act plan commands orders.Rest s act o asks needs fine d = absurd (not_reading act o asks)
+first_act plan commands (orders.Close why) s act o asks needs fine d = absurd (not_closing act o asks)
+first_act plan commands (orders.Stop why) s act o asks needs fine d = absurd o
+
+-- none goes out while it waits
+lone_none : (plan : Plan) (commands : List Command) (s : Standing) (act : Act) (acts : List Act) → Obeys commands s (order_at plan s) act → IsRequest act → Fine plan commands s → IsLone s.progress.phase s.progress.alone s.rest acts → ⊥
+lone_none plan commands s act acts o asks fine l = by_phase (lone_at s.progress.phase s.progress.alone fine.bare l.is) where
+  acts_on : (((why : Cause) × (order_at plan s ≡ orders.Close why) × (act ≡ Closed)) ⊎ IsCalm act) → ⊥
+  acts_on (inl closes) = not_closing act closes.2 asks
+  acts_on (inr calm) = calm.none asks
+
+  by_phase : (s.progress.phase ≡ phase.Ready) ⊎ (((why : Cause) × (s.progress.phase ≡ phase.Closing why)) ⊎ ((why : Cause) × (s.progress.phase ≡ phase.Over why))) → ⊥
+  by_phase (inl ready) = acts_on (lone_act commands plan (order_at plan s) s act o (order_for plan s.progress (waiting_of s)) ready l.is)
+  by_phase (inr (inl closing)) = not_closing act (subst (λ (x : Phase). Obeys commands s (order_in x plan s.progress (waiting_of s)) act) closing.1 o) asks
+  by_phase (inr (inr over)) = over_stops plan commands s act o over.0 over.1
+
+runs_behind : (plan : Plan) (commands : List Command) (s : Standing) (xs ys : List Act) → Runs plan commands s (xs ++ ys) → Runs plan commands (after_all plan commands s xs) ys
+runs_behind plan commands s [] ys runs = runs
+runs_behind plan commands s (x ∷ xs) ys runs = runs_behind plan commands (after plan commands s x) xs ys runs.1
+
+pub beginning_answered : (plan : Plan) (commands : List Command) (turns : ℕ) (earlier between later : List Act) (act : Act) → plan.quiet ≤ 18446744073709551615 → Runs plan commands (opening plan turns) ((earlier ++ between) ++ act ∷ later)
+    → (stood plan commands turns earlier).progress.anew ≡ true → IsRequest act → IsFirst plan.quiet (earlier ++ between) act ⊎ IsAnsweredAmong between
+beginning_answered plan commands turns earlier between later act small runs anew asks = by_case (begun_stood plan commands turns earlier between anew (runs_behind plan commands (opening plan turns) earlier between split.0)) where
+  split : Runs plan commands (opening plan turns) (earlier ++ between) × Obeys commands (stood plan commands turns (earlier ++ between)) (order_at plan (stood plan commands turns (earlier ++ between))) act
+  split = runs_split plan commands (opening plan turns) (earlier ++ between) later act runs
+
+  by_case : Begun (stood plan commands turns (earlier ++ between)).progress (stood plan commands turns (earlier ++ between)).rest between → IsFirst plan.quiet (earlier ++ between) act ⊎ IsAnsweredAmong between
+  by_case (inl anew) =
+      let s = stood plan commands turns (earlier ++ between) in
+      let it = first_act plan commands (order_at plan s) s act split.1 asks (order_for plan s.progress (waiting_of s)) (fine_stood plan commands turns (earlier ++ between)) anew in
+      inl (it.1, stage_in plan.quiet s.progress phase.Probing (earlier ++ between) it.0 (stage_stood plan commands turns (earlier ++ between) small split.0))
+  by_case (inr (inl l)) = absurd (lone_none plan commands (stood plan commands turns (earlier ++ between)) act between split.1 asks (fine_stood plan commands turns (earlier ++ between)) l)
+  by_case (inr (inr (inl over))) = absurd (over_stops plan commands (stood plan commands turns (earlier ++ between)) act split.1 over.0 over.1)
+  by_case (inr (inr (inr a))) = inr a

@@ -1,0 +1,297 @@
+-- What is written down of a client's steps: how each request ended, by its mark.
+use Rattle.std.proofs.Common.{◌≡◌, ℕ, zero, suc, ◌+◌, ◌<◌, ◌≤◌, false, List, [], ◌∷◌, ◌++◌, length, map, drop, Option, Some, None, refl, sym, ◌∙◌, ap, subst, arith, append_assoc, append-nil}
+use Rattle.std.specs.Prelude.{slice_get}
+use Rattle.std.specs.List.{AllByRecursion}
+use Rattle.std.proofs.lemmas.List.{length-map, length-append, map-append}
+use Rattle.std.proofs.lemmas.Bool.{ne_eqb}
+use Rattle.gc_catalogue.specs.declared.call.Call.{Call}
+use Rattle.gc_client.specs.OneForOne.{Asked, Course, Step, Send, Hear, Expire, Restart, sent_on, goes, course, of_settled, of_pending}
+use Rattle.gc_client.specs.Rule.{ById, Sending, Settlement, fresh, heard, hears, expires, lost, id_send, sends}
+use Rattle.gc_client.proofs.OneForOne.{heard_parts, lost_parts}
+use Rattle.gc_texts.specs.declared.commands.Command.{Command}
+use Rattle.gc_station.specs.declared.mark.Mark.{Mark}
+use Rattle.gc_station.specs.Marks.{record_of, records_of}
+use Rattle.gc_station.specs.Records.{Record}
+use Rattle.gc_station.specs.Standing.{client_sent}
+use Rattle.gc_station.specs.Parts.{Part, only, nothing, joined, asking, IsOf, AreOf, timeless}
+
+-- Steps.
+
+abbrev pub course_at : ById → Course
+course_at c = record { sent = []; settlements = []; client = c }
+
+abbrev pub stepped : ById → Step → ById
+stepped c s = (goes 7 (course_at c) s).client
+
+abbrev pub client_after : ById → List Step → ById
+client_after c [] = c
+client_after c (s ∷ ss) = client_after (stepped c s) ss
+
+-- what steps settle, and what they send, from a client on
+abbrev pub settled_by : ById → List Step → List Settlement
+settled_by c [] = []
+settled_by c (s ∷ ss) = (goes 7 (course_at c) s).settlements ++ settled_by (stepped c s) ss
+
+abbrev pub sent_by : ById → List Step → List Asked
+sent_by c [] = []
+sent_by c (s ∷ ss) = (goes 7 (course_at c) s).sent ++ sent_by (stepped c s) ss
+
+pub client_append : (c : ById) (first later : List Step) → client_after c (first ++ later) ≡ client_after (client_after c first) later
+client_append c [] later = refl
+client_append c (s ∷ first) later = client_append (stepped c s) first later
+
+pub settled_append : (c : ById) (first later : List Step) → settled_by c (first ++ later) ≡ settled_by c first ++ settled_by (client_after c first) later
+settled_append c [] later = refl
+settled_append c (s ∷ first) later =
+    ap (λ k. (goes 7 (course_at c) s).settlements ++ k) (settled_append (stepped c s) first later)
+    ∙ sym (append_assoc (goes 7 (course_at c) s).settlements (settled_by (stepped c s) first) (settled_by (client_after (stepped c s) first) later))
+
+pub sent_append : (c : ById) (first later : List Step) → sent_by c (first ++ later) ≡ sent_by c first ++ sent_by (client_after c first) later
+sent_append c [] later = refl
+sent_append c (s ∷ first) later =
+    ap (λ k. (goes 7 (course_at c) s).sent ++ k) (sent_append (stepped c s) first later)
+    ∙ sym (append_assoc (goes 7 (course_at c) s).sent (sent_by (stepped c s) first) (sent_by (client_after (stepped c s) first) later))
+
+-- the same of a course
+sent_parts : (x : Course) (target : ℕ) (call : Call) (o : Option (Sending ById))
+    → ((sent_on x target call o).settlements ≡ x.settlements ++ (sent_on (course_at x.client) target call o).settlements)
+    × ((sent_on x target call o).sent ≡ x.sent ++ (sent_on (course_at x.client) target call o).sent)
+    × ((sent_on x target call o).client ≡ (sent_on (course_at x.client) target call o).client)
+sent_parts x target call None = (sym (append-nil x.settlements), sym (append-nil x.sent), refl)
+sent_parts x target call (Some s) = (sym (append-nil x.settlements), refl, refl)
+
+goes_parts : (x : Course) (s : Step)
+    → ((goes 7 x s).settlements ≡ x.settlements ++ (goes 7 (course_at x.client) s).settlements) × ((goes 7 x s).sent ≡ x.sent ++ (goes 7 (course_at x.client) s).sent) × ((goes 7 x s).client ≡ stepped x.client s)
+goes_parts x (Send target call deadline) = sent_parts x target call (sends 7 x.client target call deadline)
+goes_parts x (Hear line) = (refl, sym (append-nil x.sent), refl)
+goes_parts x (Expire now) = (sym (append-nil x.settlements), sym (append-nil x.sent), refl)
+goes_parts x Restart = (refl, sym (append-nil x.sent), refl)
+
+pub course_settled : (steps : List Step) (x : Course) → (course 7 x steps).settlements ≡ x.settlements ++ settled_by x.client steps
+course_settled [] x = sym (append-nil x.settlements)
+course_settled (s ∷ ss) x =
+    let p = goes_parts x s in
+    let y = goes 7 x s in
+    let now = (goes 7 (course_at x.client) s).settlements in
+    course_settled ss y ∙ ap (λ l. l ++ settled_by y.client ss) p.0 ∙ ap (λ c. (x.settlements ++ now) ++ settled_by c ss) p.2 ∙ append_assoc x.settlements now (settled_by (stepped x.client s) ss)
+
+pub course_sent : (steps : List Step) (x : Course) → (course 7 x steps).sent ≡ x.sent ++ sent_by x.client steps
+course_sent [] x = sym (append-nil x.sent)
+course_sent (s ∷ ss) x =
+    let p = goes_parts x s in
+    let y = goes 7 x s in
+    let now = (goes 7 (course_at x.client) s).sent in
+    course_sent ss y ∙ ap (λ l. l ++ sent_by y.client ss) p.1 ∙ ap (λ c. (x.sent ++ now) ++ sent_by c ss) p.2 ∙ append_assoc x.sent now (sent_by (stepped x.client s) ss)
+
+pub course_client : (steps : List Step) (x : Course) → (course 7 x steps).client ≡ client_after x.client steps
+course_client [] x = refl
+course_client (s ∷ ss) x = course_client ss (goes 7 x s) ∙ ap (λ c. client_after c ss) (goes_parts x s).2
+
+-- Lists.
+
+drop_append : {A : Type 0} (n : ℕ) (xs ys : List A) → n ≤ length xs → drop n (xs ++ ys) ≡ drop n xs ++ ys
+drop_append zero xs ys le = refl
+drop_append (suc n) [] ys le = absurd (omega (arith, le))
+drop_append (suc n) (x ∷ xs) ys le = drop_append n xs ys (omega (arith, le))
+
+drop_none : {A : Type 0} (n : ℕ) (xs : List A) → xs ≡ [] → drop n xs ≡ []
+drop_none zero xs e = e
+drop_none (suc n) [] e = refl
+drop_none (suc n) (x ∷ xs) e = cc
+
+drop_twice : {A : Type 0} (ss ts : List Settlement) (xs : List A) → drop (length ts) (drop (length ss) xs) ≡ drop (length (ss ++ ts)) xs
+drop_twice [] ts xs = refl
+drop_twice (s ∷ ss) ts [] = drop_none (length ts) [] refl
+drop_twice (s ∷ ss) ts (x ∷ xs) = drop_twice ss ts xs
+
+pub records_none : (utc : ℕ) (ms : List (Option Mark)) → records_of utc ms [] ≡ []
+records_none utc [] = refl
+records_none utc (m ∷ ms) = refl
+
+records_timeless : (utc : ℕ) (ms : List (Option Mark)) (ss : List Settlement) → map timeless (records_of utc ms ss) ≡ records_of 0 ms ss
+records_timeless utc [] ss = refl
+records_timeless utc (m ∷ ms) [] = refl
+records_timeless utc (None ∷ ms) (s ∷ ss) = records_timeless utc ms ss
+records_timeless utc (Some mark ∷ ms) (s ∷ ss) = ap (λ rs. record_of 0 mark s ∷ rs) (records_timeless utc ms ss)
+
+records_append : (ms : List (Option Mark)) (ss ts : List Settlement) → records_of 0 ms (ss ++ ts) ≡ records_of 0 ms ss ++ records_of 0 (drop (length ss) ms) ts
+records_append [] [] ts = refl
+records_append [] (s ∷ ss) ts = refl
+records_append (m ∷ ms) [] ts = refl
+records_append (None ∷ ms) (s ∷ ss) ts = records_append ms ss ts
+records_append (Some mark ∷ ms) (s ∷ ss) ts = ap (λ rs. record_of 0 mark s ∷ rs) (records_append ms ss ts)
+
+-- marks of later requests don't count
+records_more : (ms more : List (Option Mark)) (ss : List Settlement) → length ss ≤ length ms → records_of 0 (ms ++ more) ss ≡ records_of 0 ms ss
+records_more [] more [] le = records_none 0 more
+records_more [] more (s ∷ ss) le = absurd (omega (arith, le))
+records_more (m ∷ ms) more [] le = refl
+records_more (None ∷ ms) more (s ∷ ss) le = records_more ms more ss (omega (arith, le))
+records_more (Some mark ∷ ms) more (s ∷ ss) le = ap (λ rs. record_of 0 mark s ∷ rs) (records_more ms more ss (omega (arith, le)))
+
+pub of_append : (commands : List Command) (ms ns : List (Option Mark)) (xs ys : List Asked) → AreOf commands ms xs → AreOf commands ns ys → AreOf commands (ms ++ ns) (xs ++ ys)
+of_append commands [] ns [] ys h g = g
+of_append commands [] ns (x ∷ xs) ys h g = absurd h
+of_append commands (m ∷ ms) ns [] ys h g = absurd h
+of_append commands (m ∷ ms) ns (x ∷ xs) ys h g = (h.0, of_append commands ms ns xs ys h.1 g)
+
+pub of_length : (commands : List Command) (ms : List (Option Mark)) (xs : List Asked) → AreOf commands ms xs → length ms ≡ length xs
+of_length commands [] [] h = refl
+of_length commands [] (x ∷ xs) h = absurd h
+of_length commands (m ∷ ms) [] h = absurd h
+of_length commands (m ∷ ms) (x ∷ xs) h = ap suc (of_length commands ms xs h.1)
+
+pub of_at : (commands : List Command) (ms : List (Option Mark)) (xs : List Asked) (n : ℕ) (mark : Option Mark) → AreOf commands ms xs → slice_get ms n ≡ Some mark → (a : Asked) × (slice_get xs n ≡ Some a) × IsOf commands mark a
+of_at commands [] [] n mark h e = cc
+of_at commands [] (x ∷ xs) n mark h e = absurd h
+of_at commands (m ∷ ms) [] n mark h e = absurd h
+of_at commands (m ∷ ms) (x ∷ xs) zero mark h e = (x, refl, subst (λ (k : Option Mark). IsOf commands k x) (same m mark e) h.0) where
+  same : (m mark : Option Mark) → Some m ≡ Some mark → m ≡ mark
+  same m mark e = cc
+of_at commands (m ∷ ms) (x ∷ xs) (suc n) mark h e = of_at commands ms xs n mark h.1 e
+
+-- what holds of each record, by its mark and its settlement
+pub all_records : (P : Record → Type 0) (ms : List (Option Mark)) (ss : List Settlement)
+    → ((n : ℕ) (mark : Mark) (s : Settlement) → slice_get ms n ≡ Some (Some mark) → slice_get ss n ≡ Some s → P (record_of 0 mark s)) → AllByRecursion P (records_of 0 ms ss)
+all_records P [] ss f = tt
+all_records P (m ∷ ms) [] f = tt
+all_records P (None ∷ ms) (s ∷ ss) f = all_records P ms ss (λ n mark x at got. f (suc n) mark x at got)
+all_records P (Some mark ∷ ms) (s ∷ ss) f = (f 0 mark s refl refl, all_records P ms ss (λ n other x at got. f (suc n) other x at got))
+
+-- What is written down.
+
+-- of these requests that wait, and then these that go out, these are settled: so many marks are left, and these records
+pub record Wrote (commands : List Command) (ms : List (Option Mark)) (rs : List Record) (more : List (Option Mark)) (ss : List Settlement) (asks : List Asked) (ms' : List (Option Mark)) (rs' : List Record) : Type 0 where
+  pub marks : ms' ≡ drop (length ss) (ms ++ more)
+  pub count : length ss ≤ length (ms ++ more)
+  pub records : map timeless rs' ≡ map timeless rs ++ records_of 0 (ms ++ more) ss
+  pub sent : AreOf commands more asks
+
+wrote_both : (commands : List Command) (ms ms1 ms2 more1 more2 : List (Option Mark)) (rs rs1 rs2 : List Record) (ss1 ss2 : List Settlement) (asks1 asks2 : List Asked)
+    → Wrote commands ms rs more1 ss1 asks1 ms1 rs1 → Wrote commands ms1 rs1 more2 ss2 asks2 ms2 rs2
+    → Wrote commands ms rs (more1 ++ more2) (ss1 ++ ss2) (asks1 ++ asks2) ms2 rs2
+wrote_both commands ms ms1 ms2 more1 more2 rs rs1 rs2 ss1 ss2 asks1 asks2 h g =
+    let all = ms ++ (more1 ++ more2) in
+    let whole : (ms ++ more1) ++ more2 ≡ all = append_assoc ms more1 more2 in
+    let left : ms1 ++ more2 ≡ drop (length ss1) all = ap (λ xs. xs ++ more2) h.marks ∙ sym (drop_append (length ss1) (ms ++ more1) more2 h.count) ∙ ap (drop (length ss1)) whole in
+    let many : length (ss1 ++ ss2) ≡ length ss1 + length ss2 = length-append ss1 ss2 in
+    let first : length ms1 ≡ length (drop (length ss1) (ms ++ more1)) = ap length h.marks in
+    let dropped : length (ms ++ more1) ≡ length ss1 + length (drop (length ss1) (ms ++ more1)) = drop_length (length ss1) (ms ++ more1) h.count in
+    let lens1 : length (ms1 ++ more2) ≡ length ms1 + length more2 = length-append ms1 more2 in
+    let lens2 : length all ≡ length (ms ++ more1) + length more2 = sym (ap length whole) ∙ length-append (ms ++ more1) more2 in
+    record {
+      marks = g.marks ∙ ap (drop (length ss2)) left ∙ drop_twice ss1 ss2 all;
+      count = omega (arith, many, first, dropped, lens1, lens2, g.count);
+      records =
+          g.records ∙ ap (λ l. l ++ records_of 0 (ms1 ++ more2) ss2) h.records
+          ∙ append_assoc (map timeless rs) (records_of 0 (ms ++ more1) ss1) (records_of 0 (ms1 ++ more2) ss2)
+          ∙ ap (λ l. map timeless rs ++ (records_of 0 (ms ++ more1) ss1 ++ records_of 0 l ss2)) left
+          ∙ ap (λ l. map timeless rs ++ (l ++ records_of 0 (drop (length ss1) all) ss2)) (sym (records_more (ms ++ more1) more2 ss1 h.count) ∙ ap (λ l. records_of 0 l ss1) whole)
+          ∙ ap (λ l. map timeless rs ++ l) (sym (records_append all ss1 ss2));
+      sent = of_append commands more1 more2 asks1 asks2 h.sent g.sent;
+    } where
+      drop_length : {A : Type 0} (n : ℕ) (xs : List A) → n ≤ length xs → length xs ≡ n + length (drop n xs)
+      drop_length zero xs le = omega arith
+      drop_length (suc n) [] le = absurd (omega (arith, le))
+      drop_length (suc n) (x ∷ xs) le = let rest = drop_length n xs (omega (arith, le)) in omega (arith, rest)
+
+-- a client took these steps, and went on to this one; and what was written down
+pub record Books (commands : List Command) (c : ById) (ms : List (Option Mark)) (rs : List Record) (p : Part) (c' : ById) (ms' : List (Option Mark)) (rs' : List Record) : Type 0 where
+  pub client : client_after c p.steps ≡ c'
+  pub wrote : Wrote commands ms rs p.marks (settled_by c p.steps) (sent_by c p.steps) ms' rs'
+
+pub books_both : (commands : List Command) (c c1 c2 : ById) (ms ms1 ms2 : List (Option Mark)) (rs rs1 rs2 : List Record) (p q : Part)
+    → Books commands c ms rs p c1 ms1 rs1 → Books commands c1 ms1 rs1 q c2 ms2 rs2 → Books commands c ms rs (joined p q) c2 ms2 rs2
+books_both commands c c1 c2 ms ms1 ms2 rs rs1 rs2 p q h g =
+    let at = client_after c p.steps in
+    let g' : Wrote commands ms1 rs1 q.marks (settled_by at q.steps) (sent_by at q.steps) ms2 rs2 =
+    subst (λ (d : ById). Wrote commands ms1 rs1 q.marks (settled_by d q.steps) (sent_by d q.steps) ms2 rs2) (sym h.client) g.wrote in
+    record {
+      client = client_append c p.steps q.steps ∙ ap (λ d. client_after d q.steps) h.client ∙ g.client;
+      wrote =
+          subst (λ ss. Wrote commands ms rs (p.marks ++ q.marks) ss (sent_by c (p.steps ++ q.steps)) ms2 rs2) (sym (settled_append c p.steps q.steps))
+          (subst (λ (asks : List Asked). Wrote commands ms rs (p.marks ++ q.marks) (settled_by c p.steps ++ settled_by at q.steps) asks ms2 rs2) (sym (sent_append c p.steps q.steps))
+          (wrote_both commands ms ms1 ms2 p.marks q.marks rs rs1 rs2 (settled_by c p.steps) (settled_by at q.steps) (sent_by c p.steps) (sent_by at q.steps) h.wrote g'));
+    }
+
+-- Single steps.
+
+-- nothing is settled, and nothing sent
+wrote_none : (commands : List Command) (ms : List (Option Mark)) (rs : List Record) → Wrote commands ms rs [] [] [] ms rs
+wrote_none commands ms rs = record {
+  marks = sym (append-nil ms);
+  count = omega arith;
+  records = sym (append-nil (map timeless rs)) ∙ ap (λ l. map timeless rs ++ l) (sym (records_none 0 (ms ++ [])));
+  sent = tt;
+}
+
+pub books_nothing : (commands : List Command) (c : ById) (ms : List (Option Mark)) (rs : List Record) → Books commands c ms rs nothing c ms rs
+books_nothing commands c ms rs = record { client = refl; wrote = wrote_none commands ms rs }
+
+pub books_moment : (commands : List Command) (c : ById) (ms : List (Option Mark)) (rs : List Record) (now : ℕ) → Books commands c ms rs (only (Expire now ∷ [])) (expires c now) ms rs
+books_moment commands c ms rs now = record { client = refl; wrote = wrote_none commands ms rs }
+
+-- these are settled
+wrote_settled : (commands : List Command) (ms : List (Option Mark)) (rs : List Record) (utc : ℕ) (ss ts : List Settlement) → ts ≡ ss → length ss ≤ length ms → Wrote commands ms rs [] ts [] (drop (length ss) ms) (rs ++ records_of utc ms ss)
+wrote_settled commands ms rs utc ss ts same few =
+    let whole : ms ++ [] ≡ ms = append-nil ms in
+    subst (λ xs. Wrote commands ms rs [] xs [] (drop (length ss) ms) (rs ++ records_of utc ms ss)) (sym same) (record {
+      marks = ap (drop (length ss)) (sym whole);
+      count = subst (λ (xs : List (Option Mark)). length ss ≤ length xs) (sym whole) few;
+      records = map-append timeless rs (records_of utc ms ss) ∙ ap (λ l. map timeless rs ++ l) (records_timeless utc ms ss ∙ ap (λ xs. records_of 0 xs ss) (sym whole));
+      sent = tt;
+    })
+
+-- no more are settled than wait
+few_settled : (ms : List (Option Mark)) (c d : ById) (ss : List Settlement) → length ms ≡ length c.waiting → map of_settled ss ++ map of_pending d.waiting ≡ map of_pending c.waiting → length ss ≤ length ms
+few_settled ms c d ss paired parts =
+    let ended : length (map of_settled ss) ≡ length ss = length-map ss of_settled in
+    let count : length (map of_settled ss) + length (map of_pending d.waiting) ≡ length c.waiting =
+    sym (length-append (map of_settled ss) (map of_pending d.waiting)) ∙ ap length parts ∙ length-map c.waiting of_pending in
+    omega (arith, ended, count, paired)
+
+pub books_line : (commands : List Command) (c : ById) (ms : List (Option Mark)) (rs : List Record) (utc : ℕ) (line : List ℕ) → length ms ≡ length c.waiting
+    → (let x = hears c line (heard line) in Books commands c ms rs (only (Hear line ∷ [])) x.client (drop (length x.settlements) ms) (rs ++ records_of utc ms x.settlements))
+books_line commands c ms rs utc line paired =
+    let x = hears c line (heard line) in
+    record { client = refl; wrote = wrote_settled commands ms rs utc x.settlements (x.settlements ++ []) (append-nil x.settlements) (few_settled ms c x.client x.settlements paired (heard_parts c line (heard line))) }
+
+abbrev pub restarting : Part
+restarting = only (Restart ∷ [])
+
+pub books_restart : (commands : List Command) (c : ById) (ms : List (Option Mark)) (rs : List Record) (utc : ℕ) → length ms ≡ length c.waiting
+    → Books commands c ms rs restarting fresh (drop (length (map lost c.waiting)) ms) (rs ++ records_of utc ms (map lost c.waiting))
+books_restart commands c ms rs utc paired =
+    let ss = map lost c.waiting in
+    record { client = refl; wrote = wrote_settled commands ms rs utc ss (ss ++ []) (append-nil ss) (few_settled ms c fresh ss paired (append-nil (map of_settled ss) ∙ lost_parts c.waiting)) }
+
+-- a request goes out
+abbrev pub sending_of : ById → ℕ → Call → ℕ → Sending ById
+sending_of c target call deadline = record { id = c.next; client = client_sent c (id_send c target call deadline false) }
+
+pub sends_with_room : (c : ById) (target : ℕ) (call : Call) (deadline : ℕ) → length c.waiting < 7 → sends 7 c target call deadline ≡ Some (sending_of c target call deadline)
+sends_with_room c target call deadline room = ap (λ b. id_send c target call deadline b) (ne_eqb (length c.waiting) 7 (λ e. omega (arith, e, room)))
+
+abbrev pub SentAt : List Command → ById → List (Option Mark) → List Record → ℕ → Call → Option Mark → Option (Sending ById) → Type 0
+SentAt commands c ms rs target call mark o =
+    ((sent_on (course_at c) target call o).client ≡ client_sent c o)
+    × Wrote commands ms rs (mark ∷ []) ((sent_on (course_at c) target call o).settlements ++ []) ((sent_on (course_at c) target call o).sent ++ []) (ms ++ mark ∷ []) rs
+
+sent_some : (commands : List Command) (c : ById) (ms : List (Option Mark)) (rs : List Record) (target : ℕ) (call : Call) (mark : Option Mark) (x : Sending ById) → IsOf commands mark (record { target = target; call = call })
+    → SentAt commands c ms rs target call mark (Some x)
+sent_some commands c ms rs target call mark x is = (
+  refl,
+  record {
+    marks = refl;
+    count = omega arith;
+    records = sym (append-nil (map timeless rs)) ∙ ap (λ l. map timeless rs ++ l) (sym (records_none 0 (ms ++ mark ∷ [])));
+    sent = (is, tt);
+  },
+)
+
+pub books_send : (commands : List Command) (c : ById) (ms : List (Option Mark)) (rs : List Record) (target : ℕ) (call : Call) (deadline : ℕ) (mark : Option Mark) → length c.waiting < 7 → IsOf commands mark (record { target = target; call = call })
+    → Books commands c ms rs (asking target call deadline mark) (client_sent c (sends 7 c target call deadline)) (ms ++ mark ∷ []) rs
+books_send commands c ms rs target call deadline mark room is =
+    let h : SentAt commands c ms rs target call mark (sends 7 c target call deadline) =
+    subst (SentAt commands c ms rs target call mark) (sym (sends_with_room c target call deadline room)) (sent_some commands c ms rs target call mark (sending_of c target call deadline) is) in
+    record { client = h.0; wrote = h.1 }

@@ -1,0 +1,419 @@
+-- All that wait are lost for a cause: behind the act the station begins anew, or no act follows.
+use Rattle.std.proofs.Common.{◌≡◌, ◌⊎◌, inl, inr, ℕ, zero, suc, ◌&&◌, ◌||◌, Bool, true, false, not, List, [], ◌∷◌, ◌++◌, length, drop, map, Option, Some, None, if◌then◌else◌, nat_eq, nat_lt, refl, sym, ap, ◌∙◌, subst, append_assoc, append-nil}
+use Rattle.std.specs.List.{AllByRecursion}
+use Rattle.std.proofs.lemmas.List.{nil_from_length}
+use Rattle.gc_lines.specs.Frames.{rest_behind}
+use Rattle.gc_catalogue.specs.declared.call.Call.{Call}
+use Rattle.gc_client.specs.declared.pending.Pending.{Pending}
+use Rattle.gc_client.specs.Ids.{id_at}
+use Rattle.gc_client.specs.Rule.{ById, Settlement, Answered, Late, Lost, lost}
+use Rattle.gc_texts.specs.declared.commands.Command.{Command}
+use Rattle.gc_station.specs.declared.cause.Cause.{Cause}
+use Rattle.gc_station.specs.declared.cause.Cause.TheVariants as cause
+use Rattle.gc_station.specs.declared.link.Moment.{Moment}
+use Rattle.gc_station.specs.declared.mark.Mark.{Mark}
+use Rattle.gc_station.specs.declared.plan.Plan.{Plan}
+use Rattle.gc_station.specs.declared.progress.Phase.{Phase}
+use Rattle.gc_station.specs.declared.progress.Phase.TheVariants.{Down, Resting, Clearing, Draining, Probing, Ready, Closing, Over}
+use Rattle.gc_station.specs.declared.progress.Order.{Order}
+use Rattle.gc_station.specs.declared.progress.Order.TheVariants as orders
+use Rattle.gc_station.specs.declared.progress.Progress.{Progress}
+use Rattle.gc_station.specs.declared.progress.Waiting.{Waiting}
+use Rattle.gc_station.specs.Acts.{Act, Told, Cut, Gave, Silent, Ended, Broke, Closed, Opened}
+use Rattle.gc_station.specs.Deciding.{is_up, is_past, drain_of, order_of, order_in, order_up}
+use Rattle.gc_station.specs.Ends.{IsWrittenAt, BeginsAnew, IsLast, IsLostIn}
+use Rattle.gc_station.specs.Marks.{commands_in, records_of}
+use Rattle.gc_station.specs.Progressing.{turned, told, begun, cleared, asking, probed, sent, failing, reckoned_early, closed_again, closed, quieted, drained, waited, is_over, is_over_in, loses_all, beginning_anew, is_finished, is_spared}
+use Rattle.gc_station.specs.Reasons.{IsFor}
+use Rattle.gc_station.specs.Records.{Record}
+use Rattle.gc_station.specs.Runs.{stood}
+use Rattle.gc_station.specs.Standing.{Standing, opening, order_at, waiting_of, place_next, mark_next, request_text, Puts, Obeys, is_heard, with_progress, with_moment, with_rest, line_came, lines_came, lines_behind, came, asks_null, asks_first, asks_next, after_tell, after_put, after_open, after_read, moved, losing, ended, after}
+use Rattle.gc_station.proofs.Counts.{ended_progress}
+use Rattle.gc_station.proofs.Facts.{order_for}
+use Rattle.gc_station.proofs.Fine.{Fine}
+use Rattle.gc_station.proofs.Going.{after_all-append}
+use Rattle.gc_station.proofs.Lists.{all_append, all_split, Cut as CutOf, AtEnd, Before, cut_at, rows_all}
+use Rattle.gc_station.proofs.Meets.{records_all}
+use Rattle.gc_station.proofs.Midway.{clash}
+use Rattle.gc_station.proofs.Pieces.{lines_records}
+use Rattle.gc_station.proofs.Waiting.{Asked, Stayed, Waits, IsTrue, IsHonest}
+
+-- Records are added, and none goes.
+
+abbrev pub Grew : List Record → List Record → Type 0
+Grew old new = (more : List Record) × (new ≡ old ++ more)
+
+grew_none : (rs : List Record) → Grew rs rs
+grew_none rs = ([], sym (append-nil rs))
+
+pub losing_records : (b : Bool) (s : Standing) → Grew s.records (losing b s).records
+losing_records true s = (records_of s.progress.moment.utc s.marks (map lost s.client.waiting), refl)
+losing_records false s = grew_none s.records
+
+came_grew : (heard : Bool) (piece : List ℕ) (s : Standing) → Grew s.records (came heard piece s).records
+came_grew true piece s = lines_records (with_rest (rest_behind s.rest piece) s) (lines_behind s.rest piece)
+came_grew false piece s = grew_none s.records
+
+read_grew : (plan : Plan) (rested : Bool) (s : Standing) (act : Act) → Grew s.records (after_read plan rested s act).records
+read_grew plan rested s (Gave bytes m) = came_grew (is_heard s.progress.phase) bytes (with_moment m (with_progress (told m) s))
+read_grew plan rested s (Silent m) = grew_none s.records
+read_grew plan rested s Ended = grew_none s.records
+read_grew plan rested s Broke = grew_none s.records
+read_grew plan rested s act = grew_none s.records
+
+tell_grew : (f : Moment → Progress → Progress) (s : Standing) (act : Act) → Grew s.records (after_tell f s act).records
+tell_grew f s (Told m) = grew_none s.records
+tell_grew f s act = grew_none s.records
+
+put_grew : (rs : List Record) (requests : ℕ) (f : Standing → Standing) (s : Standing) (act : Act) → Grew rs (f s).records → Grew rs (after_put requests f s act).records
+put_grew rs requests f s (Cut bytes n) g = g
+put_grew rs requests f s act g = g
+
+open_grew : (plan : Plan) (s : Standing) (act : Act) → Grew s.records (after_open plan s act).records
+open_grew plan s Opened = grew_none s.records
+open_grew plan s act = grew_none s.records
+
+sent_grew : (plan : Plan) (mark : Mark) (left : List Command) (s : Standing) → Grew s.records (with_progress sent (asks_first plan mark left s)).records
+sent_grew plan mark [] s = grew_none s.records
+sent_grew plan mark (command ∷ others) s = grew_none s.records
+
+moved_grew : (plan : Plan) (commands : List Command) (order : Order) (s : Standing) (act : Act) → Grew s.records (moved plan commands order s act).records
+moved_grew plan commands orders.Tell s act = tell_grew (λ m p. reckoned_early plan (commands_in s.marks) (told m p)) s act
+moved_grew plan commands orders.Begin s act = tell_grew (begun plan (length commands)) s act
+moved_grew plan commands orders.Open s act = open_grew plan s act
+moved_grew plan commands orders.Clear s act = put_grew s.records _ (with_progress cleared) s act (grew_none s.records)
+moved_grew plan commands orders.Probe s act = put_grew s.records _ (λ (x : Standing). with_progress probed (asks_null plan x)) s act (grew_none s.records)
+moved_grew plan commands orders.Send s act =
+    put_grew s.records _ (λ (x : Standing). with_progress sent (asks_next plan commands x)) s act (sent_grew plan (mark_next plan commands s.progress) (drop (place_next commands s.progress) commands) s)
+moved_grew plan commands orders.Flush s act = put_grew s.records _ (λ (x : Standing). with_progress asking (asks_null plan x)) s act (grew_none s.records)
+moved_grew plan commands orders.Read s act = read_grew plan false s act
+moved_grew plan commands orders.Rest s act = read_grew plan true s act
+moved_grew plan commands (orders.Close why) s act = grew_none s.records
+moved_grew plan commands (orders.Stop why) s act = grew_none s.records
+
+-- A station begins anew behind a close for silence, or no command waits.
+
+-- what an act leaves: whether the next connection begins anew, and that none waits
+abbrev Leaves : Standing → Standing → Type 0
+Leaves s t = (t.progress.anew ≡ s.progress.anew) × (s.marks ≡ [] → t.marks ≡ [])
+
+none_dropped : (n : ℕ) (marks : List (Option Mark)) → marks ≡ [] → drop n marks ≡ []
+none_dropped zero marks e = e
+none_dropped (suc n) [] e = refl
+none_dropped (suc n) (m ∷ marks) e = cc
+
+lines_leave : (s : Standing) (lines : List (List ℕ)) → Leaves s (lines_came s lines)
+lines_leave s [] = (refl, λ e. e)
+lines_leave s (line ∷ others) = let l = lines_leave (line_came s line) others in (l.0, λ e. l.1 (none_dropped _ s.marks e))
+
+came_leaves : (heard : Bool) (piece : List ℕ) (s : Standing) → Leaves s (came heard piece s)
+came_leaves true piece s = lines_leave (with_rest (rest_behind s.rest piece) s) (lines_behind s.rest piece)
+came_leaves false piece s = (refl, λ e. e)
+
+drained_anew : (b : Bool) (p : Progress) → (if b then drained p else p).anew ≡ p.anew
+drained_anew true p = refl
+drained_anew false p = refl
+
+quieted_anew : (plan : Plan) (phase : Phase) (p : Progress) → (quieted plan phase p).anew ≡ p.anew
+quieted_anew plan Resting p = refl
+quieted_anew plan Draining p = drained_anew (is_past (drain_of plan p) p) p
+quieted_anew plan phase p = refl
+
+read_leaves : (plan : Plan) (rested : Bool) (s : Standing) (act : Act) → Leaves s (after_read plan rested s act)
+read_leaves plan rested s (Gave bytes m) = let l = came_leaves (is_heard s.progress.phase) bytes (with_moment m (with_progress (told m) s)) in (l.0, l.1)
+read_leaves plan rested s (Silent m) = (quieted_anew plan s.progress.phase (waited rested m s.progress), λ e. e)
+read_leaves plan rested s Ended = (refl, λ e. e)
+read_leaves plan rested s Broke = (refl, λ e. e)
+read_leaves plan rested s act = (refl, λ e. e)
+
+tell_leaves : (f : Moment → Progress → Progress) (s : Standing) (act : Act) → ((m : Moment) → (f m s.progress).anew ≡ s.progress.anew) → Leaves s (after_tell f s act)
+tell_leaves f s (Told m) same = (same m, λ e. e)
+tell_leaves f s act same = (refl, λ e. e)
+
+open_leaves : (plan : Plan) (s : Standing) (act : Act) → Leaves s (after_open plan s act)
+open_leaves plan s Opened = (refl, λ e. e)
+open_leaves plan s act = (refl, λ e. e)
+
+put_anew : (requests : ℕ) (f : Standing → Standing) (s : Standing) (act : Act) → (after_put requests f s act).progress.anew ≡ (f s).progress.anew
+put_anew requests f s (Cut bytes n) = refl
+put_anew requests f s act = refl
+
+put_marks : (requests : ℕ) (f : Standing → Standing) (s : Standing) (act : Act) → (after_put requests f s act).marks ≡ (f s).marks
+put_marks requests f s (Cut bytes n) = refl
+put_marks requests f s act = refl
+
+sent_anew : (plan : Plan) (mark : Mark) (left : List Command) (s : Standing) → (with_progress sent (asks_first plan mark left s)).progress.anew ≡ s.progress.anew
+sent_anew plan mark [] s = refl
+sent_anew plan mark (command ∷ others) s = refl
+
+-- no record is written of those with these marks
+abbrev Unwritten : List (Option Mark) → Type 0
+Unwritten marks = (utc : ℕ) (settlements : List Settlement) → records_of utc marks settlements ≡ []
+
+unwritten_none : (marks : List (Option Mark)) → marks ≡ [] → Unwritten marks
+unwritten_none marks is utc settlements = ap (λ (ms : List (Option Mark)). records_of utc ms settlements) is
+
+unwritten_null : (marks : List (Option Mark)) → marks ≡ None ∷ [] → Unwritten marks
+unwritten_null marks is utc settlements = ap (λ (ms : List (Option Mark)). records_of utc ms settlements) is ∙ of_null settlements where
+  of_null : (settlements : List Settlement) → records_of utc (None ∷ []) settlements ≡ []
+  of_null [] = refl
+  of_null (x ∷ xs) = refl
+
+-- none waits where it begins anew already
+none_waits : (plan : Plan) (commands : List Command) (s : Standing) → Fine plan commands s → s.progress.anew ≡ true → s.marks ≡ []
+none_waits plan commands s fine e = nil_from_length s.marks (fine.paired ∙ ap (λ (c : ById). length c.waiting) (fine.anew e).0)
+
+unwritten_left : (plan : Plan) (commands : List Command) (s : Standing) (anew : Bool) (marks : List (Option Mark)) → Fine plan commands s → anew ≡ s.progress.anew → (s.marks ≡ [] → marks ≡ []) → anew ≡ true → Unwritten marks
+unwritten_left plan commands s anew marks fine same left e = unwritten_none marks (left (none_waits plan commands s fine (sym same ∙ e)))
+
+-- a close for a cause
+again_unwritten : (plan : Plan) (commands : List Command) (s : Standing) (w : Waiting) (why : Cause) (b : Bool) → Fine plan commands s → is_up s.progress.phase ≡ true → (s.progress.alone || s.progress.anew) ≡ b
+    → (closed_again plan w why b (turned s.progress)).anew ≡ true → Unwritten s.marks
+again_unwritten plan commands s w why true fine up is e = one_of s.progress.alone refl is where
+  one_of : (b : Bool) → s.progress.alone ≡ b → (b || s.progress.anew) ≡ true → Unwritten s.marks
+  one_of true single either = unwritten_null s.marks (fine.alone single up).0
+  one_of false other either = unwritten_none s.marks (none_waits plan commands s fine either)
+again_unwritten plan commands s w why false fine up is e = unwritten_none s.marks (none_waits plan commands s fine e)
+
+-- for silence, or no command waited
+abbrev SilenceOr : Order → Act → List (Option Mark) → Type 0
+SilenceOr order act marks = Unwritten marks ⊎ ((order ≡ orders.Close cause.Silence) × (act ≡ Closed))
+
+close_why : (plan : Plan) (commands : List Command) (s : Standing) (w : Waiting) (why : Cause) (act : Act) → Fine plan commands s → is_up s.progress.phase ≡ true → act ≡ Closed → (closed plan w why (turned s.progress)).anew ≡ true
+    → SilenceOr (orders.Close why) act s.marks
+close_why plan commands s w cause.Done act fine up is e = inl (unwritten_none s.marks (none_waits plan commands s fine e))
+close_why plan commands s w cause.Clock act fine up is e = inl (unwritten_none s.marks (none_waits plan commands s fine e))
+close_why plan commands s w cause.Turns act fine up is e = inl (unwritten_none s.marks (none_waits plan commands s fine e))
+close_why plan commands s w cause.Silence act fine up is e = inr (refl, is)
+close_why plan commands s w cause.Dead act fine up is e = inl (again_unwritten plan commands s w cause.Dead (s.progress.alone || s.progress.anew) fine up refl e)
+close_why plan commands s w cause.Read act fine up is e = inl (again_unwritten plan commands s w cause.Read (s.progress.alone || s.progress.anew) fine up refl e)
+close_why plan commands s w cause.End act fine up is e = inl (again_unwritten plan commands s w cause.End (s.progress.alone || s.progress.anew) fine up refl e)
+close_why plan commands s w (cause.Write n m) act fine up is e = inl (again_unwritten plan commands s w (cause.Write n m) (s.progress.alone || s.progress.anew) fine up refl e)
+close_why plan commands s w cause.Open act fine up is e = inl (again_unwritten plan commands s w cause.Open (s.progress.alone || s.progress.anew) fine up refl e)
+
+anew_why : (plan : Plan) (commands : List Command) (s : Standing) (order : Order) (act : Act) → Fine plan commands s → IsFor plan s.progress (waiting_of s) order → Obeys commands s order act
+    → (moved plan commands order (with_progress turned s) act).progress.anew ≡ true → SilenceOr order act (moved plan commands order (with_progress turned s) act).marks
+anew_why plan commands s orders.Tell act fine needs o e =
+    let l = tell_leaves (λ m p. reckoned_early plan (commands_in s.marks) (told m p)) (with_progress turned s) act (λ m. refl) in inl (unwritten_left plan commands s _ _ fine l.0 l.1 e)
+anew_why plan commands s orders.Begin act fine needs o e = let l = tell_leaves (begun plan (length commands)) (with_progress turned s) act (λ m. refl) in inl (unwritten_left plan commands s _ _ fine l.0 l.1 e)
+anew_why plan commands s orders.Open act fine needs o e = let l = open_leaves plan (with_progress turned s) act in inl (unwritten_left plan commands s _ _ fine l.0 l.1 e)
+anew_why plan commands s orders.Clear act fine needs o e =
+    let t = with_progress turned s in
+    let f = with_progress cleared in
+    inl (unwritten_left plan commands s _ _ fine (put_anew _ f t act) (λ none. put_marks _ f t act ∙ none) e)
+anew_why plan commands s orders.Probe act fine needs o e = absurd (clash _ e (put_anew _ (λ (x : Standing). with_progress probed (asks_null plan x)) (with_progress turned s) act))
+anew_why plan commands s orders.Send act fine needs o e =
+    let t = with_progress turned s in
+    absurd (clash _ e (put_anew _ (λ (x : Standing). with_progress sent (asks_next plan commands x)) t act
+    ∙ sent_anew plan (mark_next plan commands s.progress) (drop (place_next commands s.progress) commands) t ∙ fine.ready needs.0))
+anew_why plan commands s orders.Flush act fine needs o e = absurd (clash _ e (put_anew _ (λ (x : Standing). with_progress asking (asks_null plan x)) (with_progress turned s) act ∙ fine.ready needs.0))
+anew_why plan commands s orders.Read act fine needs o e = let l = read_leaves plan false (with_progress turned s) act in inl (unwritten_left plan commands s _ _ fine l.0 l.1 e)
+anew_why plan commands s orders.Rest act fine needs o e = let l = read_leaves plan true (with_progress turned s) act in inl (unwritten_left plan commands s _ _ fine l.0 l.1 e)
+anew_why plan commands s (orders.Close why) act fine needs o e = close_why plan commands s (waiting_of (with_rest [] (with_progress turned s))) why act fine needs.0 o e
+anew_why plan commands s (orders.Stop why) act fine needs o e = absurd o
+
+-- where no act follows, the run stops
+over_stops : (plan : Plan) (p : Progress) (w : Waiting) → is_over p ≡ true → (why : Cause) × (order_of plan p w ≡ orders.Stop why)
+over_stops plan p w over = by_phase p.phase refl over where
+  no_turn : (phase : Phase) (other : Order) → p.phase ≡ phase → is_up phase ≡ false → nat_eq p.turns 0 ≡ true → (if nat_eq p.turns 0 then order_up (is_up p.phase) else other) ≡ orders.Stop cause.Turns
+  no_turn phase other is down none = ap (λ (b : Bool). if b then order_up (is_up p.phase) else other) none ∙ ap (λ (x : Phase). order_up (is_up x)) is ∙ ap order_up down
+
+  by_phase : (phase : Phase) → p.phase ≡ phase → (is_over_in phase || (not (is_up phase) && nat_eq p.turns 0)) ≡ true → (why : Cause) × (order_in phase plan p w ≡ orders.Stop why)
+  by_phase Down is e = (cause.Turns, no_turn Down _ is refl e)
+  by_phase Resting is e = (cause.Turns, no_turn Resting _ is refl e)
+  by_phase Clearing is e = cc
+  by_phase Draining is e = cc
+  by_phase Probing is e = cc
+  by_phase Ready is e = cc
+  by_phase (Closing why) is e = cc
+  by_phase (Over why) is e = (why, refl)
+
+-- behind a close for silence it rests, unless no act follows
+rests_behind : (done some : Bool) (n : ℕ)
+    → (is_over_in (if done then Over cause.Done else if some then Resting else Over cause.Silence) || (not (is_up (if done then Over cause.Done else if some then Resting else Over cause.Silence)) && nat_eq n 0)) ≡ false
+    → (if done then Over cause.Done else if some then Resting else Over cause.Silence) ≡ Resting
+rests_behind true some n e = cc
+rests_behind false true n e = refl
+rests_behind false false n e = cc
+
+silence_rests : (plan : Plan) (w : Waiting) (p : Progress) → is_over (closed plan w cause.Silence p) ≡ false → (closed plan w cause.Silence p).phase ≡ Resting
+silence_rests plan w p e = let q = beginning_anew w.all p in rests_behind (is_finished 0 q) (is_spared plan cause.Silence q || nat_lt 0 q.tries) q.turns e
+
+only_first : (a : Bool) → (a || false) ≡ true → a ≡ true
+only_first true e = refl
+only_first false e = cc
+
+-- where all that wait are lost, and a record is written of one
+loses_why : (plan : Plan) (commands : List Command) (turns : ℕ) (acts : List Act) (act : Act) → Fine plan commands (stood plan commands turns acts)
+    → Obeys commands (stood plan commands turns acts) (order_at plan (stood plan commands turns acts)) act
+    → loses_all (moved plan commands (order_at plan (stood plan commands turns acts)) (with_progress turned (stood plan commands turns acts)) act).progress ≡ true
+    → Unwritten (moved plan commands (order_at plan (stood plan commands turns acts)) (with_progress turned (stood plan commands turns acts)) act).marks
+    ⊎ (BeginsAnew plan commands turns acts act ⊎ IsLast plan commands turns acts act [])
+loses_why plan commands turns acts act fine obeys loses = by_test (is_over t.progress) refl loses where
+  s : Standing
+  s = stood plan commands turns acts
+
+  t : Standing
+  t = moved plan commands (order_at plan s) (with_progress turned s) act
+
+  next : stood plan commands turns (acts ++ act ∷ []) ≡ ended t
+  next = after_all-append plan commands (opening plan turns) acts (act ∷ [])
+
+  far : (stood plan commands turns (acts ++ act ∷ [])).progress ≡ t.progress
+  far = ap (λ (x : Standing). x.progress) next ∙ ended_progress t
+
+  rests : order_at plan s ≡ orders.Close cause.Silence → is_over t.progress ≡ false → t.progress.phase ≡ Resting
+  rests is on =
+      let w = waiting_of (with_rest [] (with_progress turned s)) in
+      let there : t.progress ≡ closed plan w cause.Silence (turned s.progress) = ap (λ (o : Order). (moved plan commands o (with_progress turned s) act).progress) is in
+      ap (λ (p : Progress). p.phase) there ∙ silence_rests plan w (turned s.progress) (sym (ap is_over there) ∙ on)
+
+  begins : t.progress.anew ≡ true → is_over t.progress ≡ false → SilenceOr (order_at plan s) act t.marks → Unwritten t.marks ⊎ (BeginsAnew plan commands turns acts act ⊎ IsLast plan commands turns acts act [])
+  begins anew on (inl none) = inl none
+  begins anew on (inr both) = inr (inl (record { closes = both.0; closed = both.1; rests = ap (λ (p : Progress). p.phase) far ∙ rests both.0 on; anew = ap (λ (p : Progress). p.anew) far ∙ anew }))
+
+  by_test : (b : Bool) → is_over t.progress ≡ b → (t.progress.anew || b) ≡ true → Unwritten t.marks ⊎ (BeginsAnew plan commands turns acts act ⊎ IsLast plan commands turns acts act [])
+  by_test true over e =
+      let stops = over_stops plan (ended t).progress (waiting_of (ended t)) (ap is_over (ended_progress t) ∙ over) in
+      inr (inr (record { none = refl; why = stops.0; stops = ap (λ (x : Standing). order_at plan x) next ∙ stops.1 }))
+  by_test false on e =
+      let anew = only_first t.progress.anew e in
+      begins anew on (anew_why plan commands s (order_at plan s) act fine (order_for plan s.progress (waiting_of s)) obeys anew)
+
+-- nothing is lost where a command goes out
+going_on : (p : Progress) → p.phase ≡ Ready → is_over p ≡ false
+going_on p is = ap (λ (phase : Phase). is_over_in phase || (not (is_up phase) && nat_eq p.turns 0)) is
+
+failing_goes : (why : Cause) (p : Progress) → p.phase ≡ Ready → is_over (failing why p) ≡ false
+failing_goes why p is = ap (λ (phase : Phase). is_over_in (if is_up phase then Closing why else Over why) || (not (is_up (if is_up phase then Closing why else Over why)) && nat_eq p.turns 0)) is
+
+put_goes : (requests : ℕ) (f : Standing → Standing) (s : Standing) (act : Act) → (f s).progress.phase ≡ Ready → is_over (after_put requests f s act).progress ≡ false
+put_goes requests f s (Cut bytes n) is = failing_goes (cause.Write requests n) (f s).progress is
+put_goes requests f s act is = going_on (f s).progress is
+
+sent_phase : (plan : Plan) (mark : Mark) (left : List Command) (s : Standing) → (with_progress sent (asks_first plan mark left s)).progress.phase ≡ s.progress.phase
+sent_phase plan mark [] s = refl
+sent_phase plan mark (command ∷ others) s = refl
+
+neither : (a b : Bool) → a ≡ false → b ≡ false → (a || b) ≡ false
+neither true b x y = cc
+neither false b x y = y
+
+send_loses_none : (plan : Plan) (commands : List Command) (s : Standing) (act : Act) → Fine plan commands s → IsFor plan s.progress (waiting_of s) orders.Send → loses_all (moved plan commands orders.Send (with_progress turned s) act).progress ≡ false
+send_loses_none plan commands s act fine needs =
+    let t = with_progress turned s in
+    let f = λ (x : Standing). with_progress sent (asks_next plan commands x) in
+    let mark = mark_next plan commands s.progress in
+    let left = drop (place_next commands s.progress) commands in
+    neither (moved plan commands orders.Send t act).progress.anew _ (put_anew _ f t act ∙ sent_anew plan mark left t ∙ fine.ready needs.0) (put_goes _ f t act (sent_phase plan mark left t ∙ needs.0))
+
+-- The records of those that are lost.
+
+-- a settlement is that of a request that is lost
+pub record LostOf (plan : Plan) (commands : List Command) (turns : ℕ) (acts : List Act) (x : Settlement) (mark : Option Mark) : Type 0 where
+  pub number : ℕ
+  pub at : ℕ
+  pub id : ℕ
+  pub pending : Pending
+  pub is : x ≡ lost pending
+  pub asked : Asked plan commands turns acts Stayed number at id pending mark
+
+abbrev IsLostRecord : Plan → List Command → ℕ → List Act → Record → Type 0
+IsLostRecord plan commands turns acts r = (mark : Mark) × (r.cycle ≡ mark.cycle) × (r.place ≡ mark.place) × LostOf plan commands turns acts r.settlement (Some mark)
+
+lost_true : (plan : Plan) (commands : List Command) (turns : ℕ) (acts : List Act) (act : Act) (r : Record) (news earlier later : List Record) → Fine plan commands (stood plan commands turns acts)
+    → loses_all (moved plan commands (order_at plan (stood plan commands turns acts)) (with_progress turned (stood plan commands turns acts)) act).progress ≡ true
+    → BeginsAnew plan commands turns acts act ⊎ IsLast plan commands turns acts act []
+    → (stood plan commands turns (acts ++ act ∷ [])).records ≡ ((stood plan commands turns acts).records ++ news) ++ (earlier ++ r ∷ later)
+    → IsLostRecord plan commands turns (acts ++ act ∷ []) r → IsTrue plan commands turns (acts ++ act ∷ []) r
+lost_true plan commands turns acts act r news earlier later fine loses why ends it = record {
+  answered = λ line e. absurd (not_answered line (sym outcome ∙ e));
+  late = λ e. absurd (not_late (sym outcome ∙ e));
+  lost = λ e. on (cut_at acts a.before a.between act a.request a.order);
+} where
+  x : LostOf plan commands turns (acts ++ act ∷ []) r.settlement (Some it.0)
+  x = it.3
+
+  a : Asked plan commands turns (acts ++ act ∷ []) Stayed x.number x.at x.id x.pending (Some it.0)
+  a = x.asked
+
+  outcome : r.settlement.outcome ≡ Lost
+  outcome = ap (λ (y : Settlement). y.outcome) x.is
+
+  not_answered : (line : List ℕ) → Lost ≡ Answered line → ⊥
+  not_answered line e = cc
+
+  not_late : Lost ≡ Late → ⊥
+  not_late e = cc
+
+  here : IsWrittenAt plan commands turns acts act r
+  here = record {
+    earlier = news ++ earlier;
+    later = later;
+    written = let rs = (stood plan commands turns acts).records in ends ∙ append_assoc rs news (earlier ++ r ∷ later) ∙ ap (λ xs. rs ++ xs) (sym (append_assoc news earlier (r ∷ later)));
+  }
+
+  on : CutOf acts act a.before a.between a.request → IsLostIn plan commands turns (acts ++ act ∷ []) r
+  on (AtEnd same) =
+      let s = stood plan commands turns acts in
+      let sends : order_at plan s ≡ orders.Send = ap (λ (xs : List Act). order_at plan (stood plan commands turns xs)) same ∙ (a.its it.0 refl).sends in
+      let needs = subst (λ (o : Order). IsFor plan s.progress (waiting_of s) o) sends (order_for plan s.progress (waiting_of s)) in
+      absurd (clash _ loses (ap (λ (o : Order). loses_all (moved plan commands o (with_progress turned s) act).progress) sends ∙ send_loses_none plan commands s act fine needs))
+  on (Before between at rest) =
+      let its = a.its it.0 refl in
+      record {
+        before = a.before;
+        request = a.request;
+        between = between;
+        act = act;
+        behind = [];
+        order = a.order ∙ ap (λ xs. a.before ++ a.request ∷ xs) rest;
+        own = record {
+          sends = its.sends;
+          cycle = it.1 ∙ its.cycle;
+          place = it.2 ∙ its.place;
+          put = subst (λ (y : Call). Puts (request_text (stood plan commands turns a.before).client y) a.request) (sym (ap (λ (y : Settlement). y.call) x.is)) a.put;
+        };
+        written = subst (λ (xs : List Act). IsWrittenAt plan commands turns xs act r) at here;
+        shown = inr (subst (λ (xs : List Act). BeginsAnew plan commands turns xs act ⊎ IsLast plan commands turns xs act []) at why);
+      }
+
+-- what every run keeps, also where all that wait are lost
+pub losing_honest : (plan : Plan) (commands : List Command) (turns : ℕ) (acts : List Act) (act : Act) → Fine plan commands (stood plan commands turns acts)
+    → Obeys commands (stood plan commands turns acts) (order_at plan (stood plan commands turns acts)) act
+    → IsHonest plan commands turns (acts ++ act ∷ []) (acts ++ act ∷ []) (moved plan commands (order_at plan (stood plan commands turns acts)) (with_progress turned (stood plan commands turns acts)) act)
+    → IsHonest plan commands turns (acts ++ act ∷ []) (acts ++ act ∷ []) (after plan commands (stood plan commands turns acts) act)
+losing_honest plan commands turns acts act fine obeys h = by_test (loses_all t.progress) refl where
+  all : List Act
+  all = acts ++ act ∷ []
+
+  s : Standing
+  s = stood plan commands turns acts
+
+  t : Standing
+  t = moved plan commands (order_at plan s) (with_progress turned s) act
+
+  written : List Record
+  written = records_of t.progress.moment.utc t.marks (map lost t.client.waiting)
+
+  ends : loses_all t.progress ≡ true → (more : List Record) → t.records ≡ s.records ++ more → (stood plan commands turns all).records ≡ (s.records ++ more) ++ written
+  ends loses more grew =
+      ap (λ (x : Standing). x.records) (after_all-append plan commands (opening plan turns) acts (act ∷ [])) ∙ ap (λ (b : Bool). (losing b t).records) loses ∙ ap (λ xs. xs ++ written) grew
+
+  of_lost : AllByRecursion (IsLostRecord plan commands turns all) written
+  of_lost =
+      records_all (λ (k : ℕ). LostOf plan commands turns all) (IsLostRecord plan commands turns all) t.progress.moment.utc 0 (map lost t.client.waiting) t.marks (λ i x mark is. (mark, refl, refl, is))
+      (rows_all (Waits plan commands turns all t.client.next (length t.client.waiting)) (λ (k : ℕ). LostOf plan commands turns all) lost 0 0 t.client.waiting t.marks
+      (λ n j p mark w. record { number = n; at = j; id = id_at t.client.next (length t.client.waiting) j; pending = p; is = refl; asked = w }) h.waiting)
+
+  all_lost : loses_all t.progress ≡ true → Unwritten t.marks ⊎ (BeginsAnew plan commands turns acts act ⊎ IsLast plan commands turns acts act []) → AllByRecursion (IsTrue plan commands turns all) written
+  all_lost loses (inl none) = subst (λ (rs : List Record). AllByRecursion (IsTrue plan commands turns all) rs) (sym (none t.progress.moment.utc (map lost t.client.waiting))) tt
+  all_lost loses (inr why) =
+      let grew = moved_grew plan commands (order_at plan s) (with_progress turned s) act in
+      all_split (IsLostRecord plan commands turns all) (IsTrue plan commands turns all) [] written written refl
+      (λ (earlier : List Record) (r : Record) (later : List Record) at is.
+      lost_true plan commands turns acts act r grew.0 earlier later fine loses why (ends loses grew.0 grew.1 ∙ ap (λ xs. (s.records ++ grew.0) ++ xs) (sym at)) is) of_lost
+
+  by_test : (b : Bool) → loses_all t.progress ≡ b → IsHonest plan commands turns all all (losing b t)
+  by_test true loses = record { waiting = tt; written = all_append (IsTrue plan commands turns all) t.records written h.written (all_lost loses (loses_why plan commands turns acts act fine obeys loses)) }
+  by_test false loses = h

@@ -1,0 +1,272 @@
+-- What holds between an act and the end of what waits: the counts and the records, and what the phase says. The weaker form of what every
+-- run keeps.
+use Rattle.std.proofs.Common.{◌≡◌, ℕ, ◌+◌, ◌-◌, ◌%◌, ◌<◌, ◌≤◌, ◌⊎◌, inl, inr, ◌&&◌, ◌||◌, Bool, true, false, not, List, [], ◌∷◌, ◌++◌, length, drop, map, nat_eq, Option, Some, None, refl, sym, ap, ◌∙◌, subst, arith, length-append}
+use Rattle.std.proofs.Math.Nat.{mod-lt}
+use Rattle.std.proofs.lemmas.Bool.Decides.{nat_tests}
+use Rattle.std.proofs.lemmas.List.{length-map, length-drop, nil_from_length}
+use Rattle.gc_catalogue.specs.declared.call.Call.{Call}
+use Rattle.gc_client.specs.declared.window.TheConstants.{WINDOW, IDS}
+use Rattle.gc_client.specs.declared.pending.Pending.{Pending}
+use Rattle.gc_client.specs.Rule.{ById, Settlement, expires, expired, fresh, lost, pending_of, id_send, sends}
+use Rattle.gc_client.specs.OneForOne.{of_settled, of_pending}
+use Rattle.gc_client.proofs.OneForOne.{lost_parts}
+use Rattle.gc_texts.specs.declared.commands.Command.{Command}
+use Rattle.gc_station.specs.declared.mark.Mark.{Mark}
+use Rattle.gc_station.specs.declared.plan.Plan.{Plan}
+use Rattle.gc_station.specs.declared.progress.Phase.{Phase}
+use Rattle.gc_station.specs.declared.progress.Phase.TheVariants.{Down, Resting, Clearing, Draining, Probing, Ready, Closing, Over}
+use Rattle.gc_station.specs.declared.progress.Progress.{Progress}
+use Rattle.gc_station.specs.Deciding.{is_up}
+use Rattle.gc_station.specs.EachOnce.{sent_by}
+use Rattle.gc_station.specs.Marks.{commands_in, records_of}
+use Rattle.gc_station.specs.Progressing.{is_over_in, is_over, loses_all}
+use Rattle.gc_station.specs.Records.{Record}
+use Rattle.gc_station.specs.Standing.{Standing, client_sent, losing, ended}
+use Rattle.gc_station.proofs.Each.{EachIs, each_moment, each_settles, each_null, each_sent, each_begun}
+use Rattle.gc_station.proofs.Fine.{Fine, is_bare, says_done}
+
+-- the counts, the client and the records
+pub record Sound (plan : Plan) (commands : List Command) (left unsent : ℕ) (client : ById) (marks : List (Option Mark)) (records : List Record) : Type 0 where
+  pub unsents : unsent ≤ length commands
+  pub lefts : left ≤ plan.cycles
+  pub begun : 0 < unsent → left < plan.cycles
+  pub paired : length marks ≡ length client.waiting
+  pub window : length client.waiting ≤ 7
+  pub digit : client.next < 8
+  pub each : EachIs marks client.waiting records (sent_by commands (plan.cycles - left) (length commands - unsent))
+
+-- what the phase says of the others
+pub record Placed (phase : Phase) (anew alone : Bool) (left unsent : ℕ) (rest : List ℕ) (next : ℕ) (marks : List (Option Mark)) : Type 0 where
+  pub begins : anew ≡ true → alone ≡ false
+  pub ready : phase ≡ Ready → anew ≡ false
+  pub probing : phase ≡ Probing → anew ≡ true
+  pub lone : alone ≡ true → is_up phase ≡ true → (marks ≡ None ∷ []) × (next ≡ 1)
+  pub bare : is_bare phase ≡ true → alone ≡ false
+  pub empty : is_bare phase ≡ true → rest ≡ []
+  pub finished : says_done phase ≡ true → (left ≡ 0) × (unsent ≡ 0) × ((is_over_in phase ≡ true) ⊎ (commands_in marks ≡ 0))
+
+abbrev pub SoundAt : Plan → List Command → Progress → ById → List (Option Mark) → List Record → Type 0
+SoundAt plan commands p client marks records = Sound plan commands p.left p.unsent client marks records
+
+abbrev pub PlacedAt : Progress → List ℕ → ℕ → List (Option Mark) → Type 0
+PlacedAt p rest next marks = Placed p.phase p.anew p.alone p.left p.unsent rest next marks
+
+-- both, of a standing
+abbrev pub Mid : Plan → List Command → Standing → Type 0
+Mid plan commands s = SoundAt plan commands s.progress s.client s.marks s.records × PlacedAt s.progress s.rest s.client.next s.marks
+
+pub mid_of : (plan : Plan) (commands : List Command) (s : Standing) → Fine plan commands s → Mid plan commands s
+mid_of plan commands s fine = (
+  record {
+    unsents = fine.unsent;
+    lefts = fine.left;
+    begun = fine.begun;
+    paired = fine.paired;
+    window = fine.window;
+    digit = fine.digit;
+    each = fine.each;
+  },
+  record {
+    begins = λ e. (fine.anew e).1;
+    ready = fine.ready;
+    probing = fine.probing;
+    lone = fine.alone;
+    bare = fine.bare;
+    empty = fine.rest;
+    finished = λ e. let it = fine.finished e in (it.0, it.1, inr it.2);
+  },
+)
+
+pub clash : (b : Bool) → b ≡ true → b ≡ false → ⊥
+clash b e g = cc
+
+-- What holds of the counts and the records.
+
+-- a moment
+pub sound_moment : (plan : Plan) (commands : List Command) (left unsent : ℕ) (client : ById) (marks : List (Option Mark)) (records : List Record) (m : ℕ) → Sound plan commands left unsent client marks records
+    → Sound plan commands left unsent (expires client m) marks records
+sound_moment plan commands left unsent client marks records m sound =
+    let same : length (map (expired m) client.waiting) ≡ length client.waiting = length-map client.waiting (expired m) in
+    record {
+      unsents = sound.unsents;
+      lefts = sound.lefts;
+      begun = sound.begun;
+      paired = sound.paired ∙ sym same;
+      window = omega (arith, same, sound.window);
+      digit = sound.digit;
+      each = each_moment marks client.waiting records (sent_by commands (plan.cycles - left) (length commands - unsent)) m sound.each;
+    }
+
+-- some are settled
+pub sound_settles : (plan : Plan) (commands : List Command) (left unsent : ℕ) (client next : ById) (marks : List (Option Mark)) (records : List Record) (utc : ℕ) (ss : List Settlement)
+    → map of_settled ss ++ map of_pending next.waiting ≡ map of_pending client.waiting → next.next < 8 → Sound plan commands left unsent client marks records
+    → Sound plan commands left unsent next (drop (length ss) marks) (records ++ records_of utc marks ss)
+sound_settles plan commands left unsent client next marks records utc ss parts low sound =
+    let ended = map of_settled ss in
+    let waits = map of_pending next.waiting in
+    let ends : length ended ≡ length ss = length-map ss of_settled in
+    let behind : length waits ≡ length next.waiting = length-map next.waiting of_pending in
+    let count : length ended + length waits ≡ length client.waiting = sym (length-append ended waits) ∙ ap length parts ∙ length-map client.waiting of_pending in
+    let fewer : length (drop (length ss) marks) ≡ length marks - length ss = length-drop (length ss) marks in
+    record {
+      unsents = sound.unsents;
+      lefts = sound.lefts;
+      begun = sound.begun;
+      paired = omega (arith, ends, behind, count, fewer, sound.paired);
+      window = omega (arith, ends, behind, count, sound.window);
+      digit = low;
+      each = each_settles utc marks client.waiting next.waiting ss records (sent_by commands (plan.cycles - left) (length commands - unsent)) parts sound.each;
+    }
+
+-- a send goes where there is room
+pub client_behind : (client : ById) (target : ℕ) (call : Call) (deadline : ℕ) → length client.waiting < 7
+    → client_sent client (sends WINDOW client target call deadline) ≡ record { next = (client.next + 1) % IDS; waiting = client.waiting ++ pending_of target call deadline ∷ [] }
+client_behind client target call deadline room =
+    ap (λ (b : Bool). client_sent client (id_send client target call deadline b)) (room_left (length client.waiting) room) where
+      room_left : (n : ℕ) → n < 7 → nat_eq n 7 ≡ false
+      room_left n room = grind (arith, nat_tests, room)
+
+one_more : (marks : List (Option Mark)) (ws : List Pending) (m : Option Mark) (p : Pending) → length marks ≡ length ws → length (marks ++ m ∷ []) ≡ length (ws ++ p ∷ [])
+one_more marks ws m p paired = length-append marks (m ∷ []) ∙ ap (λ n. n + 1) paired ∙ sym (length-append ws (p ∷ []))
+
+-- a null procedure is sent
+pub sound_null : (plan : Plan) (commands : List Command) (left unsent : ℕ) (client : ById) (marks : List (Option Mark)) (records : List Record) (target : ℕ) (call : Call) (deadline : ℕ)
+    → length client.waiting < 7 → Sound plan commands left unsent client marks records
+    → Sound plan commands left unsent (client_sent client (sends WINDOW client target call deadline)) (marks ++ None ∷ []) records
+sound_null plan commands left unsent client marks records target call deadline room sound =
+    let p = pending_of target call deadline in
+    let more : length (client.waiting ++ p ∷ []) ≡ length client.waiting + 1 = length-append client.waiting (p ∷ []) in
+    subst (λ (c : ById). Sound plan commands left unsent c (marks ++ None ∷ []) records) (sym (client_behind client target call deadline room)) (record {
+      unsents = sound.unsents;
+      lefts = sound.lefts;
+      begun = sound.begun;
+      paired = one_more marks client.waiting None p sound.paired;
+      window = omega (arith, more, room);
+      digit = mod-lt (client.next + 1) (omega arith);
+      each = each_null marks client.waiting p records (sent_by commands (plan.cycles - left) (length commands - unsent)) sound.paired sound.each;
+    })
+
+-- a command is sent
+pub sound_sent : (plan : Plan) (commands : List Command) (left unsent : ℕ) (client : ById) (marks : List (Option Mark)) (records : List Record) (deadline : ℕ) (command : Command) (others : List Command)
+    → length client.waiting < 7 → 0 < unsent → drop (length commands - unsent) commands ≡ command ∷ others → Sound plan commands left unsent client marks records
+    → Sound plan commands left (unsent - 1) (client_sent client (sends WINDOW client command.target command.call deadline)) (marks ++ Some (record { cycle = plan.cycles - left; place = length commands - unsent }) ∷ []) records
+sound_sent plan commands left unsent client marks records deadline command others room some at sound =
+    let p = pending_of command.target command.call deadline in
+    let begun = plan.cycles - left in
+    let place = length commands - unsent in
+    let mark : Mark = record { cycle = begun; place = place } in
+    let more : length (client.waiting ++ p ∷ []) ≡ length client.waiting + 1 = length-append client.waiting (p ∷ []) in
+    let below = sound.begun some in
+    let many : 0 < begun = omega (arith, below) in
+    let place_is : length commands - (unsent - 1) ≡ place + 1 = omega (arith, some, sound.unsents) in
+    let each = each_sent commands begun place marks client.waiting p records command others sound.paired at refl many sound.each in
+    subst (λ (c : ById). Sound plan commands left (unsent - 1) c (marks ++ Some mark ∷ []) records) (sym (client_behind client command.target command.call deadline room)) (record {
+      unsents = omega (arith, sound.unsents);
+      lefts = sound.lefts;
+      begun = λ e. below;
+      paired = one_more marks client.waiting (Some mark) p sound.paired;
+      window = omega (arith, more, room);
+      digit = mod-lt (client.next + 1) (omega arith);
+      each = subst (λ (n : ℕ). EachIs (marks ++ Some mark ∷ []) (client.waiting ++ p ∷ []) records (sent_by commands begun n)) (sym place_is) each;
+    })
+
+-- a cycle begins
+pub sound_begun : (plan : Plan) (commands : List Command) (left unsent : ℕ) (client : ById) (marks : List (Option Mark)) (records : List Record)
+    → unsent ≡ 0 → commands_in marks ≡ 0 → 0 < left → Sound plan commands left unsent client marks records → Sound plan commands (left - 1) (length commands) client marks records
+sound_begun plan commands left unsent client marks records none settled some sound =
+    let lefts = sound.lefts in
+    record {
+      unsents = omega arith;
+      lefts = omega (arith, lefts);
+      begun = λ e. omega (arith, some, lefts);
+      paired = sound.paired;
+      window = sound.window;
+      digit = sound.digit;
+      each = each_begun commands (plan.cycles - left) (plan.cycles - (left - 1)) (length commands - unsent) (length commands - length commands) marks client.waiting records settled
+          (omega (arith, none)) (omega (arith, some, lefts)) (omega arith) sound.each;
+    }
+
+-- The end of what waits.
+
+over_down : (p : Progress) (o : Bool) → is_over_in p.phase ≡ o → is_over p ≡ true → is_up p.phase ≡ false
+over_down p true is e = phase_down p.phase is where
+  phase_down : (phase : Phase) → is_over_in phase ≡ true → is_up phase ≡ false
+  phase_down Down e = cc
+  phase_down Resting e = cc
+  phase_down Clearing e = cc
+  phase_down Draining e = cc
+  phase_down Probing e = cc
+  phase_down Ready e = cc
+  phase_down (Closing why) e = cc
+  phase_down (Over why) e = refl
+over_down p false is e = not_up (is_up p.phase) (nat_eq p.turns 0) (sym (ap (λ b. b || (not (is_up p.phase) && nat_eq p.turns 0)) is) ∙ e) where
+  not_up : (up none : Bool) → (false || (not up && none)) ≡ true → up ≡ false
+  not_up true none e = cc
+  not_up false none e = refl
+
+-- where all that wait are lost, it begins anew or is over
+lost_for : (a o : Bool) → (a || o) ≡ true → (a ≡ true) ⊎ (o ≡ true)
+lost_for true o e = inl refl
+lost_for false o e = inr e
+
+kept_for : (a o : Bool) → (a || o) ≡ false → (a ≡ false) × (o ≡ false)
+kept_for true o e = cc
+kept_for false o e = (refl, e)
+
+never_lone : (p : Progress) → (p.anew ≡ true → p.alone ≡ false) → (p.anew ≡ true) ⊎ (is_over p ≡ true) → p.alone ≡ true → is_up p.phase ≡ true → ⊥
+never_lone p begins (inl anew) alone up = clash p.alone alone (begins anew)
+never_lone p begins (inr over) alone up = clash (is_up p.phase) up (over_down p (is_over_in p.phase) refl over)
+
+still_finished : (p : Progress) (marks : List (Option Mark)) → is_over p ≡ false → (p.left ≡ 0) × (p.unsent ≡ 0) × ((is_over_in p.phase ≡ true) ⊎ (commands_in marks ≡ 0)) → (p.left ≡ 0) × (p.unsent ≡ 0) × (commands_in marks ≡ 0)
+still_finished p marks not_over (left, unsent, inl over) = absurd (clash (is_over p) (ap (λ b. b || (not (is_up p.phase) && nat_eq p.turns 0)) over) not_over)
+still_finished p marks not_over (left, unsent, inr none) = (left, unsent, none)
+
+fine_losing : (plan : Plan) (commands : List Command) (s : Standing) (b : Bool) → loses_all s.progress ≡ b → Mid plan commands s → Fine plan commands (losing b s)
+fine_losing plan commands s true is (sound, placed) =
+    let p = s.progress in
+    let ss = map lost s.client.waiting in
+    let x = sound_settles plan commands p.left p.unsent s.client fresh s.marks s.records p.moment.utc ss (append_none (map of_settled ss) ∙ lost_parts s.client.waiting) (omega arith) sound in
+    let nothing : drop (length ss) s.marks ≡ [] = nil_from_length (drop (length ss) s.marks) x.paired in
+    record {
+      unsent = x.unsents;
+      left = x.lefts;
+      begun = x.begun;
+      paired = x.paired;
+      window = x.window;
+      digit = x.digit;
+      anew = λ e. (refl, placed.begins e);
+      ready = placed.ready;
+      probing = placed.probing;
+      alone = λ e up. absurd (never_lone p placed.begins (lost_for p.anew (is_over p) is) e up);
+      bare = placed.bare;
+      rest = placed.empty;
+      over = λ e. refl;
+      finished = λ e. let it = placed.finished e in (it.0, it.1, ap commands_in nothing);
+      each = x.each;
+    } where
+      append_none : {A : Type 0} (xs : List A) → xs ++ [] ≡ xs
+      append_none [] = refl
+      append_none (x ∷ xs) = ap (λ ys. x ∷ ys) (append_none xs)
+fine_losing plan commands s false is (sound, placed) =
+    let p = s.progress in
+    let kept = kept_for p.anew (is_over p) is in
+    record {
+      unsent = sound.unsents;
+      left = sound.lefts;
+      begun = sound.begun;
+      paired = sound.paired;
+      window = sound.window;
+      digit = sound.digit;
+      anew = λ e. absurd (clash p.anew e kept.0);
+      ready = placed.ready;
+      probing = placed.probing;
+      alone = placed.lone;
+      bare = placed.bare;
+      rest = placed.empty;
+      over = λ e. absurd (clash (is_over p) e kept.1);
+      finished = λ e. still_finished p s.marks kept.1 (placed.finished e);
+      each = sound.each;
+    }
+
+pub fine_ended : (plan : Plan) (commands : List Command) (s : Standing) → Mid plan commands s → Fine plan commands (ended s)
+fine_ended plan commands s mid = fine_losing plan commands s (loses_all s.progress) refl mid

@@ -1,0 +1,26 @@
+use Rattle.std.proofs.Common.{length, map, ap, sym, ◌∙◌, refl, subst}
+use Rattle.std.proofs.lemmas.List.{length-map}
+use Rattle.gc_client.specs.Rule.{restarts}
+use Rattle.gc_client.specs.Settlements.{settlement_seen}
+use Rattle.gc_station.specs.Progressing.{loses_all}
+use Rattle.gc_station.specs.Standing.{losing}
+use Rattle.gc_station.specs.Stations.{Follows}
+use Rattle.gc_station.proofs.Hearing.{restarts_paired, settles_either}
+use Rattle.gc_station.proofs.station.Station.end.Goals as goal
+
+pub returns-clause-ends : goal.returns-clause-ends
+returns-clause-ends g c s start stands so =
+    let x = restarts s.client in
+    let seen = ap restarts stands.ids in
+    let client = c.restart-self.ensures.client in
+    let items = c.restart-self.result.items in
+    let same = c.restart-self.ensures.settled.seen ∙ ap (λ y. y.settlements) seen in
+    let loses = sym c.if-not-loses_all.false ∙ c.loses_all.ensures ∙ ap loses_all stands.progress in
+    let t = settles_either g.B.Book.text c.args.self.now _ c.write.new.self s x (map settlement_seen items) (length items) start (g.B.Book.taken c.write.new.book) c.write.result
+    stands
+    (record { ids_are = ap (λ w. w.ids) client ∙ ap (λ y. y.client) seen; width = ap (λ w. w.width) client; marks = refl; assembler = refl; progress = refl; tally = refl })
+    same
+    (sym (length-map items settlement_seen) ∙ ap length same)
+    (restarts_paired s.marks s.client stands.paired)
+    (c.write.ensures.wrote start s.records so) c.write.ensures.after in
+    subst (λ b. Follows g.B.Book.text c.write.new.self start (g.B.Book.taken c.write.new.book) (losing b s) c.write.result) loses t

@@ -1,0 +1,59 @@
+-- Before a request goes out its connection was cleared, and was quiet: this project's own, in terms of the acts alone.
+use Rattle.std.specs.Prelude.{◌≡◌, ◌≢◌, ℕ, ◌-◌, ◌≤◌, List, [], ◌∷◌, ◌++◌}
+use Rattle.std.specs.List.{AllByRecursion}
+use Rattle.gc_station.specs.declared.link.Moment.{Moment}
+use Rattle.gc_station.specs.Acts.{Act, Told, Put, Cut, Gave, Silent, Closed, Opened, Unopened}
+
+-- a request goes out, whole or in part: bytes that aren't the lone line feed
+abbrev pub IsRequest : Act → Type 0
+IsRequest (Put bytes) = bytes ≢ 10 ∷ []
+IsRequest (Cut bytes count) = bytes ≢ 10 ∷ []
+IsRequest _ = ⊥
+
+-- no request goes out
+abbrev pub AsksNothing : Act → Type 0
+AsksNothing act = IsRequest act → ⊥
+
+-- an act tells this moment, behind whatever came with it
+abbrev pub TellsMoment : ℕ → Act → Type 0
+TellsMoment elapsed (Told m) = m.elapsed ≡ elapsed
+TellsMoment elapsed (Gave bytes m) = m.elapsed ≡ elapsed
+TellsMoment elapsed (Silent m) = m.elapsed ≡ elapsed
+TellsMoment elapsed _ = ⊥
+
+-- the clock was read, or a read gave bytes or nothing: no bytes go out, and the connection stays
+abbrev pub IsListening : Act → Type 0
+IsListening (Told m) = Unit {0}
+IsListening (Gave bytes m) = Unit {0}
+IsListening (Silent m) = Unit {0}
+IsListening _ = ⊥
+
+-- a read gave nothing
+abbrev pub IsSilent : Act → Type 0
+IsSilent (Silent m) = Unit {0}
+IsSilent _ = ⊥
+
+-- an act neither makes a connection nor closes one
+abbrev pub StaysConnected : Act → Type 0
+StaysConnected Closed = ⊥
+StaysConnected Opened = ⊥
+StaysConnected Unopened = ⊥
+StaysConnected _ = Unit {0}
+
+-- behind these acts there is a connection that was cleared, and then was quiet, before anything else went out on it: as soon as it was
+-- made, a lone line feed went out whole; bytes may have come then; and behind an act that told a moment, reads gave nothing, until one of
+-- them told another, so much later. No time at all has always passed, also where the clock went back; any other passed by the clock
+pub record IsClearedAndQuiet (quiet : ℕ) (acts : List Act) : Type 0 where
+  pub before : List Act
+  pub drain : List Act
+  pub start : Act
+  pub from : ℕ
+  pub silence : List Act
+  pub last : Moment
+  pub behind : List Act
+  pub order : acts ≡ before ++ Opened ∷ Put (10 ∷ []) ∷ (drain ++ start ∷ (silence ++ Silent last ∷ behind))
+  pub drains : AllByRecursion IsListening drain
+  pub starts : TellsMoment from start
+  pub silent : AllByRecursion IsSilent silence
+  pub long : quiet ≤ last.elapsed - from
+  pub stays : AllByRecursion StaysConnected behind

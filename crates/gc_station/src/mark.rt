@@ -1,0 +1,26 @@
+//! Marks: which command of which cycle a request that waits is of.
+
+ghost use Rattle.std.specs.Prelude.{◌≡◌};
+ghost use Rattle.gc_station.specs.Marks.{commands_in};
+
+/// The cycle, counted from 1, and the place among its commands, counted from 0, of a command that was sent.
+#[derive(Clone, Copy, Debug, PartialEq, Eq)]
+pub(crate) struct Mark {
+    /// The cycle, counted from 1.
+    pub cycle: u32,
+    /// The command's place among the commands of a cycle, counted from 0.
+    pub place: usize,
+}
+
+// How many of these are commands. The others are null procedures.
+pub(crate) fn commands_in(marks: &[Option<Mark>]) -> usize
+    ensures { result ≡ commands_in marks.now }
+{
+    let mut commands = 0;
+    for mark in marks {
+        if mark.is_some() {
+            commands += 1;
+        }
+    }
+    commands
+}
