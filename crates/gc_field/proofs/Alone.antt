@@ -1,0 +1,44 @@
+-- Two requests at once, with a reply kept that has the second one's id.
+use Rattle.std.proofs.Common.{◌≡◌, ℕ, false, List, [], ◌∷◌, Option, Some, sym, ◌∙◌, ap, lit<}
+use Rattle.gc_catalogue.specs.declared.call.Call.TheVariants.{NullProc}
+use Rattle.gc_client.specs.Rule.{ById, hears}
+use Rattle.gc_instrument.specs.Replying.{Handed, kept_line}
+use Rattle.gc_instrument.specs.State.{State, IsFittingState}
+use Rattle.gc_world.specs.Clients.{ends, by_ids, ids_open}
+use Rattle.gc_world.specs.World.{World, Up_lose, on_wire, replied, with_settled, down_delivered}
+use Rattle.gc_world.proofs.Handing.{exchange, kept_of, keeper}
+use Rattle.gc_field.specs.Field.{Sends, OnLine, moved}
+use Rattle.gc_field.specs.Alone.{IsBookedUnexecuted}
+
+module _ (s : State) (line : List ℕ) where
+  -- the second request alone is under way
+  abbrev out : World ById State
+  out = moved ends (by_ids 7 ends) (Sends 1 NullProc 9 ∷ Sends 2 NullProc 9 ∷ OnLine (Up_lose 0) ∷ []) (ids_open s)
+
+  -- the instrument did this with it
+  abbrev reached : Handed State → World ById State
+  reached h = on_wire out (replied out.wire 1 [] h)
+
+  -- what is kept for it
+  abbrev again : Handed State
+  again = record { state = s; reply = line; executed = false }
+
+  abbrev came : Handed State → World ById State
+  came h = down_delivered (by_ids 7 ends) (reached h) (reached h).wire.down
+
+  abbrev heard_as : Option ℕ → World ById State
+  heard_as o = with_settled (record (reached again).wire { down = [] }) (hears (reached again).client line o)
+
+  handed_is : kept_line (kept_of s) (Some 1) ≡ Some line → ends.handed s 1 NullProc ≡ again
+  handed_is k = keeper.again s 1 NullProc line k
+
+  heard_is : IsFittingState s → kept_line (kept_of s) (Some 1) ≡ Some line → ends.heard line ≡ Some 1
+  heard_is fits k = ap (λ (h : Handed State). ends.heard h.reply) (sym (handed_is k)) ∙ exchange.reads s 1 NullProc fits (lit< tt)
+
+  pub booked : IsFittingState s → kept_line (kept_of s) (Some 1) ≡ Some line → IsBookedUnexecuted s line
+  booked fits k =
+      record {
+        possible = (tt, (tt, (tt, (tt, ((1, [], ap (λ (h : Handed State). (reached h).wire.down) (handed_is k)), tt)))));
+        settled = ap (λ h. (came h).wire.settled) (handed_is k) ∙ ap (λ o. (heard_as o).wire.settled) (heard_is fits k);
+        executed = ap (λ h. (came h).wire.executed) (handed_is k) ∙ ap (λ o. (heard_as o).wire.executed) (heard_is fits k);
+      }

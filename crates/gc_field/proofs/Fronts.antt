@@ -1,0 +1,251 @@
+-- What is left of a request that was cut: all its bytes behind the first are above that one, which begins each request.
+use Rattle.std.proofs.Common.{◌≡◌, ◌≢◌, ℕ, zero, suc, ◌+◌, ◌-◌, ◌/◌, ◌%◌, ◌^◌, ◌<◌, ◌≤◌, Bool, true, false, ◌&&◌, ltb, eqb, ℤ, pos, negsuc, unsigned_abs, List, [], ◌∷◌, ◌++◌, length, take, drop, map, Option, Some, None, cond, refl, sym, ◌∙◌, ap, subst, arith, lit<}
+use Rattle.std.specs.Prelude.{slice_index}
+use Rattle.std.specs.Fmt.{decimal}
+use Rattle.std.specs.List.{filter_map, AllByRecursion}
+use Rattle.std.specs.Str.Parse.{AllDigits}
+use Rattle.std.proofs.lemmas.Bool.{ne_eqb, ltb-true, agree_below_at}
+use Rattle.std.proofs.lemmas.Fmt.{decimal_is_IsNumeral}
+use Rattle.std.proofs.lemmas.List.Elements.{All-from_recursion}
+use Rattle.std.proofs.lemmas.Str.Parse.{digit_at}
+use Rattle.hex.specs.Hex.{lower_digits}
+use Rattle.gc_lines.specs.declared.frame.Frame.{Frame}
+use Rattle.gc_lines.specs.declared.frame.Frame.TheVariants.{Line, Cleared, Overlong, More}
+use Rattle.gc_lines.specs.Frames.{is_line_feed, ends_in_return, frame_of, pieces_behind, line_in, lines}
+use Rattle.gc_lines.specs.Headers.{id_text}
+use Rattle.gc_lines.specs.Requests.{RequestFields, IsRequest}
+use Rattle.gc_values.specs.Boolean.{boolean_text}
+use Rattle.gc_values.specs.Byte.{byte_text}
+use Rattle.gc_values.specs.Digits.{AreDigits}
+use Rattle.gc_values.specs.Item.{IsValue, text}
+use Rattle.gc_values.specs.Lists.{AreValues}
+use Rattle.gc_values.specs.Whole.{signed_text}
+use Rattle.gc_values.specs.Written.{minus_text, whole_text, behind_text, written}
+use Rattle.gc_values.specs.declared.value.Value.{Value}
+use Rattle.gc_values.specs.declared.value.Value.TheVariants as value
+use Rattle.gc_values.proofs.WrittenSpells.{writes_whole, behind}
+use Rattle.gc_catalogue.specs.Calls.{call_fields, IsFitting}
+use Rattle.gc_catalogue.specs.Lists.{behind_commas, params_of}
+use Rattle.gc_catalogue.specs.declared.call.Call.{Call}
+use Rattle.gc_catalogue.specs.declared.call.Call.TheVariants.{SetPrecision, SetDate, DoMeasure, SetStation, SetHeight, GetAngle, SimpleMea, SetPrism, MeasDistance, Position, ChangeFace, FineAdjust}
+use Rattle.gc_catalogue.specs.Texts.{request_line}
+use Rattle.gc_catalogue.proofs.Joining.{params_of-cons}
+use Rattle.gc_catalogue.proofs.Table.{number_fits}
+use Rattle.gc_instrument.specs.Laws.{HasNoRequest}
+use Rattle.gc_field.specs.Fronts.{request_bytes, IsWholeOrNothing}
+
+-- Bytes above the sign that begins a request.
+
+abbrev AreAbove : List ℕ → Type 0
+AreAbove bytes = AllByRecursion (λ b. 37 < b) bytes
+
+joined : (P : ℕ → Type 0) (xs ys : List ℕ) → AllByRecursion P xs → AllByRecursion P ys → AllByRecursion P (xs ++ ys)
+joined P [] ys h k = k
+joined P (x ∷ xs) ys h k = (h.0, joined P xs ys h.1 k)
+
+dropped : (P : ℕ → Type 0) (k : ℕ) (xs : List ℕ) → AllByRecursion P xs → AllByRecursion P (drop k xs)
+dropped P zero xs h = h
+dropped P (suc k) [] h = tt
+dropped P (suc k) (x ∷ xs) h = dropped P k xs h.1
+
+taken : (P : ℕ → Type 0) (k : ℕ) (xs : List ℕ) → AllByRecursion P xs → AllByRecursion P (take k xs)
+taken P zero xs h = tt
+taken P (suc k) [] h = tt
+taken P (suc k) (x ∷ xs) h = (h.0, taken P k xs h.1)
+
+weaker : (P Q : ℕ → Type 0) (f : (b : ℕ) → P b → Q b) (xs : List ℕ) → AllByRecursion P xs → AllByRecursion Q xs
+weaker P Q f [] h = tt
+weaker P Q f (x ∷ xs) h = (f x h.0, weaker P Q f xs h.1)
+
+above_digits : (ds : List ℕ) → AreDigits ds → AreAbove ds
+above_digits [] h = tt
+above_digits (d ∷ ds) h = ((let low = h.0.0 in omega (arith, low)), above_digits ds h.1)
+
+above_decimal_digits : (ds : List ℕ) → AllDigits 10 ds → AreAbove ds
+above_decimal_digits [] h = tt
+above_decimal_digits (c ∷ cs) h = (omega (arith, digit_at (c ∷ cs) 0 h (omega arith)), above_decimal_digits cs h.1)
+
+above_minus : (z : ℤ) → AreAbove (minus_text z)
+above_minus (pos n) = tt
+above_minus (negsuc n) = (lit< tt, tt)
+
+above_whole : (n : ℕ) → AreAbove (whole_text n)
+above_whole n = above_digits (whole_text n) (writes_whole n).digits
+
+above_signed : (z : ℤ) → AreAbove (signed_text z)
+above_signed z = joined (λ b. 37 < b) (minus_text z) (whole_text (unsigned_abs z)) (above_minus z) (above_whole (unsigned_abs z))
+
+above_written : (m : ℤ) (s : ℕ) → AreAbove (written m s)
+above_written m s =
+    let n = unsigned_abs m in
+    joined (λ b. 37 < b) (minus_text m) (whole_text (n / 10 ^ s) ++ (46 ∷ behind_text s (n % 10 ^ s))) (above_minus m)
+    (joined (λ b. 37 < b) (whole_text (n / 10 ^ s)) (46 ∷ behind_text s (n % 10 ^ s)) (above_whole (n / 10 ^ s)) (lit< tt, above_digits (behind_text s (n % 10 ^ s)) (behind n s).digits))
+
+above_digit : (d : ℕ) → d < 16 → 37 < slice_index lower_digits d
+above_digit d h = ltb-true 37 (slice_index lower_digits d) (agree_below_at (λ k. ltb 37 (slice_index lower_digits k)) (λ _. true) 16 d refl h)
+
+above_byte : (n : ℕ) → n < 256 → AreAbove (byte_text n)
+above_byte n h = (lit< tt, (above_digit (n / 16) (omega arith), (above_digit (n % 16) (omega arith), (lit< tt, tt))))
+
+above_boolean : (b : Bool) → AreAbove (boolean_text b)
+above_boolean false = (lit< tt, tt)
+above_boolean true = (lit< tt, tt)
+
+-- no call has a text among its parameters
+abbrev IsNoText : Value → Type 0
+IsNoText (value.Text bytes) = ⊥
+IsNoText v = Unit {0}
+
+no_text : (call : Call) → AllByRecursion IsNoText (call_fields call).values
+no_text (SetPrecision places) = (tt, tt)
+no_text (SetDate d) = (tt, (tt, (tt, (tt, (tt, (tt, tt))))))
+no_text (DoMeasure command mode) = (tt, (tt, tt))
+no_text (SetStation s) = (tt, (tt, (tt, (tt, tt))))
+no_text (SetHeight height) = (tt, tt)
+no_text (GetAngle mode) = (tt, tt)
+no_text (SimpleMea wait mode) = (tt, (tt, tt))
+no_text (SetPrism prism) = (tt, tt)
+no_text (MeasDistance mode) = (tt, tt)
+no_text (Position hz v pos_mode atr_mode dummy) = (tt, (tt, (tt, (tt, (tt, tt)))))
+no_text (ChangeFace pos_mode atr_mode dummy) = (tt, (tt, (tt, tt)))
+no_text (FineAdjust area_hz area_v dummy) = (tt, (tt, (tt, tt)))
+no_text other = tt
+
+above_value : (v : Value) → IsValue v → IsNoText v → AreAbove (text v)
+above_value (value.Double d) h g = above_written d.digits d.scale
+above_value (value.Long z) h g = above_signed z
+above_value (value.Short z) h g = above_signed z
+above_value (value.Byte n) h g = above_byte n h
+above_value (value.Bool b) h g = above_boolean b
+above_value (value.Text bytes) h g = absurd g
+
+above_behind : (vs : List Value) → AreValues vs → AllByRecursion IsNoText vs → AreAbove (behind_commas vs)
+above_behind [] h g = tt
+above_behind (v ∷ vs) h g = joined (λ b. 37 < b) (44 ∷ text v) (behind_commas vs) (lit< tt, above_value v h.0 g.0) (above_behind vs h.1 g.1)
+
+above_params : (vs : List Value) → AreValues vs → AllByRecursion IsNoText vs → AreAbove (params_of vs)
+above_params [] h g = tt
+above_params (v ∷ vs) h g = rw (params_of-cons v vs) (joined (λ b. 37 < b) (text v) (behind_commas vs) (above_value v h.0 g.0) (above_behind vs h.1 g.1))
+
+above_id : (id : Option ℕ) → AreAbove (id_text id)
+above_id None = tt
+above_id (Some i) = (lit< tt, (omega arith, tt))
+
+-- a request behind its first byte
+abbrev body : ℕ → Call → List ℕ
+body id call = 82 ∷ 49 ∷ 81 ∷ 44 ∷ (decimal (call_fields call).number ++ (id_text (Some id) ++ 58 ∷ params_of (call_fields call).values))
+
+line_is : (id : ℕ) (call : Call) → request_line (Some id) call ≡ 37 ∷ body id call
+line_is id call = refl
+
+above_body : (id : ℕ) (call : Call) → IsFitting call → AreAbove (body id call)
+above_body id call h =
+    let n = (call_fields call).number in (
+      lit< tt,
+      (
+        lit< tt,
+        (
+          lit< tt,
+          (
+            lit< tt,
+            joined (λ b. 37 < b) (decimal n) (id_text (Some id) ++ 58 ∷ params_of (call_fields call).values)
+                (above_decimal_digits (decimal n) (decimal_is_IsNumeral n (let small = number_fits call in omega (arith, small))).0.1)
+                (joined (λ b. 37 < b) (id_text (Some id)) (58 ∷ params_of (call_fields call).values) (above_id (Some id)) (lit< tt, above_params (call_fields call).values h (no_text call))),
+          ),
+        ),
+      ),
+    )
+
+-- Lines of a stream.
+
+abbrev lines_in : List Frame → List (List ℕ)
+lines_in frames = filter_map line_in frames
+
+-- a frame's line is what stands before its CR
+frame_line : (bytes line : List ℕ) → line_in (frame_of bytes) ≡ Some line → line ≡ take (length bytes - 1) bytes
+frame_line bytes line e = chosen (ends_in_return bytes) (ltb 512 (length bytes - 1)) e where
+  chosen : (ends long : Bool) → line_in (cond ends (cond long Overlong (Line (record { items = take (length bytes - 1) bytes }))) Cleared) ≡ Some line → line ≡ take (length bytes - 1) bytes
+  chosen false long e = let never : ⊥ = cc in absurd never
+  chosen true true e = let never : ⊥ = cc in absurd never
+  chosen true false e = cc
+
+framed : (P : List ℕ → Type 0) (f : Frame) (fs : List Frame) → ((line : List ℕ) → line_in f ≡ Some line → P line) → AllByRecursion P (lines_in fs) → AllByRecursion P (lines_in (f ∷ fs))
+framed P (Line line) fs h g = (h line.items refl, g)
+framed P Cleared fs h g = g
+framed P Overlong fs h g = g
+framed P More fs h g = g
+
+abbrev IsNoRequest : List ℕ → Type 0
+IsNoRequest line = (q : RequestFields) → ¬ IsRequest line q
+
+-- bytes without that sign are no request
+unsigned : (line : List ℕ) → AllByRecursion (λ b. b ≢ 37) line → IsNoRequest line
+unsigned line h q r = (subst (λ l. AllByRecursion (λ b. b ≢ 37) l) r.whole h).0 refl
+
+unsigned_lines : (before bytes : List ℕ) → AllByRecursion (λ b. b ≢ 37) before → AllByRecursion (λ b. b ≢ 37) bytes → AllByRecursion IsNoRequest (lines_in (map frame_of (pieces_behind before bytes)))
+unsigned_lines before [] h g = tt
+unsigned_lines before (b ∷ bytes) h g =
+    chosen (is_line_feed b)
+    (framed IsNoRequest (frame_of before) (map frame_of (pieces_behind [] bytes)) (λ line e. unsigned line (subst (λ l. AllByRecursion (λ b. b ≢ 37) l) (sym (frame_line before line e)) (taken (λ b. b ≢ 37) (length before - 1) before h))) (unsigned_lines [] bytes tt g.1))
+    (unsigned_lines (before ++ b ∷ []) bytes (joined (λ b. b ≢ 37) before (b ∷ []) h (g.0, tt)) g.1)
+  where
+    chosen : (t : Bool) → AllByRecursion IsNoRequest (lines_in (map frame_of (before ∷ pieces_behind [] bytes))) → AllByRecursion IsNoRequest (lines_in (map frame_of (pieces_behind (before ++ b ∷ []) bytes))) → AllByRecursion IsNoRequest (lines_in (map frame_of (cond t (before ∷ pieces_behind [] bytes) (pieces_behind (before ++ b ∷ []) bytes))))
+    chosen true here later = here
+    chosen false here later = later
+
+-- bytes without a CR are no line
+no_return : (bytes : List ℕ) → AllByRecursion (λ b. b ≢ 13) bytes → ends_in_return bytes ≡ false
+no_return [] h = refl
+no_return (b ∷ bytes) h =
+    let last : eqb (slice_index (b ∷ bytes) (length (b ∷ bytes) - 1)) 13 ≡ false = ne_eqb (slice_index (b ∷ bytes) (length (b ∷ bytes) - 1)) 13 (All-from_recursion (λ b. b ≢ 13) (b ∷ bytes) h (length (b ∷ bytes) - 1) 0 (omega arith)) in
+    ap (λ t. ltb 0 (length (b ∷ bytes)) && t) last ∙ never (ltb 0 (length (b ∷ bytes)))
+  where
+    never : (t : Bool) → (t && false) ≡ false
+    never true = refl
+    never false = refl
+
+no_line : (bytes : List ℕ) → AllByRecursion (λ b. b ≢ 13) bytes → frame_of bytes ≡ Cleared
+no_line bytes h = ap (λ t. cond t (cond (ltb 512 (length bytes - 1)) Overlong (Line (record { items = take (length bytes - 1) bytes }))) Cleared) (no_return bytes h)
+
+one_by_one : (t : Bool) (before : List ℕ) (here later : List (List ℕ)) → frame_of before ≡ Cleared → lines_in (map frame_of here) ≡ [] → lines_in (map frame_of later) ≡ [] → lines_in (map frame_of (cond t (before ∷ here) later)) ≡ []
+one_by_one true before here later none h g = ap (λ f. lines_in (f ∷ map frame_of here)) none ∙ h
+one_by_one false before here later none h g = g
+
+no_lines : (before bytes : List ℕ) → AllByRecursion (λ b. b ≢ 13) before → AllByRecursion (λ b. b ≢ 13) bytes → lines_in (map frame_of (pieces_behind before bytes)) ≡ []
+no_lines before [] h g = refl
+no_lines before (b ∷ bytes) h g =
+    one_by_one (is_line_feed b) before (pieces_behind [] bytes) (pieces_behind (before ++ b ∷ []) bytes) (no_line before h) (no_lines [] bytes tt g.1)
+    (no_lines (before ++ b ∷ []) bytes (joined (λ b. b ≢ 13) before (b ∷ []) h (g.0, tt)) g.1)
+
+take_front : (xs ys : List ℕ) (n : ℕ) → n ≤ length xs → take n (xs ++ ys) ≡ take n xs
+take_front xs ys zero le = refl
+take_front [] ys (suc n) le = absurd (omega (arith, le))
+take_front (x ∷ xs) ys (suc n) le = ap (λ l. x ∷ l) (take_front xs ys n (omega (arith, le)))
+
+take_one_more : (xs ys : List ℕ) (y : ℕ) → take (suc (length xs)) (xs ++ y ∷ ys) ≡ xs ++ y ∷ []
+take_one_more [] ys y = refl
+take_one_more (x ∷ xs) ys y = ap (λ l. x ∷ l) (take_one_more xs ys y)
+
+behind_push : (xs : List ℕ) (a b : ℕ) → (xs ++ a ∷ []) ++ b ∷ [] ≡ xs ++ a ∷ b ∷ []
+behind_push [] a b = refl
+behind_push (x ∷ xs) a b = ap (λ l. x ∷ l) (behind_push xs a b)
+
+-- A request.
+
+pub whole_or_nothing : (id : ℕ) (call : Call) → IsFitting call → IsWholeOrNothing id call
+whole_or_nothing id call fits =
+    let line = request_line (Some id) call in
+    let above = above_body id call fits in
+    record {
+      front = λ count le. ap (λ l. lines (l ++ 10 ∷ [])) (take_front line (13 ∷ 10 ∷ []) count le)
+          ∙ no_lines [] (take count line ++ 10 ∷ []) tt
+          (joined (λ b. b ≢ 13) (take count line) (10 ∷ []) (taken (λ b. b ≢ 13) count line ((λ e. omega (arith, e)), weaker (λ b. 37 < b) (λ b. b ≢ 13) (λ b l e. omega (arith, l, e)) (body id call) above)) ((λ e. omega (arith, e)), tt));
+      whole = ap (λ n. take n (request_bytes id call) ++ 10 ∷ []) (let next : length line + 1 ≡ suc (length line) = omega arith in next) ∙ ap (λ l. l ++ 10 ∷ []) (take_one_more line (10 ∷ []) 13) ∙ behind_push line 13 10;
+      tail = λ count some. tail_of above count some;
+    }
+  where
+    tail_of : AreAbove (body id call) → (count : ℕ) → 0 < count → HasNoRequest (drop count (request_bytes id call))
+    tail_of above zero some = absurd (omega (arith, some))
+    tail_of above (suc k) some =
+        unsigned_lines [] (drop k (body id call ++ 13 ∷ 10 ∷ [])) tt
+        (dropped (λ b. b ≢ 37) k (body id call ++ 13 ∷ 10 ∷ []) (joined (λ b. b ≢ 37) (body id call) (13 ∷ 10 ∷ []) (weaker (λ b. 37 < b) (λ b. b ≢ 37) (λ b l e. omega (arith, l, e)) (body id call) above) ((λ e. omega (arith, e)), ((λ e. omega (arith, e)), tt))))

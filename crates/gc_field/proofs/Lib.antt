@@ -1,0 +1,14 @@
+pub mod Fronts
+pub mod Answered
+pub mod Once
+pub mod Vouched
+pub mod Seen
+pub mod Moving
+pub mod Faithful
+pub mod Stretches
+pub mod Alone
+pub mod Meaning
+pub mod Waits
+pub mod Meant
+pub mod InTime
+pub mod Joining

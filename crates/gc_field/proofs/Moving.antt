@@ -1,0 +1,256 @@
+-- Over any moves the run by ids is the run by numbers, and each reply is its own request's.
+use Rattle.std.proofs.Common.{◌≡◌, ℕ, ◌+◌, ◌-◌, ◌%◌, ◌<◌, ◌≤◌, ◌⊎◌, inl, inr, Bool, true, false, List, [], ◌∷◌, ◌++◌, length, drop, Option, Some, None, refl, sym, ◌∙◌, ap, subst, arith, ltb, eqb}
+use Rattle.std.proofs.lemmas.List.{length_push}
+use Rattle.std.proofs.lemmas.Bool.{le-ltb}
+use Rattle.gc_catalogue.specs.declared.call.Call.{Call}
+use Rattle.gc_catalogue.specs.Texts.{request_line}
+use Rattle.gc_client.specs.Rule.{ById, settle}
+use Rattle.gc_instrument.specs.Replying.{Handed, kept_line}
+use Rattle.gc_instrument.specs.State.{KeptReply}
+use Rattle.gc_world.specs.Clients.{ByNumber, by_ids, by_numbers, ids_open, numbers_open, number_send, number_reply}
+use Rattle.gc_world.specs.Exchange.{IsExchange, IsKeeper}
+use Rattle.gc_world.specs.Order.{Each}
+use Rattle.gc_world.specs.World.{Request, Sent, Numbered, Ends, Step, Send, Up_deliver, Up_lose, Up_repeat, Down_deliver, Down_lose, Down_repeat, Expire, Restart_client, Restart_instrument, Nothing, World, Wire, without, doubled, replied, up_delivered, with_up, with_down, started, on_wire, requested, down_delivered, happens}
+use Rattle.gc_world.proofs.Agree.{Agree, agrees}
+use Rattle.gc_world.proofs.Places.{get_push}
+use Rattle.gc_world.proofs.Replay.{IsOf, of_more}
+use Rattle.gc_world.proofs.Rows.{each_append, each_more, each_without, each_doubled}
+use Rattle.gc_world.proofs.Sound.{IsGoing, Sound, sound_step, sound_open}
+use Rattle.gc_field.specs.Field.{Move, Sends, Tells, Comes, Foreign, OnLine, Anew, IsOfLine, moves, moved, ArePossible, IsFirstAlone}
+use Rattle.gc_field.proofs.Answered.{AllSo}
+use Rattle.gc_field.specs.Once.{ActsOnce}
+use Rattle.gc_field.proofs.Once.{IsClimbing, once_few, climbing_first}
+use Rattle.gc_field.proofs.Vouched.{kept_own, Vouched, KeptIs, True, Holds, holds_step, true_started}
+
+module _ {State : Type 0} (width : ℕ) (narrow : width ≤ 7) (ends : Ends State) (Good : State → Type 0) (ex : IsExchange ends Good) where
+  -- the two worlds agree, and the line is as it has to be
+  pub record Both (a : World ById State) (b : World ByNumber State) : Type 0 where
+    pub agree : Agree width narrow ends Good a b
+    pub sound : Sound width ends Good b
+
+  pub sound_anew : (b : World ByNumber State) → Sound width ends Good b → Sound width ends Good (on_wire b (started ends b.wire true))
+  sound_anew b h = record { good = ex.restart_good b.wire.state h.good; counted = h.counted; booked = h.booked; begun = h.begun; within = h.within; few = h.few; order = h.order; going = h.going; coming = h.coming }
+
+  both_step : (a : World ById State) (b : World ByNumber State) (step : Step) → Both a b → Both (happens ends (by_ids width ends) a step) (happens ends (by_numbers width) b step)
+  both_step a b step h = record { agree = agrees width narrow ends Good a b step h.sound h.agree; sound = sound_step width ends Good ex b step h.sound }
+
+  pub both_move : (a : World ById State) (b : World ByNumber State) (m : Move) → Both a b → Both (moves ends (by_ids width ends) a m) (moves ends (by_numbers width) b m)
+  both_move a b (Sends target call deadline) h = both_step a b (Send target call deadline) h
+  both_move a b (Tells now) h = both_step a b (Expire now) h
+  both_move a b (Comes line) h = both_step a b Down_deliver h
+  both_move a b (Foreign line) h = h
+  both_move a b (OnLine step) h = both_step a b step h
+  both_move a b Anew h =
+      record { agree = record { wire = ap (λ (w : Wire State). started ends w true) h.agree.wire; client = h.agree.client }; sound = sound_anew b h.sound }
+
+  pub both_all : (ms : List Move) (a : World ById State) (b : World ByNumber State) → Both a b → Both (moved ends (by_ids width ends) ms a) (moved ends (by_numbers width) ms b)
+  both_all [] a b h = h
+  both_all (m ∷ ms) a b h = both_all ms _ _ (both_move a b m h)
+
+  pub both_open : (state : State) → Good state → Both (ids_open state) (numbers_open state)
+  both_open state good =
+      record { agree = record { wire = refl; client = record { window = refl; next = omega arith } }; sound = sound_open width ends Good state good }
+
+  -- a reply whose request isn't settled settles it, and those before it as lost
+  heard_first : (b : World ByNumber State) (n : ℕ) (line : List ℕ) (rest q : List (Numbered (List ℕ))) → q ≡ record { number = n; line = line } ∷ rest → b.client.count ≤ n →
+      (down_delivered (by_numbers width) b q).wire.settled ≡ b.wire.settled ++ settle (n - b.client.count) line (drop b.client.count b.client.requests)
+  heard_first b n line rest q e le =
+      ap (λ q. (down_delivered (by_numbers width) b q).wire.settled) e
+      ∙ ap (λ t. b.wire.settled ++ (number_reply b.client (record { number = n; line = line }) t).settlements) (le-ltb n b.client.count le)
+
+  pub first_reply : (a : World ById State) (b : World ByNumber State) (n : ℕ) (line : List ℕ) (rest : List (Numbered (List ℕ))) → Both a b → a.wire.down ≡ record { number = n; line = line } ∷ rest → length a.wire.settled ≤ n →
+      (moves ends (by_ids width ends) a (Comes line)).wire.settled ≡ a.wire.settled ++ settle (n - length a.wire.settled) line a.client.waiting
+  first_reply a b n line rest h e le =
+      let same : a.wire ≡ b.wire = h.agree.wire in
+      let size : length a.wire.settled ≡ b.client.count = ap (λ (w : Wire State). length w.settled) same ∙ h.sound.booked in
+      let down : b.wire.down ≡ record { number = n; line = line } ∷ rest = sym (ap (λ (w : Wire State). w.down) same) ∙ e in
+      ap (λ (w : Wire State). w.settled) (both_step a b Down_deliver h).agree.wire
+      ∙ heard_first b n line rest b.wire.down down (omega (arith, size, le))
+      ∙ ap (λ l. l ++ settle (n - b.client.count) line (drop b.client.count b.client.requests)) (sym (ap (λ (w : Wire State). w.settled) same))
+      ∙ ap (λ l. a.wire.settled ++ settle (n - b.client.count) line l) (sym h.agree.client.window)
+      ∙ ap (λ k. a.wire.settled ++ settle (n - k) line a.client.waiting) (sym size)
+
+module _ {State : Type 0} (width : ℕ) (narrow : width ≤ 7) (ends : Ends State) (Good : State → Type 0) (ex : IsExchange ends Good) (kept : State → Option KeptReply) (keeper : IsKeeper ends kept) (joint : ends.joint ≡ true) (low : ℕ) (beyond : 0 < low) where
+  abbrev Whole : World ByNumber State → Type 0
+  Whole w = Holds width narrow ends Good ex kept keeper low w
+
+  abbrev Trusted : World ByNumber State → Type 0
+  Trusted w = True width narrow ends Good ex kept keeper low w
+
+  abbrev pub Vouches : Wire State → ℕ → List ℕ → Type 0
+  Vouches w n line = Vouched width narrow ends Good ex kept keeper low w.sent w.executed w.made n line
+
+  -- each answer is vouched for, and between two starts each request is executed at most once
+  pub record IsVouchedFor (w : Wire State) : Type 0 where
+    pub answers : AllSo (Vouches w) 0 w.settled
+    pub once : ActsOnce w.executed w.starts
+
+  whole_step : (b : World ByNumber State) (step : Step) → Whole b → Whole (happens ends (by_numbers width) b step)
+  whole_step b step h = holds_step width narrow ends Good ex kept keeper low joint b step h
+
+  whole_move : (b : World ByNumber State) (m : Move) → Whole b → Whole (moves ends (by_numbers width) b m)
+  whole_move b (Sends target call deadline) h = whole_step b (Send target call deadline) h
+  whole_move b (Tells now) h = whole_step b (Expire now) h
+  whole_move b (Comes line) h = whole_step b Down_deliver h
+  whole_move b (Foreign line) h = h
+  whole_move b (OnLine step) h = whole_step b step h
+  whole_move b Anew h = record { sound = sound_anew width narrow ends Good ex b h.sound; trusted = true_started width narrow ends Good ex kept keeper low b true h.trusted }
+
+  whole_all : (ms : List Move) (b : World ByNumber State) → Whole b → IsVouchedFor (moved ends (by_numbers width) ms b).wire
+  whole_all [] b h = record { answers = h.trusted.answers; once = h.trusted.once.once }
+  whole_all (m ∷ ms) b h = whole_all ms _ (whole_move b m h)
+
+  -- Before the first request reached the instrument, which may keep anything.
+  abbrev pub ones : Bool → ℕ
+  ones false = 0
+  ones true = 1
+
+  pub record IsFresh (b : World ByNumber State) (out : Bool) : Type 0 where
+    pub since : b.client.since ≡ 0
+    pub count : b.client.count ≡ 0
+    pub down : b.wire.down ≡ []
+    pub executed : b.wire.executed ≡ []
+    pub settled : b.wire.settled ≡ []
+    pub sent : length b.wire.sent ≤ ones out
+    pub lines : Each (IsOf b.wire.sent) b.wire.up
+
+  each_all : {A : Type 0} (P : A → Type 0) → ((x : A) → P x) → (xs : List A) → Each P xs
+  each_all P f [] = tt
+  each_all P f (x ∷ xs) = (f x, each_all P f xs)
+
+  -- what is kept behind an exchange has its id
+  kept_some : (k : Option KeptReply) (id : ℕ) (line : List ℕ) → kept_line k (Some id) ≡ Some line → (r : KeptReply) × (k ≡ Some r) × (r.id ≡ id)
+  kept_some None id line e = let never : ⊥ = cc in absurd never
+  kept_some (Some r) id line e = (r, refl, (kept_own r id line e).0)
+
+  kept_behind : (s : State) (id : ℕ) (call : Call) (o : Option (List ℕ)) → kept_line (kept s) (Some id) ≡ o → (r : KeptReply) × (kept (ends.handed s id call).state ≡ Some r) × (r.id ≡ id)
+  kept_behind s id call None e = (record { id = id; line = (ends.handed s id call).reply }, keeper.keeps s id call e, refl)
+  kept_behind s id call (Some line) e =
+      let f = kept_some (kept s) id line e in
+      (f.0, ap (λ (h : Handed State). kept h.state) (keeper.again s id call line e) ∙ f.1, f.2)
+
+  -- the first request reaches it: from then on what is kept has the id of the last request that it was handed
+  module _ (b : World ByNumber State) (out : Bool) (s : Sound width ends Good b) (f : IsFresh b out) where
+    fresh_reached : (x : Numbered Request) (rest : List (Numbered Request)) → b.wire.up ≡ x ∷ rest → Trusted (on_wire b (replied b.wire x.number rest (ends.handed b.wire.state x.line.id x.line.call)))
+    fresh_reached x rest q =
+        let v = b.wire in
+        let hd = ends.handed v.state x.line.id x.line.call in
+        let g = subst (λ l. Each (IsGoing b.client.since (length b.client.requests)) l) q s.going in
+        let o = subst (λ l. Each (IsOf v.sent) l) q f.lines in
+        let few : length v.sent ≤ 1 = below_two out f.sent in
+        let nought : x.number ≡ 0 = omega (arith, g.0.sent, s.counted, few) in
+        let m : Numbered (List ℕ) = record { number = x.number; line = hd.reply } in
+        let k = kept_behind v.state x.line.id x.line.call (kept_line (kept v.state) (Some x.line.id)) refl in
+        let w = replied v x.number rest hd in
+        let P = Vouches w in
+        let id : k.0.id ≡ 0 = omega (arith, k.2, g.0.id, nought) in
+        let early : x.number < low = omega (arith, nought, beyond) in
+        record {
+          top = 1;
+          counted = omega (arith, f.count);
+          within = omega (arith, g.0.sent, s.counted);
+          above = each_all (λ (y : Numbered Request). 1 ≤ y.number + 1) (λ y. omega arith) rest;
+          below = subst (λ l. Each (λ (y : Numbered (List ℕ)). y.number < 1) (l ++ m ∷ [])) (sym f.down) (omega (arith, nought), tt);
+          holds = subst (λ l. KeptIs width narrow ends Good ex kept keeper low P b.client.since 1 l) (sym k.1) (omega (arith, f.since), omega (arith, id, f.since), inl beyond);
+          lines = o.1;
+          coming = subst (λ l. Each (λ (y : Numbered (List ℕ)). P y.number y.line) (l ++ m ∷ [])) (sym f.down) (inl early, tt);
+          answers = subst (λ l. AllSo P 0 l) (sym f.settled) tt;
+          once = subst (λ l. IsClimbing 1 w.executed v.starts l) (sym k.1) (climbing_first x.number v.executed v.starts hd.executed k.0 f.executed nought);
+        }
+      where
+        below_two : (out : Bool) → length b.wire.sent ≤ ones out → length b.wire.sent ≤ 1
+        below_two true l = l
+        below_two false l = omega (arith, l)
+
+    fresh_up : (q : List (Numbered Request)) → b.wire.up ≡ q → (IsFresh (on_wire b (up_delivered ends b.wire q)) out) ⊎ Trusted (on_wire b (up_delivered ends b.wire q))
+    fresh_up [] q = inl (record { since = f.since; count = f.count; down = f.down; executed = f.executed; settled = f.settled; sent = f.sent; lines = f.lines })
+    fresh_up (x ∷ rest) q = inr (fresh_reached x rest q)
+
+    fresh_with_up : (up : List (Numbered Request)) (t : Bool) → Each (IsOf b.wire.sent) up → IsFresh (on_wire b (with_up b.wire up t)) out
+    fresh_with_up up true l = record { since = f.since; count = f.count; down = f.down; executed = f.executed; settled = f.settled; sent = f.sent; lines = l }
+    fresh_with_up up false l = record { since = f.since; count = f.count; down = f.down; executed = f.executed; settled = f.settled; sent = f.sent; lines = f.lines }
+
+    fresh_with_down : (down : List (Numbered (List ℕ))) (t : Bool) → down ≡ [] → IsFresh (on_wire b (with_down b.wire down t)) out
+    fresh_with_down down true l = record { since = f.since; count = f.count; down = l; executed = f.executed; settled = f.settled; sent = f.sent; lines = f.lines }
+    fresh_with_down down false l = record { since = f.since; count = f.count; down = f.down; executed = f.executed; settled = f.settled; sent = f.sent; lines = f.lines }
+
+    fresh_line : (step : Step) → IsOfLine step → (IsFresh (happens ends (by_numbers width) b step) out) ⊎ Trusted (happens ends (by_numbers width) b step)
+    fresh_line (Send target call deadline) p = absurd p
+    fresh_line Up_deliver p = fresh_up b.wire.up refl
+    fresh_line (Up_lose k) p = inl (fresh_with_up (without k b.wire.up) (ltb k (length b.wire.up)) (each_without _ k b.wire.up f.lines))
+    fresh_line (Up_repeat k) p = inl (fresh_with_up (doubled k b.wire.up) (ltb k (length b.wire.up)) (each_doubled _ k b.wire.up f.lines))
+    fresh_line Down_deliver p = absurd p
+    fresh_line (Down_lose k) p = inl (fresh_with_down (without k b.wire.down) (ltb k (length b.wire.down)) (ap (λ l. without k l) f.down))
+    fresh_line (Down_repeat k) p = inl (fresh_with_down (doubled k b.wire.down) (ltb k (length b.wire.down)) (ap (λ l. doubled k l) f.down))
+    fresh_line (Expire now) p = absurd p
+    fresh_line Restart_client p = absurd p
+    fresh_line Restart_instrument p = absurd p
+    fresh_line Nothing p = inl (record { since = f.since; count = f.count; down = f.down; executed = f.executed; settled = f.settled; sent = f.sent; lines = f.lines })
+
+  -- the first request goes out, or is refused
+  fresh_sent : (b : World ByNumber State) (target : ℕ) (call : Call) (deadline : ℕ) (full : Bool) → IsFresh b false → IsFresh (requested b target call (number_send b.client target call deadline full)) true
+  fresh_sent b target call deadline true f = record { since = f.since; count = f.count; down = f.down; executed = f.executed; settled = f.settled; sent = omega (arith, f.sent); lines = f.lines }
+  fresh_sent b target call deadline false f =
+      let c = b.client in
+      let id = (length c.requests - c.since) % 8 in
+      let r : Sent = record { target = target; call = call; line = request_line (Some id) call } in
+      record {
+        since = f.since;
+        count = f.count;
+        down = f.down;
+        executed = f.executed;
+        settled = f.settled;
+        sent = omega (arith, f.sent, length_push b.wire.sent r);
+        lines = each_append _ b.wire.up _ (each_more _ _ (of_more b.wire.sent (r ∷ [])) b.wire.up f.lines) (record { request = r; found = get_push b.wire.sent r; small = omega arith; call = refl; text = refl }, tt);
+      }
+
+  nothing_down : (a : World ById State) (b : World ByNumber State) (out : Bool) (x : Numbered (List ℕ)) (rest : List (Numbered (List ℕ))) → Both width narrow ends Good ex a b → IsFresh b out → a.wire.down ≡ x ∷ rest → ⊥
+  nothing_down a b out x rest h f e =
+      let none : [] ≡ x ∷ rest = sym f.down ∙ sym (ap (λ (w : Wire State). w.down) h.agree.wire) ∙ e in
+      cc
+
+  -- whatever it kept when the first request went out
+  pub early_all : (ms : List Move) (out : Bool) (a : World ById State) (b : World ByNumber State) → Both width narrow ends Good ex a b → ArePossible ends (by_ids width ends) ms a → IsFirstAlone out ms → IsFresh b out → IsVouchedFor (moved ends (by_numbers width) ms b).wire
+  early_all [] out a b h p l f =
+      record {
+        answers = subst (λ s. AllSo (Vouches b.wire) 0 s) (sym f.settled) tt;
+        once = once_few b.wire.executed b.wire.starts (omega (arith, ap (λ (l : List ℕ). length l) f.executed));
+      }
+  early_all (Sends target call deadline ∷ ms) false a b h p l f =
+      early_all ms true _ _ (both_move width narrow ends Good ex a b (Sends target call deadline) h) p.1 l
+      (fresh_sent b target call deadline (eqb (length b.client.requests - b.client.count) width) f)
+  early_all (Sends target call deadline ∷ ms) true a b h p l f = absurd l
+  early_all (Tells now ∷ ms) out a b h p l f =
+      early_all ms out _ _ (both_move width narrow ends Good ex a b (Tells now) h) p.1 (alone_tells out l)
+      (record { since = f.since; count = f.count; down = f.down; executed = f.executed; settled = f.settled; sent = f.sent; lines = f.lines })
+    where
+      alone_tells : (out : Bool) → IsFirstAlone out (Tells now ∷ ms) → IsFirstAlone out ms
+      alone_tells true l = l
+      alone_tells false l = l
+  early_all (Comes line ∷ ms) out a b h p l f = absurd (nothing_down a b out _ p.0.1 h f p.0.2)
+  early_all (Foreign line ∷ ms) out a b h p l f = early_all ms out a b h p.1 (alone_foreign out l) f where
+    alone_foreign : (out : Bool) → IsFirstAlone out (Foreign line ∷ ms) → IsFirstAlone out ms
+    alone_foreign true l = l
+    alone_foreign false l = l
+  early_all (OnLine step ∷ ms) out a b h p l f =
+      let both = both_move width narrow ends Good ex a b (OnLine step) h in
+      elim (fresh_line b out h.sound f step p.0) [
+        | inl g ↦ early_all ms out _ _ both p.1 (alone_line out l) g
+        | inr t ↦ whole_all ms _ (record { sound = both.sound; trusted = t })
+      ]
+    where
+      alone_line : (out : Bool) → IsFirstAlone out (OnLine step ∷ ms) → IsFirstAlone out ms
+      alone_line true l = l
+      alone_line false l = l
+  early_all (Anew ∷ ms) out a b h p l f =
+      early_all ms out _ _ (both_move width narrow ends Good ex a b Anew h) p.1 (alone_anew out l)
+      (record { since = f.since; count = f.count; down = f.down; executed = f.executed; settled = f.settled; sent = f.sent; lines = f.lines })
+    where
+      alone_anew : (out : Bool) → IsFirstAlone out (Anew ∷ ms) → IsFirstAlone out ms
+      alone_anew true l = l
+      alone_anew false l = l
+
+  pub vouched_at : (ms : List Move) (state : State) → Good state → ArePossible ends (by_ids width ends) ms (ids_open state) → IsFirstAlone false ms → IsVouchedFor (moved ends (by_numbers width) ms (numbers_open state)).wire
+  vouched_at ms state good p l =
+      early_all ms false (ids_open state) (numbers_open state) (both_open width narrow ends Good ex state good) p l
+      (record { since = refl; count = refl; down = refl; executed = refl; settled = refl; sent = omega arith; lines = tt })

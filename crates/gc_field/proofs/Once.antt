@@ -1,0 +1,120 @@
+-- Between two starts what is executed climbs: an instrument that keeps a reply is handed the last request again or a later one.
+use Rattle.std.proofs.Common.{◌≡◌, ℕ, zero, suc, ◌+◌, ◌-◌, ◌%◌, ◌<◌, ◌≤◌, ◌⊎◌, inl, inr, Bool, true, false, List, [], ◌∷◌, ◌++◌, length, Option, Some, None, cond, refl, sym, ◌∙◌, ap, subst, arith, ltb, eqb}
+use Rattle.std.proofs.lemmas.Bool.{eq-eqb, ltb-true, ltb-false}
+use Rattle.std.specs.Prelude.{slice_get}
+use Rattle.gc_instrument.specs.Replying.{kept_line}
+use Rattle.gc_instrument.specs.State.{KeptReply}
+use Rattle.gc_world.specs.Order.{Each}
+use Rattle.gc_world.proofs.Options.{some_is, none_is_not}
+use Rattle.gc_world.proofs.Places.{below, each_get}
+use Rattle.gc_world.proofs.Rows.{each_append, each_more}
+use Rattle.gc_field.specs.Once.{HasNoStart, ActsOnce}
+
+-- Lists.
+
+each_front : {A : Type 0} (P : A → Type 0) (xs ys : List A) → Each P (xs ++ ys) → Each P xs
+each_front P [] ys h = tt
+each_front P (x ∷ xs) ys h = (h.0, each_front P xs ys h.1)
+
+each_last : {A : Type 0} (P : A → Type 0) (xs : List A) (y : A) → Each P (xs ++ y ∷ []) → P y
+each_last P [] y h = h.0
+each_last P (x ∷ xs) y h = each_last P xs y h.1
+
+-- what stands at a place stood there before one more came, or is that one
+get_pushed : {A : Type 0} (xs : List A) (x : A) (i : ℕ) (y : A) → slice_get (xs ++ x ∷ []) i ≡ Some y → (slice_get xs i ≡ Some y) ⊎ ((i ≡ length xs) × (x ≡ y))
+get_pushed [] x zero y e = inr (refl, some_is x y e)
+get_pushed [] x (suc i) y e = absurd (none_is_not y e)
+get_pushed (z ∷ xs) x zero y e = inl e
+get_pushed (z ∷ xs) x (suc i) y e =
+    elim (get_pushed xs x i y e) [
+      | inl h ↦ inl h
+      | inr h ↦ inr (ap suc h.0, h.1)
+    ]
+
+-- What was executed.
+
+-- nothing was executed since the last start
+abbrev pub IsIdle : List ℕ → List ℕ → Type 0
+IsIdle executed starts = (executed ≡ []) ⊎ ((earlier : List ℕ) × (starts ≡ earlier ++ length executed ∷ []))
+
+-- all that was executed is below this number, and where nothing is kept, nothing was executed since the last start
+pub record IsClimbing (top : ℕ) (executed starts : List ℕ) (k : Option KeptReply) : Type 0 where
+  pub once : ActsOnce executed starts
+  pub below : Each (λ n. n < top) executed
+  pub idle : k ≡ None → IsIdle executed starts
+
+-- at most one execution
+pub once_few : (executed starts : List ℕ) → length executed ≤ 1 → ActsOnce executed starts
+once_few executed starts few j k m n lt run a b =
+    let size : k < length executed = below executed k n b in
+    absurd (omega (arith, size, few, lt))
+
+-- the instrument starts
+pub climbing_started : (top : ℕ) (executed starts : List ℕ) (k after : Option KeptReply) → IsClimbing top executed starts k → IsClimbing top executed (starts ++ length executed ∷ []) after
+climbing_started top executed starts k after h =
+    record {
+      once = λ i j m n lt run a b. h.once i j m n lt (each_front (λ s. (s ≤ i) ⊎ (j < s)) starts (length executed ∷ []) run) a b;
+      below = h.below;
+      idle = λ e. inr (starts, refl);
+    }
+
+-- a higher number does too
+pub climbing_raised : (top high : ℕ) (executed starts : List ℕ) (k : Option KeptReply) → top ≤ high → IsClimbing top executed starts k → IsClimbing high executed starts k
+climbing_raised top high executed starts k le h = record { once = h.once; below = each_more (λ n. n < top) (λ n. n < high) (λ n l. omega (arith, l, le)) executed h.below; idle = h.idle }
+
+-- nothing was executed since the last start, so it came between these two executions
+never_idle : (executed starts : List ℕ) (j k m : ℕ) → IsIdle executed starts → HasNoStart starts j k → slice_get executed j ≡ Some m → k ≡ length executed → ⊥
+never_idle executed starts j k m (inl none) run a e = none_is_not m (subst (λ l. slice_get l j ≡ Some m) none a)
+never_idle executed starts j k m (inr h) run a e =
+    let size : j < length executed = below executed j m a in
+    elim (each_last (λ s. (s ≤ j) ⊎ (k < s)) h.0 (length executed) (subst (λ l. HasNoStart l j k) h.1 run)) [
+      | inl l ↦ omega (arith, l, size)
+      | inr l ↦ omega (arith, l, e)
+    ]
+
+-- a request is executed that is none of those before, or the first one since a start
+pub climbing_acted : (top n : ℕ) (executed starts : List ℕ) (k : Option KeptReply) (kept : KeptReply) → top ≤ n + 1 → (k ≡ None) ⊎ (top ≤ n) → IsClimbing top executed starts k → IsClimbing (n + 1) (executed ++ n ∷ []) starts (Some kept)
+climbing_acted top n executed starts k kept le why h =
+    record {
+      once = λ i j x y lt run a b. elim (get_pushed executed n j y b) [
+        | inl old ↦ (let size : j < length executed = below executed j y old in
+            elim (get_pushed executed n i x a) [
+              | inl first ↦ h.once i j x y lt run first old
+              | inr last ↦ absurd (omega (arith, last.0, lt, size))
+            ])
+        | inr new ↦ elim (get_pushed executed n i x a) [
+          | inl first ↦ subst (λ z. x < z) new.1 (later i j x lt run first new.0 why)
+          | inr last ↦ absurd (omega (arith, last.0, lt, new.0))
+        ]
+      ];
+      below = each_append (λ m. m < n + 1) executed (n ∷ []) (each_more (λ m. m < top) (λ m. m < n + 1) (λ m l. omega (arith, l, le)) executed h.below) (omega arith, tt);
+      idle = λ e. let never : ⊥ = cc in absurd never;
+    }
+  where
+    later : (i j x : ℕ) → i < j → HasNoStart starts i j → slice_get executed i ≡ Some x → j ≡ length executed → (k ≡ None) ⊎ (top ≤ n) → x < n
+    later i j x lt run first e (inl none) = absurd (never_idle executed starts i j x (h.idle none) run first e)
+    later i j x lt run first e (inr above) = let l : x < top = each_get (λ m. m < top) executed i x h.below first in omega (arith, l, above)
+
+-- the first request that reached the instrument was executed, or not
+pub climbing_first : (n : ℕ) (executed starts : List ℕ) (acted : Bool) (kept : KeptReply) → executed ≡ [] → n ≡ 0 → IsClimbing 1 (cond acted (executed ++ n ∷ []) executed) starts (Some kept)
+climbing_first n executed starts acted kept none nought = subst (λ l. IsClimbing 1 (cond acted (l ++ n ∷ []) l) starts (Some kept)) (sym none) (chosen acted) where
+  chosen : (acted : Bool) → IsClimbing 1 (cond acted (n ∷ []) []) starts (Some kept)
+  chosen true = record { once = once_few (n ∷ []) starts (omega arith); below = (omega (arith, nought), tt); idle = λ e. let never : ⊥ = cc in absurd never }
+  chosen false = record { once = once_few [] starts (omega arith); below = tt; idle = λ e. let never : ⊥ = cc in absurd never }
+
+kept_has : (k : KeptReply) (id : ℕ) → k.id ≡ id → kept_line (Some k) (Some id) ≡ None → ⊥
+kept_has k id same none = chosen (eqb k.id id) (eq-eqb k.id id same) none where
+  chosen : (b : Bool) → b ≡ true → cond b (Some k.line) None ≡ None → ⊥
+  chosen true t none = cc
+  chosen false t none = cc
+
+-- an id that isn't the kept one is that of a later request than the last
+pub newer : (since top n id : ℕ) (k : KeptReply) → k.id ≡ (top - 1 - since) % 8 → since < top → id ≡ (n - since) % 8 → top ≤ n + 1 → kept_line (Some k) (Some id) ≡ None → top ≤ n
+newer since top n id k own recent mine le none = chosen (ltb n top) refl where
+  chosen : (b : Bool) → ltb n top ≡ b → top ≤ n
+  chosen false t = ltb-false n top t
+  chosen true t =
+      let l : n < top = ltb-true n top t in
+      let last : top - 1 ≡ n = omega (arith, l, le) in
+      let same : k.id ≡ id = own ∙ ap (λ i. (i - since) % 8) last ∙ sym mine in
+      absurd (kept_has k id same none)

@@ -1,0 +1,337 @@
+-- Each line that comes was made for its request as its call was executed, whatever is repeated or lost, and however often the
+-- instrument starts anew: but those of the first few requests.
+use Rattle.std.proofs.Common.{◌≡◌, ℕ, ◌+◌, ◌-◌, ◌%◌, ◌<◌, ◌≤◌, ◌⊎◌, inl, inr, Bool, true, false, List, [], ◌∷◌, ◌++◌, length, drop, Option, Some, None, cond, refl, sym, ◌∙◌, ap, subst, arith, ltb, eqb}
+use Rattle.std.proofs.lemmas.List.{length_push}
+use Rattle.std.proofs.lemmas.Bool.{eqb-true, ltb-false}
+use Rattle.gc_catalogue.specs.declared.call.Call.{Call}
+use Rattle.gc_catalogue.specs.Texts.{request_line}
+use Rattle.gc_client.specs.Rule.{Settlement, Sending, pending_of}
+use Rattle.gc_instrument.specs.Replying.{Handed, kept_line}
+use Rattle.gc_instrument.specs.State.{KeptReply}
+use Rattle.gc_world.specs.Clients.{ByNumber, number_send, number_reply, by_numbers}
+use Rattle.gc_world.specs.Exchange.{IsExchange, IsKeeper}
+use Rattle.gc_world.specs.Order.{Each, Rising, numbers}
+use Rattle.gc_world.specs.World.{Request, Sent, Numbered, Ends, Step, World, without, doubled, replied, started, on_wire, requested, with_settled, happens}
+use Rattle.gc_world.proofs.Booked.{Has, has_more, has_push}
+use Rattle.gc_world.proofs.Execution.{IsAnswerAt}
+use Rattle.gc_world.proofs.Options.{some_is}
+use Rattle.gc_world.proofs.Places.{get_more, get_push}
+use Rattle.gc_world.proofs.Replay.{IsOf, of_more}
+use Rattle.gc_world.proofs.Rows.{each_append, each_more, each_without, each_doubled}
+use Rattle.gc_world.proofs.Sound.{IsGoing, Sound, keeps}
+use Rattle.gc_world.proofs.Stable.{IsStable, stable}
+use Rattle.gc_field.proofs.Answered.{AllSo, all_so_more, all_so_append, all_so_lost, all_so_settle}
+use Rattle.gc_field.proofs.Once.{IsClimbing, climbing_started, climbing_acted, climbing_raised, newer}
+
+-- no number under way upward is below the one in front
+pub rising_each : (low : ℕ) (xs : List (Numbered Request)) → Rising low (numbers xs) → Each (λ x. low ≤ x.number + 1) xs
+rising_each low [] h = tt
+rising_each low (x ∷ xs) h = (h.0, each_more (λ y. x.number + 1 ≤ y.number + 1) (λ y. low ≤ y.number + 1) (λ y k. omega (arith, k, h.0)) xs (rising_each (x.number + 1) xs h.1))
+
+pub rising_tail : (low n : ℕ) (xs ys : List ℕ) → Rising low (xs ++ n ∷ ys) → (low ≤ n + 1) × Rising (n + 1) ys
+rising_tail low n [] ys h = h
+rising_tail low n (x ∷ xs) ys h = let r = rising_tail (x + 1) n xs ys h.1 in (omega (arith, h.0, r.0), r.1)
+
+-- the line that is kept for an id: its own
+pub kept_own : (k : KeptReply) (id : ℕ) (line : List ℕ) → kept_line (Some k) (Some id) ≡ Some line → (k.id ≡ id) × (k.line ≡ line)
+kept_own k id line e = chosen (eqb k.id id) refl e where
+  chosen : (b : Bool) → eqb k.id id ≡ b → cond b (Some k.line) None ≡ Some line → (k.id ≡ id) × (k.line ≡ line)
+  chosen true t e = (eqb-true k.id id t, some_is k.line line e)
+  chosen false t e = let never : ⊥ = cc in absurd never
+
+module _ {State : Type 0} (width : ℕ) (narrow : width ≤ 7) (ends : Ends State) (Good : State → Type 0) (ex : IsExchange ends Good) (kept : State → Option KeptReply) (keeper : IsKeeper ends kept) (low : ℕ) where
+  -- the line was made for this request, as its call was executed
+  pub record IsVouched (sent : List Sent) (executed : List ℕ) (made : List (Numbered (List ℕ))) (n : ℕ) (line : List ℕ) : Type 0 where
+    pub among : Has (record { number = n; line = line }) made
+    pub acted : Has n executed
+    pub answer : IsAnswerAt ends Good ex sent (record { number = n; line = line })
+
+  abbrev pub Vouched : List Sent → List ℕ → List (Numbered (List ℕ)) → ℕ → List ℕ → Type 0
+  Vouched sent executed made n line = (n < low) ⊎ IsVouched sent executed made n line
+
+  answer_more : (sent more : List Sent) (m : Numbered (List ℕ)) → IsAnswerAt ends Good ex sent m → IsAnswerAt ends Good ex (sent ++ more) m
+  answer_more sent more m h = record { request = h.request; found = get_more sent more m.number h.request h.found; reply = h.reply }
+
+  -- further requests, executions and entries change nothing
+  vouched_sent : (sent more : List Sent) (executed : List ℕ) (made : List (Numbered (List ℕ))) (n : ℕ) (line : List ℕ) → Vouched sent executed made n line → Vouched (sent ++ more) executed made n line
+  vouched_sent sent more executed made n line (inl l) = inl l
+  vouched_sent sent more executed made n line (inr h) = inr (record { among = h.among; acted = h.acted; answer = answer_more sent more (record { number = n; line = line }) h.answer })
+
+  vouched_made : (sent : List Sent) (executed : List ℕ) (made more : List (Numbered (List ℕ))) (n : ℕ) (line : List ℕ) → Vouched sent executed made n line → Vouched sent executed (made ++ more) n line
+  vouched_made sent executed made more n line (inl l) = inl l
+  vouched_made sent executed made more n line (inr h) = inr (record { among = has_more _ made more h.among; acted = h.acted; answer = h.answer })
+
+  vouched_acted : (sent : List Sent) (executed others : List ℕ) (made : List (Numbered (List ℕ))) (n : ℕ) (line : List ℕ) → Vouched sent executed made n line → Vouched sent (executed ++ others) made n line
+  vouched_acted sent executed others made n line (inl l) = inl l
+  vouched_acted sent executed others made n line (inr h) = inr (record { among = h.among; acted = has_more n executed others h.acted; answer = h.answer })
+
+  -- what is kept is the line of the last request but one below top
+  abbrev pub KeptIs : (ℕ → List ℕ → Type 0) → ℕ → ℕ → Option KeptReply → Type 0
+  KeptIs P since top None = Unit {0}
+  KeptIs P since top (Some k) = (since < top) × (k.id ≡ (top - 1 - since) % 8) × P (top - 1) k.line
+
+  kept_more : (P Q : ℕ → List ℕ → Type 0) → ((n : ℕ) (line : List ℕ) → P n line → Q n line) → (since top : ℕ) (k : Option KeptReply) → KeptIs P since top k → KeptIs Q since top k
+  kept_more P Q f since top None h = tt
+  kept_more P Q f since top (Some k) h = (h.0, h.1, f (top - 1) k.line h.2)
+
+  kept_none : (P : ℕ → List ℕ → Type 0) (since top : ℕ) (k : Option KeptReply) → k ≡ None → KeptIs P since top k
+  kept_none P since top k e = subst (λ k. KeptIs P since top k) (sym e) tt
+
+  -- a request whose id isn't the kept one is a later one than the last, or nothing is kept
+  later_or_none : (P : ℕ → List ℕ → Type 0) (since top n id : ℕ) (k : Option KeptReply) → KeptIs P since top k → id ≡ (n - since) % 8 → top ≤ n + 1 → kept_line k (Some id) ≡ None → (k ≡ None) ⊎ (top ≤ n)
+  later_or_none P since top n id None h mine le none = inl refl
+  later_or_none P since top n id (Some k) h mine le none = inr (newer since top n id k h.1 h.0 mine le none)
+
+  pub record IsTrue (since count : ℕ) (sent : List Sent) (executed starts : List ℕ) (made : List (Numbered (List ℕ))) (settled : List Settlement) (up : List (Numbered Request)) (down : List (Numbered (List ℕ))) (k : Option KeptReply) : Type 0 where
+    -- the number of the last request that the instrument was handed is one less than this
+    pub top : ℕ
+    pub counted : count ≤ top
+    pub within : top ≤ length sent
+    pub above : Each (λ x. top ≤ x.number + 1) up
+    pub below : Each (λ x. x.number < top) down
+    pub holds : KeptIs (Vouched sent executed made) since top k
+    pub lines : Each (IsOf sent) up
+    pub coming : Each (λ x. Vouched sent executed made x.number x.line) down
+    pub answers : AllSo (Vouched sent executed made) 0 settled
+    pub once : IsClimbing top executed starts k
+
+  abbrev pub True : World ByNumber State → Type 0
+  True w = IsTrue w.client.since w.client.count w.wire.sent w.wire.executed w.wire.starts w.wire.made w.wire.settled w.wire.up w.wire.down (kept w.wire.state)
+
+  -- a request goes out
+  true_sent : (since count : ℕ) (sent : List Sent) (executed starts : List ℕ) (made : List (Numbered (List ℕ))) (settled : List Settlement) (up : List (Numbered Request)) (down : List (Numbered (List ℕ))) (k : Option KeptReply) (target id : ℕ) (call : Call) → id < 8 → IsTrue since count sent executed starts made settled up down k → IsTrue since count (sent ++ record { target = target; call = call; line = request_line (Some id) call } ∷ []) executed starts made settled (up ++ record { number = length sent; line = record { id = id; call = call } } ∷ []) down k
+  true_sent since count sent executed starts made settled up down k target id call digit h =
+      let r : Sent = record { target = target; call = call; line = request_line (Some id) call } in
+      let P = Vouched sent executed made in
+      let Q = Vouched (sent ++ r ∷ []) executed made in
+      let f = vouched_sent sent (r ∷ []) executed made in
+      record {
+        top = h.top;
+        counted = h.counted;
+        within = omega (arith, h.within, length_push sent r);
+        above = each_append _ up _ h.above (omega (arith, h.within), tt);
+        below = h.below;
+        holds = kept_more P Q f since h.top k h.holds;
+        lines = each_append _ up _ (each_more _ _ (of_more sent (r ∷ [])) up h.lines) (record { request = r; found = get_push sent r; small = digit; call = refl; text = refl }, tt);
+        coming = each_more (λ (x : Numbered (List ℕ)). P x.number x.line) (λ x. Q x.number x.line) (λ x. f x.number x.line) down h.coming;
+        answers = all_so_more P Q f 0 settled h.answers;
+        once = h.once;
+      }
+
+  true_send : (w : World ByNumber State) (target : ℕ) (call : Call) (deadline : ℕ) (full : Bool) (x : Sending ByNumber) → number_send w.client target call deadline full ≡ Some x → True w → True (requested w target call (Some x))
+  true_send w target call deadline true x e h = cc
+  true_send w target call deadline false x e h =
+      let c = w.client in
+      let id = (length c.requests - c.since) % 8 in
+      let y : Sending ByNumber = record { id = id; client = record { count = c.count; requests = c.requests ++ pending_of target call deadline ∷ []; since = c.since } } in
+      subst (λ z. True (requested w target call (Some z))) (some_is y x e)
+      (true_sent c.since c.count w.wire.sent w.wire.executed w.wire.starts w.wire.made w.wire.settled w.wire.up w.wire.down (kept w.wire.state) target id call (omega arith) h)
+
+  -- a further entry
+  true_made : (since count : ℕ) (sent : List Sent) (executed starts : List ℕ) (made : List (Numbered (List ℕ))) (settled : List Settlement) (up : List (Numbered Request)) (down : List (Numbered (List ℕ))) (k : Option KeptReply) (m : Numbered (List ℕ)) → IsTrue since count sent executed starts made settled up down k → IsTrue since count sent executed starts (made ++ m ∷ []) settled up down k
+  true_made since count sent executed starts made settled up down k m h =
+      let P = Vouched sent executed made in
+      let Q = Vouched sent executed (made ++ m ∷ []) in
+      let f = vouched_made sent executed made (m ∷ []) in
+      record {
+        top = h.top;
+        counted = h.counted;
+        within = h.within;
+        above = h.above;
+        below = h.below;
+        holds = kept_more P Q f since h.top k h.holds;
+        lines = h.lines;
+        coming = each_more (λ (x : Numbered (List ℕ)). P x.number x.line) (λ x. Q x.number x.line) (λ x. f x.number x.line) down h.coming;
+        answers = all_so_more P Q f 0 settled h.answers;
+        once = h.once;
+      }
+
+  -- the last one comes again, and has the kept line
+  true_again : (w : World ByNumber State) (x : Numbered Request) (rest : List (Numbered Request)) (line : List ℕ) (k : Option KeptReply) → kept w.wire.state ≡ k → w.wire.up ≡ x ∷ rest → kept_line k (Some x.line.id) ≡ Some line → Sound width ends Good w → True w → True (on_wire w (replied w.wire x.number rest (record { state = w.wire.state; reply = line; executed = false })))
+  unfolding true_made
+  true_again w x rest line None ke q e s h = let never : ⊥ = cc in absurd never
+  true_again w x rest line (Some k) ke q e s h =
+      let c = w.client in
+      let v = w.wire in
+      let own = kept_own k x.line.id line e in
+      let g = subst (λ l. Each (IsGoing c.since (length c.requests)) l) q s.going in
+      let a = subst (λ l. Each (λ y. h.top ≤ y.number + 1) l) q h.above in
+      let o = subst (λ l. Each (IsOf v.sent) l) q h.lines in
+      let held = subst (λ k. KeptIs (Vouched v.sent v.executed v.made) c.since h.top k) ke h.holds in
+      let last : h.top - 1 ≡ x.number = omega (arith, own.0, held.0, held.1, g.0.id, g.0.recent, g.0.sent, s.few, h.counted, a.0, narrow) in
+      let m : Numbered (List ℕ) = record { number = x.number; line = line } in
+      let vouched : Vouched v.sent v.executed v.made x.number line =
+      subst (λ n. Vouched v.sent v.executed v.made n line) last (subst (λ l. Vouched v.sent v.executed v.made (h.top - 1) l) own.1 held.2) in
+      let t = true_made c.since c.count v.sent v.executed v.starts v.made v.settled v.up v.down (kept v.state) m h in
+      record {
+        top = h.top;
+        counted = h.counted;
+        within = h.within;
+        above = a.1;
+        below = each_append _ v.down _ h.below (omega (arith, last, held.0), tt);
+        holds = t.holds;
+        lines = o.1;
+        coming = each_append _ v.down _ t.coming (vouched_made v.sent v.executed v.made (m ∷ []) x.number line vouched, tt);
+        answers = t.answers;
+        once = h.once;
+      }
+
+  -- one is executed
+  true_new : (w : World ByNumber State) (x : Numbered Request) (rest : List (Numbered Request)) (hd : Handed State) → w.wire.up ≡ x ∷ rest → ends.handed w.wire.state x.line.id x.line.call ≡ hd → kept_line (kept w.wire.state) (Some x.line.id) ≡ None → hd.executed ≡ true → Sound width ends Good w → True w → True (on_wire w (replied w.wire x.number rest (record hd { executed = true })))
+  true_new w x rest hd q is none exe s h =
+      let c = w.client in
+      let v = w.wire in
+      let n = x.number in
+      let g = subst (λ l. Each (IsGoing c.since (length c.requests)) l) q s.going in
+      let a = subst (λ l. Each (λ y. h.top ≤ y.number + 1) l) q h.above in
+      let o = subst (λ l. Each (IsOf v.sent) l) q h.lines in
+      let order = rising_tail c.count n (numbers v.down) (numbers rest) (subst (λ l. Rising c.count (numbers v.down ++ numbers l)) q s.order) in
+      let keeps_it : kept hd.state ≡ Some (record { id = x.line.id; line = hd.reply }) =
+      subst (λ (k : Handed State). kept k.state ≡ Some (record { id = x.line.id; line = k.reply })) is (keeper.keeps v.state x.line.id x.line.call none) in
+      let m : Numbered (List ℕ) = record { number = n; line = hd.reply } in
+      let P = Vouched v.sent v.executed v.made in
+      let Q = Vouched v.sent (v.executed ++ n ∷ []) (v.made ++ m ∷ []) in
+      let f : (i : ℕ) (line : List ℕ) → P i line → Q i line = λ i line p. vouched_acted v.sent v.executed (n ∷ []) (v.made ++ m ∷ []) i line (vouched_made v.sent v.executed v.made (m ∷ []) i line p) in
+      let new : Q n hd.reply = inr (record {
+        among = has_push m v.made;
+        acted = has_push n v.executed;
+        answer = record {
+          request = o.0.request;
+          found = o.0.found;
+          reply = record {
+            state = v.state;
+            good = s.good;
+            id = x.line.id;
+            small = o.0.small;
+            executed = ap (λ call. (ends.handed v.state x.line.id call).executed) o.0.call ∙ ap (λ (k : Handed State). k.executed) is ∙ exe;
+            reply = sym (ap (λ (k : Handed State). k.reply) is) ∙ ap (λ call. (ends.handed v.state x.line.id call).reply) (sym o.0.call);
+          };
+        };
+      }) in
+      let back : n ≡ n + 1 - 1 = omega arith in
+      record {
+        top = n + 1;
+        counted = omega (arith, h.counted, a.0);
+        within = omega (arith, g.0.sent, s.counted);
+        above = rising_each (n + 1) rest order.1;
+        below = each_append _ v.down _ (each_more (λ (y : Numbered (List ℕ)). y.number < h.top) (λ y. y.number < n + 1) (λ y l. omega (arith, l, a.0)) v.down h.below) (omega arith, tt);
+        holds = subst (λ k. KeptIs Q c.since (n + 1) k) (sym keeps_it) (omega (arith, g.0.recent), g.0.id ∙ ap (λ i. (i - c.since) % 8) back, subst (λ i. Q i hd.reply) back new);
+        lines = o.1;
+        coming = each_append _ v.down _ (each_more (λ (y : Numbered (List ℕ)). P y.number y.line) (λ y. Q y.number y.line) (λ y. f y.number y.line) v.down h.coming) (new, tt);
+        answers = all_so_more P Q f 0 v.settled h.answers;
+        once = subst (λ k. IsClimbing (n + 1) (v.executed ++ n ∷ []) v.starts k) (sym keeps_it) (climbing_acted h.top n v.executed v.starts (kept v.state) (record { id = x.line.id; line = hd.reply }) a.0 (later_or_none P c.since h.top n x.line.id (kept v.state) h.holds g.0.id a.0 none) h.once);
+      }
+
+  true_handed : (w : World ByNumber State) (x : Numbered Request) (rest : List (Numbered Request)) (hd : Handed State) (o : Option (List ℕ)) → w.wire.up ≡ x ∷ rest → ends.handed w.wire.state x.line.id x.line.call ≡ hd → kept_line (kept w.wire.state) (Some x.line.id) ≡ o → Sound width ends Good w → True w → True (on_wire w (replied w.wire x.number rest hd))
+  true_handed w x rest hd (Some line) q is o s h =
+      subst (λ (k : Handed State). True (on_wire w (replied w.wire x.number rest k))) (sym (keeper.again w.wire.state x.line.id x.line.call line o) ∙ is) (true_again w x rest line (kept w.wire.state) refl q o s h)
+  true_handed w x rest hd None q is o s h =
+      let exe : hd.executed ≡ true = sym (ap (λ (k : Handed State). k.executed) is) ∙ keeper.executes w.wire.state x.line.id x.line.call o in
+      subst (λ b. True (on_wire w (replied w.wire x.number rest (record hd { executed = b })))) (sym exe) (true_new w x rest hd q is o exe s h)
+
+  true_reply : (w : World ByNumber State) (x : Numbered (List ℕ)) (rest : List (Numbered (List ℕ))) (old : Bool) → ltb x.number w.client.count ≡ old → w.wire.down ≡ x ∷ rest → length w.wire.settled ≡ w.client.count → True w → True (with_settled (record w.wire { down = rest }) (number_reply w.client x old))
+  true_reply w x rest true t e s h =
+      let v = w.wire in
+      let P = Vouched v.sent v.executed v.made in
+      let b = subst (λ q. Each (λ y. y.number < h.top) q) e h.below in
+      let m = subst (λ q. Each (λ y. P y.number y.line) q) e h.coming in
+      record {
+        top = h.top;
+        counted = h.counted;
+        within = h.within;
+        above = h.above;
+        below = b.1;
+        holds = h.holds;
+        lines = h.lines;
+        coming = m.1;
+        answers = all_so_append P 0 w.client.count v.settled [] (omega (arith, s)) h.answers tt;
+        once = h.once;
+      }
+  true_reply w x rest false t e s h =
+      let v = w.wire in
+      let P = Vouched v.sent v.executed v.made in
+      let b = subst (λ q. Each (λ y. y.number < h.top) q) e h.below in
+      let m = subst (λ q. Each (λ y. P y.number y.line) q) e h.coming in
+      let ge : w.client.count ≤ x.number = ltb-false _ _ t in
+      record {
+        top = h.top;
+        counted = omega (arith, b.0);
+        within = h.within;
+        above = h.above;
+        below = b.1;
+        holds = h.holds;
+        lines = h.lines;
+        coming = m.1;
+        answers =
+            all_so_append P 0 w.client.count v.settled _ (omega (arith, s)) h.answers
+            (all_so_settle P w.client.count x.number (x.number - w.client.count) x.line (drop w.client.count w.client.requests) (omega (arith, ge)) m.0);
+        once = h.once;
+      }
+
+  -- the instrument starts anew, whatever is under way
+  pub true_started : (w : World ByNumber State) (b : Bool) → True w → True (on_wire w (started ends w.wire b))
+  true_started w false h = h
+  true_started w true h =
+      let v = w.wire in
+      record {
+        top = h.top;
+        counted = h.counted;
+        within = h.within;
+        above = h.above;
+        below = h.below;
+        holds = kept_none (Vouched v.sent v.executed v.made) w.client.since h.top (kept (ends.restarted v.state)) (keeper.forgets v.state);
+        lines = h.lines;
+        coming = h.coming;
+        answers = h.answers;
+        once = climbing_started h.top v.executed v.starts (kept v.state) (kept (ends.restarted v.state)) h.once;
+      }
+
+  -- the client too, with nothing under way
+  true_restarted : (w : World ByNumber State) → ends.joint ≡ true → w.wire.up ≡ [] → w.wire.down ≡ [] → Sound width ends Good w → True w → True (with_settled (started ends w.wire ends.joint) ((by_numbers width).restart w.client))
+  true_restarted w joint eu ed s h =
+      let v = w.wire in
+      let c = w.client in
+      let total = length c.requests in
+      let P = Vouched v.sent v.executed v.made in
+      let done : True (with_settled (started ends w.wire true) ((by_numbers width).restart w.client)) = record {
+        top = total;
+        counted = omega arith;
+        within = omega (arith, s.counted);
+        above = subst (λ q. Each (λ x. total ≤ x.number + 1) q) (sym eu) tt;
+        below = subst (λ q. Each (λ x. x.number < total) q) (sym ed) tt;
+        holds = kept_none P total total (kept (ends.restarted v.state)) (keeper.forgets v.state);
+        lines = h.lines;
+        coming = h.coming;
+        answers = all_so_append P 0 c.count v.settled _ (omega (arith, s.booked)) h.answers (all_so_lost P c.count (drop c.count c.requests));
+        once = climbing_raised h.top total v.executed (v.starts ++ length v.executed ∷ []) (kept (ends.restarted v.state)) (omega (arith, h.within, s.counted)) (climbing_started h.top v.executed v.starts (kept v.state) (kept (ends.restarted v.state)) h.once);
+      } in
+      subst (λ b. True (with_settled (started ends w.wire b) ((by_numbers width).restart w.client))) (sym joint) done
+
+  true_queues : (w : World ByNumber State) (up : List (Numbered Request)) (down : List (Numbered (List ℕ))) (h : True w) → Each (λ x. h.top ≤ x.number + 1) up → Each (IsOf w.wire.sent) up → Each (λ x. x.number < h.top) down → Each (λ x. Vouched w.wire.sent w.wire.executed w.wire.made x.number x.line) down → True (on_wire w (record w.wire { up = up; down = down }))
+  true_queues w up down h a l b c = record { top = h.top; counted = h.counted; within = h.within; above = a; below = b; holds = h.holds; lines = l; coming = c; answers = h.answers; once = h.once }
+
+  -- the line is as it has to be, and each reply is its own request's
+  pub record Holds (w : World ByNumber State) : Type 0 where
+    pub sound : Sound width ends Good w
+    pub trusted : True w
+
+  keeps_true : ends.joint ≡ true → IsStable ends (by_numbers width) Holds
+  keeps_true joint =
+      let k = keeps width ends Good ex in
+      record {
+        idles = λ w h. record { sound = k.idles w h.sound; trusted = h.trusted };
+        refuses = λ w h. record { sound = k.refuses w h.sound; trusted = h.trusted };
+        sends = λ w target call deadline x e h. record { sound = k.sends w target call deadline x e h.sound; trusted = true_send w target call deadline (eqb (length w.client.requests - w.client.count) width) x e h.trusted };
+        answers = λ w x rest q h. record { sound = k.answers w x rest q h.sound; trusted = true_handed w x rest (ends.handed w.wire.state x.line.id x.line.call) (kept_line (kept w.wire.state) (Some x.line.id)) q refl refl h.sound h.trusted };
+        loses_up = λ w n h. record { sound = k.loses_up w n h.sound; trusted = true_queues w (without n w.wire.up) w.wire.down h.trusted (each_without _ n w.wire.up h.trusted.above) (each_without _ n w.wire.up h.trusted.lines) h.trusted.below h.trusted.coming };
+        repeats_up = λ w n h. record { sound = k.repeats_up w n h.sound; trusted = true_queues w (doubled n w.wire.up) w.wire.down h.trusted (each_doubled _ n w.wire.up h.trusted.above) (each_doubled _ n w.wire.up h.trusted.lines) h.trusted.below h.trusted.coming };
+        loses_down = λ w n h. record { sound = k.loses_down w n h.sound; trusted = true_queues w w.wire.up (without n w.wire.down) h.trusted h.trusted.above h.trusted.lines (each_without _ n w.wire.down h.trusted.below) (each_without _ n w.wire.down h.trusted.coming) };
+        repeats_down = λ w n h. record { sound = k.repeats_down w n h.sound; trusted = true_queues w w.wire.up (doubled n w.wire.down) h.trusted h.trusted.above h.trusted.lines (each_doubled _ n w.wire.down h.trusted.below) (each_doubled _ n w.wire.down h.trusted.coming) };
+        hears = λ w x rest q h. record { sound = k.hears w x rest q h.sound; trusted = true_reply w x rest (ltb x.number w.client.count) refl q h.sound.booked h.trusted };
+        expires = λ w now h. record { sound = k.expires w now h.sound; trusted = h.trusted };
+        restarts = λ w u d h. record { sound = k.restarts w u d h.sound; trusted = true_restarted w joint u d h.sound h.trusted };
+        starts = λ w u d h. record { sound = k.starts w u d h.sound; trusted = true_started w true h.trusted };
+      }
+
+  pub holds_step : ends.joint ≡ true → (w : World ByNumber State) (e : Step) → Holds w → Holds (happens ends (by_numbers width) w e)
+  holds_step joint w e h = stable ends (by_numbers width) Holds (keeps_true joint) w e h

@@ -1,0 +1,91 @@
+-- The field, this project's own: what happens between a client and an instrument over any number of connections, and what may happen to
+-- the lines meanwhile. It is the world's line, which keeps order, loses lines whole and repeats a line directly behind it; a
+-- connection has no word in it, since a close is a loss of lines; and the instrument may start anew at any moment.
+use Rattle.std.specs.Prelude.{◌≡◌, ℕ, Bool, true, false, List, [], ◌∷◌, None}
+use Rattle.gc_catalogue.specs.declared.call.Call.{Call}
+use Rattle.gc_client.specs.OneForOne as client
+use Rattle.gc_client.specs.Rule.{heard}
+use Rattle.gc_world.specs.Clients.{by_ids, ids_open}
+use Rattle.gc_world.specs.World.{Numbered, Ends, Rule, World, Step, Send, Up_deliver, Up_lose, Up_repeat, Down_deliver, Down_lose, Down_repeat, Expire, Restart_client, Restart_instrument, Nothing, started, on_wire, happens}
+
+-- what may happen next
+pub data Move : Type 0 where
+  -- the client's part: a request goes out, whole or in part; a moment is told; a reply comes; a line comes that is no reply with an id
+  Sends : (target : ℕ) (call : Call) (deadline : ℕ) → Move
+  Tells : (now : ℕ) → Move
+  Comes : (line : List ℕ) → Move
+  Foreign : (line : List ℕ) → Move
+  -- the line's part: a request reaches the instrument, or a line is lost or comes twice
+  OnLine : (step : Step) → Move
+  -- the instrument starts anew, whatever is under way
+  Anew : Move
+
+-- the client has no part in it, and nothing starts anew
+abbrev pub IsOfLine : Step → Type 0
+IsOfLine (Send target call deadline) = ⊥
+IsOfLine Up_deliver = Unit {0}
+IsOfLine (Up_lose k) = Unit {0}
+IsOfLine (Up_repeat k) = Unit {0}
+IsOfLine Down_deliver = ⊥
+IsOfLine (Down_lose k) = Unit {0}
+IsOfLine (Down_repeat k) = Unit {0}
+IsOfLine (Expire now) = ⊥
+IsOfLine Restart_client = ⊥
+IsOfLine Restart_instrument = ⊥
+IsOfLine Nothing = Unit {0}
+
+module _ {Client State : Type 0} where
+  -- what a move does to the world
+  abbrev pub moves : Ends State → Rule Client → World Client State → Move → World Client State
+  moves ends rule w (Sends target call deadline) = happens ends rule w (Send target call deadline)
+  moves ends rule w (Tells now) = happens ends rule w (Expire now)
+  moves ends rule w (Comes line) = happens ends rule w Down_deliver
+  moves ends rule w (Foreign line) = w
+  moves ends rule w (OnLine step) = happens ends rule w step
+  moves ends rule w Anew = on_wire w (started ends w.wire true)
+
+  -- a move for each of the list, in order
+  abbrev pub moved : Ends State → Rule Client → List Move → World Client State → World Client State
+  moved ends rule [] w = w
+  moved ends rule (m ∷ ms) w = moved ends rule ms (moves ends rule w m)
+
+  -- what comes is the whole reply in front of those under way, or no reply with an id: an echo, noise, or what is left of a line that was cut
+  abbrev pub IsPossible : World Client State → Move → Type 0
+  IsPossible w (Sends target call deadline) = Unit {0}
+  IsPossible w (Tells now) = Unit {0}
+  IsPossible w (Comes line) = (n : ℕ) × (rest : List (Numbered (List ℕ))) × (w.wire.down ≡ record { number = n; line = line } ∷ rest)
+  IsPossible w (Foreign line) = heard line ≡ None
+  IsPossible w (OnLine step) = IsOfLine step
+  IsPossible w Anew = Unit {0}
+
+  -- each of the list is possible in its turn
+  abbrev pub ArePossible : Ends State → Rule Client → List Move → World Client State → Type 0
+  ArePossible ends rule [] w = Unit {0}
+  ArePossible ends rule (m ∷ ms) w = IsPossible w m × ArePossible ends rule ms (moves ends rule w m)
+
+-- what the moves are to the client: those of the line are nothing to it
+abbrev pub seen : List Move → List client.Step
+seen [] = []
+seen (Sends target call deadline ∷ ms) = client.Send target call deadline ∷ seen ms
+seen (Tells now ∷ ms) = client.Expire now ∷ seen ms
+seen (Comes line ∷ ms) = client.Hear line ∷ seen ms
+seen (Foreign line ∷ ms) = client.Hear line ∷ seen ms
+seen (OnLine step ∷ ms) = seen ms
+seen (Anew ∷ ms) = seen ms
+
+-- the first request goes out alone: no other before a reply came. It is told whether the first went out
+abbrev pub IsFirstAlone : Bool → List Move → Type 0
+IsFirstAlone out [] = Unit {0}
+IsFirstAlone false (Sends target call deadline ∷ ms) = IsFirstAlone true ms
+IsFirstAlone true (Sends target call deadline ∷ ms) = ⊥
+IsFirstAlone out (Tells now ∷ ms) = IsFirstAlone out ms
+IsFirstAlone out (Comes line ∷ ms) = Unit {0}
+IsFirstAlone out (Foreign line ∷ ms) = IsFirstAlone out ms
+IsFirstAlone out (OnLine step ∷ ms) = IsFirstAlone out ms
+IsFirstAlone out (Anew ∷ ms) = IsFirstAlone out ms
+
+-- from a new client on, and with nothing under way, these moves are possible, whatever the instrument keeps; and the first request goes
+-- out alone
+pub record IsField {State : Type 0} (width : ℕ) (ends : Ends State) (state : State) (ms : List Move) : Type 0 where
+  pub possible : ArePossible ends (by_ids width ends) ms (ids_open state)
+  pub alone : IsFirstAlone false ms

@@ -1,0 +1,23 @@
+-- Requests that are cut, this project's own: where the front of one got through, and a line feed that clears it, or the tail of one
+-- behind a start of the instrument, then no request did. So a request that was cut reached the instrument whole or not at all.
+use Rattle.std.specs.Prelude.{◌≡◌, ℕ, ◌+◌, ◌<◌, ◌≤◌, List, [], ◌∷◌, ◌++◌, length, take, drop, Some}
+use Rattle.gc_lines.specs.Frames.{lines}
+use Rattle.gc_lines.specs.Lines.{with_end}
+use Rattle.gc_catalogue.specs.Calls.{IsFitting}
+use Rattle.gc_catalogue.specs.declared.call.Call.{Call}
+use Rattle.gc_catalogue.specs.Texts.{request_line}
+use Rattle.gc_instrument.specs.Laws.{HasNoRequest}
+
+-- the bytes of a request
+abbrev pub request_bytes : ℕ → Call → List ℕ
+request_bytes id call = with_end (request_line (Some id) call)
+
+pub record IsWholeOrNothing (id : ℕ) (call : Call) : Type 0 where
+  -- a front without its CR, and a line feed, are no line; with its CR they are the request itself
+  pub front : (count : ℕ) → count ≤ length (request_line (Some id) call) → lines (take count (request_bytes id call) ++ 10 ∷ []) ≡ []
+  pub whole : take (length (request_line (Some id) call) + 1) (request_bytes id call) ++ 10 ∷ [] ≡ request_bytes id call
+  -- no line of a tail is a request
+  pub tail : (count : ℕ) → 0 < count → HasNoRequest (drop count (request_bytes id call))
+
+abbrev pub CutRequestsAreWholeOrNothing : Type 0
+CutRequestsAreWholeOrNothing = (id : ℕ) (call : Call) → IsFitting call → IsWholeOrNothing id call

@@ -1,0 +1,71 @@
+-- What holds in the field, whenever a client sends: this project's own.
+use Rattle.std.specs.Prelude.{◌≡◌, ℕ, ◌-◌, ◌<◌, ◌≤◌, List, ◌∷◌, ◌++◌, length, map, Some, slice_get}
+use Rattle.gc_client.specs.declared.window.TheConstants.{WINDOW}
+use Rattle.gc_client.specs.OneForOne.{Asked, begun, course, of_settled, of_pending}
+use Rattle.gc_client.specs.Rule.{ById, Settlement, Answered, fresh, settle}
+use Rattle.gc_instrument.specs.State.{State, IsFittingState}
+use Rattle.gc_station.specs.Acts.{Act}
+use Rattle.gc_world.specs.Clients.{ends, by_ids, by_numbers, ids_open, numbers_open}
+use Rattle.gc_world.specs.Record.{IsBooked, IsOneForOne}
+use Rattle.gc_world.specs.World.{Ends, Numbered, Sent, Wire, World}
+use Rattle.gc_field.specs.Carried.{IsCarried}
+use Rattle.gc_field.specs.Field.{Move, Comes, IsField, moved, moves, seen}
+use Rattle.gc_field.specs.Meaning.{client_after}
+use Rattle.gc_field.specs.Once.{ActsOnce}
+
+-- whom a request was for, and what it asks for
+abbrev pub asked : Sent → Asked
+asked r = record { target = r.target; call = r.call }
+
+-- the request was executed here
+abbrev pub WasExecuted : List ℕ → ℕ → Type 0
+WasExecuted executed m = (j : ℕ) × (slice_get executed j ≡ Some m)
+
+module _ {State : Type 0} (width : ℕ) (ends : Ends State) (state : State) (ms : List Move) where
+  -- the world behind the moves, with the client that knows ids, and with the one that is told the numbers
+  abbrev pub left : World ById State
+  left = moved ends (by_ids width ends) ms (ids_open state)
+
+  abbrev pub left_by_numbers : Wire State
+  left_by_numbers = (moved ends (by_numbers width) ms (numbers_open state)).wire
+
+  -- what holds of them, for an instrument whose states are good ones
+  pub record IsFaithful (Good : State → Type 0) : Type 0 where
+    -- a client that takes these steps settles what the world's settled, and stands where that stands
+    pub settled : (course width begun (seen ms)).settlements ≡ left.wire.settled
+    pub stands : (course width begun (seen ms)).client ≡ left.client
+    -- one for one: what was settled and what waits are the requests that were sent, in order, each once; so settlement m has the target and
+    -- the call of request m
+    pub accounted : map of_settled left.wire.settled ++ map of_pending left.client.waiting ≡ map asked left.wire.sent
+    pub one_for_one : IsOneForOne left.wire.sent left.wire.settled
+    -- its own: an answer at place m is a line that the instrument made for request m as it executed that very call; but for the first
+    -- request, which an instrument that kept an older reply with its id may have answered with that
+    pub booked :
+        (m : ℕ) (s : Settlement) → 0 < m → slice_get left.wire.settled m ≡ Some s → IsBooked ends Good left.wire.made m s
+    -- and it was executed here, and not before the client began
+    pub executed :
+        (m : ℕ) (s : Settlement) (line : List ℕ) → 0 < m → slice_get left.wire.settled m ≡ Some s → s.outcome ≡ Answered line → WasExecuted left.wire.executed m
+    -- acts once: between two starts of the instrument each request is executed at most once, in the order of sending
+    pub once : ActsOnce left.wire.executed left.wire.starts
+    -- agreement: all is as with a client that is told the number of each reply's request
+    pub agrees : left.wire ≡ left_by_numbers
+    -- in time: a reply whose request isn't settled settles it, and those before it as lost; where it isn't given up, it is answered with
+    -- that line
+    pub first_reply :
+        (n : ℕ) (line : List ℕ) (rest : List (Numbered (List ℕ))) → left.wire.down ≡ record { number = n; line = line } ∷ rest → length left.wire.settled ≤ n →
+        (moves ends (by_ids width ends) left (Comes line)).wire.settled ≡ left.wire.settled ++ settle (n - length left.wire.settled) line left.client.waiting
+
+-- for the simulated instrument in any state that fits, whatever it keeps, and a client with a window of any width
+abbrev pub AnswersAreTheirOwn : Type 0
+AnswersAreTheirOwn =
+    (width : ℕ) → width ≤ WINDOW → (state : State) → IsFittingState state → (ms : List Move) → IsField width ends state ms → IsFaithful width ends state ms IsFittingState
+
+-- the same of a station's acts: and its client stands where the world's does
+pub record IsStationFaithful (state : State) (ms : List Move) : Type 0 where
+  pub faithful : IsFaithful WINDOW ends state ms IsFittingState
+  pub client : client_after fresh (seen ms) ≡ (left WINDOW ends state ms).client
+
+-- and for a station, whatever its acts are
+abbrev pub StationsAnswersAreTheirOwn : Type 0
+StationsAnswersAreTheirOwn =
+    (state : State) → IsFittingState state → (acts : List Act) (ms : List Move) → IsCarried ends state acts ms → IsStationFaithful state ms

@@ -1,0 +1,9 @@
+pub mod Field
+pub mod Once
+pub mod Meaning
+pub mod Carried
+pub mod Fronts
+pub mod Laws
+pub mod Stretches
+pub mod Alone
+pub mod Runs

@@ -1,0 +1,68 @@
+-- What the acts of a link are to a station's client, this project's own. It doesn't say when a station sends: only that it keeps the
+-- client's rule, with the window of seven, and hears each line that comes or drops what came. A connection may be closed and made as
+-- often as it will, and that is nothing to the client.
+use Rattle.std.specs.Prelude.{◌≡◌, ◌⊎◌, ℕ, List, [], ◌∷◌, ◌++◌, map, Some}
+use Rattle.gc_lines.specs.Frames.{rest_behind}
+use Rattle.gc_lines.specs.Lines.{with_end}
+use Rattle.gc_catalogue.specs.declared.call.Call.{Call}
+use Rattle.gc_catalogue.specs.Texts.{request_line}
+use Rattle.gc_client.specs.declared.window.TheConstants.{WINDOW}
+use Rattle.gc_client.specs.OneForOne.{Step, Send, Hear, Expire, goes}
+use Rattle.gc_client.specs.Rule.{ById, Sending, sends}
+use Rattle.gc_station.specs.declared.link.Moment.{Moment}
+use Rattle.gc_station.specs.Acts.{Act, Told, Untold, Put, Cut, Gave, Silent, Ended, Broke, Closed, Opened, Unopened}
+use Rattle.gc_station.specs.Standing.{lines_behind}
+
+-- these bytes are the line of a request that the client sends
+pub record IsRequest (client : ById) (bytes : List ℕ) (steps : List Step) : Type 0 where
+  pub target : ℕ
+  pub call : Call
+  pub deadline : ℕ
+  pub sending : Sending ById
+  pub taken : sends WINDOW client target call deadline ≡ Some sending
+  pub text : bytes ≡ with_end (request_line (Some sending.id) call)
+  pub step : steps ≡ Send target call deadline ∷ []
+
+-- or a line feed, which clears the receiver and is no request
+abbrev pub IsPut : ById → List ℕ → List Step → Type 0
+IsPut client bytes steps = ((bytes ≡ 10 ∷ []) × (steps ≡ [])) ⊎ IsRequest client bytes steps
+
+-- a piece is heard: the moment gives up what has reached its deadline, and then each line that the piece completes is heard, behind
+-- these bytes since the last line feed
+pub record IsHeard (before piece : List ℕ) (m : Moment) (steps : List Step) (behind : List ℕ) : Type 0 where
+  pub lines : steps ≡ Expire m.elapsed ∷ map Hear (lines_behind before piece)
+  pub rest : behind ≡ rest_behind before piece
+
+-- or it is dropped, as while a connection is drained: the moment is told, and the lines that came are lost by the line
+pub record IsDropped (before : List ℕ) (m : Moment) (steps : List Step) (behind : List ℕ) : Type 0 where
+  pub lines : steps ≡ Expire m.elapsed ∷ []
+  pub rest : behind ≡ before
+
+-- what an act is to a client: these steps, and the bytes since the last line feed before and behind it, which a close forgets. A request
+-- of which only a part went out is a request: whether its line reaches the instrument is the line's part, which may lose it whole
+abbrev pub Means : ById → List ℕ → Act → List Step → List ℕ → Type 0
+Means client before (Told m) steps behind = (steps ≡ Expire m.elapsed ∷ []) × (behind ≡ before)
+Means client before Untold steps behind = (steps ≡ []) × (behind ≡ before)
+Means client before (Put bytes) steps behind = IsPut client bytes steps × (behind ≡ before)
+Means client before (Cut bytes count) steps behind = IsPut client bytes steps × (behind ≡ before)
+Means client before (Gave piece m) steps behind = IsHeard before piece m steps behind ⊎ IsDropped before m steps behind
+Means client before (Silent m) steps behind = (steps ≡ Expire m.elapsed ∷ []) × (behind ≡ before)
+Means client before Ended steps behind = (steps ≡ []) × (behind ≡ before)
+Means client before Broke steps behind = (steps ≡ []) × (behind ≡ before)
+Means client before Closed steps behind = (steps ≡ []) × (behind ≡ [])
+Means client before Opened steps behind = (steps ≡ []) × (behind ≡ before)
+Means client before Unopened steps behind = (steps ≡ []) × (behind ≡ before)
+
+-- a client behind a step, by its rule with the window of seven, and behind several
+abbrev pub stepped : ById → Step → ById
+stepped client step = (goes WINDOW (record { sent = []; settlements = []; client = client }) step).client
+
+abbrev pub client_after : ById → List Step → ById
+client_after client [] = client
+client_after client (step ∷ steps) = client_after (stepped client step) steps
+
+-- acts are these steps of a client, from where it stands
+abbrev pub Amount : ById → List ℕ → List Act → List Step → Type 0
+Amount client before [] steps = steps ≡ []
+Amount client before (act ∷ acts) steps =
+    (first : List Step) × (later : List Step) × (behind : List ℕ) × (steps ≡ first ++ later) × Means client before act first behind × Amount (client_after client first) behind acts later

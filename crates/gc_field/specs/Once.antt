@@ -1,0 +1,14 @@
+-- Acts once, this project's own: between two of its starts an instrument executes each request at most once, in the order in which they
+-- were sent.
+use Rattle.std.specs.Prelude.{◌≡◌, ℕ, ◌<◌, ◌≤◌, ◌⊎◌, List, Some, slice_get}
+use Rattle.gc_world.specs.Order.{Each}
+
+-- the instrument didn't start between executions j and k: each start had at most j executions before it, or more than k
+abbrev pub HasNoStart : List ℕ → ℕ → ℕ → Type 0
+HasNoStart starts j k = Each (λ s. (s ≤ j) ⊎ (k < s)) starts
+
+-- of two executions with no start between them the later one is of a request that was sent later: these are the numbers of the
+-- requests that were executed, and how many had been at each start
+abbrev pub ActsOnce : List ℕ → List ℕ → Type 0
+ActsOnce executed starts =
+    (j k m n : ℕ) → j < k → HasNoStart starts j k → slice_get executed j ≡ Some m → slice_get executed k ≡ Some n → m < n
