@@ -30,8 +30,9 @@ use Rattle.gc_station.proofs.EachRun.{fine_stood}
 use Rattle.gc_station.proofs.Facts.{order_for}
 use Rattle.gc_station.proofs.Fine.{Fine}
 use Rattle.gc_station.proofs.Going.{after_all-append}
+use Rattle.gc_station.proofs.Growing.{losing_records}
 use Rattle.gc_station.proofs.Lists.{all_on, Rows, rows_more}
-use Rattle.gc_station.proofs.Losing.{losing_records, losing_honest}
+use Rattle.gc_station.proofs.Losing.{losing_honest}
 use Rattle.gc_station.proofs.Waiting.{Stayed, Waits, IsTrue, Honest, IsHonest, Marked, asked_more, asked_as, asked_among, stays_still, more_true, still, moment_told}
 use Rattle.gc_station.proofs.Pieces.{piece_honest}
 

@@ -43,15 +43,15 @@ use Rattle.gc_station.proofs.Quiets.{stage_in, stage_stood, not_telling, not_ope
 
 -- While it begins anew it goes on doing so, until the null procedure goes out.
 
-anew_tell : (f : Moment → Progress → Progress) (s : Standing) (act : Act) → ((m : Moment) → (f m s.progress).anew ≡ true) → s.progress.anew ≡ true → (after_tell f s act).progress.anew ≡ true
+pub anew_tell : (f : Moment → Progress → Progress) (s : Standing) (act : Act) → ((m : Moment) → (f m s.progress).anew ≡ true) → s.progress.anew ≡ true → (after_tell f s act).progress.anew ≡ true
 anew_tell f s (Told m) step d = step m
 anew_tell f s act step d = d
 
-anew_put : (requests : ℕ) (f : Standing → Standing) (s : Standing) (act : Act) → (f s).progress.anew ≡ true → (after_put requests f s act).progress.anew ≡ true
+pub anew_put : (requests : ℕ) (f : Standing → Standing) (s : Standing) (act : Act) → (f s).progress.anew ≡ true → (after_put requests f s act).progress.anew ≡ true
 anew_put requests f s (Cut out n) d = d
 anew_put requests f s act d = d
 
-anew_open : (plan : Plan) (s : Standing) (act : Act) → s.progress.anew ≡ true → (after_open plan s act).progress.anew ≡ true
+pub anew_open : (plan : Plan) (s : Standing) (act : Act) → s.progress.anew ≡ true → (after_open plan s act).progress.anew ≡ true
 anew_open plan s Opened d = d
 anew_open plan s act d = d
 
@@ -72,7 +72,7 @@ anew_quiet plan phase.Draining p d = anew_test p (is_past (drain_of plan p) p) d
 anew_quiet plan phase.Resting p d = d
 anew_quiet plan at p d = d
 
-anew_read : (plan : Plan) (rested : Bool) (s : Standing) (act : Act) → s.progress.anew ≡ true → (after_read plan rested s act).progress.anew ≡ true
+pub anew_read : (plan : Plan) (rested : Bool) (s : Standing) (act : Act) → s.progress.anew ≡ true → (after_read plan rested s act).progress.anew ≡ true
 anew_read plan rested s (Gave bytes m) d = anew_came (is_heard s.progress.phase) bytes (with_moment m (with_progress (told m) s)) d
 anew_read plan rested s (Silent m) d = anew_quiet plan s.progress.phase (waited rested m s.progress) d
 anew_read plan rested s act d = d
@@ -81,7 +81,7 @@ anew_again : (plan : Plan) (w : Waiting) (why : Cause) (b : Bool) (p : Progress)
 anew_again plan w why true p d = refl
 anew_again plan w why false p d = d
 
-anew_close : (plan : Plan) (w : Waiting) (why : Cause) (p : Progress) → p.anew ≡ true → (closed plan w why p).anew ≡ true
+pub anew_close : (plan : Plan) (w : Waiting) (why : Cause) (p : Progress) → p.anew ≡ true → (closed plan w why p).anew ≡ true
 anew_close plan w cause.Done p d = d
 anew_close plan w cause.Clock p d = d
 anew_close plan w cause.Turns p d = d
@@ -349,7 +349,7 @@ begun_stood plan commands turns earlier between anew runs =
           (begun_after plan commands s act done (runs_split plan commands from done later act runs).1 fine b)
 
 -- the request that goes out where it begins anew
-first_act : (plan : Plan) (commands : List Command) (next : Order) (s : Standing) (act : Act) → Obeys commands s next act → IsRequest act → IsFor plan s.progress (waiting_of s) next → Fine plan commands s → s.progress.anew ≡ true
+pub first_act : (plan : Plan) (commands : List Command) (next : Order) (s : Standing) (act : Act) → Obeys commands s next act → IsRequest act → IsFor plan s.progress (waiting_of s) next → Fine plan commands s → s.progress.anew ≡ true
     → (s.progress.phase ≡ phase.Probing) × Puts null_text act
 first_act plan commands orders.Tell s act o asks needs fine d = absurd (not_telling act o asks)
 first_act plan commands orders.Begin s act o asks needs fine d = absurd (not_telling act o asks)
@@ -375,7 +375,7 @@ lone_none plan commands s act acts o asks fine l = by_phase (lone_at s.progress.
   by_phase (inr (inl closing)) = not_closing act (subst (λ (x : Phase). Obeys commands s (order_in x plan s.progress (waiting_of s)) act) closing.1 o) asks
   by_phase (inr (inr over)) = over_stops plan commands s act o over.0 over.1
 
-runs_behind : (plan : Plan) (commands : List Command) (s : Standing) (xs ys : List Act) → Runs plan commands s (xs ++ ys) → Runs plan commands (after_all plan commands s xs) ys
+pub runs_behind : (plan : Plan) (commands : List Command) (s : Standing) (xs ys : List Act) → Runs plan commands s (xs ++ ys) → Runs plan commands (after_all plan commands s xs) ys
 runs_behind plan commands s [] ys runs = runs
 runs_behind plan commands s (x ∷ xs) ys runs = runs_behind plan commands (after plan commands s x) xs ys runs.1
 

@@ -30,13 +30,13 @@ use Rattle.gc_station.proofs.Going.{after_all-append}
 use Rattle.gc_station.proofs.Turns.{again_down, closed_down}
 
 -- the end that a phase has decided
-abbrev end_of : Phase → Option Cause
+abbrev pub end_of : Phase → Option Cause
 end_of (Closing why) = Some why
 end_of (Over why) = Some why
 end_of _ = None
 
 -- an act shows that a call failed, and where there is no connection behind it, there was none before
-abbrev Failed : Phase → Phase → Cause → Act → Type 0
+abbrev pub Failed : Phase → Phase → Cause → Act → Type 0
 Failed before behind why act = (is_up behind ≡ false → is_up before ≡ false) × Shows why act
 
 -- the end is decided: a call failed, or it came otherwise, or the phase is still the same
@@ -87,7 +87,7 @@ lines_phase : (s : Standing) (lines : List (List ℕ)) → (lines_came s lines).
 lines_phase s [] = refl
 lines_phase s (line ∷ others) = lines_phase (line_came s line) others
 
-came_phase : (heard : Bool) (piece : List ℕ) (s : Standing) → (came heard piece s).progress.phase ≡ s.progress.phase
+pub came_phase : (heard : Bool) (piece : List ℕ) (s : Standing) → (came heard piece s).progress.phase ≡ s.progress.phase
 came_phase true piece s = lines_phase (with_rest (rest_behind s.rest piece) s) (lines_behind s.rest piece)
 came_phase false piece s = refl
 
@@ -141,7 +141,7 @@ closed_ends plan w cause.Turns c p done e = cc
 closed_ends plan w other c p done e = closed_again_ends plan w other c p (begins_anew other p) e
 
 -- there is no connection behind an act that closed it, or made none, and no other is made
-abbrev Gone : Plan → Standing → Order → Phase → Cause → Act → Type 0
+abbrev pub Gone : Plan → Standing → Order → Phase → Cause → Act → Type 0
 Gone plan s next behind c act = (is_up behind ≡ false) × EndsGone plan s.progress (waiting_of s) next c act
 
 open_decides : (plan : Plan) (s : Standing) (act : Act) (c : Cause) → IsOpening act → end_of (after_open plan (with_progress turned s) act).progress.phase ≡ Some c
@@ -183,7 +183,7 @@ not_twice plan commands s act c (Over why) is e o same = absurd o
 not_twice plan commands s act c phase is e o same = cc
 
 -- what an act by which the end was decided shows
-abbrev Decided : Plan → Standing → Phase → Cause → Act → Type 0
+abbrev pub Decided : Plan → Standing → Phase → Cause → Act → Type 0
 Decided plan s behind c act = Failed s.progress.phase behind c act ⊎ Gone plan s (order_at plan s) behind c act
 
 moved_decided : (plan : Plan) (commands : List Command) (s : Standing) (act : Act) (c : Cause) → Obeys commands s (order_at plan s) act → (order_at plan s ≡ order.Close cause.Done → NoneLeft s.progress (commands_in s.marks))
@@ -195,7 +195,7 @@ moved_decided plan commands s act c o done e = pick (moved_decides plan commands
   pick (inr (inl gone)) = inr gone
   pick (inr (inr same)) = absurd (not_twice plan commands s act c s.progress.phase refl (ap end_of (sym same) ∙ e) o same)
 
-after_decided : (plan : Plan) (commands : List Command) (s : Standing) (act : Act) (c : Cause) → Obeys commands s (order_at plan s) act → (order_at plan s ≡ order.Close cause.Done → NoneLeft s.progress (commands_in s.marks))
+pub after_decided : (plan : Plan) (commands : List Command) (s : Standing) (act : Act) (c : Cause) → Obeys commands s (order_at plan s) act → (order_at plan s ≡ order.Close cause.Done → NoneLeft s.progress (commands_in s.marks))
     → end_of (after plan commands s act).progress.phase ≡ Some c → Decided plan s (after plan commands s act).progress.phase c act
 after_decided plan commands s act c o done e =
     let same : (after plan commands s act).progress.phase ≡ (moved plan commands (order_at plan s) (with_progress turned s) act).progress.phase =
@@ -235,11 +235,11 @@ closes_only commands s (order.Close why) o = (why, refl)
 closes_only commands s next o = absurd o
 
 -- what an order that is next needs
-needs_of : (plan : Plan) (s : Standing) (next : Order) → order_at plan s ≡ next → IsFor plan s.progress (waiting_of s) next
+pub needs_of : (plan : Plan) (s : Standing) (next : Order) → order_at plan s ≡ next → IsFor plan s.progress (waiting_of s) next
 needs_of plan s next is = subst (λ (o : Order). IsFor plan s.progress (waiting_of s) o) is (order_for plan s.progress (waiting_of s))
 
 -- a connection is closed for being done where nothing is left to be sent, and no command waits
-done_sent : (plan : Plan) (commands : List Command) (turns : ℕ) (acts : List Act) → order_at plan (stood plan commands turns acts) ≡ order.Close cause.Done
+pub done_sent : (plan : Plan) (commands : List Command) (turns : ℕ) (acts : List Act) → order_at plan (stood plan commands turns acts) ≡ order.Close cause.Done
     → NoneLeft (stood plan commands turns acts).progress (commands_in (stood plan commands turns acts).marks)
 done_sent plan commands turns acts is = by_needs (needs_of plan (stood plan commands turns acts) (order.Close cause.Done) is).1 where
   by_needs : (((stood plan commands turns acts).progress.phase ≡ Closing cause.Done) ⊎ IsAtItsEnd plan (stood plan commands turns acts).progress (waiting_of (stood plan commands turns acts)) cause.Done)
@@ -267,6 +267,15 @@ decided_last plan commands turns acts c runs e = by_last (last_of acts) where
             (after_decided plan commands s last c split.1 (done_sent plan commands turns earlier) (ap end_of (sym behind) ∙ e)),
       )
 
+-- where a connection is to be closed for a call that failed, the last act shows it
+pub closing_shown : (plan : Plan) (commands : List Command) (turns : ℕ) (acts : List Act) (why : Cause) → Runs plan commands (opening plan turns) acts → (stood plan commands turns acts).progress.phase ≡ Closing why
+    → (earlier : List Act) × (last : Act) × (acts ≡ earlier ++ last ∷ []) × Shows why last
+closing_shown plan commands turns acts why runs phase =
+    let d = decided_last plan commands turns acts why runs (ap end_of phase) in (d.0, d.1, d.2, shows (stood plan commands turns d.0) d.1 d.3) where
+      shows : (before : Standing) (last : Act) → Decided plan before (stood plan commands turns acts).progress.phase why last → Shows why last
+      shows before last (inl failed) = failed.1
+      shows before last (inr gone) = let up : true ≡ false = sym (ap is_up phase) ∙ gone.0 in cc
+
 pub closed_for : (plan : Plan) (commands : List Command) (turns : ℕ) (acts later : List Act) → Runs plan commands (opening plan turns) (acts ++ Closed ∷ later) → ClosesForACause plan commands turns acts
 closed_for plan commands turns acts later runs =
     let s = stood plan commands turns acts in
@@ -277,15 +286,11 @@ closed_for plan commands turns acts later runs =
       closes = it.1;
       shown = by_needs it.0 (needs_of plan s (order.Close it.0) it.1).1 split.0;
     } where
-      shows : (why : Cause) (before : Standing) (last : Act) → (stood plan commands turns acts).progress.phase ≡ Closing why → Decided plan before (stood plan commands turns acts).progress.phase why last → Shows why last
-      shows why before last phase (inl failed) = failed.1
-      shows why before last phase (inr gone) = let up : true ≡ false = sym (ap is_up phase) ∙ gone.0 in cc
-
       by_needs : (why : Cause) → (((stood plan commands turns acts).progress.phase ≡ Closing why) ⊎ IsAtItsEnd plan (stood plan commands turns acts).progress (waiting_of (stood plan commands turns acts)) why)
           → Runs plan commands (opening plan turns) acts
           → IsAtItsEnd plan (stood plan commands turns acts).progress (waiting_of (stood plan commands turns acts)) why
           ⊎ ((earlier : List Act) × (last : Act) × (acts ≡ earlier ++ last ∷ []) × Shows why last)
-      by_needs why (inl phase) runs = let d = decided_last plan commands turns acts why runs (ap end_of phase) in inr (d.0, d.1, d.2, shows why (stood plan commands turns d.0) d.1 phase d.3)
+      by_needs why (inl phase) runs = inr (closing_shown plan commands turns acts why runs phase)
       by_needs why (inr end) runs = inl end
 
 pub stopped_for : (plan : Plan) (commands : List Command) (turns : ℕ) (acts : List Act) (why : Cause) → Runs plan commands (opening plan turns) acts → order_at plan (stood plan commands turns acts) ≡ order.Stop why → StopsForACause plan commands turns acts why

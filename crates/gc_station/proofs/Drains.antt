@@ -45,80 +45,80 @@ progress_behind plan commands turns done act =
     let s = stood plan commands turns done in
     ap (λ (x : Standing). x.progress) (after_all-append plan commands (opening plan turns) done (act ∷ [])) ∙ ended_progress (moved plan commands (order_at plan s) (with_progress turned s) act)
 
--- The act of each order leaves it.
-
-tell_drain : (f : Moment → Progress → Progress) (s : Standing) (act : Act) → ((m : Moment) → 1 ≤ (f m s.progress).drain) → 1 ≤ s.progress.drain → 1 ≤ (after_tell f s act).progress.drain
-tell_drain f s (Told m) step d = step m
-tell_drain f s act step d = d
-
-put_drain : (requests : ℕ) (f : Standing → Standing) (s : Standing) (act : Act) → 1 ≤ (f s).progress.drain → 1 ≤ (after_put requests f s act).progress.drain
-put_drain requests f s (Cut out n) d = d
-put_drain requests f s act d = d
-
-open_drain : (plan : Plan) (s : Standing) (act : Act) → 1 ≤ s.progress.drain → 1 ≤ (after_open plan s act).progress.drain
-open_drain plan s Opened d = d
-open_drain plan s act d = d
-
-first_drain : (plan : Plan) (mark : Mark) (left : List Command) (s : Standing) → 1 ≤ s.progress.drain → 1 ≤ (asks_first plan mark left s).progress.drain
-first_drain plan mark [] s d = d
-first_drain plan mark (command ∷ others) s d = d
-
-lines_drain : (s : Standing) (lines : List (List ℕ)) → 1 ≤ s.progress.drain → 1 ≤ (lines_came s lines).progress.drain
-lines_drain s [] d = d
-lines_drain s (line ∷ others) d = lines_drain (line_came s line) others d
-
-came_drain : (heard : Bool) (piece : List ℕ) (s : Standing) → 1 ≤ s.progress.drain → 1 ≤ (came heard piece s).progress.drain
-came_drain true piece s d = lines_drain (with_rest (rest_behind s.rest piece) s) (lines_behind s.rest piece) d
-came_drain false piece s d = d
-
-test_drain : (p : Progress) (b : Bool) → 1 ≤ p.drain → 1 ≤ (if b then drained p else p).drain
-test_drain p true d = d
-test_drain p false d = d
-
-quiet_drain : (plan : Plan) (at : Phase) (p : Progress) → 1 ≤ p.drain → 1 ≤ (quieted plan at p).drain
-quiet_drain plan phase.Draining p d = test_drain p (is_past (drain_of plan p) p) d
-quiet_drain plan phase.Resting p d = d
-quiet_drain plan at p d = d
-
-read_drain : (plan : Plan) (rested : Bool) (s : Standing) (act : Act) → 1 ≤ s.progress.drain → 1 ≤ (after_read plan rested s act).progress.drain
-read_drain plan rested s (Gave bytes m) d = came_drain (is_heard s.progress.phase) bytes (with_moment m (with_progress (told m) s)) d
-read_drain plan rested s (Silent m) d = quiet_drain plan s.progress.phase (waited rested m s.progress) d
-read_drain plan rested s act d = d
-
-anew_drain : (anew : Bool) (drain waiting : ℕ) → 1 ≤ drain → (anew ≡ false → 1 ≤ waiting) → 1 ≤ (if anew then drain else waiting)
-anew_drain true drain waiting d some = d
-anew_drain false drain waiting d some = some refl
-
-again_drain : (plan : Plan) (w : Waiting) (why : Cause) (b : Bool) (p : Progress) → 1 ≤ p.drain → (b ≡ true → p.anew ≡ false → 1 ≤ w.all) → 1 ≤ (closed_again plan w why b p).drain
-again_drain plan w why true p d some = anew_drain p.anew p.drain w.all d (some refl)
-again_drain plan w why false p d some = d
-
-close_drain : (plan : Plan) (w : Waiting) (why : Cause) (p : Progress) → 1 ≤ p.drain → (begins_anew why p ≡ true → p.anew ≡ false → 1 ≤ w.all) → 1 ≤ (closed plan w why p).drain
-close_drain plan w cause.Done p d some = d
-close_drain plan w cause.Clock p d some = d
-close_drain plan w cause.Turns p d some = d
-close_drain plan w why p d some = again_drain plan w why (begins_anew why p) p d some
-
+-- The act of each order leaves what is said of it, unless a beginning is set by it.
 anew_turned : (why : Cause) (p : Progress) → begins_anew why (turned p) ≡ begins_anew why p
 anew_turned cause.Silence p = refl
 anew_turned why p = refl
 
-moved_drain : (plan : Plan) (commands : List Command) (next : Order) (s : Standing) (act : Act) → 1 ≤ s.progress.drain
-    → ((why : Cause) → next ≡ orders.Close why → begins_anew why s.progress ≡ true → s.progress.anew ≡ false → 1 ≤ length s.client.waiting)
-    → Obeys commands s next act → 1 ≤ (moved plan commands next (with_progress turned s) act).progress.drain
-moved_drain plan commands orders.Tell s act d some o = tell_drain (λ (m : Moment) (p : Progress). reckoned_early plan (commands_in s.marks) (told m p)) (with_progress turned s) act (λ m. d) d
-moved_drain plan commands orders.Begin s act d some o = tell_drain (begun plan (length commands)) (with_progress turned s) act (λ m. d) d
-moved_drain plan commands orders.Open s act d some o = open_drain plan (with_progress turned s) act d
-moved_drain plan commands orders.Clear s act d some o = put_drain _ (with_progress cleared) (with_progress turned s) act d
-moved_drain plan commands orders.Probe s act d some o = put_drain _ (λ (x : Standing). with_progress probed (asks_null plan x)) (with_progress turned s) act d
-moved_drain plan commands orders.Send s act d some o =
-    put_drain _ (λ (x : Standing). with_progress sent (asks_next plan commands x)) (with_progress turned s) act
-    (first_drain plan (mark_next plan commands s.progress) (drop (place_next commands s.progress) commands) (with_progress turned s) d)
-moved_drain plan commands orders.Flush s act d some o = put_drain _ (λ (x : Standing). with_progress asking (asks_null plan x)) (with_progress turned s) act d
-moved_drain plan commands orders.Read s act d some o = read_drain plan false (with_progress turned s) act d
-moved_drain plan commands orders.Rest s act d some o = read_drain plan true (with_progress turned s) act d
-moved_drain plan commands (orders.Close why) s act d some o = close_drain plan (waiting_of s) why (turned s.progress) d (λ e old. some why refl (sym (anew_turned why s.progress) ∙ e) old)
-moved_drain plan commands (orders.Stop why) s act d some o = d
+module _ (P : ℕ → Type 0) where
+  tell_drain : (f : Moment → Progress → Progress) (s : Standing) (act : Act) → ((m : Moment) → P (f m s.progress).drain) → P s.progress.drain → P (after_tell f s act).progress.drain
+  tell_drain f s (Told m) step d = step m
+  tell_drain f s act step d = d
+
+  put_drain : (requests : ℕ) (f : Standing → Standing) (s : Standing) (act : Act) → P (f s).progress.drain → P (after_put requests f s act).progress.drain
+  put_drain requests f s (Cut out n) d = d
+  put_drain requests f s act d = d
+
+  open_drain : (plan : Plan) (s : Standing) (act : Act) → P s.progress.drain → P (after_open plan s act).progress.drain
+  open_drain plan s Opened d = d
+  open_drain plan s act d = d
+
+  first_drain : (plan : Plan) (mark : Mark) (left : List Command) (s : Standing) → P s.progress.drain → P (asks_first plan mark left s).progress.drain
+  first_drain plan mark [] s d = d
+  first_drain plan mark (command ∷ others) s d = d
+
+  lines_drain : (s : Standing) (lines : List (List ℕ)) → P s.progress.drain → P (lines_came s lines).progress.drain
+  lines_drain s [] d = d
+  lines_drain s (line ∷ others) d = lines_drain (line_came s line) others d
+
+  came_drain : (heard : Bool) (piece : List ℕ) (s : Standing) → P s.progress.drain → P (came heard piece s).progress.drain
+  came_drain true piece s d = lines_drain (with_rest (rest_behind s.rest piece) s) (lines_behind s.rest piece) d
+  came_drain false piece s d = d
+
+  test_drain : (p : Progress) (b : Bool) → P p.drain → P (if b then drained p else p).drain
+  test_drain p true d = d
+  test_drain p false d = d
+
+  quiet_drain : (plan : Plan) (at : Phase) (p : Progress) → P p.drain → P (quieted plan at p).drain
+  quiet_drain plan phase.Draining p d = test_drain p (is_past (drain_of plan p) p) d
+  quiet_drain plan phase.Resting p d = d
+  quiet_drain plan at p d = d
+
+  read_drain : (plan : Plan) (rested : Bool) (s : Standing) (act : Act) → P s.progress.drain → P (after_read plan rested s act).progress.drain
+  read_drain plan rested s (Gave bytes m) d = came_drain (is_heard s.progress.phase) bytes (with_moment m (with_progress (told m) s)) d
+  read_drain plan rested s (Silent m) d = quiet_drain plan s.progress.phase (waited rested m s.progress) d
+  read_drain plan rested s act d = d
+
+  anew_drain : (anew : Bool) (drain waiting : ℕ) → P drain → (anew ≡ false → P waiting) → P (if anew then drain else waiting)
+  anew_drain true drain waiting d some = d
+  anew_drain false drain waiting d some = some refl
+
+  again_drain : (plan : Plan) (w : Waiting) (why : Cause) (b : Bool) (p : Progress) → P p.drain → (b ≡ true → p.anew ≡ false → P w.all) → P (closed_again plan w why b p).drain
+  again_drain plan w why true p d some = anew_drain p.anew p.drain w.all d (some refl)
+  again_drain plan w why false p d some = d
+
+  close_drain : (plan : Plan) (w : Waiting) (why : Cause) (p : Progress) → P p.drain → (begins_anew why p ≡ true → p.anew ≡ false → P w.all) → P (closed plan w why p).drain
+  close_drain plan w cause.Done p d some = d
+  close_drain plan w cause.Clock p d some = d
+  close_drain plan w cause.Turns p d some = d
+  close_drain plan w why p d some = again_drain plan w why (begins_anew why p) p d some
+
+  pub moved_drain : (plan : Plan) (commands : List Command) (next : Order) (s : Standing) (act : Act) → P s.progress.drain
+      → ((why : Cause) → next ≡ orders.Close why → begins_anew why s.progress ≡ true → s.progress.anew ≡ false → P (length s.client.waiting))
+      → Obeys commands s next act → P (moved plan commands next (with_progress turned s) act).progress.drain
+  moved_drain plan commands orders.Tell s act d some o = tell_drain (λ (m : Moment) (p : Progress). reckoned_early plan (commands_in s.marks) (told m p)) (with_progress turned s) act (λ m. d) d
+  moved_drain plan commands orders.Begin s act d some o = tell_drain (begun plan (length commands)) (with_progress turned s) act (λ m. d) d
+  moved_drain plan commands orders.Open s act d some o = open_drain plan (with_progress turned s) act d
+  moved_drain plan commands orders.Clear s act d some o = put_drain _ (with_progress cleared) (with_progress turned s) act d
+  moved_drain plan commands orders.Probe s act d some o = put_drain _ (λ (x : Standing). with_progress probed (asks_null plan x)) (with_progress turned s) act d
+  moved_drain plan commands orders.Send s act d some o =
+      put_drain _ (λ (x : Standing). with_progress sent (asks_next plan commands x)) (with_progress turned s) act
+      (first_drain plan (mark_next plan commands s.progress) (drop (place_next commands s.progress) commands) (with_progress turned s) d)
+  moved_drain plan commands orders.Flush s act d some o = put_drain _ (λ (x : Standing). with_progress asking (asks_null plan x)) (with_progress turned s) act d
+  moved_drain plan commands orders.Read s act d some o = read_drain plan false (with_progress turned s) act d
+  moved_drain plan commands orders.Rest s act d some o = read_drain plan true (with_progress turned s) act d
+  moved_drain plan commands (orders.Close why) s act d some o = close_drain plan (waiting_of s) why (turned s.progress) d (λ e old. some why refl (sym (anew_turned why s.progress) ∙ e) old)
+  moved_drain plan commands (orders.Stop why) s act d some o = d
 
 -- Something waits where the next connection begins anew and this one doesn't.
 
@@ -166,4 +166,4 @@ drains_once plan commands turns acts runs = along plan commands (opening plan tu
   step done later act runs d =
       let s = stood plan commands turns done in
       let o = (runs_split plan commands (opening plan turns) done later act runs).1 in
-      subst (λ (p : Progress). 1 ≤ p.drain) (sym (progress_behind plan commands turns done act)) (moved_drain plan commands (order_at plan s) s act d (λ why is. waits done later act why runs is) o)
+      subst (λ (p : Progress). 1 ≤ p.drain) (sym (progress_behind plan commands turns done act)) (moved_drain (λ n. 1 ≤ n) plan commands (order_at plan s) s act d (λ why is. waits done later act why runs is) o)

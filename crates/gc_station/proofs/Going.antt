@@ -12,12 +12,14 @@ use Rattle.gc_station.specs.declared.progress.Progress.{Progress}
 use Rattle.gc_station.specs.declared.station.Station.{Station}
 use Rattle.gc_station.specs.Acts.{Act, Closed, Tells}
 use Rattle.gc_station.specs.Progressing.{turned, loses_all}
-use Rattle.gc_station.specs.Records.{Record, texts_of, WritesPart}
+use Rattle.gc_station.specs.Records.{Record, texts_of}
 use Rattle.gc_station.specs.Runs.{stood, BrokeAt}
 use Rattle.gc_station.specs.Standing.{Standing, opening, order_at, Obeys, after, after_all, moved, ended, Runs, with_progress}
 use Rattle.gc_station.specs.Stations.{IsPaired, Stands, Makes, Breaks, Made, Follows, stepped, OnCall}
-use Rattle.gc_station.proofs.Hearing.{tells_more, losing_records, part_more}
 use Rattle.gc_station.proofs.Counts.{unsent_within, ended_progress}
+use Rattle.gc_station.proofs.Growing.{losing_records, moved_grew}
+use Rattle.gc_station.proofs.Hearing.{tells_more}
+use Rattle.gc_station.proofs.Records.{part_grew, part_grows}
 use Rattle.gc_station.proofs.Turns.{left_to_do, less_to_do}
 
 -- One turn.
@@ -79,7 +81,7 @@ stands_turned station p s e stands = record {
 -- an order was obeyed, and all that wait were lost or not; or the book failed at what was lost
 pub makes_step : {X E : Type 0} (plan : Plan) (commands : List Command) (order : Order) (text : Record → List ℕ) (told told' : Option (List Act)) (taken taken' taken'' : Option (List ℕ)) (station mid new : Station) (p : Progress) (result : Result X E)
     → p ≡ turned station.progress → Makes commands order (moved plan commands order) text told told' taken taken' (record station { progress = p }) mid
-    → ((s : Standing) (start : Option (List ℕ)) → Stands mid s → Appends start taken' (texts_of text s.records) → Follows text new start taken'' (ended s) result)
+    → ((s : Standing) (start : Option (List ℕ)) → Stands mid s → Appends start taken' (texts_of text s.records) → Follows text s.records new start taken'' (ended s) result)
     → Made commands order (stepped plan commands order) text told told' taken taken'' station new result
 makes_step plan commands order text told told' taken taken' taken'' station mid new p (Ok r) e makes ends = record {
   act = makes.act;
@@ -94,7 +96,9 @@ makes_step plan commands order text told told' taken taken' taken'' station mid 
   tells = makes.tells;
   goes = λ s start stands so.
       let one = makes.goes (with_progress turned s) start (stands_turned station p s e stands) so in
-      (turn_obeys commands order s makes.act one.0, ends (moved plan commands order (with_progress turned s) makes.act) start one.1 one.2);
+      let mid : Standing = moved plan commands order (with_progress turned s) makes.act in
+      let part = ends mid start one.1 one.2 in
+      (turn_obeys commands order s makes.act one.0, part_grew text s.records mid.records (ended mid).records start taken'' (moved_grew plan commands order (with_progress turned s) makes.act) part);
 }
 
 -- the book failed at what the act writes down
@@ -108,7 +112,7 @@ breaks_step plan commands order text told told' taken taken' station p e breaks 
       let mid : Standing = moved plan commands order (with_progress turned s) breaks.act in
       let one = breaks.goes (with_progress turned s) start (stands_turned station p s e stands) so in
       let more = losing_records (loses_all mid.progress) mid in
-      (turn_obeys commands order s breaks.act one.0, subst (λ (rs : List Record). WritesPart text rs start taken') (sym more.1) (part_more text mid.records more.0 start taken' one.1));
+      (turn_obeys commands order s breaks.act one.0, part_grows text s.records mid.records (ended mid).records start taken' more one.1);
 }
 
 -- a station that stands there has a mark for each request that waits

@@ -1,5 +1,5 @@
 -- A piece on the way: what hearing what is left of it comes to.
-use Rattle.std.proofs.Common.{◌≡◌, ℕ, zero, suc, ◌+◌, ◌-◌, List, [], ◌∷◌, ◌++◌, Bool, true, false, length, drop, map, Option, Some, None, Result, Ok, Err, OnOk, refl, sym, ap, ◌∙◌, subst, append_assoc, append-nil, length-drop, arith}
+use Rattle.std.proofs.Common.{◌≡◌, ℕ, zero, suc, ◌+◌, ◌-◌, List, [], ◌∷◌, ◌++◌, Bool, true, false, length, drop, map, Option, Some, None, Result, Ok, Err, OnOk, refl, sym, ap, ◌∙◌, subst, append_assoc, length-drop, arith}
 use Rattle.std.specs.List.{filter_map}
 use Rattle.std.specs.Option.{option_to_list}
 use Rattle.std.specs.Io.KnownBytes.{Appends}
@@ -11,7 +11,7 @@ use Rattle.gc_lines.specs.declared.frame.Frame.{Frame}
 use Rattle.gc_lines.specs.declared.frame.Frame.TheVariants.{Line, Cleared, Overlong, More}
 use Rattle.gc_lines.proofs.Passing.{Takes}
 use Rattle.gc_client.specs.declared.pending.Pending.{Pending}
-use Rattle.gc_client.specs.Rule.{ById, Windowed, Settled, Settlement, hears, heard, id_settled, settle, lost, restarts, place_in, deadlines, expires, expired}
+use Rattle.gc_client.specs.Rule.{ById, Windowed, Settled, Settlement, hears, id_settled, settle, lost, restarts, place_in, deadlines, expires, expired}
 use Rattle.gc_station.specs.Acts.{Act, Tells}
 use Rattle.gc_station.specs.declared.link.Moment.{Moment}
 use Rattle.gc_station.specs.declared.mark.Mark.{Mark}
@@ -22,10 +22,11 @@ use Rattle.gc_station.specs.declared.station.Station.{Station}
 use Rattle.gc_station.specs.Marks.{commands_in, records_of}
 use Rattle.gc_station.specs.Progressing.{noted, gave, reckoned_early}
 use Rattle.gc_station.specs.Records.{Record, texts_of, WritesPart, WritesAll}
-use Rattle.gc_station.specs.Standing.{Standing, line_came, lines_came, lines_behind, with_rest, with_progress, with_moment, waiting_of, settles, losing, piece_came}
+use Rattle.gc_station.specs.Standing.{Standing, line_came, lines_came, lines_behind, with_rest, with_progress, with_moment, waiting_of, settles, piece_came}
 use Rattle.gc_station.specs.Stations.{waiting_in, Stands, Follows}
 use Rattle.gc_station.specs.Tallies.{none_yet, tallied}
-use Rattle.gc_station.proofs.Records.{tallied-append}
+use Rattle.gc_station.proofs.Growing.{lines_records}
+use Rattle.gc_station.proofs.Records.{Grew, grew_then, part_grew, part_grows, tallied-append}
 
 -- the lines of a frame, and those behind it
 pub lines_split : (frame : Frame) (later : List Frame) → filter_map line_in (completed frame ++ later) ≡ option_to_list (line_in frame) ++ filter_map line_in later
@@ -43,37 +44,12 @@ pub lines_rest : (s : Standing) (rest : List ℕ) (lines : List (List ℕ)) → 
 lines_rest s rest [] = refl
 lines_rest s rest (line ∷ others) = lines_rest (line_came s line) rest others
 
--- lines add records
-pub lines_records : (s : Standing) (lines : List (List ℕ)) → (more : List Record) × ((lines_came s lines).records ≡ s.records ++ more)
-lines_records s [] = ([], sym (append-nil s.records))
-lines_records s (line ∷ others) =
-    let rest = lines_records (line_came s line) others in
-    let x = hears s.client line (heard line) in
-    let added : List Record = records_of s.progress.moment.utc s.marks x.settlements in
-    (added ++ rest.0, rest.1 ∙ append_assoc s.records added rest.0)
-
--- what is lost is written down behind the records
-pub losing_records : (b : Bool) (s : Standing) → (more : List Record) × ((losing b s).records ≡ s.records ++ more)
-losing_records true s = (records_of s.progress.moment.utc s.marks (restarts s.client).settlements, refl)
-losing_records false s = ([], sym (append-nil s.records))
-
--- a part of some records is a part of more
-pub part_more : (text : Record → List ℕ) (records more : List Record) (old new : Option (List ℕ)) → WritesPart text records old new → WritesPart text (records ++ more) old new
-part_more text records more old new w = record {
-  earlier = w.earlier;
-  next = w.next;
-  later = w.later ++ more;
-  order = ap (λ rs. rs ++ more) w.order ∙ append_assoc w.earlier (w.next ∷ w.later) more;
-  part = w.part;
-  not_all = w.not_all;
-  took = w.took;
-}
-
 -- after some of a piece: hearing what is left of it comes to what hearing the whole piece comes to
 pub record Hearing (text : Record → List ℕ) (start taken : Option (List ℕ)) (station : Station) (s : Standing) (piece left : List ℕ) : Type 0 where
   pub now : Standing
   pub stands : Stands station now
   pub wrote : Appends start taken (texts_of text now.records)
+  pub grown : Grew s.records now.records
   pub goes : piece_came left now ≡ piece_came piece s
 
 -- a frame's line first, and then what is left
@@ -101,20 +77,23 @@ hearing_on text start taken taken' station station' s piece left used frame kept
   now = lines_came (with_rest t.now h.now) (option_to_list (line_in frame));
   stands = more.0;
   wrote = more.1;
+  grown = grew_then s.records h.now.records _ h.grown (lines_records (with_rest t.now h.now) (option_to_list (line_in frame)));
   goes = sym (frame_first h.now left (drop used left) t.now frame t.seen t.rests) ∙ h.goes;
 }
 
 -- the book failed at a frame's line
 pub hearing_part : (text : Record → List ℕ) (start taken taken' : Option (List ℕ)) (station : Station) (s : Standing) (piece left : List ℕ) (used : ℕ) (frame : Frame) (kept : Kept)
     → (h : Hearing text start taken station s piece left) → (t : Takes h.now.rest left used frame kept)
-    → WritesPart text (lines_came (with_rest t.now h.now) (option_to_list (line_in frame))).records start taken'
-    → WritesPart text (piece_came piece s).records start taken'
+    → WritesPart text h.now.records (lines_came (with_rest t.now h.now) (option_to_list (line_in frame))).records start taken'
+    → WritesPart text s.records (piece_came piece s).records start taken'
 hearing_part text start taken taken' station s piece left used frame kept h t part =
     let mid = lines_came (with_rest t.now h.now) (option_to_list (line_in frame)) in
     let later = drop used left in
     let whole : piece_came later mid ≡ piece_came piece s = sym (frame_first h.now left later t.now frame t.seen t.rests) ∙ h.goes in
     let more = lines_records (with_rest (rest_behind mid.rest later) mid) (lines_behind mid.rest later) in
-    subst (λ (rs : List Record). WritesPart text rs start taken') (sym more.1 ∙ ap (λ (x : Standing). x.records) whole) (part_more text mid.records more.0 start taken' part)
+    let all = part_grows text h.now.records mid.records (piece_came later mid).records start taken' more part in
+    part_grew text s.records h.now.records (piece_came piece s).records start taken' h.grown
+    (subst (λ (x : Standing). WritesPart text h.now.records x.records start taken') whole all)
 
 -- nothing is left of the piece
 pub hearing_end : (text : Record → List ℕ) (start taken : Option (List ℕ)) (station : Station) (s : Standing) (piece : List ℕ)
@@ -207,17 +186,17 @@ settles_ok text old mid new s x xs n start taken' stands between e many paired w
 -- the book failed at them
 pub settles_part : (text : Record → List ℕ) (old mid : Station) (s : Standing) (x : Settled ById) (xs : List Settlement) (start taken' : Option (List ℕ))
     → Stands old s → Between old mid x.client → xs ≡ x.settlements
-    → WritesPart text (s.records ++ records_of mid.progress.moment.utc mid.marks.items xs) start taken'
-    → WritesPart text (settles x s).records start taken'
+    → WritesPart text s.records (s.records ++ records_of mid.progress.moment.utc mid.marks.items xs) start taken'
+    → WritesPart text s.records (settles x s).records start taken'
 settles_part text old mid s x xs start taken' stands between e wrote =
-    subst (λ (rs : List Record). WritesPart text (s.records ++ rs) start taken') (records_same old mid s x.client xs x.settlements stands between e) wrote
+    subst (λ (rs : List Record). WritesPart text s.records (s.records ++ rs) start taken') (records_same old mid s x.client xs x.settlements stands between e) wrote
 
 -- they were written down, or the book failed
 pub settles_either : {X E : Type 0} (text : Record → List ℕ) (old mid new : Station) (s : Standing) (x : Settled ById) (xs : List Settlement) (n : ℕ) (start taken' : Option (List ℕ)) (result : Result X E)
     → Stands old s → Between old mid x.client → xs ≡ x.settlements → n ≡ length x.settlements → StayPaired s.marks x
-    → WritesAll text (s.records ++ records_of mid.progress.moment.utc mid.marks.items xs) start taken' result
+    → WritesAll text s.records (s.records ++ records_of mid.progress.moment.utc mid.marks.items xs) start taken' result
     → OnOk result (new ≡ record mid { marks = record { items = drop n mid.marks.items }; tally = tallied mid.tally (records_of mid.progress.moment.utc mid.marks.items xs) })
-    → Follows text new start taken' (settles x s) result
+    → Follows text s.records new start taken' (settles x s) result
 settles_either text old mid new s x xs n start taken' (Ok r) stands between e many paired wrote is = settles_ok text old mid new s x xs n start taken' stands between e many paired wrote is
 settles_either text old mid new s x xs n start taken' (Err r) stands between e many paired wrote is = settles_part text old mid s x xs start taken' stands between e wrote
 

@@ -5,6 +5,7 @@ mod Beginnings
 pub mod Booking
 mod Closings
 mod Counts
+mod Drained
 mod Drains
 pub mod Each
 pub mod EachRun
@@ -14,6 +15,7 @@ pub mod Following
 mod Further
 mod Givens
 mod Going
+mod Growing
 pub mod Hearing
 mod Lists
 pub mod Lone
@@ -21,11 +23,16 @@ mod Losing
 pub mod Meant
 mod Meets
 pub mod Midway
+mod Mute
+mod Opens
 mod Orders
 pub mod Parting
 mod Pieces
 pub mod Probing
 mod Quiets
 mod Records
+mod Silences
+mod Tries
 mod Turns
+mod Used
 mod Waiting

@@ -1,5 +1,5 @@
 -- All that wait are lost for a cause: behind the act the station begins anew, or no act follows.
-use Rattle.std.proofs.Common.{◌≡◌, ◌⊎◌, inl, inr, ℕ, zero, suc, ◌&&◌, ◌||◌, Bool, true, false, not, List, [], ◌∷◌, ◌++◌, length, drop, map, Option, Some, None, if◌then◌else◌, nat_eq, nat_lt, refl, sym, ap, ◌∙◌, subst, append_assoc, append-nil}
+use Rattle.std.proofs.Common.{◌≡◌, ◌⊎◌, inl, inr, ℕ, zero, suc, ◌&&◌, ◌||◌, Bool, true, false, not, List, [], ◌∷◌, ◌++◌, length, drop, map, Option, Some, None, if◌then◌else◌, nat_eq, nat_lt, refl, sym, ap, ◌∙◌, subst, append_assoc}
 use Rattle.std.specs.List.{AllByRecursion}
 use Rattle.std.proofs.lemmas.List.{nil_from_length}
 use Rattle.gc_lines.specs.Frames.{rest_behind}
@@ -32,69 +32,16 @@ use Rattle.gc_station.proofs.Counts.{ended_progress}
 use Rattle.gc_station.proofs.Facts.{order_for}
 use Rattle.gc_station.proofs.Fine.{Fine}
 use Rattle.gc_station.proofs.Going.{after_all-append}
+use Rattle.gc_station.proofs.Growing.{moved_grew}
 use Rattle.gc_station.proofs.Lists.{all_append, all_split, Cut as CutOf, AtEnd, Before, cut_at, rows_all}
 use Rattle.gc_station.proofs.Meets.{records_all}
 use Rattle.gc_station.proofs.Midway.{clash}
-use Rattle.gc_station.proofs.Pieces.{lines_records}
 use Rattle.gc_station.proofs.Waiting.{Asked, Stayed, Waits, IsTrue, IsHonest}
-
--- Records are added, and none goes.
-
-abbrev pub Grew : List Record → List Record → Type 0
-Grew old new = (more : List Record) × (new ≡ old ++ more)
-
-grew_none : (rs : List Record) → Grew rs rs
-grew_none rs = ([], sym (append-nil rs))
-
-pub losing_records : (b : Bool) (s : Standing) → Grew s.records (losing b s).records
-losing_records true s = (records_of s.progress.moment.utc s.marks (map lost s.client.waiting), refl)
-losing_records false s = grew_none s.records
-
-came_grew : (heard : Bool) (piece : List ℕ) (s : Standing) → Grew s.records (came heard piece s).records
-came_grew true piece s = lines_records (with_rest (rest_behind s.rest piece) s) (lines_behind s.rest piece)
-came_grew false piece s = grew_none s.records
-
-read_grew : (plan : Plan) (rested : Bool) (s : Standing) (act : Act) → Grew s.records (after_read plan rested s act).records
-read_grew plan rested s (Gave bytes m) = came_grew (is_heard s.progress.phase) bytes (with_moment m (with_progress (told m) s))
-read_grew plan rested s (Silent m) = grew_none s.records
-read_grew plan rested s Ended = grew_none s.records
-read_grew plan rested s Broke = grew_none s.records
-read_grew plan rested s act = grew_none s.records
-
-tell_grew : (f : Moment → Progress → Progress) (s : Standing) (act : Act) → Grew s.records (after_tell f s act).records
-tell_grew f s (Told m) = grew_none s.records
-tell_grew f s act = grew_none s.records
-
-put_grew : (rs : List Record) (requests : ℕ) (f : Standing → Standing) (s : Standing) (act : Act) → Grew rs (f s).records → Grew rs (after_put requests f s act).records
-put_grew rs requests f s (Cut bytes n) g = g
-put_grew rs requests f s act g = g
-
-open_grew : (plan : Plan) (s : Standing) (act : Act) → Grew s.records (after_open plan s act).records
-open_grew plan s Opened = grew_none s.records
-open_grew plan s act = grew_none s.records
-
-sent_grew : (plan : Plan) (mark : Mark) (left : List Command) (s : Standing) → Grew s.records (with_progress sent (asks_first plan mark left s)).records
-sent_grew plan mark [] s = grew_none s.records
-sent_grew plan mark (command ∷ others) s = grew_none s.records
-
-moved_grew : (plan : Plan) (commands : List Command) (order : Order) (s : Standing) (act : Act) → Grew s.records (moved plan commands order s act).records
-moved_grew plan commands orders.Tell s act = tell_grew (λ m p. reckoned_early plan (commands_in s.marks) (told m p)) s act
-moved_grew plan commands orders.Begin s act = tell_grew (begun plan (length commands)) s act
-moved_grew plan commands orders.Open s act = open_grew plan s act
-moved_grew plan commands orders.Clear s act = put_grew s.records _ (with_progress cleared) s act (grew_none s.records)
-moved_grew plan commands orders.Probe s act = put_grew s.records _ (λ (x : Standing). with_progress probed (asks_null plan x)) s act (grew_none s.records)
-moved_grew plan commands orders.Send s act =
-    put_grew s.records _ (λ (x : Standing). with_progress sent (asks_next plan commands x)) s act (sent_grew plan (mark_next plan commands s.progress) (drop (place_next commands s.progress) commands) s)
-moved_grew plan commands orders.Flush s act = put_grew s.records _ (λ (x : Standing). with_progress asking (asks_null plan x)) s act (grew_none s.records)
-moved_grew plan commands orders.Read s act = read_grew plan false s act
-moved_grew plan commands orders.Rest s act = read_grew plan true s act
-moved_grew plan commands (orders.Close why) s act = grew_none s.records
-moved_grew plan commands (orders.Stop why) s act = grew_none s.records
 
 -- A station begins anew behind a close for silence, or no command waits.
 
 -- what an act leaves: whether the next connection begins anew, and that none waits
-abbrev Leaves : Standing → Standing → Type 0
+abbrev pub Leaves : Standing → Standing → Type 0
 Leaves s t = (t.progress.anew ≡ s.progress.anew) × (s.marks ≡ [] → t.marks ≡ [])
 
 none_dropped : (n : ℕ) (marks : List (Option Mark)) → marks ≡ [] → drop n marks ≡ []
@@ -106,7 +53,7 @@ lines_leave : (s : Standing) (lines : List (List ℕ)) → Leaves s (lines_came 
 lines_leave s [] = (refl, λ e. e)
 lines_leave s (line ∷ others) = let l = lines_leave (line_came s line) others in (l.0, λ e. l.1 (none_dropped _ s.marks e))
 
-came_leaves : (heard : Bool) (piece : List ℕ) (s : Standing) → Leaves s (came heard piece s)
+pub came_leaves : (heard : Bool) (piece : List ℕ) (s : Standing) → Leaves s (came heard piece s)
 came_leaves true piece s = lines_leave (with_rest (rest_behind s.rest piece) s) (lines_behind s.rest piece)
 came_leaves false piece s = (refl, λ e. e)
 
@@ -114,7 +61,7 @@ drained_anew : (b : Bool) (p : Progress) → (if b then drained p else p).anew �
 drained_anew true p = refl
 drained_anew false p = refl
 
-quieted_anew : (plan : Plan) (phase : Phase) (p : Progress) → (quieted plan phase p).anew ≡ p.anew
+pub quieted_anew : (plan : Plan) (phase : Phase) (p : Progress) → (quieted plan phase p).anew ≡ p.anew
 quieted_anew plan Resting p = refl
 quieted_anew plan Draining p = drained_anew (is_past (drain_of plan p) p) p
 quieted_anew plan phase p = refl

@@ -20,17 +20,10 @@ use Rattle.gc_station.specs.Progressing.{turned, told}
 use Rattle.gc_station.specs.Records.{Record}
 use Rattle.gc_station.specs.Runs.{stood}
 use Rattle.gc_station.specs.Standing.{Standing, order_at, request_text, with_progress, with_moment, with_rest, line_came, lines_came, lines_behind, came, Puts}
+use Rattle.gc_station.proofs.Growing.{lines_records}
 use Rattle.gc_station.proofs.Lists.{all_append, all_split, cuts_on, Rows}
 use Rattle.gc_station.proofs.Meets.{HasPlace, EndedBy, heard_ended, heard_left, left_window, left_waits, records_all}
 use Rattle.gc_station.proofs.Waiting.{Asked, StayedAt, WaitsAt, IsTrue, IsHonest, past_more, past_here, expired_waits, expired_window, behind_moment, moment_told}
-
--- lines add records
-pub lines_records : (s : Standing) (lines : List (List ℕ)) → (more : List Record) × ((lines_came s lines).records ≡ s.records ++ more)
-lines_records s [] = ([], sym (append-nil s.records))
-lines_records s (line ∷ others) =
-    let rest = lines_records (line_came s line) others in
-    let added = records_of s.progress.moment.utc s.marks (hears s.client line (heard line)).settlements in
-    (added ++ rest.0, rest.1 ∙ append_assoc s.records added rest.0)
 
 -- the id at the place of an id
 pub id_back : (next count id : ℕ) → next < 8 → count ≤ 7 → id < 8 → id_at next count (place_behind next count id) ≡ id

@@ -35,10 +35,10 @@ use Rattle.gc_station.proofs.Turns.{again_down, closed_down}
 
 -- A moment is told behind each act that makes it out of date; nothing is read before a new connection was cleared.
 
-abbrev Reads : Progress → Type 0
+abbrev pub Reads : Progress → Type 0
 Reads p = (p.stale ≡ false) × (p.phase ≡ phase.Clearing → ⊥)
 
-abbrev Timely : Progress → Order → Type 0
+abbrev pub Timely : Progress → Order → Type 0
 Timely p orders.Tell = p.stale ≡ true
 Timely p orders.Open = p.stale ≡ false
 Timely p orders.Read = Reads p
@@ -85,7 +85,7 @@ on_timely plan p w =
     either (Timely p) _ _ (nat_eq p.turns 0) (λ e. up_timely p (is_up p.phase))
     (λ e. either (Timely p) orders.Tell _ p.stale (λ old. old) (λ now. told_timely plan p.phase p w refl now))
 
-in_timely : (plan : Plan) (at : Phase) (p : Progress) (w : Waiting) → Timely p (order_in at plan p w)
+pub in_timely : (plan : Plan) (at : Phase) (p : Progress) (w : Waiting) → Timely p (order_in at plan p w)
 in_timely plan (phase.Closing why) p w = tt
 in_timely plan (phase.Over why) p w = tt
 in_timely plan at p w = on_timely plan p w
@@ -131,7 +131,7 @@ StageAt quiet p acts = Stage quiet p.stale p.since p.phase acts
 
 -- One act more.
 
-abbrev more : (quiet : ℕ) (acts : List Act) (act : Act) → StaysConnected act → IsClearedAndQuiet quiet acts → IsClearedAndQuiet quiet (acts ++ act ∷ [])
+abbrev pub more : (quiet : ℕ) (acts : List Act) (act : Act) → StaysConnected act → IsClearedAndQuiet quiet acts → IsClearedAndQuiet quiet (acts ++ act ∷ [])
 more quiet acts act stays c = record {
   before = c.before;
   drain = c.drain;
@@ -153,7 +153,7 @@ more quiet acts act stays c = record {
 }
 
 -- which is no request
-more_unasked : (quiet : ℕ) (acts : List Act) (act : Act) → StaysConnected act → AsksNothing act → IsUnasked quiet acts → IsUnasked quiet (acts ++ act ∷ [])
+pub more_unasked : (quiet : ℕ) (acts : List Act) (act : Act) → StaysConnected act → AsksNothing act → IsUnasked quiet acts → IsUnasked quiet (acts ++ act ∷ [])
 more_unasked quiet acts act stays none u = (more quiet acts act stays u.0, all_append AsksNothing u.0.behind (act ∷ []) u.1 (none, tt))
 
 -- the line feed went out
@@ -215,7 +215,7 @@ drained_longer since acts m d = record {
 }
 
 -- long enough
-abbrev quiet_now : (quiet since : ℕ) (acts : List Act) (m : Moment) → quiet ≤ m.elapsed - since → IsDrained since acts → IsClearedAndQuiet quiet (acts ++ Silent m ∷ [])
+abbrev pub quiet_now : (quiet since : ℕ) (acts : List Act) (m : Moment) → quiet ≤ m.elapsed - since → IsDrained since acts → IsClearedAndQuiet quiet (acts ++ Silent m ∷ [])
 quiet_now quiet since acts m long d = record {
   before = d.before;
   drain = d.drain;
@@ -251,7 +251,7 @@ draining_told : (stale : Bool) (since : ℕ) (m : Moment) (acts : List Act) → 
 draining_told true since m acts old d = drained_first acts m d
 draining_told false since m acts old d = cc
 
-draining_read : (stale : Bool) (since : ℕ) (acts : List Act) → stale ≡ false → IsDraining stale since acts → IsDrained since acts
+pub draining_read : (stale : Bool) (since : ℕ) (acts : List Act) → stale ≡ false → IsDraining stale since acts → IsDrained since acts
 draining_read true since acts now d = cc
 draining_read false since acts now d = d
 
@@ -275,7 +275,7 @@ drain_long plan true drain small once = let often : 1 * plan.quiet ≤ drain * p
 drain_long plan false drain small once = omega arith
 
 -- the time of quiet is not the longer for a clock that went back
-not_longer : (now since : ℕ) (b : Bool) → nat_le since now ≡ b → now - min since now ≡ now - since
+pub not_longer : (now since : ℕ) (b : Bool) → nat_le since now ≡ b → now - min since now ≡ now - since
 not_longer now since true e = ap (λ n. now - n) (min-eq_left (leb-true since now e))
 not_longer now since false e =
     let low = leb-false since now e in

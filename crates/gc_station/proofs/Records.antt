@@ -1,7 +1,9 @@
 -- Records, written one after the other by the marks of requests.
-use Rattle.std.proofs.Common.{◌≡◌, ℕ, ◌+◌, ◌<◌, Bool, true, false, List, [], ◌∷◌, ◌++◌, length, take, drop, map, get_or, Option, Some, None, is_some, if◌then◌else◌, refl, sym, ap, ◌∙◌, arith, append_assoc}
+use Rattle.std.proofs.Common.{◌≡◌, ℕ, ◌+◌, ◌<◌, Bool, true, false, List, [], ◌∷◌, ◌++◌, length, take, drop, map, get_or, Option, Some, None, is_some, if◌then◌else◌, refl, sym, ap, ◌∙◌, subst, arith, append_assoc, append-nil}
 use Rattle.std.specs.Prelude.{slice_get}
 use Rattle.std.proofs.lemmas.List.{length-map, length-take, map-append, map_more, take_more, take-append-drop}
+use Rattle.std.specs.Io.KnownBytes.{Appends}
+use Rattle.gc_lines.proofs.Known.{Appends-append}
 use Rattle.gc_client.specs.declared.settlement.Settlement.{Settlement}
 use Rattle.gc_client.specs.Rule
 use Rattle.gc_client.specs.Settlements.{settlement_seen}
@@ -80,21 +82,68 @@ front_rest utc marks ss i =
 pub texts_more : (text : Record → List ℕ) (before front next more : List Record) → next ≡ front ++ more → texts_of text (before ++ next) ≡ texts_of text ((before ++ front) ++ more)
 texts_more text before front next more is = ap (λ rs. texts_of text (before ++ rs)) is ∙ ap (texts_of text) (sym (append_assoc before front more))
 
+-- Records are added, and none goes.
+
+abbrev pub Grew : List Record → List Record → Type 0
+Grew old new = (more : List Record) × (new ≡ old ++ more)
+
+pub grew_none : (rs : List Record) → Grew rs rs
+grew_none rs = ([], sym (append-nil rs))
+
+pub grew_then : (a b c : List Record) → Grew a b → Grew b c → Grew a c
+grew_then a b c g h = (g.0 ++ h.0, h.1 ∙ ap (λ rs. rs ++ h.0) g.1 ∙ append_assoc a g.0 h.0)
+
+-- a part of one record, behind those that stood there before
+pub part_one : (text : Record → List ℕ) (before : List Record) (r : Record) (start old new : Option (List ℕ)) (part : ℕ) → Appends start old (texts_of text before) → part < length (text r) → Appends old new (take part (text r))
+    → WritesPart text before (before ++ r ∷ []) start new
+part_one text before r start old new part so not_all took = record {
+  earlier = [];
+  next = r;
+  later = [];
+  order = refl;
+  part = part;
+  not_all = not_all;
+  took = subst (λ (rs : List Record). Appends start new (texts_of text rs ++ take part (text r))) (sym (append-nil before)) (Appends-append start old new (texts_of text before) (take part (text r)) so took);
+}
+
 -- a part of some records is a part of more
+pub part_more : (text : Record → List ℕ) (before all more : List Record) (old new : Option (List ℕ)) → WritesPart text before all old new → WritesPart text before (all ++ more) old new
+part_more text before all more old new w = record {
+  earlier = w.earlier;
+  next = w.next;
+  later = w.later ++ more;
+  order = ap (λ rs. rs ++ more) w.order ∙ append_assoc before (w.earlier ++ w.next ∷ w.later) more ∙ ap (λ rs. before ++ rs) (append_assoc w.earlier (w.next ∷ w.later) more);
+  part = w.part;
+  not_all = w.not_all;
+  took = w.took;
+}
+
+-- and where fewer stood before
+pub part_since : (text : Record → List ℕ) (before front all : List Record) (old new : Option (List ℕ)) → WritesPart text (before ++ front) all old new → WritesPart text before all old new
+part_since text before front all old new w = record {
+  earlier = front ++ w.earlier;
+  next = w.next;
+  later = w.later;
+  order = w.order ∙ append_assoc before front (w.earlier ++ w.next ∷ w.later) ∙ ap (λ rs. before ++ rs) (sym (append_assoc front w.earlier (w.next ∷ w.later)));
+  part = w.part;
+  not_all = w.not_all;
+  took = subst (λ (rs : List Record). Appends old new (texts_of text rs ++ take w.part (text w.next))) (append_assoc before front w.earlier) w.took;
+}
+
+-- both, where records grew
+pub part_grew : (text : Record → List ℕ) (before mid all : List Record) (old new : Option (List ℕ)) → Grew before mid → WritesPart text mid all old new → WritesPart text before all old new
+part_grew text before mid all old new g w = part_since text before g.0 all old new (subst (λ (rs : List Record). WritesPart text rs all old new) g.1 w)
+
+pub part_grows : (text : Record → List ℕ) (before mid all : List Record) (old new : Option (List ℕ)) → Grew mid all → WritesPart text before mid old new → WritesPart text before all old new
+part_grows text before mid all old new g w = subst (λ (rs : List Record). WritesPart text before rs old new) (sym g.1) (part_more text before mid g.0 old new w)
+
+-- a part of one record more is a part of all
 pub part_behind : (text : Record → List ℕ) (before front next more all later : List Record) (start new : Option (List ℕ)) → next ≡ front ++ more → all ≡ next ++ later
-    → WritesPart text ((before ++ front) ++ more) start new → WritesPart text (before ++ all) start new
+    → WritesPart text (before ++ front) ((before ++ front) ++ more) start new → WritesPart text before (before ++ all) start new
 part_behind text before front next more all later start new is whole w =
     let order : before ++ all ≡ ((before ++ front) ++ more) ++ later =
     ap (λ rs. before ++ rs) (whole ∙ ap (λ rs. rs ++ later) is) ∙ ap (λ rs. before ++ rs) (append_assoc front more later) ∙ sym (append_assoc before front (more ++ later)) ∙ sym (append_assoc (before ++ front) more later) in
-    record {
-      earlier = w.earlier;
-      next = w.next;
-      later = w.later ++ later;
-      order = order ∙ ap (λ rs. rs ++ later) w.order ∙ append_assoc w.earlier (w.next ∷ w.later) later;
-      part = w.part;
-      not_all = w.not_all;
-      took = w.took;
-    }
+    part_since text before front (before ++ all) start new (part_grows text (before ++ front) ((before ++ front) ++ more) (before ++ all) start new (later, order) w)
 
 -- counting goes on
 pub tallied-append : (t : Tally) (xs ys : List Record) → tallied t (xs ++ ys) ≡ tallied (tallied t xs) ys

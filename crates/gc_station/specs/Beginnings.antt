@@ -1,12 +1,15 @@
 -- Where a station begins anew, this project's own, in terms of the acts: the null procedure goes out first, and is answered before any other
 -- request goes out.
-use Rattle.std.specs.Prelude.{◌≡◌, ℕ, List, [], ◌∷◌, ◌++◌, Some}
+use Rattle.std.specs.Prelude.{◌≡◌, ◌⊎◌, ℕ, ◌*◌, true, false, List, [], ◌∷◌, ◌++◌, length, min, Some}
 use Rattle.std.specs.List.{AllByRecursion}
 use Rattle.gc_lines.specs.Frames.{lines}
 use Rattle.gc_catalogue.specs.declared.call.Call.TheVariants.{NullProc}
 use Rattle.gc_client.specs.Rule.{fresh, heard}
-use Rattle.gc_station.specs.Acts.{Act, Put, Gave}
+use Rattle.gc_texts.specs.declared.commands.Command.{Command}
+use Rattle.gc_station.specs.declared.plan.Plan.{Plan}
+use Rattle.gc_station.specs.Acts.{Act, Put, Gave, Closed}
 use Rattle.gc_station.specs.Quiet.{AsksNothing, StaysConnected, IsClearedAndQuiet}
+use Rattle.gc_station.specs.Runs.{stood}
 use Rattle.gc_station.specs.Standing.{Puts, request_text}
 
 -- the null procedure with id 0
@@ -41,3 +44,15 @@ pub record IsAnsweredAmong (acts : List Act) : Type 0 where
   pub others : List (List ℕ)
   pub came : lines (bytes_in waits) ≡ front ++ line ∷ others
   pub id : heard line ≡ Some 0
+
+-- behind these acts a station begins anew, while so many requests wait: at the start, where one does for the drain; or at a close behind
+-- which the next connection begins anew, and before which none was to
+abbrev pub BeginsWith : Plan → List Command → ℕ → List Act → ℕ → Type 0
+BeginsWith plan commands turns acts waiting =
+    ((acts ≡ []) × (waiting ≡ 1))
+    ⊎ ((front : List Act) × (acts ≡ front ++ Closed ∷ []) × ((stood plan commands turns front).progress.anew ≡ false) × ((stood plan commands turns acts).progress.anew ≡ true)
+    × (waiting ≡ length (stood plan commands turns front).client.waiting))
+
+-- so many quiet times, or as long as there are moments
+abbrev pub quiet_times : Plan → ℕ → ℕ
+quiet_times plan n = min (n * plan.quiet) 18446744073709551615

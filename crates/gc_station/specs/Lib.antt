@@ -14,6 +14,8 @@ pub mod Answers
 pub mod Probing
 pub mod Ends
 pub mod Quiet
+pub mod Silences
+pub mod Tries
 pub mod Given
 pub mod Beginnings
 pub mod Stations

@@ -27,17 +27,18 @@ Writes old new text (Err _) = (part : ℕ) × (part < length text) × Appends ol
 abbrev pub texts_of : (Record → List ℕ) → List Record → List ℕ
 texts_of text records = flat_map text records
 
--- the records but one and those behind it were written whole, and of that one a first part, which isn't all
-pub record WritesPart (text : Record → List ℕ) (records : List Record) (old new : Option (List ℕ)) : Type 0 where
+-- of all these records those that stood there before were written whole; of the others those in front of one of them, too, and of that
+-- one a first part, which isn't all
+pub record WritesPart (text : Record → List ℕ) (before all : List Record) (old new : Option (List ℕ)) : Type 0 where
   pub earlier : List Record
   pub next : Record
   pub later : List Record
-  pub order : records ≡ earlier ++ next ∷ later
+  pub order : all ≡ before ++ (earlier ++ next ∷ later)
   pub part : ℕ
   pub not_all : part < length (text next)
-  pub took : Appends old new (texts_of text earlier ++ take part (text next))
+  pub took : Appends old new (texts_of text (before ++ earlier) ++ take part (text next))
 
--- records were written whole, or in part where the book failed
-abbrev pub WritesAll : {X E : Type 0} → (Record → List ℕ) → List Record → Option (List ℕ) → Option (List ℕ) → Result X E → Type 0
-WritesAll text records old new (Ok _) = Appends old new (texts_of text records)
-WritesAll text records old new (Err _) = WritesPart text records old new
+-- all these records were written whole; or where the book failed, those that stood there before, and a part of the others
+abbrev pub WritesAll : {X E : Type 0} → (Record → List ℕ) → List Record → List Record → Option (List ℕ) → Option (List ℕ) → Result X E → Type 0
+WritesAll text before all old new (Ok _) = Appends old new (texts_of text all)
+WritesAll text before all old new (Err _) = WritesPart text before all old new

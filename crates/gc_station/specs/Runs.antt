@@ -29,14 +29,14 @@ pub record RanTo (plan : Plan) (commands : List Command) (turns : ℕ) (text : R
   pub took : Appends taken taken' (texts_of text (stood plan commands turns acts).records)
   pub counts : tally ≡ tallied none_yet (stood plan commands turns acts).records
 
--- a link told these acts, each the one that was to be made next; the book failed, and took a part, from the front, of the records through
--- the last act; and the connection was closed
+-- a link told these acts, each the one that was to be made next, and behind the last one that the connection was closed, and nothing
+-- else; the book took the records of the acts before the last one whole, and of those that this one writes down a part, from the front
 pub record BrokeAt (plan : Plan) (commands : List Command) (turns : ℕ) (text : Record → List ℕ) (told told' : Option (List Act)) (taken taken' : Option (List ℕ)) : Type 0 where
   pub acts : List Act
   pub last : Act
   pub tells : Tells told told' (acts ++ last ∷ (Closed ∷ []))
   pub runs : Runs plan commands (opening plan turns) (acts ++ last ∷ [])
-  pub took : WritesPart text (stood plan commands turns (acts ++ last ∷ [])).records taken taken'
+  pub took : WritesPart text (stood plan commands turns acts).records (stood plan commands turns (acts ++ last ∷ [])).records taken taken'
 
 -- a run with this end: it stopped for a cause with this fault, or it is done; or the book failed
 abbrev pub Ran : Plan → List Command → ℕ → (Record → List ℕ) → Option (List Act) → Option (List Act) → Option (List ℕ) → Option (List ℕ) → Result Tally RunFault → Type 0

@@ -45,12 +45,12 @@ pub record Makes (commands : List Command) (order : Order) (next : Standing → 
   pub goes : (s : Standing) (start : Option (List ℕ)) → Stands station s → Appends start taken (texts_of text s.records)
       → Obeys commands s order act × Stands station' (next s act) × Appends start taken' (texts_of text (next s act).records)
 
--- a link told one act of this order, and a book failed as it took what that writes down
+-- a link told one act of this order, and a book failed at a record that this writes down
 pub record Breaks (commands : List Command) (order : Order) (next : Standing → Act → Standing) (text : Record → List ℕ) (acts acts' : Option (List Act)) (taken taken' : Option (List ℕ)) (station : Station) : Type 0 where
   pub act : Act
   pub tells : Tells acts acts' (act ∷ [])
   pub goes : (s : Standing) (start : Option (List ℕ)) → Stands station s → Appends start taken (texts_of text s.records)
-      → Obeys commands s order act × WritesPart text (next s act).records start taken'
+      → Obeys commands s order act × WritesPart text s.records (next s act).records start taken'
 
 -- one or the other
 abbrev pub Made : {X E : Type 0} → List Command → Order → (Standing → Act → Standing) → (Record → List ℕ) → Option (List Act) → Option (List Act) → Option (List ℕ) → Option (List ℕ) → Station → Station → Result X E → Type 0
@@ -77,10 +77,10 @@ IsFitting p waiting Probe = waiting < WINDOW
 IsFitting p waiting Flush = waiting < WINDOW
 IsFitting p waiting _ = Unit {0}
 
--- a station stands there, and a book took the records; or the book failed, and took a part of them
-abbrev pub Follows : {X E : Type 0} → (Record → List ℕ) → Station → Option (List ℕ) → Option (List ℕ) → Standing → Result X E → Type 0
-Follows text station start taken s (Ok _) = Stands station s × Appends start taken (texts_of text s.records)
-Follows text station start taken s (Err _) = WritesPart text s.records start taken
+-- a station stands there, and a book took the records; or the book failed at one that didn't stand there before
+abbrev pub Follows : {X E : Type 0} → (Record → List ℕ) → List Record → Station → Option (List ℕ) → Option (List ℕ) → Standing → Result X E → Type 0
+Follows text before station start taken s (Ok _) = Stands station s × Appends start taken (texts_of text s.records)
+Follows text before station start taken s (Err _) = WritesPart text before s.records start taken
 
 -- of each order but the last
 abbrev pub OnCall : Order → Type 0 → Type 0

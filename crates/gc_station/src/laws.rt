@@ -1,23 +1,27 @@
 //! Laws of a station's runs, whatever its link tells.
 
-ghost use Rattle.std.specs.Prelude.{◌≡◌, ◌⊎◌, ℕ, ◌≤◌, true, List, [], ◌∷◌, ◌++◌};
+ghost use Rattle.std.specs.Prelude.{◌≡◌, ◌⊎◌, ℕ, ◌≤◌, true, List, [], ◌∷◌, ◌++◌, length};
 ghost use Rattle.std.specs.List.{AllByRecursion};
 ghost use Rattle.gc_lines.specs.Frames.{rest_of};
 ghost use Rattle.gc_texts.specs.declared.commands.Command.{Command};
 ghost use Rattle.gc_station.specs.declared.cause.Cause.{Cause};
-ghost use Rattle.gc_station.specs.declared.progress.Order.TheVariants.{Probe, Send, Stop};
+ghost use Rattle.gc_station.specs.declared.cause.Cause.TheVariants as cause;
+ghost use Rattle.gc_station.specs.declared.progress.Order.TheVariants.{Probe, Send, Close, Stop};
 ghost use Rattle.gc_station.specs.declared.plan.Plan.{Plan};
 ghost use Rattle.gc_station.specs.Acts.{Act, Closed};
 ghost use Rattle.gc_station.specs.Answers.{IsTrueRecord};
-ghost use Rattle.gc_station.specs.Beginnings.{IsFirst, IsAnsweredAmong};
+ghost use Rattle.gc_station.specs.Beginnings.{IsFirst, IsAnsweredAmong, BeginsWith, quiet_times};
 ghost use Rattle.gc_station.specs.Closing.{IsReasoned, ClosesForACause, StopsForACause};
+ghost use Rattle.gc_station.specs.Deciding.{patience_of};
 ghost use Rattle.gc_station.specs.EachOnce.{EachOnce, IsFurther};
 ghost use Rattle.gc_station.specs.Ends.{IsTrulyLate, IsTrulyLost};
 ghost use Rattle.gc_station.specs.Given.{given};
 ghost use Rattle.gc_station.specs.Probing.{KeepsOpen, IsAsking, IsAnsweredWithin};
-ghost use Rattle.gc_station.specs.Quiet.{IsRequest, IsClearedAndQuiet};
+ghost use Rattle.gc_station.specs.Quiet.{IsRequest, AsksNothing, IsClearedAndQuiet};
 ghost use Rattle.gc_station.specs.Runs.{stood};
+ghost use Rattle.gc_station.specs.Silences.{IsSilentFor, IsMuteFor};
 ghost use Rattle.gc_station.specs.Standing.{opening, order_at, Runs};
+ghost use Rattle.gc_station.specs.Tries.{IsTried, IsEnding, AllTried};
 
 /// The records of a run, and behind them the requests that wait, are the commands that were sent: cycle by cycle, in
 /// order, each once. Where the run stopped nothing waits, and where it is done they are all commands of all cycles.
@@ -39,6 +43,20 @@ pub fn each_act_is_due()
 pub fn closes_for_a_cause()
     ensures { (plan : Plan) (commands : List Command) (turns : ℕ) (earlier later : List Act)
         → Runs plan commands (opening plan turns) (earlier ++ Closed ∷ later) → ClosesForACause plan commands turns earlier }
+{}
+
+/// Where a connection is closed for silence, reads gave nothing for the quiet time by the clock, and nothing else was done, since a
+/// moment behind which all that waited was given up.
+pub fn closes_for_silence_behind_silence()
+    ensures { (plan : Plan) (commands : List Command) (turns : ℕ) (acts : List Act) → Runs plan commands (opening plan turns) acts
+        → order_at plan (stood plan commands turns acts) ≡ Close cause.Silence → IsSilentFor plan.quiet plan commands turns acts }
+{}
+
+/// Where a connection is closed for a dead line, no line that reads as a reply came on it for twice the deadline and the quiet time
+/// by the clock, behind a moment that was told on it.
+pub fn closes_a_dead_line_behind_no_reply()
+    ensures { (plan : Plan) (commands : List Command) (turns : ℕ) (acts : List Act) → Runs plan commands (opening plan turns) acts
+        → order_at plan (stood plan commands turns acts) ≡ Close cause.Dead → IsMuteFor (patience_of plan) plan commands turns acts }
 {}
 
 /// Of two requests of commands that were put, the later one is of a later place in its cycle, or of a later cycle: no command
@@ -94,6 +112,21 @@ pub fn stops_for_a_cause()
         → order_at plan (stood plan commands turns acts) ≡ Stop why → StopsForACause plan commands turns acts why }
 {}
 
+/// Where a run stops for another cause than `Done`, the clock and the turns, at a connection that ended or couldn't be made, it used
+/// up its tries: since a read settled a command, or since the start, more connections ended, or couldn't be made, than the plan has
+/// tries. So as many were asked for at least, and one more where none was settled.
+pub fn stops_behind_all_tries()
+    ensures { (plan : Plan) (commands : List Command) (turns : ℕ) (acts : List Act) (last : Act) (why : Cause) → Runs plan commands (opening plan turns) (acts ++ last ∷ [])
+        → order_at plan (stood plan commands turns (acts ++ last ∷ [])) ≡ Stop why → IsTried why → IsEnding last → AllTried plan commands turns (acts ++ last ∷ []) }
+{}
+
+/// Where a connection is closed, or a run stops, for its turns, it made as many acts.
+pub fn ends_for_turns_behind_as_many_acts()
+    ensures { (plan : Plan) (commands : List Command) (turns : ℕ) (acts : List Act) → Runs plan commands (opening plan turns) acts
+        → (order_at plan (stood plan commands turns acts) ≡ Close cause.Turns) ⊎ (order_at plan (stood plan commands turns acts) ≡ Stop cause.Turns)
+        → turns ≤ length acts }
+{}
+
 /// Where a request goes out, its connection was cleared, and quiet: as soon as it was made a line feed went out, alone and whole,
 /// and before anything else went out on it nothing came for the quiet time, by the clock.
 pub fn each_connection_is_cleared_and_quiet()
@@ -115,4 +148,13 @@ pub fn each_beginning_is_answered_first()
     ensures { (plan : Plan) (commands : List Command) (turns : ℕ) (earlier between later : List Act) (act : Act) → plan.quiet ≤ 18446744073709551615
         → Runs plan commands (opening plan turns) ((earlier ++ between) ++ act ∷ later) → (stood plan commands turns earlier).progress.anew ≡ true
         → IsRequest act → IsFirst plan.quiet (earlier ++ between) act ⊎ IsAnsweredAmong between }
+{}
+
+/// Where a station begins anew, the first request that goes out behind it is the null procedure with id 0, on a connection that was cleared
+/// and then silent for as many quiet times as requests waited at the close behind which it began, and for one at the start; however many
+/// connections ended on the way.
+pub fn each_beginning_is_drained_for_all_that_waited()
+    ensures { (plan : Plan) (commands : List Command) (turns : ℕ) (earlier between later : List Act) (act : Act) (waiting : ℕ) → plan.quiet ≤ 18446744073709551615
+        → Runs plan commands (opening plan turns) ((earlier ++ between) ++ act ∷ later) → BeginsWith plan commands turns earlier waiting → AllByRecursion AsksNothing between
+        → IsRequest act → IsFirst (quiet_times plan waiting) (earlier ++ between) act }
 {}

@@ -65,7 +65,9 @@ pub(crate) fn run<L: Link, B: Book>(
 /// was cut, with the cycle's requests that had gone out (0 before the first cycle), `LinkClosed` where the other end closed
 /// the connection, and `Socket` where no connection could be made. `TooManyReads` comes where `max_turns` acts were made; a
 /// connection that stands then is closed by one more. In all of these the connection is closed, and what waited is written
-/// as lost. `Output` comes where the book failed; the link is closed then, and what waits isn't written.
+/// as lost. `Output` comes where the book failed at a record of the last act: it has all records of the acts before, and of
+/// that act's those in front of the one that failed, whole, and a first part of that one. Nothing is sent afterwards: the
+/// link is closed, and what waits isn't written.
 pub fn run_station<L: Link, B: Book>(
     link: &mut L,
     book: &mut B,

@@ -261,7 +261,7 @@ impl Station {
     // Writes down what was settled, by the marks of the oldest that waited, which go.
     fn write<B: Book>(&mut self, book: &mut B) -> Result<(), PortFailed>
         ensures wrote { (start : Option (List ℕ)) (before : List Record) → Appends start (B.taken book.old) (texts_of B.text before)
-            → WritesAll B.text (before ++ records_of self.old.progress.moment.utc self.old.marks.items (map settlement_seen self.old.settled.items)) start (B.taken book.new) result }
+            → WritesAll B.text before (before ++ records_of self.old.progress.moment.utc self.old.marks.items (map settlement_seen self.old.settled.items)) start (B.taken book.new) result }
         ensures after { OnOk result (self.new ≡ record self.old {
           marks = record { items = drop (length self.old.settled.items) self.old.marks.items };
           tally =
@@ -283,7 +283,7 @@ impl Station {
     fn hear<B: Book>(&mut self, book: &mut B, frame: Lent<'_>) -> Result<(), PortFailed>
         requires { IsLineWithin frame }
         ensures hears { (s : Standing) (start : Option (List ℕ)) → Stands self.old s → Appends start (B.taken book.old) (texts_of B.text s.records)
-            → Follows B.text self.new start (B.taken book.new) (lines_came s (option_to_list (line_in (lent_seen frame.entry)))) result }
+            → Follows B.text s.records self.new start (B.taken book.new) (lines_came s (option_to_list (line_in (lent_seen frame.entry)))) result }
         ensures fails { FailsWith result (B.failed book.old) (B.failed book.new) }
     {
         let Lent::Line(line) = frame else {
@@ -300,7 +300,7 @@ impl Station {
     // Takes the lines of a piece.
     fn listen<B: Book>(&mut self, book: &mut B, piece: &[u8]) -> Result<(), PortFailed>
         ensures listens { (s : Standing) (start : Option (List ℕ)) → Stands self.old s → Appends start (B.taken book.old) (texts_of B.text s.records)
-            → Follows B.text self.new start (B.taken book.new) (piece_came piece.now s) result }
+            → Follows B.text s.records self.new start (B.taken book.new) (piece_came piece.now s) result }
         ensures fails { FailsWith result (B.failed book.old) (B.failed book.new) }
     {
         let mut cut = Line::new();
@@ -318,7 +318,7 @@ impl Station {
     // Takes the lines of a piece where they are heard.
     fn take_lines<B: Book>(&mut self, book: &mut B, piece: &[u8]) -> Result<(), PortFailed>
         ensures takes { (s : Standing) (start : Option (List ℕ)) → Stands self.old s → Appends start (B.taken book.old) (texts_of B.text s.records)
-            → Follows B.text self.new start (B.taken book.new) (came (is_heard s.progress.phase) piece.now s) result }
+            → Follows B.text s.records self.new start (B.taken book.new) (came (is_heard s.progress.phase) piece.now s) result }
         ensures fails { FailsWith result (B.failed book.old) (B.failed book.new) }
     {
         if !self.progress.phase.is_heard() {
@@ -337,7 +337,7 @@ impl Station {
         now: Moment,
     ) -> Result<(), PortFailed>
         ensures takes { (s : Standing) (start : Option (List ℕ)) → Stands self.old s → Appends start (B.taken book.old) (texts_of B.text s.records)
-            → Follows B.text self.new start (B.taken book.new) (piece_at plan.now rested piece.now now s) result }
+            → Follows B.text s.records self.new start (B.taken book.new) (piece_at plan.now rested piece.now now s) result }
         ensures fails { FailsWith result (B.failed book.old) (B.failed book.new) }
     {
         let before = self.commands();
@@ -458,7 +458,7 @@ impl Station {
     // Writes all that wait down as lost, where the next connection begins anew and where no act follows.
     fn end<B: Book>(&mut self, book: &mut B) -> Result<(), PortFailed>
         ensures ends { (s : Standing) (start : Option (List ℕ)) → Stands self.old s → Appends start (B.taken book.old) (texts_of B.text s.records)
-            → Follows B.text self.new start (B.taken book.new) (ended s) result }
+            → Follows B.text s.records self.new start (B.taken book.new) (ended s) result }
         ensures fails { FailsWith result (B.failed book.old) (B.failed book.new) }
     {
         if !self.progress.loses_all() {

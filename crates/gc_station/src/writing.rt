@@ -37,7 +37,7 @@ fn write_one<B: Book>(
     settlement: &Settlement,
 ) -> Result<(), PortFailed>
     ensures wrote { (start : Option (List ℕ)) (before : List Record) → Appends start (B.taken book.old) (texts_of B.text before)
-        → WritesAll B.text (before ++ records_of utc (mark ∷ []) (settlement_seen settlement.now ∷ [])) start (B.taken book.new) result }
+        → WritesAll B.text before (before ++ records_of utc (mark ∷ []) (settlement_seen settlement.now ∷ [])) start (B.taken book.new) result }
     ensures tally { OnOk result (tally.new ≡ tallied tally.old (records_of utc (mark ∷ []) (settlement_seen settlement.now ∷ []))) }
     ensures fails { FailsWith result (B.failed book.old) (B.failed book.new) }
 {
@@ -65,7 +65,7 @@ pub(crate) fn write_settlements<B: Book>(
     settlements: &[Settlement],
 ) -> Result<(), PortFailed>
     ensures wrote { (start : Option (List ℕ)) (before : List Record) → Appends start (B.taken book.old) (texts_of B.text before)
-        → WritesAll B.text (before ++ records_of utc marks.old.items (map settlement_seen settlements.now)) start (B.taken book.new) result }
+        → WritesAll B.text before (before ++ records_of utc marks.old.items (map settlement_seen settlements.now)) start (B.taken book.new) result }
     ensures tally { OnOk result (tally.new ≡ tallied tally.old (records_of utc marks.old.items (map settlement_seen settlements.now))) }
     ensures marks { OnOk result (marks.new.items ≡ drop (length settlements.now) marks.old.items) }
     ensures fails { FailsWith result (B.failed book.old) (B.failed book.new) }

@@ -23,4 +23,4 @@ returns-clause-ends g c s start stands so =
     (sym (length-map items settlement_seen) ∙ ap length same)
     (restarts_paired s.marks s.client stands.paired)
     (c.write.ensures.wrote start s.records so) c.write.ensures.after in
-    subst (λ b. Follows g.B.Book.text c.write.new.self start (g.B.Book.taken c.write.new.book) (losing b s) c.write.result) loses t
+    subst (λ b. Follows g.B.Book.text s.records c.write.new.self start (g.B.Book.taken c.write.new.book) (losing b s) c.write.result) loses t

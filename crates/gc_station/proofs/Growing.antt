@@ -1,0 +1,71 @@
+-- A standing's records: what comes is written down behind them, and none goes.
+use Rattle.std.proofs.Common.{ℕ, Bool, true, false, List, [], ◌∷◌, ◌++◌, map, drop, length, refl, ◌∙◌, append_assoc}
+use Rattle.gc_lines.specs.Frames.{rest_behind}
+use Rattle.gc_client.specs.Rule.{heard, hears, lost}
+use Rattle.gc_texts.specs.declared.commands.Command.{Command}
+use Rattle.gc_station.specs.declared.link.Moment.{Moment}
+use Rattle.gc_station.specs.declared.mark.Mark.{Mark}
+use Rattle.gc_station.specs.declared.plan.Plan.{Plan}
+use Rattle.gc_station.specs.declared.progress.Order.{Order}
+use Rattle.gc_station.specs.declared.progress.Order.TheVariants as orders
+use Rattle.gc_station.specs.declared.progress.Progress.{Progress}
+use Rattle.gc_station.specs.Acts.{Act, Told, Cut, Gave, Silent, Ended, Broke, Opened}
+use Rattle.gc_station.specs.Marks.{commands_in, records_of}
+use Rattle.gc_station.specs.Progressing.{told, begun, cleared, asking, probed, sent, reckoned_early}
+use Rattle.gc_station.specs.Records.{Record}
+use Rattle.gc_station.specs.Standing.{Standing, place_next, mark_next, is_heard, with_progress, with_moment, with_rest, line_came, lines_came, lines_behind, came, asks_null, asks_first, asks_next, after_tell, after_put, after_open, after_read, moved, losing}
+use Rattle.gc_station.proofs.Records.{Grew, grew_none}
+
+-- lines add records
+pub lines_records : (s : Standing) (lines : List (List ℕ)) → Grew s.records (lines_came s lines).records
+lines_records s [] = grew_none s.records
+lines_records s (line ∷ others) =
+    let rest = lines_records (line_came s line) others in
+    let added = records_of s.progress.moment.utc s.marks (hears s.client line (heard line)).settlements in
+    (added ++ rest.0, rest.1 ∙ append_assoc s.records added rest.0)
+
+-- what is lost is written down behind the records
+pub losing_records : (b : Bool) (s : Standing) → Grew s.records (losing b s).records
+losing_records true s = (records_of s.progress.moment.utc s.marks (map lost s.client.waiting), refl)
+losing_records false s = grew_none s.records
+
+came_grew : (heard : Bool) (piece : List ℕ) (s : Standing) → Grew s.records (came heard piece s).records
+came_grew true piece s = lines_records (with_rest (rest_behind s.rest piece) s) (lines_behind s.rest piece)
+came_grew false piece s = grew_none s.records
+
+read_grew : (plan : Plan) (rested : Bool) (s : Standing) (act : Act) → Grew s.records (after_read plan rested s act).records
+read_grew plan rested s (Gave bytes m) = came_grew (is_heard s.progress.phase) bytes (with_moment m (with_progress (told m) s))
+read_grew plan rested s (Silent m) = grew_none s.records
+read_grew plan rested s Ended = grew_none s.records
+read_grew plan rested s Broke = grew_none s.records
+read_grew plan rested s act = grew_none s.records
+
+tell_grew : (f : Moment → Progress → Progress) (s : Standing) (act : Act) → Grew s.records (after_tell f s act).records
+tell_grew f s (Told m) = grew_none s.records
+tell_grew f s act = grew_none s.records
+
+put_grew : (rs : List Record) (requests : ℕ) (f : Standing → Standing) (s : Standing) (act : Act) → Grew rs (f s).records → Grew rs (after_put requests f s act).records
+put_grew rs requests f s (Cut bytes n) g = g
+put_grew rs requests f s act g = g
+
+open_grew : (plan : Plan) (s : Standing) (act : Act) → Grew s.records (after_open plan s act).records
+open_grew plan s Opened = grew_none s.records
+open_grew plan s act = grew_none s.records
+
+sent_grew : (plan : Plan) (mark : Mark) (left : List Command) (s : Standing) → Grew s.records (with_progress sent (asks_first plan mark left s)).records
+sent_grew plan mark [] s = grew_none s.records
+sent_grew plan mark (command ∷ others) s = grew_none s.records
+
+pub moved_grew : (plan : Plan) (commands : List Command) (order : Order) (s : Standing) (act : Act) → Grew s.records (moved plan commands order s act).records
+moved_grew plan commands orders.Tell s act = tell_grew (λ m p. reckoned_early plan (commands_in s.marks) (told m p)) s act
+moved_grew plan commands orders.Begin s act = tell_grew (begun plan (length commands)) s act
+moved_grew plan commands orders.Open s act = open_grew plan s act
+moved_grew plan commands orders.Clear s act = put_grew s.records _ (with_progress cleared) s act (grew_none s.records)
+moved_grew plan commands orders.Probe s act = put_grew s.records _ (λ (x : Standing). with_progress probed (asks_null plan x)) s act (grew_none s.records)
+moved_grew plan commands orders.Send s act =
+    put_grew s.records _ (λ (x : Standing). with_progress sent (asks_next plan commands x)) s act (sent_grew plan (mark_next plan commands s.progress) (drop (place_next commands s.progress) commands) s)
+moved_grew plan commands orders.Flush s act = put_grew s.records _ (λ (x : Standing). with_progress asking (asks_null plan x)) s act (grew_none s.records)
+moved_grew plan commands orders.Read s act = read_grew plan false s act
+moved_grew plan commands orders.Rest s act = read_grew plan true s act
+moved_grew plan commands (orders.Close why) s act = grew_none s.records
+moved_grew plan commands (orders.Stop why) s act = grew_none s.records

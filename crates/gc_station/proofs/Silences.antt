@@ -1,0 +1,440 @@
+-- A connection is closed for silence only where reads gave nothing for so long.
+use Rattle.std.proofs.Common.{◌≡◌, ℕ, ◌-◌, ◌≤◌, ◌⊎◌, inl, inr, ◌&&◌, ◌||◌, Bool, true, false, not, List, [], ◌∷◌, ◌++◌, length, map, if◌then◌else◌, nat_eq, nat_lt, nat_le, min, refl, sym, ap, ◌∙◌, subst, arith, append_assoc}
+use Rattle.std.specs.List.{AllByRecursion}
+use Rattle.std.proofs.Math.Nat.{min-eq_left, min-eq_right}
+use Rattle.std.proofs.lemmas.Bool.{leb-true, leb-false}
+use Rattle.std.proofs.lemmas.List.{nil_from_length}
+use Rattle.gc_lines.specs.Frames.{rest_behind}
+use Rattle.gc_client.specs.declared.pending.Pending.{Pending}
+use Rattle.gc_client.specs.Rule.{ById, expired, is_expiring, expiring, deadlines}
+use Rattle.gc_texts.specs.declared.commands.Command.{Command}
+use Rattle.gc_station.specs.declared.link.Moment.{Moment}
+use Rattle.gc_station.specs.declared.plan.Plan.{Plan}
+use Rattle.gc_station.specs.declared.cause.Cause.{Cause}
+use Rattle.gc_station.specs.declared.cause.Cause.TheVariants as cause
+use Rattle.gc_station.specs.declared.progress.Phase.{Phase}
+use Rattle.gc_station.specs.declared.progress.Phase.TheVariants as phase
+use Rattle.gc_station.specs.declared.progress.Order.{Order}
+use Rattle.gc_station.specs.declared.progress.Order.TheVariants as orders
+use Rattle.gc_station.specs.declared.progress.Progress.{Progress}
+use Rattle.gc_station.specs.declared.progress.Waiting.{Waiting}
+use Rattle.gc_station.specs.Acts.{Act, Told, Untold, Put, Cut, Gave, Silent, Ended, Broke, Opened, Unopened}
+use Rattle.gc_station.specs.Closing.{Shows}
+use Rattle.gc_station.specs.Deciding.{is_up, is_past, is_quiet, is_dead, is_due, drain_of, has_room, order_in, order_on, order_told, order_ready, order_sent, order_done, order_room, order_waiting, order_up}
+use Rattle.gc_station.specs.Marks.{commands_in}
+use Rattle.gc_station.specs.Progressing.{turned, told, begun, reckoned_early, cleared, probed, sent, asking, waited, waiting_on, quieted, is_resting, drained, is_over, is_over_in, loses_all}
+use Rattle.gc_station.specs.Quiet.{TellsMoment, IsSilent}
+use Rattle.gc_station.specs.Reasons.{IsAtItsEnd}
+use Rattle.gc_station.specs.Runs.{stood}
+use Rattle.gc_station.specs.Silences.{latest, IsSilentFor}
+use Rattle.gc_station.specs.Standing.{Standing, opening, order_at, waiting_of, with_progress, with_moment, with_rest, line_came, lines_came, lines_behind, came, is_heard, is_nil, asks_null, asks_next, after_tell, after_put, after_open, after_read, IsTelling, IsOpening, IsReading, Puts, Obeys, moved, losing, ended, after, Runs}
+use Rattle.gc_station.proofs.Closings.{runs_split, closing_shown, needs_of}
+use Rattle.gc_station.proofs.Drains.{along, progress_behind}
+use Rattle.gc_station.proofs.EachRun.{fine_stood}
+use Rattle.gc_station.proofs.Facts.{either}
+use Rattle.gc_station.proofs.Fine.{Fine}
+use Rattle.gc_station.proofs.Going.{after_all-append}
+use Rattle.gc_station.proofs.Lists.{all_append}
+use Rattle.gc_station.proofs.Losing.{quieted_anew}
+use Rattle.gc_station.proofs.Quiets.{Timely, in_timely}
+use Rattle.gc_station.proofs.Turns.{again_down, closed_down}
+
+-- Requests go out, and a connection is closed for silence or for a dead line, only where requests may go, behind a moment that was told.
+
+abbrev pub Awake : Progress → Type 0
+Awake p = (p.stale ≡ false) × ((p.phase ≡ phase.Probing) ⊎ (p.phase ≡ phase.Ready))
+
+abbrev pub Wakes : Progress → Order → Type 0
+Wakes p orders.Probe = Awake p
+Wakes p orders.Send = Awake p
+Wakes p orders.Flush = Awake p
+Wakes p (orders.Close cause.Silence) = (p.phase ≡ phase.Closing cause.Silence) ⊎ Awake p
+Wakes p (orders.Close cause.Dead) = (p.phase ≡ phase.Closing cause.Dead) ⊎ Awake p
+Wakes p _ = Unit {0}
+
+waiting_wakes : (plan : Plan) (p : Progress) (w : Waiting) → Awake p → Wakes p (order_waiting plan p w)
+waiting_wakes plan p w a =
+    either (Wakes p) (orders.Close cause.Silence) _ (nat_eq w.current 0 && is_quiet plan p) (λ e. inr a)
+    (λ e. either (Wakes p) (orders.Close cause.Dead) orders.Read (is_dead plan p w) (λ d. inr a) (λ d. tt))
+
+room_wakes : (plan : Plan) (p : Progress) (w : Waiting) (o : Order) → Awake p → Wakes p o → Wakes p (order_room plan p w o)
+room_wakes plan p w o a x = either (Wakes p) o _ (has_room plan w) (λ e. x) (λ e. waiting_wakes plan p w a)
+
+done_wakes : (plan : Plan) (p : Progress) → Wakes p (order_done plan p)
+done_wakes plan p = either (Wakes p) (orders.Close cause.Done) _ (nat_eq p.left 0) (λ e. tt) (λ e. either (Wakes p) orders.Begin orders.Rest (is_due plan p) (λ d. tt) (λ d. tt))
+
+sent_wakes : (plan : Plan) (p : Progress) (w : Waiting) → Awake p → Wakes p (order_sent plan p w)
+sent_wakes plan p w a =
+    either (Wakes p) _ _ (nat_eq w.commands 0) (λ e. done_wakes plan p)
+    (λ e. either (Wakes p) _ _ (nat_eq w.current 0) (λ g. room_wakes plan p w orders.Flush a a) (λ g. waiting_wakes plan p w a))
+
+ready_wakes : (plan : Plan) (p : Progress) (w : Waiting) → Awake p → Wakes p (order_ready plan p w)
+ready_wakes plan p w a =
+    either (Wakes p) _ _ p.alone (λ e. waiting_wakes plan p w a)
+    (λ e. either (Wakes p) _ _ (nat_lt 0 p.unsent) (λ some. room_wakes plan p w orders.Send a a) (λ none. sent_wakes plan p w a))
+
+closing_wakes : (p : Progress) (why : Cause) → p.phase ≡ phase.Closing why → Wakes p (orders.Close why)
+closing_wakes p cause.Silence is = inl is
+closing_wakes p cause.Dead is = inl is
+closing_wakes p why is = tt
+
+told_wakes : (plan : Plan) (at : Phase) (p : Progress) (w : Waiting) → p.phase ≡ at → p.stale ≡ false → Wakes p (order_told plan at p w)
+told_wakes plan phase.Down p w is now = tt
+told_wakes plan phase.Resting p w is now = tt
+told_wakes plan phase.Clearing p w is now = tt
+told_wakes plan phase.Draining p w is now = tt
+told_wakes plan phase.Probing p w is now = room_wakes plan p w orders.Probe (now, inl is) (now, inl is)
+told_wakes plan phase.Ready p w is now = ready_wakes plan p w (now, inr is)
+told_wakes plan (phase.Closing why) p w is now = closing_wakes p why is
+told_wakes plan (phase.Over why) p w is now = tt
+
+up_wakes : (p : Progress) (up : Bool) → Wakes p (order_up up)
+up_wakes p true = tt
+up_wakes p false = tt
+
+on_wakes : (plan : Plan) (p : Progress) (w : Waiting) → Wakes p (order_on plan p w)
+on_wakes plan p w =
+    either (Wakes p) _ _ (nat_eq p.turns 0) (λ e. up_wakes p (is_up p.phase))
+    (λ e. either (Wakes p) orders.Tell _ p.stale (λ old. tt) (λ now. told_wakes plan p.phase p w refl now))
+
+pub in_wakes : (plan : Plan) (at : Phase) (p : Progress) (w : Waiting) → p.phase ≡ at → Wakes p (order_in at plan p w)
+in_wakes plan (phase.Closing why) p w is = closing_wakes p why is
+in_wakes plan (phase.Over why) p w is = tt
+in_wakes plan at p w is = on_wakes plan p w
+
+-- What was told, and came, behind the moment at which the time of quiet began.
+
+pub latest_more : (now : ℕ) (acts : List Act) (act : Act) → latest now (acts ++ act ∷ []) ≡ latest (latest now acts) (act ∷ [])
+latest_more now [] act = refl
+latest_more now (Told m ∷ acts) act = latest_more m.elapsed acts act
+latest_more now (Gave bytes m ∷ acts) act = latest_more m.elapsed acts act
+latest_more now (Silent m ∷ acts) act = latest_more m.elapsed acts act
+latest_more now (x ∷ acts) act = latest_more now acts act
+
+-- A moment that gives nothing up leaves what is under way.
+
+cons_deadlines : (p : Pending) (ps : List Pending) (b : Bool) → p.given_up ≡ b → deadlines (p ∷ ps) ≡ (if b then deadlines ps else p.deadline ∷ deadlines ps)
+cons_deadlines p ps true e = rw e refl
+cons_deadlines p ps false e = rw e refl
+
+none_expiring : (now : ℕ) (p : Pending) (ps : List Pending) (b : Bool) → is_expiring now p ≡ b → is_nil (expiring now (p ∷ ps)) ≡ true → (b ≡ false) × (is_nil (expiring now ps) ≡ true)
+none_expiring now p ps true e none = let some : is_nil (expiring now (p ∷ ps)) ≡ false = rw e refl in cc
+none_expiring now p ps false e none = let same : is_nil (expiring now (p ∷ ps)) ≡ is_nil (expiring now ps) = rw e refl in (refl, sym same ∙ none)
+
+same_deadlines : (now : ℕ) (ps : List Pending) → is_nil (expiring now ps) ≡ true → deadlines (map (expired now) ps) ≡ deadlines ps
+same_deadlines now [] none = refl
+same_deadlines now (p ∷ ps) none = by_case p.given_up (nat_le p.deadline now) refl refl it (same_deadlines now ps it.1) where
+  it : (is_expiring now p ≡ false) × (is_nil (expiring now ps) ≡ true)
+  it = none_expiring now p ps (is_expiring now p) refl none
+
+  by_case : (g d : Bool) → p.given_up ≡ g → nat_le p.deadline now ≡ d → (is_expiring now p ≡ false) × (is_nil (expiring now ps) ≡ true) → deadlines (map (expired now) ps) ≡ deadlines ps → deadlines (expired now p ∷ map (expired now) ps) ≡ deadlines (p ∷ ps)
+  by_case true d g e it on =
+      let gone : (expired now p).given_up ≡ true = ap (λ b. b || nat_le p.deadline now) g in
+      cons_deadlines (expired now p) (map (expired now) ps) true gone ∙ on ∙ sym (cons_deadlines p ps true g)
+  by_case false true g e it on = let ends : is_expiring now p ≡ true = rw (g, e) refl in cc
+  by_case false false g e it on =
+      let stays : (expired now p).given_up ≡ false = rw (g, e) refl in
+      cons_deadlines (expired now p) (map (expired now) ps) false stays ∙ ap (λ ds. p.deadline ∷ ds) on ∙ sym (cons_deadlines p ps false g)
+
+up_goes_on : (at : Phase) (none : Bool) → is_up at ≡ true → (is_over_in at || (not (is_up at) && none)) ≡ false
+up_goes_on phase.Down none up = cc
+up_goes_on phase.Resting none up = cc
+up_goes_on (phase.Over why) none up = cc
+up_goes_on at none up = refl
+
+lost_deadlines : (t : Standing) (b : Bool) (ds : List ℕ) → (b ≡ false → deadlines t.client.waiting ≡ ds) → (b ≡ true → ds ≡ []) → deadlines (losing b t).client.waiting ≡ ds
+lost_deadlines t true ds same none = sym (none refl)
+lost_deadlines t false ds same none = same refl
+
+anew_up : (anew : Bool) → is_up (if anew then phase.Probing else phase.Ready) ≡ true
+anew_up true = refl
+anew_up false = refl
+
+drained_up : (b : Bool) (p : Progress) → p.phase ≡ phase.Draining → is_up (if b then drained p else p).phase ≡ true
+drained_up true p is = anew_up p.anew
+drained_up false p is = ap is_up is
+
+rested_up : (b : Bool) (at : Phase) → at ≡ phase.Resting → is_up (if b then phase.Down else at) ≡ false
+rested_up true at is = refl
+rested_up false at is = ap is_up is
+
+pub quieted_up : (plan : Plan) (at : Phase) (p : Progress) → p.phase ≡ at → is_up (quieted plan at p).phase ≡ is_up at
+quieted_up plan phase.Resting p is = rested_up (is_past p.pause p && not (is_resting plan p)) p.phase is
+quieted_up plan phase.Draining p is = drained_up (is_past (drain_of plan p) p) p is
+quieted_up plan at p is = ap is_up is
+
+-- a read gives nothing, on a connection, and gives nothing up
+silent_keeps : (plan : Plan) (commands : List Command) (rested : Bool) (s : Standing) (m : Moment) → Fine plan commands s → is_up s.progress.phase ≡ true → not (is_nil (expiring m.elapsed s.client.waiting)) ≡ false
+    → deadlines (ended (after_read plan rested (with_progress turned s) (Silent m))).client.waiting ≡ deadlines s.client.waiting
+silent_keeps plan commands rested s m fine up none = lost_deadlines t (loses_all t.progress) (deadlines s.client.waiting) (λ e. same_deadlines m.elapsed s.client.waiting (nil_is (is_nil (expiring m.elapsed s.client.waiting)) none)) fresh where
+  t : Standing
+  t = after_read plan rested (with_progress turned s) (Silent m)
+
+  nil_is : (b : Bool) → not b ≡ false → b ≡ true
+  nil_is true e = refl
+  nil_is false e = cc
+
+  left_true : (a b : Bool) → (a || b) ≡ true → b ≡ false → a ≡ true
+  left_true true b e goes = refl
+  left_true false b e goes = cc
+
+  fresh : loses_all t.progress ≡ true → deadlines s.client.waiting ≡ []
+  fresh all =
+      let still : is_up t.progress.phase ≡ true = quieted_up plan s.progress.phase (waited rested m (turned s.progress)) refl ∙ up in
+      let goes : is_over t.progress ≡ false = up_goes_on t.progress.phase (nat_eq t.progress.turns 0) still in
+      let anew = left_true t.progress.anew (is_over t.progress) all goes in
+      ap (λ (c : ById). deadlines c.waiting) (fine.anew (sym (quieted_anew plan s.progress.phase (waited rested m (turned s.progress))) ∙ anew)).0
+
+module _ (plan : Plan) (commands : List Command) (turns : ℕ) where
+  -- behind an act that told a moment all reads gave nothing, and no request was given up; this moment was told last
+  pub record IsHushed (since now : ℕ) (acts : List Act) : Type 0 where
+    pub before : List Act
+    pub start : Act
+    pub silence : List Act
+    pub order : acts ≡ before ++ start ∷ silence
+    pub starts : TellsMoment since start
+    pub silent : AllByRecursion IsSilent silence
+    pub last : latest since silence ≡ now
+    pub kept : deadlines (stood plan commands turns acts).client.waiting ≡ deadlines (stood plan commands turns (before ++ start ∷ [])).client.waiting
+
+  -- it begins
+  hushed_now : (now : ℕ) (acts : List Act) (act : Act) → TellsMoment now act → IsHushed now now (acts ++ act ∷ [])
+  hushed_now now acts act tells = record {
+    before = acts;
+    start = act;
+    silence = [];
+    order = refl;
+    starts = tells;
+    silent = tt;
+    last = refl;
+    kept = refl;
+  }
+
+  -- a read that gave nothing leaves what is under way
+  abbrev Keeps : List Act → Moment → Type 0
+  Keeps acts m = deadlines (stood plan commands turns (acts ++ Silent m ∷ [])).client.waiting ≡ deadlines (stood plan commands turns acts).client.waiting
+
+  -- it goes on
+  hushed_on : (since now : ℕ) (acts : List Act) (m : Moment) → Keeps acts m → IsHushed since now acts → IsHushed since m.elapsed (acts ++ Silent m ∷ [])
+  hushed_on since now acts m keeps h = record {
+    before = h.before;
+    start = h.start;
+    silence = h.silence ++ Silent m ∷ [];
+    order = ap (λ xs. xs ++ Silent m ∷ []) h.order ∙ append_assoc h.before (h.start ∷ h.silence) (Silent m ∷ []);
+    starts = h.starts;
+    silent = all_append IsSilent h.silence (Silent m ∷ []) h.silent (tt, tt);
+    last = latest_more since h.silence (Silent m);
+    kept = keeps ∙ h.kept;
+  }
+
+  -- or begins anew, where the clock went back or the moment gave requests up
+  hushed_clock : (since now : ℕ) (m : Moment) (acts : List Act) (b : Bool) → nat_le since m.elapsed ≡ b → Keeps acts m → IsHushed since now acts → IsHushed (min since m.elapsed) m.elapsed (acts ++ Silent m ∷ [])
+  hushed_clock since now m acts true e keeps h = subst (λ n. IsHushed n m.elapsed (acts ++ Silent m ∷ [])) (sym (min-eq_left (leb-true since m.elapsed e))) (hushed_on since now acts m keeps h)
+  hushed_clock since now m acts false e keeps h =
+      let low = leb-false since m.elapsed e in
+      let less : m.elapsed ≤ since = omega (arith, low) in
+      subst (λ n. IsHushed n m.elapsed (acts ++ Silent m ∷ [])) (sym (min-eq_right less)) (hushed_now m.elapsed acts (Silent m) refl)
+
+  hushed_silent : (gave_up : Bool) (since now : ℕ) (m : Moment) (acts : List Act) → (gave_up ≡ false → Keeps acts m) → IsHushed since now acts → IsHushed (if gave_up then m.elapsed else min since m.elapsed) m.elapsed (acts ++ Silent m ∷ [])
+  hushed_silent true since now m acts keeps h = hushed_now m.elapsed acts (Silent m) refl
+  hushed_silent false since now m acts keeps h = hushed_clock since now m acts (nat_le since m.elapsed) refl (keeps refl) h
+
+  -- By the phase: while a connection is drained, and while requests may go out, it is so once a moment was told.
+
+  abbrev pub Heard : Bool → ℕ → ℕ → List Act → Type 0
+  Heard true since now acts = Unit {0}
+  Heard false since now acts = IsHushed since now acts
+
+  abbrev pub Hush : Bool → ℕ → ℕ → Phase → List Act → Type 0
+  Hush stale since now phase.Draining acts = Heard stale since now acts
+  Hush stale since now phase.Probing acts = Heard stale since now acts
+  Hush stale since now phase.Ready acts = Heard stale since now acts
+  Hush stale since now _ acts = Unit {0}
+
+  abbrev pub HushAt : Progress → List Act → Type 0
+  HushAt p acts = Hush p.stale p.since p.moment.elapsed p.phase acts
+
+  -- What each act leaves.
+
+  hush_there : (since now : ℕ) (at : Phase) (acts : List Act) → IsHushed since now acts → Hush false since now at acts
+  hush_there since now phase.Draining acts h = h
+  hush_there since now phase.Probing acts h = h
+  hush_there since now phase.Ready acts h = h
+  hush_there since now at acts h = tt
+
+  hush_stale : (since now : ℕ) (at : Phase) (acts : List Act) → Hush true since now at acts
+  hush_stale since now phase.Draining acts = tt
+  hush_stale since now phase.Probing acts = tt
+  hush_stale since now phase.Ready acts = tt
+  hush_stale since now at acts = tt
+
+  hush_failed : (stale : Bool) (since now : ℕ) (up : Bool) (why : Cause) (acts : List Act) → Hush stale since now (if up then phase.Closing why else phase.Over why) acts
+  hush_failed stale since now true why acts = tt
+  hush_failed stale since now false why acts = tt
+
+  hush_down : (stale : Bool) (since now : ℕ) (at : Phase) (acts : List Act) → is_up at ≡ false → Hush stale since now at acts
+  hush_down stale since now phase.Draining acts down = cc
+  hush_down stale since now phase.Probing acts down = cc
+  hush_down stale since now phase.Ready acts down = cc
+  hush_down stale since now at acts down = tt
+
+  heard_fresh : (stale : Bool) (since now : ℕ) (acts : List Act) → stale ≡ false → Heard stale since now acts → IsHushed since now acts
+  heard_fresh true since now acts fresh h = cc
+  heard_fresh false since now acts fresh h = h
+
+  hush_drained : (b gave_up rested : Bool) (m : Moment) (p : Progress) (acts : List Act) → (gave_up ≡ false → Keeps acts m) → IsHushed p.since p.moment.elapsed acts
+      → HushAt (waiting_on gave_up m (if b then drained (waited rested m p) else waited rested m p)) (acts ++ Silent m ∷ [])
+  hush_drained true gave_up rested m p acts keeps h =
+      hush_there (if gave_up then m.elapsed else min p.since m.elapsed) m.elapsed (if p.anew then phase.Probing else phase.Ready) (acts ++ Silent m ∷ []) (hushed_silent gave_up p.since p.moment.elapsed m acts keeps h)
+  hush_drained false gave_up rested m p acts keeps h = hush_there (if gave_up then m.elapsed else min p.since m.elapsed) m.elapsed p.phase (acts ++ Silent m ∷ []) (hushed_silent gave_up p.since p.moment.elapsed m acts keeps h)
+
+  hush_rested : (stale : Bool) (since now : ℕ) (b : Bool) (at : Phase) (acts : List Act) → at ≡ phase.Resting → Hush stale since now (if b then phase.Down else at) acts
+  hush_rested stale since now true at acts is = tt
+  hush_rested stale since now false at acts is = subst (λ (x : Phase). Hush stale since now x acts) (sym is) tt
+
+  hush_silent : (rested gave_up : Bool) (m : Moment) (p : Progress) (at : Phase) (acts : List Act) → p.phase ≡ at → p.stale ≡ false → (is_up at ≡ true → gave_up ≡ false → Keeps acts m) → Hush p.stale p.since p.moment.elapsed at acts
+      → HushAt (waiting_on gave_up m (quieted plan at (waited rested m p))) (acts ++ Silent m ∷ [])
+  hush_silent rested gave_up m p phase.Draining acts is fresh keeps h =
+      hush_drained (is_past (drain_of plan (waited rested m p)) (waited rested m p)) gave_up rested m p acts (keeps refl) (heard_fresh p.stale p.since p.moment.elapsed acts fresh h)
+  hush_silent rested gave_up m p phase.Resting acts is fresh keeps h =
+      hush_rested false (if gave_up then m.elapsed else min p.since m.elapsed) m.elapsed (is_past p.pause (waited rested m p) && not (is_resting plan (waited rested m p))) p.phase (acts ++ Silent m ∷ []) is
+  hush_silent rested gave_up m p phase.Probing acts is fresh keeps h =
+      hush_there (if gave_up then m.elapsed else min p.since m.elapsed) m.elapsed p.phase (acts ++ Silent m ∷ []) (hushed_silent gave_up p.since p.moment.elapsed m acts (keeps refl) (heard_fresh p.stale p.since p.moment.elapsed acts fresh h))
+  hush_silent rested gave_up m p phase.Ready acts is fresh keeps h =
+      hush_there (if gave_up then m.elapsed else min p.since m.elapsed) m.elapsed p.phase (acts ++ Silent m ∷ []) (hushed_silent gave_up p.since p.moment.elapsed m acts (keeps refl) (heard_fresh p.stale p.since p.moment.elapsed acts fresh h))
+  hush_silent rested gave_up m p at acts is fresh keeps h =
+      subst (λ (x : Phase). Hush false (if gave_up then m.elapsed else min p.since m.elapsed) m.elapsed x (acts ++ Silent m ∷ [])) (sym is) tt
+
+  lines_hush : (s : Standing) (lines : List (List ℕ)) (acts : List Act) → HushAt s.progress acts → HushAt (lines_came s lines).progress acts
+  lines_hush s [] acts h = h
+  lines_hush s (line ∷ others) acts h = lines_hush (line_came s line) others acts h
+
+  came_hush : (heard : Bool) (piece : List ℕ) (s : Standing) (acts : List Act) → HushAt s.progress acts → HushAt (came heard piece s).progress acts
+  came_hush true piece s acts h = lines_hush (with_rest (rest_behind s.rest piece) s) (lines_behind s.rest piece) acts h
+  came_hush false piece s acts h = h
+
+  -- where there is a connection, and nothing is given up
+  abbrev KeepsAt : Standing → Act → List Act → Type 0
+  KeepsAt s (Silent m) acts = is_up s.progress.phase ≡ true → not (is_nil (expiring m.elapsed s.client.waiting)) ≡ false → Keeps acts m
+  KeepsAt s act acts = Unit {0}
+
+  read_hush : (rested : Bool) (s : Standing) (act : Act) (acts : List Act) → IsReading act → s.progress.stale ≡ false → KeepsAt s act acts → HushAt s.progress acts → HushAt (after_read plan rested s act).progress (acts ++ act ∷ [])
+  read_hush rested s (Gave bytes m) acts o fresh keeps h =
+      came_hush (is_heard s.progress.phase) bytes (with_moment m (with_progress (told m) s)) (acts ++ Gave bytes m ∷ [])
+      (hush_there m.elapsed m.elapsed s.progress.phase (acts ++ Gave bytes m ∷ []) (hushed_now m.elapsed acts (Gave bytes m) refl))
+  read_hush rested s (Silent m) acts o fresh keeps h = hush_silent rested (not (is_nil (expiring m.elapsed s.client.waiting))) m s.progress s.progress.phase acts refl fresh keeps h
+  read_hush rested s Untold acts o fresh keeps h = hush_failed s.progress.stale s.progress.since s.progress.moment.elapsed (is_up s.progress.phase) cause.Clock (acts ++ Untold ∷ [])
+  read_hush rested s Ended acts o fresh keeps h = hush_failed s.progress.stale s.progress.since s.progress.moment.elapsed (is_up s.progress.phase) cause.End (acts ++ Ended ∷ [])
+  read_hush rested s Broke acts o fresh keeps h = hush_failed s.progress.stale s.progress.since s.progress.moment.elapsed (is_up s.progress.phase) cause.Read (acts ++ Broke ∷ [])
+  read_hush rested s act acts o fresh keeps h = absurd o
+
+  tell_hush : (f : Moment → Progress → Progress) (s : Standing) (act : Act) (acts : List Act) → IsTelling act → ((m : Moment) → IsHushed m.elapsed m.elapsed (acts ++ Told m ∷ []) → HushAt (f m s.progress) (acts ++ Told m ∷ []))
+      → HushAt (after_tell f s act).progress (acts ++ act ∷ [])
+  tell_hush f s (Told m) acts o step = step m (hushed_now m.elapsed acts (Told m) refl)
+  tell_hush f s Untold acts o step = hush_failed s.progress.stale s.progress.since s.progress.moment.elapsed (is_up s.progress.phase) cause.Clock (acts ++ Untold ∷ [])
+  tell_hush f s act acts o step = absurd o
+
+  open_hush : (s : Standing) (act : Act) (acts : List Act) → IsOpening act → HushAt (after_open plan s act).progress (acts ++ act ∷ [])
+  open_hush s Opened acts o = tt
+  open_hush s Unopened acts o =
+      hush_down true s.progress.since s.progress.moment.elapsed (after_open plan s Unopened).progress.phase (acts ++ Unopened ∷ []) (again_down plan (commands_in s.marks) cause.Open s.progress)
+  open_hush s act acts o = absurd o
+
+  put_hush : (requests : ℕ) (bytes : List ℕ) (f : Standing → Standing) (s : Standing) (act : Act) (acts : List Act) → Puts bytes act → (f s).progress.stale ≡ true → HushAt (after_put requests f s act).progress (acts ++ act ∷ [])
+  put_hush requests bytes f s (Put out) acts o old =
+      let p = (f s).progress in subst (λ (b : Bool). Hush b p.since p.moment.elapsed p.phase (acts ++ Put out ∷ [])) (sym old) (hush_stale p.since p.moment.elapsed p.phase (acts ++ Put out ∷ []))
+  put_hush requests bytes f s (Cut out n) acts o old = let p = (f s).progress in hush_failed p.stale p.since p.moment.elapsed (is_up p.phase) (cause.Write requests n) (acts ++ Cut out n ∷ [])
+  put_hush requests bytes f s act acts o old = absurd o
+
+  keeps_turned : (s : Standing) (act : Act) (acts : List Act) → KeepsAt s act acts → KeepsAt (with_progress turned s) act acts
+  keeps_turned s (Silent m) acts keeps = keeps
+  keeps_turned s act acts keeps = tt
+
+  keeps_stood : (done : List Act) (act : Act) → Obeys commands (stood plan commands turns done) (order_at plan (stood plan commands turns done)) act → KeepsAt (stood plan commands turns done) act done
+  keeps_stood done (Silent m) o = keeps where
+    s : Standing
+    s = stood plan commands turns done
+
+    there : stood plan commands turns (done ++ Silent m ∷ []) ≡ after plan commands s (Silent m)
+    there = after_all-append plan commands (opening plan turns) done (Silent m ∷ [])
+
+    keeps : is_up (stood plan commands turns done).progress.phase ≡ true → not (is_nil (expiring m.elapsed (stood plan commands turns done).client.waiting)) ≡ false → Keeps done m
+    keeps up none = by_order (order_at plan s) refl o where
+      read : (rested : Bool) → after plan commands s (Silent m) ≡ ended (after_read plan rested (with_progress turned s) (Silent m)) → Keeps done m
+      read rested is = ap (λ (x : Standing). deadlines x.client.waiting) (there ∙ is) ∙ silent_keeps plan commands rested s m (fine_stood plan commands turns done) up none
+
+      by_order : (next : Order) → order_at plan s ≡ next → Obeys commands s next (Silent m) → Keeps done m
+      by_order orders.Read is o = read false (ap (λ (next : Order). ended (moved plan commands next (with_progress turned s) (Silent m))) is)
+      by_order orders.Rest is o = read true (ap (λ (next : Order). ended (moved plan commands next (with_progress turned s) (Silent m))) is)
+      by_order (orders.Close why) is o = cc
+      by_order next is o = absurd o
+  keeps_stood done act o = tt
+
+  hush_moved : (next : Order) (s : Standing) (act : Act) (acts : List Act) → Obeys commands s next act → Timely s.progress next → KeepsAt s act acts
+      → HushAt s.progress acts → HushAt (moved plan commands next (with_progress turned s) act).progress (acts ++ act ∷ [])
+  hush_moved orders.Tell s act acts o time keeps h =
+      tell_hush (λ (m : Moment) (p : Progress). reckoned_early plan (commands_in s.marks) (told m p)) (with_progress turned s) act acts o (λ m now. hush_there m.elapsed m.elapsed s.progress.phase (acts ++ Told m ∷ []) now)
+  hush_moved orders.Begin s act acts o time keeps h =
+      tell_hush (begun plan (length commands)) (with_progress turned s) act acts o (λ m now. hush_there m.elapsed m.elapsed s.progress.phase (acts ++ Told m ∷ []) now)
+  hush_moved orders.Open s act acts o time keeps h = open_hush (with_progress turned s) act acts o
+  hush_moved orders.Clear s act acts o time keeps h = put_hush _ _ (with_progress cleared) (with_progress turned s) act acts o refl
+  hush_moved orders.Probe s act acts o time keeps h = put_hush _ _ (λ (x : Standing). with_progress probed (asks_null plan x)) (with_progress turned s) act acts o refl
+  hush_moved orders.Send s act acts o time keeps h = put_hush _ _ (λ (x : Standing). with_progress sent (asks_next plan commands x)) (with_progress turned s) act acts o refl
+  hush_moved orders.Flush s act acts o time keeps h = put_hush _ _ (λ (x : Standing). with_progress asking (asks_null plan x)) (with_progress turned s) act acts o refl
+  hush_moved orders.Read s act acts o time keeps h = read_hush false (with_progress turned s) act acts o time.0 (keeps_turned s act acts keeps) h
+  hush_moved orders.Rest s act acts o time keeps h = read_hush true (with_progress turned s) act acts o time.0 (keeps_turned s act acts keeps) h
+  hush_moved (orders.Close why) s act acts o time keeps h =
+      let p = (moved plan commands (orders.Close why) (with_progress turned s) act).progress in hush_down p.stale p.since p.moment.elapsed p.phase (acts ++ act ∷ []) (closed_down plan (waiting_of s) why (turned s.progress))
+  hush_moved (orders.Stop why) s act acts o time keeps h = absurd o
+
+  -- Whole runs.
+
+  pub hush_stood : (acts : List Act) → Runs plan commands (opening plan turns) acts → HushAt (stood plan commands turns acts).progress acts
+  hush_stood acts runs = along plan commands (opening plan turns) (λ (xs : List Act). HushAt (stood plan commands turns xs).progress xs) step [] acts runs tt where
+    step : (done later : List Act) (act : Act) → Runs plan commands (opening plan turns) (done ++ act ∷ later) → HushAt (stood plan commands turns done).progress done → HushAt (stood plan commands turns (done ++ act ∷ [])).progress (done ++ act ∷ [])
+    step done later act runs h =
+        let s = stood plan commands turns done in
+        let split = runs_split plan commands (opening plan turns) done later act runs in
+        subst (λ (p : Progress). HushAt p (done ++ act ∷ [])) (sym (progress_behind plan commands turns done act))
+        (hush_moved (order_at plan s) s act done split.1 (in_timely plan s.progress.phase s.progress (waiting_of s)) (keeps_stood done act split.1) h)
+
+  -- where requests may go out, behind a moment that was told
+  pub awake_hushed : (p : Progress) (acts : List Act) → Awake p → HushAt p acts → IsHushed p.since p.moment.elapsed acts
+  awake_hushed p acts (fresh, inl is) h = heard_fresh p.stale p.since p.moment.elapsed acts fresh (subst (λ (x : Phase). Hush p.stale p.since p.moment.elapsed x acts) is h)
+  awake_hushed p acts (fresh, inr is) h = heard_fresh p.stale p.since p.moment.elapsed acts fresh (subst (λ (x : Phase). Hush p.stale p.since p.moment.elapsed x acts) is h)
+
+-- A close that no act shows is decided where it is made.
+
+pub not_closing : (plan : Plan) (commands : List Command) (turns : ℕ) (acts : List Act) (why : Cause) → Runs plan commands (opening plan turns) acts → ((act : Act) → Shows why act → ⊥) → (stood plan commands turns acts).progress.phase ≡ phase.Closing why → ⊥
+not_closing plan commands turns acts why runs none is = let shown = closing_shown plan commands turns acts why runs is in none shown.1 shown.3
+
+pub end_here : (plan : Plan) (s : Standing) (why : Cause) → order_at plan s ≡ orders.Close why → (s.progress.phase ≡ phase.Closing why → ⊥) → IsAtItsEnd plan s.progress (waiting_of s) why
+end_here plan s why is never = by_needs (needs_of plan s (orders.Close why) is).1 where
+  by_needs : (s.progress.phase ≡ phase.Closing why) ⊎ IsAtItsEnd plan s.progress (waiting_of s) why → IsAtItsEnd plan s.progress (waiting_of s) why
+  by_needs (inl closing) = absurd (never closing)
+  by_needs (inr end) = end
+
+pub awake_here : (p : Progress) (why : Cause) → (p.phase ≡ phase.Closing why) ⊎ Awake p → (p.phase ≡ phase.Closing why → ⊥) → Awake p
+awake_here p why (inl closing) never = absurd (never closing)
+awake_here p why (inr a) never = a
+
+pub silent_close : (plan : Plan) (commands : List Command) (turns : ℕ) (acts : List Act) → Runs plan commands (opening plan turns) acts → order_at plan (stood plan commands turns acts) ≡ orders.Close cause.Silence → IsSilentFor plan.quiet plan commands turns acts
+silent_close plan commands turns acts runs is =
+    let s = stood plan commands turns acts in
+    let p = s.progress in
+    let never = not_closing plan commands turns acts cause.Silence runs (λ act shows. shows) in
+    let end = end_here plan s cause.Silence is never in
+    let wakes = subst (λ (next : Order). Wakes p next) is (in_wakes plan p.phase p (waiting_of s) refl) in
+    let h = awake_hushed plan commands turns p acts (awake_here p cause.Silence wakes never) (hush_stood plan commands turns acts runs) in
+    let long : plan.quiet ≤ p.moment.elapsed - p.since = leb-true plan.quiet (p.moment.elapsed - p.since) end.2 in
+    record {
+      before = h.before;
+      start = h.start;
+      from = p.since;
+      silence = h.silence;
+      order = h.order;
+      starts = h.starts;
+      given_up = sym h.kept ∙ nil_from_length (deadlines s.client.waiting) end.0;
+      silent = h.silent;
+      long = subst (λ n. plan.quiet ≤ n - p.since) (sym h.last) long;
+    }

@@ -1,0 +1,475 @@
+-- A run stops for want of tries only where as many connections ended since a read settled a command.
+use Rattle.std.proofs.Common.{◌≡◌, ◌≢◌, ◌⊎◌, inl, inr, ℕ, suc, ◌+◌, ◌-◌, ◌<◌, ◌≤◌, ◌||◌, Bool, true, false, List, [], ◌∷◌, ◌++◌, length, drop, map, Option, Some, None, if◌then◌else◌, nat_lt, refl, sym, ap, ◌∙◌, subst, arith, append_assoc, append-nil}
+use Rattle.std.proofs.lemmas.Bool.{ltb-true, ltb-false}
+use Rattle.std.proofs.lemmas.List.{length-map, length-append, nil_from_length}
+use Rattle.gc_lines.specs.Frames.{rest_behind}
+use Rattle.gc_client.specs.declared.pending.Pending.{Pending}
+use Rattle.gc_client.specs.Rule.{ById}
+use Rattle.gc_texts.specs.declared.commands.Command.{Command}
+use Rattle.gc_station.specs.declared.link.Moment.{Moment}
+use Rattle.gc_station.specs.declared.mark.Mark.{Mark}
+use Rattle.gc_station.specs.declared.plan.Plan.{Plan}
+use Rattle.gc_station.specs.declared.cause.Cause.{Cause}
+use Rattle.gc_station.specs.declared.cause.Cause.TheVariants as cause
+use Rattle.gc_station.specs.declared.progress.Phase.{Phase}
+use Rattle.gc_station.specs.declared.progress.Phase.TheVariants as phase
+use Rattle.gc_station.specs.declared.progress.Order.{Order}
+use Rattle.gc_station.specs.declared.progress.Order.TheVariants as orders
+use Rattle.gc_station.specs.declared.progress.Progress.{Progress}
+use Rattle.gc_station.specs.declared.progress.Waiting.{Waiting}
+use Rattle.gc_station.specs.Acts.{Act, Told, Untold, Put, Cut, Gave, Silent, Ended, Broke, Closed, Opened, Unopened}
+use Rattle.gc_station.specs.Closing.{Shows, EndsDone, EndsBehind, commands_behind}
+use Rattle.gc_station.specs.Deciding.{is_up, is_past, drain_of}
+use Rattle.gc_station.specs.EachOnce.{still_waiting, of_record, sent_by}
+use Rattle.gc_station.specs.Marks.{commands_in}
+use Rattle.gc_station.specs.Progressing.{turned, told, begun, reckoned_early, cleared, probed, sent, asking, waited, quieted, drained, is_resting, begins_anew, closed_again, closed, is_over, loses_all}
+use Rattle.gc_station.specs.Records.{Record}
+use Rattle.gc_station.specs.Runs.{stood}
+use Rattle.gc_station.specs.Standing.{Standing, opening, order_at, waiting_of, place_next, mark_next, with_progress, with_moment, with_rest, line_came, lines_came, lines_behind, came, is_heard, asks_null, asks_first, asks_next, after_tell, after_put, after_open, after_read, piece_at, IsTelling, IsOpening, IsReading, Puts, Obeys, moved, losing, after, after_all, Runs}
+use Rattle.gc_station.specs.Tries.{IsTried, IsEnding, ends_in, opens_in, SettlesNone, NoneSettled, EndsSettled, AllTried}
+use Rattle.gc_station.proofs.Beginning.{over_stays}
+use Rattle.gc_station.proofs.Closings.{runs_split, needs_of, end_of, Decided, after_decided, done_sent}
+use Rattle.gc_station.proofs.Counts.{came_kept, ended_progress}
+use Rattle.gc_station.proofs.Drains.{along, progress_behind}
+use Rattle.gc_station.proofs.EachRun.{fine_stood}
+use Rattle.gc_station.proofs.Facts.{order_for}
+use Rattle.gc_station.proofs.Fine.{Fine}
+use Rattle.gc_station.proofs.Going.{after_all-append}
+use Rattle.gc_station.proofs.Growing.{losing_records, moved_grew}
+use Rattle.gc_station.proofs.Losing.{came_leaves}
+use Rattle.gc_station.proofs.Opens.{Counted, counted_moved}
+use Rattle.gc_station.proofs.Records.{Grew}
+use Rattle.gc_station.proofs.Turns.{up_count}
+
+-- Each end of a connection takes a try at most, and only a read gives tries back.
+
+-- what a piece leaves: the counts of commands that went out, whether it begins anew, and the tries, by whether fewer commands wait
+record Hears (plan : Plan) (s t : Standing) : Type 0 where
+  left : t.progress.left ≡ s.progress.left
+  unsent : t.progress.unsent ≡ s.progress.unsent
+  anew : t.progress.anew ≡ s.progress.anew
+  tries : ((commands_in t.marks < commands_in s.marks) × (t.progress.tries ≡ plan.retries)) ⊎ ((commands_in s.marks ≤ commands_in t.marks) × (t.progress.tries ≡ s.progress.tries))
+
+abbrev Took : Plan → Standing → Act → Standing → Type 0
+Took plan s (Gave bytes m) t = Hears plan s t
+Took plan s act t = s.progress.tries ≤ t.progress.tries + ends_in (act ∷ [])
+
+tell_took : (plan : Plan) (f : Moment → Progress → Progress) (s : Standing) (act : Act) → IsTelling act → ((m : Moment) → (f m s.progress).tries ≡ s.progress.tries) → Took plan s act (after_tell f s act)
+tell_took plan f s (Told m) o same = let e = same m in omega (arith, e)
+tell_took plan f s Untold o same = omega arith
+tell_took plan f s act o same = absurd o
+
+open_took : (plan : Plan) (s : Standing) (act : Act) → IsOpening act → Took plan s act (after_open plan s act)
+open_took plan s Opened o = omega arith
+open_took plan s Unopened o = omega arith
+open_took plan s act o = absurd o
+
+put_took : (plan : Plan) (requests : ℕ) (bytes : List ℕ) (f : Standing → Standing) (s : Standing) (act : Act) → Puts bytes act → (f s).progress.tries ≡ s.progress.tries → Took plan s act (after_put requests f s act)
+put_took plan requests bytes f s (Put out) o same = omega (arith, same)
+put_took plan requests bytes f s (Cut out n) o same = omega (arith, same)
+put_took plan requests bytes f s act o same = absurd o
+
+first_tries : (plan : Plan) (mark : Mark) (left : List Command) (s : Standing) → (asks_first plan mark left s).progress.tries ≡ s.progress.tries
+first_tries plan mark [] s = refl
+first_tries plan mark (command ∷ others) s = refl
+
+lines_tries : (s : Standing) (lines : List (List ℕ)) → (lines_came s lines).progress.tries ≡ s.progress.tries
+lines_tries s [] = refl
+lines_tries s (line ∷ others) = lines_tries (line_came s line) others
+
+came_tries : (heard : Bool) (piece : List ℕ) (s : Standing) → (came heard piece s).progress.tries ≡ s.progress.tries
+came_tries true piece s = lines_tries (with_rest (rest_behind s.rest piece) s) (lines_behind s.rest piece)
+came_tries false piece s = refl
+
+given_back : (b : Bool) (after before retries new old : ℕ) → nat_lt after before ≡ b → new ≡ old → ((after < before) × ((if b then retries else new) ≡ retries)) ⊎ ((before ≤ after) × ((if b then retries else new) ≡ old))
+given_back true after before retries new old e same = inl (ltb-true after before e, refl)
+given_back false after before retries new old e same = inr (ltb-false after before e, same)
+
+gave_took : (plan : Plan) (rested : Bool) (s : Standing) (bytes : List ℕ) (m : Moment) → Hears plan s (piece_at plan rested bytes m s)
+gave_took plan rested s bytes m =
+    let heard = is_heard s.progress.phase in
+    let mid = with_moment m (with_progress (told m) s) in
+    let kept = came_kept heard bytes mid in
+    let t = came heard bytes mid in
+    record {
+      left = kept.left;
+      unsent = kept.unsent;
+      anew = (came_leaves heard bytes mid).0;
+      tries = given_back (nat_lt (commands_in t.marks) (commands_in s.marks)) (commands_in t.marks) (commands_in s.marks) plan.retries t.progress.tries s.progress.tries refl (came_tries heard bytes mid);
+    }
+
+drained_tries : (b : Bool) (p : Progress) → (if b then drained p else p).tries ≡ p.tries
+drained_tries true p = refl
+drained_tries false p = refl
+
+quieted_tries : (plan : Plan) (at : Phase) (p : Progress) → (quieted plan at p).tries ≡ p.tries
+quieted_tries plan phase.Resting p = refl
+quieted_tries plan phase.Draining p = drained_tries (is_past (drain_of plan p) p) p
+quieted_tries plan at p = refl
+
+read_took : (plan : Plan) (rested : Bool) (s : Standing) (act : Act) → IsReading act → Took plan s act (after_read plan rested s act)
+read_took plan rested s (Gave bytes m) o = gave_took plan rested s bytes m
+read_took plan rested s (Silent m) o = let same = quieted_tries plan s.progress.phase (waited rested m s.progress) in omega (arith, same)
+read_took plan rested s Untold o = omega arith
+read_took plan rested s Ended o = omega arith
+read_took plan rested s Broke o = omega arith
+read_took plan rested s act o = absurd o
+
+one_less : (b : Bool) (n : ℕ) → n ≤ (if b then n else n - 1) + 1
+one_less true n = omega arith
+one_less false n = omega arith
+
+again_took : (plan : Plan) (w : Waiting) (why : Cause) (b : Bool) (p : Progress) → p.tries ≤ (closed_again plan w why b p).tries + 1
+again_took plan w cause.Open true p = omega arith
+again_took plan w cause.Open false p = omega arith
+again_took plan w why true p = one_less (is_resting plan p) p.tries
+again_took plan w why false p = one_less (is_resting plan p) p.tries
+
+close_took : (plan : Plan) (w : Waiting) (why : Cause) (p : Progress) → p.tries ≤ (closed plan w why p).tries + 1
+close_took plan w cause.Done p = omega arith
+close_took plan w cause.Clock p = omega arith
+close_took plan w cause.Turns p = omega arith
+close_took plan w why p = again_took plan w why (begins_anew why p) p
+
+took_moved : (plan : Plan) (commands : List Command) (next : Order) (s : Standing) (act : Act) → Obeys commands s next act → Took plan (with_progress turned s) act (moved plan commands next (with_progress turned s) act)
+took_moved plan commands orders.Tell s act o = tell_took plan (λ (m : Moment) (p : Progress). reckoned_early plan (commands_in s.marks) (told m p)) (with_progress turned s) act o (λ m. refl)
+took_moved plan commands orders.Begin s act o = tell_took plan (begun plan (length commands)) (with_progress turned s) act o (λ m. refl)
+took_moved plan commands orders.Open s act o = open_took plan (with_progress turned s) act o
+took_moved plan commands orders.Clear s act o = put_took plan _ _ (with_progress cleared) (with_progress turned s) act o refl
+took_moved plan commands orders.Probe s act o = put_took plan _ _ (λ (x : Standing). with_progress probed (asks_null plan x)) (with_progress turned s) act o refl
+took_moved plan commands orders.Send s act o =
+    put_took plan _ _ (λ (x : Standing). with_progress sent (asks_next plan commands x)) (with_progress turned s) act o
+    (first_tries plan (mark_next plan commands s.progress) (drop (place_next commands s.progress) commands) (with_progress turned s))
+took_moved plan commands orders.Flush s act o = put_took plan _ _ (λ (x : Standing). with_progress asking (asks_null plan x)) (with_progress turned s) act o refl
+took_moved plan commands orders.Read s act o = read_took plan false (with_progress turned s) act o
+took_moved plan commands orders.Rest s act o = read_took plan true (with_progress turned s) act o
+took_moved plan commands (orders.Close why) s act o =
+    subst (λ (x : Act). Took plan (with_progress turned s) x (moved plan commands (orders.Close why) (with_progress turned s) act)) (sym o) (close_took plan (waiting_of s) why (turned s.progress))
+took_moved plan commands (orders.Stop why) s act o = absurd o
+
+-- a turn takes no try
+untook : (plan : Plan) (s t : Standing) (act : Act) → Took plan (with_progress turned s) act t → Took plan s act t
+untook plan s t (Gave bytes m) h = record { left = h.left; unsent = h.unsent; anew = h.anew; tries = h.tries }
+untook plan s t act h = h
+
+-- A read gives tries back where, and only where, it settled a command.
+
+waiting_count : (marks : List (Option Mark)) (waits : List Pending) → length marks ≡ length waits → length (still_waiting marks waits) ≡ commands_in marks
+waiting_count [] [] e = refl
+waiting_count [] (w ∷ waits) e = refl
+waiting_count (mark ∷ marks) [] e = absurd (omega (arith, e))
+waiting_count (None ∷ marks) (w ∷ waits) e = waiting_count marks waits (omega (arith, e))
+waiting_count (Some mark ∷ marks) (w ∷ waits) e = ap suc (waiting_count marks waits (omega (arith, e)))
+
+-- how many commands were sent
+counted_out : (plan : Plan) (commands : List Command) (s : Standing) → Fine plan commands s → length s.records + commands_in s.marks ≡ length (sent_by commands (plan.cycles - s.progress.left) (place_next commands s.progress))
+counted_out plan commands s fine =
+    let a = length-append (map of_record s.records) (still_waiting s.marks s.client.waiting) in
+    let b = length-map s.records of_record in
+    let c = waiting_count s.marks s.client.waiting fine.paired in
+    let d = ap length fine.each in
+    omega (arith, a, b, c, d)
+
+same_out : (plan : Plan) (commands : List Command) (s t : Standing) → Fine plan commands s → Fine plan commands t → t.progress.left ≡ s.progress.left → t.progress.unsent ≡ s.progress.unsent
+    → length t.records + commands_in t.marks ≡ length s.records + commands_in s.marks
+same_out plan commands s t fine fine' left unsent =
+    counted_out plan commands t fine'
+    ∙ ap (λ n. length (sent_by commands (plan.cycles - n) (place_next commands t.progress))) left
+    ∙ ap (λ n. length (sent_by commands (plan.cycles - s.progress.left) (length commands - n))) unsent
+    ∙ sym (counted_out plan commands s fine)
+
+grew_none : (old new more : List Record) → new ≡ old ++ more → length new ≤ length old → new ≡ old
+grew_none old new more is few =
+    let a = ap length is in
+    let b = length-append old more in
+    let none : length more ≡ 0 = omega (arith, a, b, few) in
+    is ∙ ap (λ xs. old ++ xs) (nil_from_length more none) ∙ append-nil old
+
+-- what is told of a read that gave bytes: it settled a command, and all tries are left; or none, and no try was given back
+abbrev Settling : Plan → Standing → Standing → Type 0
+Settling plan s t = ((t.records ≢ s.records) × (t.progress.tries ≡ plan.retries)) ⊎ ((t.records ≡ s.records) × (t.progress.tries ≡ s.progress.tries))
+
+-- the tries, whatever is lost then
+settling_by : (plan : Plan) (s t : Standing) (mid old : ℕ) → Grew s.records t.records → length t.records + commands_in t.marks ≡ length s.records + old → (commands_in t.marks ≡ mid) ⊎ (old ≡ 0)
+    → ((mid < old) × (t.progress.tries ≡ plan.retries)) ⊎ ((old ≤ mid) × (t.progress.tries ≡ s.progress.tries)) → Settling plan s t
+settling_by plan s t mid old grew same kept (inl fewer) = inl (λ e. by_kept kept (ap length e), fewer.1) where
+  by_kept : ((commands_in t.marks ≡ mid) ⊎ (old ≡ 0)) → length t.records ≡ length s.records → ⊥
+  by_kept (inl stay) e = let few = fewer.0 in omega (arith, stay, e, few, same)
+  by_kept (inr none) e = let few = fewer.0 in omega (arith, none, few)
+settling_by plan s t mid old grew same kept (inr more) = inr (grew_none s.records t.records grew.0 grew.1 (by_kept kept), more.1) where
+  by_kept : ((commands_in t.marks ≡ mid) ⊎ (old ≡ 0)) → length t.records ≤ length s.records
+  by_kept (inl stay) = let least = more.0 in omega (arith, stay, least, same)
+  by_kept (inr none) = omega (arith, none, same)
+
+-- what waits is lost only where the run is over, or it begins anew, and then nothing waits
+kept_marks : (plan : Plan) (commands : List Command) (s t : Standing) (b : Bool) → loses_all t.progress ≡ b → is_over t.progress ≡ false → t.progress.anew ≡ s.progress.anew → Fine plan commands s
+    → (commands_in (losing b t).marks ≡ commands_in t.marks) ⊎ (commands_in s.marks ≡ 0)
+kept_marks plan commands s t false e goes anew fine = inl refl
+kept_marks plan commands s t true e goes anew fine =
+    let begins : s.progress.anew ≡ true = sym anew ∙ left_true t.progress.anew (is_over t.progress) e goes in
+    let none : length s.marks ≡ 0 = fine.paired ∙ ap (λ (c : ById). length c.waiting) (fine.anew begins).0 in
+    inr (ap commands_in (nil_from_length s.marks none)) where
+      left_true : (a b : Bool) → (a || b) ≡ true → b ≡ false → a ≡ true
+      left_true true b e no_ = refl
+      left_true false b e no_ = cc
+
+gave_settles : (plan : Plan) (commands : List Command) (s t u : Standing) → Fine plan commands s → Fine plan commands u → Hears plan s t → Grew s.records u.records → u.progress ≡ t.progress
+    → (commands_in u.marks ≡ commands_in t.marks) ⊎ (commands_in s.marks ≡ 0) → Settling plan s u
+gave_settles plan commands s t u fine fine' h grew same kept =
+    settling_by plan s u (commands_in t.marks) (commands_in s.marks) grew
+    (same_out plan commands s u fine fine' (ap (λ (p : Progress). p.left) same ∙ h.left) (ap (λ (p : Progress). p.unsent) same ∙ h.unsent)) kept
+    (subst (λ n. ((commands_in t.marks < commands_in s.marks) × (n ≡ plan.retries)) ⊎ ((commands_in s.marks ≤ commands_in t.marks) × (n ≡ s.progress.tries))) (sym (ap (λ (p : Progress). p.tries) same)) h.tries)
+
+-- So the tries are counted along a run.
+
+ends_more : (xs : List Act) (act : Act) → ends_in (xs ++ act ∷ []) ≡ ends_in xs + ends_in (act ∷ [])
+ends_more [] act = omega arith
+ends_more (Closed ∷ xs) act = let e = ends_more xs act in omega (arith, e)
+ends_more (Unopened ∷ xs) act = let e = ends_more xs act in omega (arith, e)
+ends_more (x ∷ xs) act = ends_more xs act
+
+opens_more : (xs : List Act) (act : Act) → opens_in (xs ++ act ∷ []) ≡ opens_in xs + opens_in (act ∷ [])
+opens_more [] act = omega arith
+opens_more (Opened ∷ xs) act = let e = opens_more xs act in omega (arith, e)
+opens_more (Unopened ∷ xs) act = let e = opens_more xs act in omega (arith, e)
+opens_more (x ∷ xs) act = opens_more xs act
+
+none_more : (plan : Plan) (commands : List Command) (s : Standing) (xs : List Act) (act : Act) → NoneSettled plan commands s xs → SettlesNone (after_all plan commands s xs) act (after plan commands (after_all plan commands s xs) act)
+    → NoneSettled plan commands s (xs ++ act ∷ [])
+none_more plan commands s [] act none here = (here, tt)
+none_more plan commands s (x ∷ xs) act none here = (none.0, none_more plan commands (after plan commands s x) xs act none.1 here)
+
+record Trying (plan : Plan) (commands : List Command) (turns tries : ℕ) (up : Bool) (acts : List Act) : Type 0 where
+  before : List Act
+  behind : List Act
+  held : ℕ
+  order : acts ≡ before ++ behind
+  since : (before ≡ []) ⊎ EndsSettled plan commands turns before
+  none : NoneSettled plan commands (stood plan commands turns before) behind
+  left : plan.retries ≤ tries + ends_in behind
+  most : held ≤ 1
+  first : before ≡ [] → held ≡ 0
+  opens : opens_in behind + held ≡ ends_in behind + up_count up
+
+-- an act at which no command was settled
+abbrev trying_on : (plan : Plan) (commands : List Command) (turns tries tries' : ℕ) (up up' : Bool) (acts : List Act) (act : Act) → tries ≤ tries' + ends_in (act ∷ []) → Counted up act up'
+    → SettlesNone (stood plan commands turns acts) act (after plan commands (stood plan commands turns acts) act)
+    → Trying plan commands turns tries up acts → Trying plan commands turns tries' up' (acts ++ act ∷ [])
+trying_on plan commands turns tries tries' up up' acts act took counted settles t =
+    let ends = ends_more t.behind act in
+    let opens = opens_more t.behind act in
+    let there : stood plan commands turns acts ≡ after_all plan commands (stood plan commands turns t.before) t.behind = ap (stood plan commands turns) t.order ∙ after_all-append plan commands (opening plan turns) t.before t.behind in
+    let enough = t.left in
+    let even = t.opens in
+    let least : plan.retries ≤ tries' + ends_in (t.behind ++ act ∷ []) = omega (arith, ends, took, enough) in
+    let level : opens_in (t.behind ++ act ∷ []) + t.held ≡ ends_in (t.behind ++ act ∷ []) + up_count up' = omega (arith, ends, opens, counted, even) in
+    record {
+      before = t.before;
+      behind = t.behind ++ act ∷ [];
+      held = t.held;
+      order = ap (λ xs. xs ++ act ∷ []) t.order ∙ append_assoc t.before t.behind (act ∷ []);
+      since = t.since;
+      none = none_more plan commands (stood plan commands turns t.before) t.behind act t.none (subst (λ (x : Standing). SettlesNone x act (after plan commands x act)) there settles);
+      left = least;
+      most = t.most;
+      first = t.first;
+      opens = level;
+    }
+
+-- a read that settled one
+trying_anew : (plan : Plan) (commands : List Command) (turns tries : ℕ) (up : Bool) (acts : List Act) (bytes : List ℕ) (m : Moment) → tries ≡ plan.retries
+    → (stood plan commands turns (acts ++ Gave bytes m ∷ [])).records ≢ (stood plan commands turns acts).records → Trying plan commands turns tries up (acts ++ Gave bytes m ∷ [])
+trying_anew plan commands turns tries up acts bytes m all settled = record {
+  before = acts ++ Gave bytes m ∷ [];
+  behind = [];
+  held = up_count up;
+  order = sym (append-nil (acts ++ Gave bytes m ∷ []));
+  since = inr (record { earlier = acts; piece = bytes; moment = m; order = refl; settled = settled });
+  none = tt;
+  left = omega (arith, all);
+  most = one up;
+  first = λ e. absurd (some acts e);
+  opens = refl;
+} where
+  one : (b : Bool) → up_count b ≤ 1
+  one true = omega arith
+  one false = omega arith
+
+  some : (xs : List Act) → xs ++ Gave bytes m ∷ [] ≡ [] → ⊥
+  some [] e = cc
+  some (x ∷ xs) e = cc
+
+abbrev Try : Plan → List Command → ℕ → List Act → Type 0
+Try plan commands turns acts =
+    is_over (stood plan commands turns acts).progress ≡ false → Trying plan commands turns (stood plan commands turns acts).progress.tries (is_up (stood plan commands turns acts).progress.phase) acts
+
+goes_on : (b : Bool) → (b ≡ true → ⊥) → b ≡ false
+goes_on true never = absurd (never refl)
+goes_on false never = refl
+
+after_grew : (plan : Plan) (commands : List Command) (s : Standing) (act : Act) → Grew s.records (after plan commands s act).records
+after_grew plan commands s act =
+    let t = moved plan commands (order_at plan s) (with_progress turned s) act in
+    let a = moved_grew plan commands (order_at plan s) (with_progress turned s) act in
+    let b = losing_records (loses_all t.progress) t in
+    (a.0 ++ b.0, b.1 ∙ ap (λ xs. xs ++ b.0) a.1 ∙ append_assoc s.records a.0 b.0)
+
+-- one act more
+try_step : (plan : Plan) (commands : List Command) (turns : ℕ) (acts : List Act) (act : Act) (s u : Standing) (t : Standing) → stood plan commands turns acts ≡ s → stood plan commands turns (acts ++ act ∷ []) ≡ u → u ≡ after plan commands s act
+    → u.progress ≡ t.progress → Took plan s act t → Counted (is_up s.progress.phase) act (is_up t.progress.phase) → (((bytes : List ℕ) × (m : Moment) × (act ≡ Gave bytes m)) → Hears plan s t → Settling plan s u)
+    → Trying plan commands turns s.progress.tries (is_up s.progress.phase) acts → Trying plan commands turns u.progress.tries (is_up u.progress.phase) (acts ++ act ∷ [])
+try_step plan commands turns acts (Gave bytes m) s u t before behind does same took counted settling trying = by_settling (settling (bytes, m, refl) took) where
+  up_same : Counted (is_up s.progress.phase) (Gave bytes m) (is_up u.progress.phase)
+  up_same = subst (λ (p : Progress). Counted (is_up s.progress.phase) (Gave bytes m) (is_up p.phase)) (sym same) counted
+
+  by_settling : Settling plan s u → Trying plan commands turns u.progress.tries (is_up u.progress.phase) (acts ++ Gave bytes m ∷ [])
+  by_settling (inl some) = trying_anew plan commands turns u.progress.tries (is_up u.progress.phase) acts bytes m some.1 (λ e. some.0 (sym (ap (λ (x : Standing). x.records) behind) ∙ e ∙ ap (λ (x : Standing). x.records) before))
+  by_settling (inr none) =
+      let kept = none.1 in
+      let tries : s.progress.tries ≤ u.progress.tries + 0 = omega (arith, kept) in
+      trying_on plan commands turns s.progress.tries u.progress.tries (is_up s.progress.phase) (is_up u.progress.phase) acts (Gave bytes m) tries up_same
+      (subst (λ (x : Standing). (after plan commands x (Gave bytes m)).records ≡ x.records) (sym before) (sym (ap (λ (x : Standing). x.records) does) ∙ none.0)) trying
+try_step plan commands turns acts act s u t before behind does same took counted settling trying =
+    trying_on plan commands turns s.progress.tries u.progress.tries (is_up s.progress.phase) (is_up u.progress.phase) acts act
+    (subst (λ (p : Progress). s.progress.tries ≤ p.tries + ends_in (act ∷ [])) (sym same) took)
+    (subst (λ (p : Progress). Counted (is_up s.progress.phase) act (is_up p.phase)) (sym same) counted) tt trying
+
+behind_one : (plan : Plan) (commands : List Command) (turns : ℕ) (done : List Act) (act : Act) → stood plan commands turns (done ++ act ∷ []) ≡ after plan commands (stood plan commands turns done) act
+behind_one plan commands turns done act = after_all-append plan commands (opening plan turns) done (act ∷ [])
+
+try_after : (plan : Plan) (commands : List Command) (turns : ℕ) (done later : List Act) (act : Act) → Runs plan commands (opening plan turns) (done ++ act ∷ later) → Try plan commands turns done → Try plan commands turns (done ++ act ∷ [])
+try_after plan commands turns done later act runs trying not_over =
+    let s = stood plan commands turns done in
+    let u = stood plan commands turns (done ++ act ∷ []) in
+    let t = moved plan commands (order_at plan s) (with_progress turned s) act in
+    let split = runs_split plan commands (opening plan turns) done later act runs in
+    let same = progress_behind plan commands turns done act in
+    let goes = goes_on (is_over s.progress) (λ over. over_stays plan commands s act over split.1) in
+    let fine = fine_stood plan commands turns done in
+    let fine' = fine_stood plan commands turns (done ++ act ∷ []) in
+    let there = behind_one plan commands turns done act in
+    let not_over_mid : is_over t.progress ≡ false = sym (ap is_over same) ∙ not_over in
+    try_step plan commands turns done act s u t refl refl there same (untook plan s t act (took_moved plan commands (order_at plan s) s act split.1))
+    (counted_moved plan commands (order_at plan s) s act split.1 (order_for plan s.progress (waiting_of s)))
+    (λ gave h. gave_settles plan commands s t u fine fine' h
+    (subst (λ (x : Standing). Grew s.records x.records) (sym there) (after_grew plan commands s act)) same
+    (subst (λ (x : Standing). (commands_in x.marks ≡ commands_in t.marks) ⊎ (commands_in s.marks ≡ 0)) (sym there) (kept_marks plan commands s t (loses_all t.progress) refl not_over_mid h.anew fine)))
+    (trying goes)
+
+try_stood : (plan : Plan) (commands : List Command) (turns : ℕ) (acts : List Act) → Runs plan commands (opening plan turns) acts → Try plan commands turns acts
+try_stood plan commands turns acts runs =
+    along plan commands (opening plan turns) (Try plan commands turns) (λ done later act. try_after plan commands turns done later act) [] acts runs
+    (λ not_over. record {
+      before = [];
+      behind = [];
+      held = 0;
+      order = refl;
+      since = inl refl;
+      none = tt;
+      left = omega arith;
+      most = omega arith;
+      first = λ e. refl;
+      opens = refl;
+    })
+
+-- A run that stops.
+
+ending_shows : (why : Cause) (act : Act) → IsEnding act → Shows why act → ⊥
+ending_shows cause.End Closed o shows = cc
+ending_shows cause.End Unopened o shows = cc
+ending_shows cause.Read Closed o shows = cc
+ending_shows cause.Read Unopened o shows = cc
+ending_shows cause.Clock Closed o shows = cc
+ending_shows cause.Clock Unopened o shows = cc
+ending_shows (cause.Write requests bytes) Closed o shows = let other = shows.1 in cc
+ending_shows (cause.Write requests bytes) Unopened o shows = let other = shows.1 in cc
+ending_shows why Closed o shows = absurd shows
+ending_shows why Unopened o shows = absurd shows
+ending_shows why act o shows = absurd o
+
+not_done : (p : Progress) (n : ℕ) (why : Cause) → IsTried why → EndsDone p n why → ⊥
+not_done p n why tried done = subst IsTried done.0 tried
+
+no_try : (plan : Plan) (p : Progress) (n : ℕ) (other why : Cause) → IsTried why → EndsBehind plan p n other why → p.tries ≡ 0
+no_try plan p n cause.Done why tried ends = absurd (not_done p n why tried ends)
+no_try plan p n cause.Clock why tried ends = absurd (subst IsTried ends tried)
+no_try plan p n cause.Turns why tried ends = absurd (subst IsTried ends tried)
+no_try plan p n other why tried (inl done) = absurd (not_done p n why tried done)
+no_try plan p n other why tried (inr used) = used.3
+
+settles_none : (s t : Standing) (act : Act) → IsEnding act → SettlesNone s act t
+settles_none s t Closed o = tt
+settles_none s t Unopened o = tt
+settles_none s t act o = absurd o
+
+one_end : (act : Act) → IsEnding act → ends_in (act ∷ []) ≡ 1
+one_end Closed o = refl
+one_end Unopened o = refl
+one_end act o = absurd o
+
+-- from a count of the tries to the claim
+all_tried : (plan : Plan) (commands : List Command) (turns : ℕ) (acts : List Act) (last : Act) → IsEnding last → Counted (is_up (stood plan commands turns acts).progress.phase) last false
+    → Trying plan commands turns 0 (is_up (stood plan commands turns acts).progress.phase) acts → AllTried plan commands turns (acts ++ last ∷ [])
+all_tried plan commands turns acts last ending counted t =
+    let s = stood plan commands turns acts in
+    let one = one_end last ending in
+    let more : 0 ≤ 0 + ends_in (last ∷ []) = omega arith in
+    let u = trying_on plan commands turns 0 0 (is_up s.progress.phase) false acts last more counted (settles_none s (after plan commands s last) last ending) t in
+    let ends = ends_more t.behind last in
+    let left : plan.retries ≤ 0 + ends_in t.behind = t.left in
+    let over : plan.retries < ends_in (t.behind ++ last ∷ []) = omega (arith, ends, one, left) in
+    let even : opens_in (t.behind ++ last ∷ []) + t.held ≡ ends_in (t.behind ++ last ∷ []) + 0 = u.opens in
+    let most : t.held ≤ 1 = t.most in
+    let enough : plan.retries ≤ opens_in (t.behind ++ last ∷ []) = omega (arith, over, even, most) in
+    record {
+      before = u.before;
+      behind = u.behind;
+      order = u.order;
+      since = u.since;
+      none = u.none;
+      ended = over;
+      opened = enough;
+      first = λ e. let start : t.held ≡ 0 = t.first e in let all : plan.retries < opens_in (t.behind ++ last ∷ []) = omega (arith, over, even, start) in all;
+    }
+
+pub stop_tried : (plan : Plan) (commands : List Command) (turns : ℕ) (acts : List Act) (last : Act) (why : Cause) → Runs plan commands (opening plan turns) (acts ++ last ∷ [])
+    → order_at plan (stood plan commands turns (acts ++ last ∷ [])) ≡ orders.Stop why → IsTried why → IsEnding last → AllTried plan commands turns (acts ++ last ∷ [])
+stop_tried plan commands turns acts last why runs stop tried ending = by_decided decided where
+  s : Standing
+  s = stood plan commands turns acts
+
+  t : Standing
+  t = moved plan commands (order_at plan s) (with_progress turned s) last
+
+  split : Runs plan commands (opening plan turns) acts × Obeys commands s (order_at plan s) last
+  split = runs_split plan commands (opening plan turns) acts [] last runs
+
+  over : (stood plan commands turns (acts ++ last ∷ [])).progress.phase ≡ phase.Over why
+  over = by_needs (needs_of plan (stood plan commands turns (acts ++ last ∷ [])) (orders.Stop why) stop).1 where
+    by_needs : ((stood plan commands turns (acts ++ last ∷ [])).progress.phase ≡ phase.Over why) ⊎ ((why ≡ cause.Turns) × ((stood plan commands turns (acts ++ last ∷ [])).progress.turns ≡ 0))
+        → (stood plan commands turns (acts ++ last ∷ [])).progress.phase ≡ phase.Over why
+    by_needs (inl is) = is
+    by_needs (inr turns) = absurd (subst IsTried turns.0 tried)
+
+  there : (after plan commands s last).progress.phase ≡ phase.Over why
+  there = sym (ap (λ (x : Standing). x.progress.phase) (behind_one plan commands turns acts last)) ∙ over
+
+  decided : Decided plan s (after plan commands s last).progress.phase why last
+  decided = after_decided plan commands s last why split.1 (done_sent plan commands turns acts) (ap end_of there)
+
+  down : is_up t.progress.phase ≡ false
+  down = sym (ap (λ (p : Progress). is_up p.phase) (ended_progress t)) ∙ ap is_up there
+
+  goes : is_over s.progress ≡ false
+  goes = goes_on (is_over s.progress) (λ gone. over_stays plan commands s last gone split.1)
+
+  counted : Counted (is_up s.progress.phase) last false
+  counted = subst (λ (b : Bool). Counted (is_up s.progress.phase) last b) down (counted_moved plan commands (order_at plan s) s last split.1 (order_for plan s.progress (waiting_of s)))
+
+  used : s.progress.tries ≡ 0 → AllTried plan commands turns (acts ++ last ∷ [])
+  used none = all_tried plan commands turns acts last ending counted (subst (λ n. Trying plan commands turns n (is_up s.progress.phase) acts) none (try_stood plan commands turns acts split.0 goes))
+
+  by_decided : Decided plan s (after plan commands s last).progress.phase why last → AllTried plan commands turns (acts ++ last ∷ [])
+  by_decided (inl failed) = absurd (ending_shows why last ending failed.1)
+  by_decided (inr (down, inl (other, closes, next, ends))) = used (no_try plan s.progress (commands_behind (waiting_of s) other s.progress) other why tried ends)
+  by_decided (inr (down, inr (unopened, ends))) = used (no_try plan s.progress (commands_in s.marks) cause.Open why tried ends)

@@ -1,0 +1,67 @@
+-- How many connections ended, or couldn't be made, since a command was settled: this project's own.
+use Rattle.std.specs.Prelude.{◌≡◌, ◌≢◌, ◌⊎◌, ℕ, suc, ◌<◌, ◌≤◌, List, [], ◌∷◌, ◌++◌}
+use Rattle.gc_texts.specs.declared.commands.Command.{Command}
+use Rattle.gc_station.specs.declared.cause.Cause.{Cause}
+use Rattle.gc_station.specs.declared.cause.Cause.TheVariants as cause
+use Rattle.gc_station.specs.declared.link.Moment.{Moment}
+use Rattle.gc_station.specs.declared.plan.Plan.{Plan}
+use Rattle.gc_station.specs.Acts.{Act, Gave, Closed, Opened, Unopened}
+use Rattle.gc_station.specs.Runs.{stood}
+use Rattle.gc_station.specs.Standing.{Standing, after}
+
+-- for another cause than these a run stops only without a try left
+abbrev pub IsTried : Cause → Type 0
+IsTried cause.Done = ⊥
+IsTried cause.Clock = ⊥
+IsTried cause.Turns = ⊥
+IsTried _ = Unit {0}
+
+-- a connection ended, or none could be made
+abbrev pub IsEnding : Act → Type 0
+IsEnding Closed = Unit {0}
+IsEnding Unopened = Unit {0}
+IsEnding _ = ⊥
+
+-- how often a connection ended, or none could be made
+abbrev pub ends_in : List Act → ℕ
+ends_in [] = 0
+ends_in (Closed ∷ acts) = suc (ends_in acts)
+ends_in (Unopened ∷ acts) = suc (ends_in acts)
+ends_in (act ∷ acts) = ends_in acts
+
+-- how often a connection was asked for
+abbrev pub opens_in : List Act → ℕ
+opens_in [] = 0
+opens_in (Opened ∷ acts) = suc (opens_in acts)
+opens_in (Unopened ∷ acts) = suc (opens_in acts)
+opens_in (act ∷ acts) = opens_in acts
+
+-- a read settled no command: no record was written down where one gave bytes
+abbrev pub SettlesNone : Standing → Act → Standing → Type 0
+SettlesNone s (Gave bytes m) t = t.records ≡ s.records
+SettlesNone s act t = Unit {0}
+
+-- no read among these acts settled a command, from where a station stands
+abbrev pub NoneSettled : Plan → List Command → Standing → List Act → Type 0
+NoneSettled plan commands s [] = Unit {0}
+NoneSettled plan commands s (act ∷ acts) = SettlesNone s act (after plan commands s act) × NoneSettled plan commands (after plan commands s act) acts
+
+-- these acts end with a read that settled a command
+pub record EndsSettled (plan : Plan) (commands : List Command) (turns : ℕ) (acts : List Act) : Type 0 where
+  pub earlier : List Act
+  pub piece : List ℕ
+  pub moment : Moment
+  pub order : acts ≡ earlier ++ Gave piece moment ∷ []
+  pub settled : (stood plan commands turns acts).records ≢ (stood plan commands turns earlier).records
+
+-- since a read settled a command, or from the start where none did, more connections ended, or couldn't be made, than there are tries: so
+-- many were asked for at least, and from the start one more
+pub record AllTried (plan : Plan) (commands : List Command) (turns : ℕ) (acts : List Act) : Type 0 where
+  pub before : List Act
+  pub behind : List Act
+  pub order : acts ≡ before ++ behind
+  pub since : (before ≡ []) ⊎ EndsSettled plan commands turns before
+  pub none : NoneSettled plan commands (stood plan commands turns before) behind
+  pub ended : plan.retries < ends_in behind
+  pub opened : plan.retries ≤ opens_in behind
+  pub first : before ≡ [] → plan.retries < opens_in behind
