@@ -12,3 +12,4 @@ pub mod Waits
 pub mod Meant
 pub mod InTime
 pub mod Joining
+pub mod Witness

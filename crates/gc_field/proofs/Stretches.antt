@@ -9,7 +9,7 @@ use Rattle.gc_world.specs.Clients.{ids_open}
 use Rattle.gc_world.specs.World.{Ends}
 use Rattle.gc_field.specs.Field.{Move, IsField, seen}
 use Rattle.gc_field.specs.Laws.{IsFaithful, left}
-use Rattle.gc_field.specs.Stretches.{Stretch, steps_over, settled_over, ArePossible, AreFaithful}
+use Rattle.gc_field.specs.Stretches.{Stretch, steps_over, settled_over, client_over, ArePossible, AreFaithful}
 use Rattle.gc_field.proofs.Seen.{same_all, same_open}
 
 -- a course with the client of another, which settled these before
@@ -65,5 +65,16 @@ module _ {State : Type 0} (width : ℕ) (ends : Ends State) (Good : State → Ty
   each_all [] h = tt
   each_all (s ∷ ss) h = (one s.state h.0.0 s.moves h.0.1, each_all ss h.1)
 
+  client_all : (ss : List (Stretch State)) → ArePossible width ends Good ss → (course width begun (steps_over ss)).client ≡ client_over width ends ss
+  client_all [] h = refl
+  client_all (s ∷ []) h = (one s.state h.0.0 s.moves h.0.1).stands
+  client_all (s ∷ next ∷ others) h =
+      let x = course width begun (seen s.moves) in
+      let z = settled_on x (restarts x.client) in
+      let later = steps_over (next ∷ others) in
+      ap (λ (c : Course). c.client) (course_append width (seen s.moves) (Restart ∷ later) begun)
+      ∙ (behind_all width z.settlements later z begun (record { settled = sym (append-nil z.settlements); client = refl })).client
+      ∙ client_all (next ∷ others) h.1
+
   pub stretches : (ss : List (Stretch State)) → ArePossible width ends Good ss → AreFaithful width ends Good ss
-  stretches ss h = record { settled = settled_all ss h; each = each_all ss h }
+  stretches ss h = record { settled = settled_all ss h; stands = client_all ss h; each = each_all ss h }

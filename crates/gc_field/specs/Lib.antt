@@ -7,3 +7,4 @@ pub mod Laws
 pub mod Stretches
 pub mod Alone
 pub mod Runs
+pub mod Witness

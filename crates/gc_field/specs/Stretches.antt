@@ -5,7 +5,7 @@ use Rattle.std.specs.Prelude.{◌≡◌, ℕ, ◌≤◌, List, [], ◌∷◌, �
 use Rattle.std.specs.List.{AllByRecursion}
 use Rattle.gc_client.specs.declared.window.TheConstants.{WINDOW}
 use Rattle.gc_client.specs.OneForOne.{Step, Restart, begun, course}
-use Rattle.gc_client.specs.Rule.{Settlement, lost}
+use Rattle.gc_client.specs.Rule.{ById, Settlement, fresh, lost}
 use Rattle.gc_instrument.specs.State.{State, IsFittingState}
 use Rattle.gc_world.specs.Clients.{ends}
 use Rattle.gc_world.specs.World.{Ends}
@@ -31,12 +31,19 @@ settled_over width ends (s ∷ next ∷ others) =
     let w = left width ends s.state s.moves in
     (w.wire.settled ++ map lost w.client.waiting) ++ settled_over width ends (next ∷ others)
 
+-- and the client behind it: that of the last stretch, since a restart leaves a new one
+abbrev pub client_over : {State : Type 0} → ℕ → Ends State → List (Stretch State) → ById
+client_over width ends [] = fresh
+client_over width ends (s ∷ []) = (left width ends s.state s.moves).client
+client_over width ends (s ∷ next ∷ others) = client_over width ends (next ∷ others)
+
 -- each stretch is possible, from its beginning on, and its first request goes out alone
 abbrev pub ArePossible : {State : Type 0} → ℕ → Ends State → (State → Type 0) → List (Stretch State) → Type 0
 ArePossible width ends Good stretches = AllByRecursion (λ s. Good s.state × IsField width ends s.state s.moves) stretches
 
 pub record AreFaithful {State : Type 0} (width : ℕ) (ends : Ends State) (Good : State → Type 0) (stretches : List (Stretch State)) : Type 0 where
   pub settled : (course width begun (steps_over stretches)).settlements ≡ settled_over width ends stretches
+  pub stands : (course width begun (steps_over stretches)).client ≡ client_over width ends stretches
   pub each : AllByRecursion (λ s. IsFaithful width ends s.state s.moves Good) stretches
 
 -- whatever a client does, as the library's are called: sends, lines, moments and restarts, in any order, where the first send behind

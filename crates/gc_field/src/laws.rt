@@ -5,6 +5,7 @@ ghost use Rattle.gc_field.specs.Fronts.{CutRequestsAreWholeOrNothing};
 ghost use Rattle.gc_field.specs.Laws.{AnswersAreTheirOwn, StationsAnswersAreTheirOwn};
 ghost use Rattle.gc_field.specs.Runs.{RunsAreFaithful};
 ghost use Rattle.gc_field.specs.Stretches.{StretchesAreFaithful};
+ghost use Rattle.gc_field.specs.Witness.{SomeRunIsInField};
 
 /// Over any number of connections, whenever a client sends, each answer that it settles was made for that very request, but
 /// for the first one, which goes out alone; and between two of its starts the instrument executes each request at most once.
@@ -39,4 +40,9 @@ pub fn cut_requests_are_whole_or_nothing()
 /// be booked, with nothing executed.
 pub fn two_at_once_are_booked_wrong()
     ensures { TwoAtOnceAreBookedWrong }
+{}
+
+/// Some run is such a run: of one command, over one connection, whose answer it writes down.
+pub fn some_run_is_in_the_field()
+    ensures { SomeRunIsInField }
 {}
