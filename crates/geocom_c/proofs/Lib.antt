@@ -8,3 +8,4 @@ mod Frames
 mod Hearings
 mod Courses
 mod Lines
+mod Owning

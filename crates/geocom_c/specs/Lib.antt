@@ -6,3 +6,5 @@ pub mod Deadlines
 pub mod Settled
 pub mod Feeding
 pub mod Following
+pub mod Steps
+pub mod Laws

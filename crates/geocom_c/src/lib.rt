@@ -8,6 +8,7 @@ mod calls;
 mod faults;
 mod feeding;
 mod following;
+pub mod laws;
 mod listed;
 mod rest;
 mod sends;
