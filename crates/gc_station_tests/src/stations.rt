@@ -11,8 +11,9 @@ mod stalls;
 mod tcp;
 mod waits;
 
+use crate::telling::{Telling, run_telling};
 use gc_catalogue::Call;
-use gc_station::{Plan, run_station};
+use gc_station::Plan;
 use gc_texts::{Command, RunFault};
 use script::{Ends, Script, Step};
 use std::process::Abort;
@@ -38,7 +39,8 @@ fn null(target: u32) -> Command {
     command(target, Call::NullProc)
 }
 
-// What commands come to over a script, with so many turns and such a book: what was put, what was written, and the end.
+// What commands come to over a script, with so many turns and such a book: what was put, what was written, and the end. It runs over
+// a link that tells its acts.
 fn ends_so(
     rt: &impl Abort,
     name: &str,
@@ -51,10 +53,13 @@ fn ends_so(
     ends: &[u8],
     fault: Option<RunFault>,
 ) {
-    let mut link = link;
+    let mut telling = Telling::new(link);
     let mut book = book;
-    let result = run_station(&mut link, &mut book, commands, &plan, max_turns);
-    assert!(rt; link.text.as_slice() == put, "{name}, {max_turns}: put");
+    let result = run_telling(&mut telling, &mut book, commands, &plan, max_turns);
+    assert!(rt;
+        telling.link.text.as_slice() == put,
+        "{name}, {max_turns}: put"
+    );
     assert!(rt; book.text.as_slice() == ends, "{name}, {max_turns}: ends");
     assert!(rt; result.err() == fault, "{name}, {max_turns}: fault");
 }
