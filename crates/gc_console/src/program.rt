@@ -120,14 +120,17 @@ fn run_subcommand<
             &mut sink,
             messages,
         ),
-        Subcommand::Station(station) => run_station_port(
-            rt,
-            alloc,
-            station,
-            &mut FromReader::new(input),
-            sink,
-            messages,
-        ),
+        Subcommand::Station(station) => {
+            run_station_port(
+                rt,
+                alloc,
+                station,
+                &mut FromReader::new(input),
+                sink,
+                messages,
+            )
+            .1
+        }
     }
 }
 

@@ -4,7 +4,7 @@ ghost use Rattle.std.specs.Prelude.{◌≡◌, ◌≤◌, ◌↔◌, ◌⊎◌, 
 ghost use Rattle.std.specs.Io.KnownBytes.{Consumes};
 ghost use Rattle.std.specs.Process.{exit_status};
 ghost use Rattle.gc_ask.specs.AskRuns.{GivesCommands};
-ghost use Rattle.gc_console.specs.Measuring.{Places, Measures, RunsBehind, TellsCounts};
+ghost use Rattle.gc_console.specs.Measuring.{Measures, RunsBehind, TellsCounts};
 ghost use Rattle.gc_station.specs.Runs.{FailsAtOutput};
 ghost use Rattle.gc_station.specs.declared.tally.Tally.{Tally};
 ghost use Rattle.gc_texts.specs.declared.commands.Command.{Command as CommandOf};
@@ -140,11 +140,11 @@ pub(crate) fn station_of(matches: &ArgMatches) -> Station {
 }
 
 /// Measures on a port, and tells how it ended: the counts, or the fault's line. `Read` comes too where the clock can't be
-/// read.
+/// read. The sink is handed back.
 pub(crate) fn run_station_port<
     R: Net<Listener = TcpListener, Stream = TcpStream> + Clock,
     S: Source,
-    K: Sink + Drop,
+    K: Sink,
     E: Write,
 >(
     rt: &R,
@@ -153,43 +153,46 @@ pub(crate) fn run_station_port<
     source: &mut S,
     sink: K,
     messages: &mut E,
-) -> io::Result<ExitCode>
-    // Status 2 exactly where the port is 0.
-    ensures port { IfOk result (λ status. (exit_status status ≡ 2) ↔ (station.port ≡ 0)) }
+) -> (K, io::Result<ExitCode>)
+    // Status 2 exactly where the port is 0, and then nothing was read or written.
+    ensures port { IfOk result.1 (λ status. (exit_status status ≡ 2) ↔ (station.port ≡ 0)) }
+    ensures refused { station.port ≡ 0 → (S.reads source.new ≡ S.reads source.old) × (result.0 ≡ sink) }
 
-    // Else the status and the messages tell how it ended: what the text was, and what of its commands was measured; or that
-    // the clock couldn't be read, and then nothing was read or written.
-    ensures told { IfOk result (λ status. 1 ≤ station.port → (end : Result Tally RunFault) × (after : Places)
-        × TellsCounts end (exit_status status) after.messages (E.contents messages.new)
+    // Else the status and the messages tell how it ended: what the text was, and what of its commands was measured, as the
+    // sink has it that is handed back; or that the clock couldn't be read, and then nothing was read or written.
+    ensures told { IfOk result.1 (λ status. 1 ≤ station.port → (end : Result Tally RunFault) × (between : E)
+        × TellsCounts end (exit_status status) (E.contents between) (E.contents messages.new)
+        × FailsAtOutput (K.failed sink) (K.failed result.0) end
         × (((given : List ℕ) × Consumes (S.remaining source.old) (S.remaining source.new) given
         × Measures given
         (record { remaining = S.remaining source.old; reads = S.reads source.old; ended = S.ended source.old; failed = S.failed source.old })
         (record { remaining = S.remaining source.new; reads = S.reads source.new; ended = S.ended source.new; failed = S.failed source.new })
         station.form station.plan 18446744073709551615
         (record { acts = None; taken = K.taken sink; messages = E.contents messages.old })
-        after end)
-        ⊎ ((end ≡ Err RunFault.Read) × (S.reads source.new ≡ S.reads source.old)
-        × (after ≡ record { acts = None; taken = K.taken sink; messages = E.contents messages.old })))) }
+        (record { acts = None; taken = K.taken result.0; messages = E.contents between })
+        end)
+        ⊎ ((end ≡ Err RunFault.Read) × (S.reads source.new ≡ S.reads source.old) × (result.0 ≡ sink) × (between ≡ messages.old)))) }
 
     // Status 0 only where the source gave a command text to its end, and the run over its commands is done.
-    ensures done { IfOk result (λ status. exit_status status ≡ 0 → (given : List ℕ) × Consumes (S.remaining source.old) (S.remaining source.new) given
-        × ((commands : List CommandOf) × (tally : Tally) × (after : Places)
+    ensures done { IfOk result.1 (λ status. exit_status status ≡ 0 → (given : List ℕ) × Consumes (S.remaining source.old) (S.remaining source.new) given
+        × ((commands : List CommandOf) × (tally : Tally) × (between : E)
         × GivesCommands given
         (record { remaining = S.remaining source.old; reads = S.reads source.old; ended = S.ended source.old; failed = S.failed source.old })
         (record { remaining = S.remaining source.new; reads = S.reads source.new; ended = S.ended source.new; failed = S.failed source.new })
         commands
         × RunsBehind station.form station.plan commands 18446744073709551615
         (record { acts = None; taken = K.taken sink; messages = E.contents messages.old })
-        after (Ok tally))) }
-    ensures bound { IfOk result (λ status. exit_status status ≤ 2) }
+        (record { acts = None; taken = K.taken result.0; messages = E.contents between })
+        (Ok tally))) }
+    ensures bound { IfOk result.1 (λ status. exit_status status ≤ 2) }
 {
     if station.port == 0 {
-        return refuse_numbers(messages);
+        return (sink, refuse_numbers(messages));
     }
     let Ok(mut link) = TcpLink::new(rt, station.port) else {
-        return tell_counts(Err(RunFault::Read), messages);
+        return (sink, tell_counts(Err(RunFault::Read), messages));
     };
-    measure_over(alloc, &mut link, station, source, sink, messages).1
+    measure_over(alloc, &mut link, station, source, sink, messages)
 }
 
 // Measures over a link, and tells how it ended. The sink is handed back.
@@ -202,28 +205,28 @@ fn measure_over<L: Link, S: Source, K: Sink, E: Write>(
     messages: &mut E,
 ) -> (K, io::Result<ExitCode>)
     // What the text was, what of its commands was measured, and that the messages and the status tell how that ended.
-    ensures told { IfOk result.1 (λ status. (end : Result Tally RunFault) × (told : Option (List ℕ))
+    ensures told { IfOk result.1 (λ status. (end : Result Tally RunFault) × (between : E)
         × ((given : List ℕ) × Consumes (S.remaining source.old) (S.remaining source.new) given
         × Measures given
         (record { remaining = S.remaining source.old; reads = S.reads source.old; ended = S.ended source.old; failed = S.failed source.old })
         (record { remaining = S.remaining source.new; reads = S.reads source.new; ended = S.ended source.new; failed = S.failed source.new })
         station.form station.plan 18446744073709551615
         (record { acts = L.acts link.old; taken = K.taken sink; messages = E.contents messages.old })
-        (record { acts = L.acts link.new; taken = K.taken result.0; messages = told })
+        (record { acts = L.acts link.new; taken = K.taken result.0; messages = E.contents between })
         end)
         × FailsAtOutput (K.failed sink) (K.failed result.0) end
-        × TellsCounts end (exit_status status) told (E.contents messages.new)) }
+        × TellsCounts end (exit_status status) (E.contents between) (E.contents messages.new)) }
 
     // Status 0 only where the source gave a command text to its end, and the run over its commands is done.
     ensures done { IfOk result.1 (λ status. exit_status status ≡ 0 → (given : List ℕ) × Consumes (S.remaining source.old) (S.remaining source.new) given
-        × ((commands : List CommandOf) × (tally : Tally) × (told : Option (List ℕ))
+        × ((commands : List CommandOf) × (tally : Tally) × (between : E)
         × GivesCommands given
         (record { remaining = S.remaining source.old; reads = S.reads source.old; ended = S.ended source.old; failed = S.failed source.old })
         (record { remaining = S.remaining source.new; reads = S.reads source.new; ended = S.ended source.new; failed = S.failed source.new })
         commands
         × RunsBehind station.form station.plan commands 18446744073709551615
         (record { acts = L.acts link.old; taken = K.taken sink; messages = E.contents messages.old })
-        (record { acts = L.acts link.new; taken = K.taken result.0; messages = told })
+        (record { acts = L.acts link.new; taken = K.taken result.0; messages = E.contents between })
         (Ok tally))) }
     ensures bound { IfOk result.1 (λ status. exit_status status ≤ 1) }
 {

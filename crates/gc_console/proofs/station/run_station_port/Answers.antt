@@ -1,18 +1,13 @@
-use Rattle.std.proofs.Common.{inl, inr, refl, None, Err}
+use Rattle.std.proofs.Common.{inl, inr, refl, Err}
 use Rattle.std.proofs.lemmas.Result.{IfOk-weaker}
 use Rattle.gc_texts.specs.declared.fault.RunFault.TheVariants.{Read}
 use Rattle.gc_console.proofs.station.run_station_port.Goals as goal
 
 pub returns-in_default-clause-told : goal.returns-in_default-clause-told
-returns-in_default-clause-told g c = IfOk-weaker c.tell_counts.result _ _ (λ status told some. (Err Read, _, told, inr (refl, refl, refl))) c.tell_counts.ensures.told
+returns-in_default-clause-told g c = IfOk-weaker c.tell_counts.result _ _ (λ status told some. (Err Read, c.args.messages.now, told, refl, inr (refl, refl, refl, refl))) c.tell_counts.ensures.told
 
 pub returns-clause-told : goal.returns-clause-told
-returns-clause-told g c = IfOk-weaker c.measure_over.result.1 _ _ (λ status t some. (t.0, record { acts = None; taken = g.K.Sink.taken c.measure_over.result.0; messages = t.1 }, t.4, inl t.2)) c.measure_over.ensures.told
+returns-clause-told g c = IfOk-weaker c.measure_over.result.1 _ _ (λ status t some. (t.0, t.1, t.4, t.3, inl t.2)) c.measure_over.ensures.told
 
 pub returns-clause-done : goal.returns-clause-done
-returns-clause-done g c =
-    IfOk-weaker c.measure_over.result.1 _ _
-    (λ status d zero.
-    let r = d zero in
-    (r.0, r.1, (r.2.0, r.2.1, record { acts = None; taken = g.K.Sink.taken c.measure_over.result.0; messages = r.2.2 }, r.2.3, r.2.4)))
-    c.measure_over.ensures.done
+returns-clause-done g c = c.measure_over.ensures.done
