@@ -167,7 +167,7 @@ fn a_text_of_the_engines_is_refused(rt: HostRuntime) -> Result<(), Fail> {
 }
 
 // A name, a command line, its status, and a part of its output and of its messages.
-const COMMAND_LINES: [(&str, &[&str], u8, &str, &str); 23] = [
+const COMMAND_LINES: [(&str, &[&str], u8, &str, &str); 24] = [
     (
         "help",
         &["geocom", "--help"],
@@ -308,6 +308,13 @@ const COMMAND_LINES: [(&str, &[&str], u8, &str, &str); 23] = [
         2,
         "",
         "error: invalid value '4294967296' for '--retries <N>'",
+    ),
+    (
+        "settle is no word any more",
+        &["geocom", "station", "4001", "--settle"],
+        2,
+        "",
+        "error: unexpected argument '--settle' found\n",
     ),
     (
         "totals twice",

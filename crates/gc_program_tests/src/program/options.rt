@@ -1,0 +1,217 @@
+//! What each option of `station` does, on and off, where a simulator answers or nobody does: what was written and told, what
+//! came at the far end, and how long it took by the far end's clock.
+
+use crate::program::far_end::{FarEnd, Seen, both_ends};
+use crate::program::words::words_of;
+use gc_console::run_program;
+use std::alloc::Global;
+use std::cell::RefCell;
+use std::net::{Net, TcpListener, TcpStream};
+use std::process::{Abort, ExitCode};
+use std::test::Fail;
+
+// How many milliseconds an answer takes.
+const SOON: Option<u64> = Some(20);
+
+// What came of a station.
+#[derive(Drop)]
+struct Ended {
+    status: ExitCode,
+    // The records, and the messages.
+    written: String,
+    told: String,
+    // What came at the far end, with a `>` wherever the station waited behind it.
+    heard: String,
+    // How many connections were made.
+    opened: u32,
+    // How many milliseconds it took.
+    elapsed: u64,
+}
+
+// A text of these bytes.
+fn text_of(rt: &impl Abort, alloc: Global, bytes: &[u8]) -> Result<String, Fail> {
+    let text = str::from_utf8(bytes).expect(rt, "it is text");
+    Ok(String::from_str(alloc, text)?)
+}
+
+// Measures commands with these options, at a far end whose answers take so long.
+fn measure(
+    rt: &(impl Abort + Net<Listener = TcpListener, Stream = TcpStream>),
+    alloc: Global,
+    answer: Option<u64>,
+    options: &[&str],
+    commands: &[u8],
+) -> Result<Ended, Fail> {
+    let ends = both_ends(rt)?;
+    let seen = RefCell::new(Seen::new(alloc));
+    let far_end = FarEnd {
+        ends: &ends,
+        seen: &seen,
+        answer,
+    };
+    let mut words = Vec::new(alloc);
+    for word in ["geocom", "station", "4001"] {
+        words.push(word)?;
+    }
+    words.extend_from_slice(options)?;
+    let words = Ok(words_of(alloc, words.as_slice())?);
+    let mut written = Vec::new(alloc);
+    let mut told = Vec::new(alloc);
+    let status = run_program(&far_end, alloc, words, commands, &mut written, &mut told)?;
+    let seen = seen.try_borrow().expect(rt, "the run is over");
+    Ok(Ended {
+        status,
+        written: text_of(rt, alloc, written.as_slice())?,
+        told: text_of(rt, alloc, told.as_slice())?,
+        heard: text_of(rt, alloc, seen.heard.as_slice())?,
+        opened: seen.opened,
+        elapsed: seen.elapsed,
+    })
+}
+
+// Measures commands where each is answered, and expects these records and messages. Gives what came at the far end.
+fn expect_answered(
+    rt: &(impl Abort + Net<Listener = TcpListener, Stream = TcpStream>),
+    alloc: Global,
+    answer: Option<u64>,
+    options: &[&str],
+    commands: &[u8],
+    written: &str,
+    told: &str,
+) -> Result<String, Fail> {
+    let ended = measure(rt, alloc, answer, options, commands)?;
+    assert_eq!(rt; ended.told.as_str(), told, "{options:?}");
+    assert_eq!(rt; ended.written.as_str(), written, "{options:?}");
+    assert_eq!(rt; ended.status, ExitCode::SUCCESS, "{options:?}");
+    assert_eq!(rt; ended.opened, 1, "{options:?}");
+    Ok(ended.heard)
+}
+
+const THREE: &[u8] = b"7 5003\n8 0\n9 0\n";
+
+const THREE_COUNTED: &str = "answered 3 late 0 lost 0\n";
+
+#[test]
+fn so_many_requests_are_under_way(rt: HostRuntime) -> Result<(), Fail> {
+    let alloc = rt.alloc();
+    let one =
+        "2026-11-22T23:08:02.040Z 0 7 answered %R1P,0,1:0,123456\n2026-11-22T23:08:02.060Z 1 8 answered %R1P,0,2:0\n2026-11-22T23:08:02.080Z 2 9 answered %R1P,0,3:0\n";
+    let heard = expect_answered(&rt, alloc, SOON, &[], THREE, one, THREE_COUNTED)?;
+    let each_alone = "\n>%R1Q,0,0:\r\n>%R1Q,5003,1:\r\n>%R1Q,0,2:\r\n>%R1Q,0,3:\r\n>";
+    assert_eq!(rt; heard.as_str(), each_alone);
+    let two =
+        "2026-11-22T23:08:02.040Z 0 7 answered %R1P,0,1:0,123456\n2026-11-22T23:08:02.040Z 1 8 answered %R1P,0,2:0\n2026-11-22T23:08:02.060Z 2 9 answered %R1P,0,3:0\n";
+    let wide = ["--width", "2"];
+    let heard = expect_answered(&rt, alloc, SOON, &wide, THREE, two, THREE_COUNTED)?;
+    let two_at_once = "\n>%R1Q,0,0:\r\n>%R1Q,5003,1:\r\n%R1Q,0,2:\r\n>%R1Q,0,3:\r\n>";
+    assert_eq!(rt; heard.as_str(), two_at_once);
+    Ok(())
+}
+
+const ONE: &[u8] = b"7 0\n";
+
+#[test]
+fn so_many_cycles_are_measured(rt: HostRuntime) -> Result<(), Fail> {
+    let alloc = rt.alloc();
+    let once = "2026-11-22T23:08:02.040Z 0 7 answered %R1P,0,1:0\n";
+    let counted = "answered 1 late 0 lost 0\n";
+    expect_answered(&rt, alloc, SOON, &[], ONE, once, counted)?;
+    let thrice =
+        "2026-11-22T23:08:02.040Z 0 7 answered %R1P,0,1:0\n2026-11-22T23:08:02.060Z 0 7 answered %R1P,0,2:0\n2026-11-22T23:08:02.080Z 0 7 answered %R1P,0,3:0\n";
+    let options = ["--cycles", "3"];
+    expect_answered(&rt, alloc, SOON, &options, ONE, thrice, THREE_COUNTED)?;
+    Ok(())
+}
+
+const TWO_COUNTED: &str = "answered 2 late 0 lost 0\n";
+
+// The first cycle begins at 2.02 seconds, and an answer takes 20 milliseconds.
+#[test]
+fn a_cycle_begins_every_second(rt: HostRuntime) -> Result<(), Fail> {
+    let alloc = rt.alloc();
+    let at_once =
+        "2026-11-22T23:08:02.040Z 0 7 answered %R1P,0,1:0\n2026-11-22T23:08:02.060Z 0 7 answered %R1P,0,2:0\n";
+    let options = ["--cycles", "2"];
+    expect_answered(&rt, alloc, SOON, &options, ONE, at_once, TWO_COUNTED)?;
+    let each_second =
+        "2026-11-22T23:08:02.040Z 0 7 answered %R1P,0,1:0\n2026-11-22T23:08:03.040Z 0 7 answered %R1P,0,2:0\n";
+    let options = ["--cycles", "2", "--every", "1"];
+    expect_answered(&rt, alloc, SOON, &options, ONE, each_second, TWO_COUNTED)?;
+    Ok(())
+}
+
+// An answer takes 1.2 seconds.
+#[test]
+fn a_cycle_that_is_not_done_in_time_is_told(rt: HostRuntime) -> Result<(), Fail> {
+    let alloc = rt.alloc();
+    let rows =
+        "2026-11-22T23:08:04.400Z 0 7 answered %R1P,0,1:0\n2026-11-22T23:08:05.600Z 0 7 answered %R1P,0,2:0\n";
+    let told = "geocom: cycle 1 was not done when the next was due\nanswered 2 late 0 lost 0\n";
+    let options = ["--cycles", "2", "--every", "1"];
+    expect_answered(&rt, alloc, Some(1200), &options, ONE, rows, told)?;
+    let rows =
+        "2026-11-22T23:08:04.400Z 0 7 answered %R1P,0,1:0\n2026-11-22T23:08:06.400Z 0 7 answered %R1P,0,2:0\n";
+    let options = ["--cycles", "2", "--every", "2"];
+    expect_answered(&rt, alloc, Some(1200), &options, ONE, rows, TWO_COUNTED)?;
+    Ok(())
+}
+
+#[test]
+fn records_are_rows_with_csv(rt: HostRuntime) -> Result<(), Fail> {
+    let alloc = rt.alloc();
+    let (commands, counted) = (b"7 5003\n", "answered 1 late 0 lost 0\n");
+    let line = "2026-11-22T23:08:02.040Z 0 7 answered %R1P,0,1:0,123456\n";
+    expect_answered(&rt, alloc, SOON, &[], commands, line, counted)?;
+    let rows =
+        "time,cycle,place,target,procedure,outcome,rc_com,rc,values\n2026-11-22T23:08:02.040Z,1,0,7,5003,answered,0,0,123456\n";
+    let options = ["--csv"];
+    expect_answered(&rt, alloc, SOON, &options, commands, rows, counted)?;
+    Ok(())
+}
+
+// Measures commands where nobody answers, and expects so many connections in so many milliseconds, and no record. Gives what
+// came at the far end.
+fn expect_unanswered(
+    rt: &(impl Abort + Net<Listener = TcpListener, Stream = TcpStream>),
+    alloc: Global,
+    options: &[&str],
+    opened: u32,
+    elapsed: u64,
+) -> Result<String, Fail> {
+    let ended = measure(rt, alloc, None, options, THREE)?;
+    assert_eq!(rt; ended.told.as_str(), "geocom: fault 42\n", "{options:?}");
+    assert_eq!(rt; ended.written.as_str(), "", "{options:?}");
+    assert_eq!(rt; ended.status, ExitCode::from(1), "{options:?}");
+    assert_eq!(rt; ended.opened, opened, "{options:?}");
+    assert_eq!(rt; ended.elapsed, elapsed, "{options:?}");
+    Ok(ended.heard)
+}
+
+// A connection takes 14 seconds: it is drained for two, waits ten for the null procedure, and two until the line is quiet. The
+// rests between take 2, 4, 8, 16, 32, and then 60 seconds each.
+#[test]
+fn so_many_connections_are_made_in_a_row(rt: HostRuntime) -> Result<(), Fail> {
+    let alloc = rt.alloc();
+    expect_unanswered(&rt, alloc, &["--retries", "0"], 1, 14_000)?;
+    expect_unanswered(&rt, alloc, &["--retries", "2"], 3, 48_000)?;
+    expect_unanswered(&rt, alloc, &[], 11, 516_000)?;
+    Ok(())
+}
+
+// The line is drained for the quiet time, the null procedure is given up at its deadline, and then the line has to be quiet.
+#[test]
+fn a_deadline_is_no_quiet_time(rt: HostRuntime) -> Result<(), Fail> {
+    let alloc = rt.alloc();
+    let patient = ["--retries", "0", "--deadline", "600"];
+    expect_unanswered(&rt, alloc, &patient, 1, 4_600)?;
+    let quick = ["--retries", "0", "--quiet", "200"];
+    expect_unanswered(&rt, alloc, &quick, 1, 10_400)?;
+    Ok(())
+}
+
+#[test]
+fn the_null_procedure_goes_out_first(rt: HostRuntime) -> Result<(), Fail> {
+    let heard = expect_unanswered(&rt, rt.alloc(), &["--retries", "0"], 1, 14_000)?;
+    assert_eq!(rt; heard.as_str(), "\n>%R1Q,0,0:\r\n>");
+    Ok(())
+}
