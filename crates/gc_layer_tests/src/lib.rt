@@ -1,4 +1,5 @@
-//! Tests of the lower crates, through their public calls alone. They stand apart, so that each of those crates is proved once.
+//! Tests of the lines, the values, the catalogue and the client, through their public calls alone. They stand apart, so that each of
+//! those crates is proved once.
 #![tactic(auto)]
 
 #[cfg(test)]
@@ -6,10 +7,6 @@ mod catalogue;
 #[cfg(test)]
 mod client;
 #[cfg(test)]
-mod instrument;
-#[cfg(test)]
 mod lines;
 #[cfg(test)]
 mod values;
-#[cfg(test)]
-mod world;
