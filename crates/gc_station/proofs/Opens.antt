@@ -19,6 +19,7 @@ use Rattle.gc_station.specs.Reasons.{IsFor}
 use Rattle.gc_station.specs.Standing.{Standing, waiting_of, place_next, mark_next, with_progress, with_moment, is_heard, asks_null, asks_first, asks_next, after_tell, after_put, after_open, after_read, IsTelling, IsOpening, IsReading, Puts, Obeys, moved}
 use Rattle.gc_station.specs.Tries.{ends_in, opens_in}
 use Rattle.gc_station.proofs.Closings.{came_phase}
+use Rattle.gc_station.proofs.Silences.{quieted_up}
 use Rattle.gc_station.proofs.Turns.{up_count, again_down, closed_down}
 
 abbrev pub Counted : Bool → Act → Bool → Type 0
@@ -54,23 +55,6 @@ put_counted requests bytes f s act o same = absurd o
 first_phase : (plan : Plan) (mark : Mark) (left : List Command) (s : Standing) → (asks_first plan mark left s).progress.phase ≡ s.progress.phase
 first_phase plan mark [] s = refl
 first_phase plan mark (command ∷ others) s = refl
-
-anew_up : (anew : Bool) → is_up (if anew then phase.Probing else phase.Ready) ≡ true
-anew_up true = refl
-anew_up false = refl
-
-drained_up : (b : Bool) (p : Progress) → p.phase ≡ phase.Draining → is_up (if b then drained p else p).phase ≡ true
-drained_up true p is = anew_up p.anew
-drained_up false p is = ap is_up is
-
-rested_up : (b : Bool) (at : Phase) → at ≡ phase.Resting → is_up (if b then phase.Down else at) ≡ false
-rested_up true at is = refl
-rested_up false at is = ap is_up is
-
-quieted_up : (plan : Plan) (at : Phase) (p : Progress) → p.phase ≡ at → is_up (quieted plan at p).phase ≡ is_up at
-quieted_up plan phase.Resting p is = rested_up (is_past p.pause p && not (is_resting plan p)) p.phase is
-quieted_up plan phase.Draining p is = drained_up (is_past (drain_of plan p) p) p is
-quieted_up plan at p is = ap is_up is
 
 read_counted : (plan : Plan) (rested : Bool) (s : Standing) (act : Act) → IsReading act → Counted (is_up s.progress.phase) act (is_up (after_read plan rested s act).progress.phase)
 read_counted plan rested s (Gave bytes m) o =

@@ -7,11 +7,11 @@ use Rattle.gc_station.specs.declared.cause.Cause.TheVariants.{Done, Silence, Dea
 
 abbrev pub fault_of : Cause → Option RunFault
 fault_of Done = None
-fault_of Silence = Some fault.Read
-fault_of Dead = Some fault.Read
+fault_of Silence = Some fault.Mute
+fault_of Dead = Some fault.Mute
 fault_of Read = Some fault.Read
 fault_of End = Some fault.LinkClosed
 fault_of (Write requests bytes) = Some (fault.Write requests bytes)
-fault_of Clock = Some fault.Read
+fault_of Clock = Some fault.Clock
 fault_of Open = Some fault.Socket
 fault_of Turns = Some fault.TooManyReads

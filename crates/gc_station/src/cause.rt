@@ -37,15 +37,15 @@ impl Cause {
     {
         match self {
             Cause::Done => None,
-            Cause::Silence => Some(RunFault::Read),
-            Cause::Dead => Some(RunFault::Read),
+            Cause::Silence => Some(RunFault::Mute),
+            Cause::Dead => Some(RunFault::Mute),
             Cause::Read => Some(RunFault::Read),
             Cause::End => Some(RunFault::LinkClosed),
             Cause::Write { requests, bytes } => Some(RunFault::Write {
                 replies: requests as u64,
                 bytes,
             }),
-            Cause::Clock => Some(RunFault::Read),
+            Cause::Clock => Some(RunFault::Clock),
             Cause::Open => Some(RunFault::Socket),
             Cause::Turns => Some(RunFault::TooManyReads),
         }

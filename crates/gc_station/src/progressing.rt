@@ -1,19 +1,35 @@
 //! What each act does to how far a station is.
 
-ghost use Rattle.std.specs.Prelude.{◌≡◌};
+ghost use Rattle.std.specs.Prelude.{◌≡◌, ℕ, List};
+ghost use Rattle.gc_client.specs.Hearing.{HearsInto};
+ghost use Rattle.gc_client.specs.Rule.{ById};
+ghost use Rattle.gc_client.specs.declared.settlement.Settlement.{Settlement};
 ghost use Rattle.gc_station.specs.Deciding.{later};
 ghost use Rattle.gc_station.specs.Progressing.{turned, told, beginning, begun, failing, opened, is_finished, is_resting, is_spared, phase_again, pause_again, again, cleared, asking, probed, sent, noted, gave, rested_down, drained, quieted, waited, silent, waiting_on, reckoned_early, begins_anew, beginning_anew, closed_again, closed, is_over, loses_all};
+ghost use Rattle.gc_station.specs.Standing.{is_reply};
 
 use crate::cause::Cause;
 use crate::link::Moment;
 use crate::plan::Plan;
 use crate::progress::{Phase, Progress, Waiting};
+use gc_client::Hearing;
 
 // So much later than a moment, or the last moment that there is.
 pub(crate) fn later(moment: u64, wait: u64) -> u64
     ensures { result ≡ later moment wait }
 {
     moment.saturating_add(wait)
+}
+
+// Whether a line was a reply: then the line is alive.
+pub(crate) fn is_reply(hearing: Hearing) -> bool
+    ensures { (old new : ById) (line : List ℕ) (settlements : List Settlement) → HearsInto old line hearing settlements new → result ≡ is_reply line }
+{
+    match hearing {
+        Hearing::Settled => true,
+        Hearing::Stray => true,
+        Hearing::Unread(_) => false,
+    }
 }
 
 impl Progress {

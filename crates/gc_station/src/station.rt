@@ -6,15 +6,13 @@ ghost use Rattle.std.specs.Io.KnownBytes.{Appends};
 ghost use Rattle.gc_lines.specs.Frames.{line_in};
 ghost use Rattle.gc_lines.specs.Lent.{lent_seen, IsLineWithin};
 ghost use Rattle.gc_lines.specs.Ports.{FailsWith};
-ghost use Rattle.gc_client.specs.Hearing.{HearsInto};
-ghost use Rattle.gc_client.specs.Rule.{ById, sends};
+ghost use Rattle.gc_client.specs.Rule.{sends};
 ghost use Rattle.gc_client.specs.Settlements.{settlement_seen};
-ghost use Rattle.gc_client.specs.declared.settlement.Settlement.{Settlement};
 ghost use Rattle.gc_station.specs.Acts.{Tells, put_as, IsPart};
 ghost use Rattle.gc_station.specs.Deciding.{later};
 ghost use Rattle.gc_station.specs.Marks.{commands_in, records_of};
 ghost use Rattle.gc_station.specs.Records.{Record, texts_of, WritesAll};
-ghost use Rattle.gc_station.specs.Standing.{Standing, opening, order_at, place_next, mark_next, requests_out, request_text, client_sent, is_heard, is_reply, lines_came, piece_came, came, piece_at, moved, ended};
+ghost use Rattle.gc_station.specs.Standing.{Standing, opening, order_at, place_next, mark_next, requests_out, request_text, client_sent, is_heard, lines_came, piece_came, came, piece_at, moved, ended};
 ghost use Rattle.gc_station.specs.Stations.{waiting_in, IsPaired, Stands, Does, Made, stepped, OnCall, Follows, IsFitting, cut_progress, read_order};
 ghost use Rattle.gc_station.specs.Tallies.{tallied};
 ghost use Rattle.gc_station.specs.declared.progress.Order.TheVariants.{Tell, Begin, Open, Clear, Probe, Send, Flush, Close};
@@ -26,12 +24,12 @@ use crate::link::{Came, Link, Moment};
 use crate::mark::{Mark, commands_in};
 use crate::plan::Plan;
 use crate::progress::{Order, Progress, Waiting};
-use crate::progressing::later;
+use crate::progressing::{is_reply, later};
 use crate::tally::Tally;
 use crate::writing::write_settlements;
 use arrayvec::ArrayVec;
 use gc_catalogue::Call;
-use gc_client::{Client, Hearing, Settlement, Slots, WINDOW};
+use gc_client::{Client, Settlement, Slots, WINDOW};
 use gc_lines::{Assembler, Lent, Line, PortFailed, append};
 use gc_texts::Command;
 
@@ -489,16 +487,5 @@ impl Station {
             return Err(failed);
         }
         self.end(book)
-    }
-}
-
-// Whether a line was a reply.
-fn is_reply(hearing: Hearing) -> bool
-    ensures { (old new : ById) (line : List ℕ) (settlements : List Settlement) → HearsInto old line hearing settlements new → result ≡ is_reply line }
-{
-    match hearing {
-        Hearing::Settled => true,
-        Hearing::Stray => true,
-        Hearing::Unread(_) => false,
     }
 }

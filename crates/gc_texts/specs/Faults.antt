@@ -6,7 +6,7 @@ use Rattle.gc_lines.specs.declared.served.Served.{Served}
 use Rattle.gc_lines.specs.declared.served.ServeFault.{ServeFault}
 use Rattle.gc_lines.specs.declared.served.ServeFault.TheVariants as serving
 use Rattle.gc_texts.specs.declared.fault.RunFault.{RunFault}
-use Rattle.gc_texts.specs.declared.fault.RunFault.TheVariants.{Read, Write, TooManyReads, LinkClosed, Schedule, Memory, InputTooLong, Socket, Output}
+use Rattle.gc_texts.specs.declared.fault.RunFault.TheVariants.{Read, Write, TooManyReads, LinkClosed, Mute, Clock, Schedule, Memory, InputTooLong, Socket, Output, StreamClosed, Log}
 
 -- the number of a fault
 abbrev pub run_fault_number : RunFault → ℕ
@@ -14,11 +14,15 @@ run_fault_number Read = 42
 run_fault_number (Write _ _) = 43
 run_fault_number TooManyReads = 44
 run_fault_number LinkClosed = 45
+run_fault_number Mute = 46
+run_fault_number Clock = 47
 run_fault_number (Schedule _) = 51
 run_fault_number Memory = 52
 run_fault_number InputTooLong = 53
 run_fault_number Socket = 54
 run_fault_number Output = 55
+run_fault_number StreamClosed = 56
+run_fault_number Log = 57
 
 -- a fault as it is printed
 abbrev pub run_fault_text : RunFault → List ℕ
@@ -26,11 +30,15 @@ run_fault_text Read = codes "fault 42"
 run_fault_text (Write count bytes) = codes "fault 43 reply " ++ decimal count ++ codes " byte " ++ decimal bytes
 run_fault_text TooManyReads = codes "fault 44"
 run_fault_text LinkClosed = codes "fault 45"
+run_fault_text Mute = codes "fault 46"
+run_fault_text Clock = codes "fault 47"
 run_fault_text (Schedule n) = codes "fault 51 line " ++ decimal n
 run_fault_text Memory = codes "fault 52"
 run_fault_text InputTooLong = codes "fault 53"
 run_fault_text Socket = codes "fault 54"
 run_fault_text Output = codes "fault 55"
+run_fault_text StreamClosed = codes "fault 56"
+run_fault_text Log = codes "fault 57"
 
 -- the line that the program writes of a fault with this text
 abbrev pub fault_line : List ℕ → List ℕ

@@ -22,6 +22,12 @@ pub enum RunFault {
     /// The other end of the link closed it.
     #[error("fault 45")]
     LinkClosed,
+    /// No reply came any more, though the link stood.
+    #[error("fault 46")]
+    Mute,
+    /// The clock can't be read, or stands before 1970.
+    #[error("fault 47")]
+    Clock,
     /// A line of the text, counted from 1, has no form.
     #[error("fault 51 line {line}")]
     Schedule { line: u32 },
@@ -37,10 +43,16 @@ pub enum RunFault {
     /// The output failed.
     #[error("fault 55")]
     Output,
+    /// Standard input, output or error is closed.
+    #[error("fault 56")]
+    StreamClosed,
+    /// The log could not be opened.
+    #[error("fault 57")]
+    Log,
 }
 
 impl RunFault {
-    /// The number of the fault, 42 to 55. This project's own.
+    /// The number of the fault, 42 to 57. This project's own.
     pub fn number(self) -> u8
         ensures { result ≡ run_fault_number self }
     {
@@ -49,11 +61,15 @@ impl RunFault {
             RunFault::Write { .. } => 43,
             RunFault::TooManyReads => 44,
             RunFault::LinkClosed => 45,
+            RunFault::Mute => 46,
+            RunFault::Clock => 47,
             RunFault::Schedule { .. } => 51,
             RunFault::Memory => 52,
             RunFault::InputTooLong => 53,
             RunFault::Socket => 54,
             RunFault::Output => 55,
+            RunFault::StreamClosed => 56,
+            RunFault::Log => 57,
         }
     }
 
@@ -70,11 +86,15 @@ impl RunFault {
             ),
             RunFault::TooManyReads => writeln!(messages, "geocom: fault 44"),
             RunFault::LinkClosed => writeln!(messages, "geocom: fault 45"),
+            RunFault::Mute => writeln!(messages, "geocom: fault 46"),
+            RunFault::Clock => writeln!(messages, "geocom: fault 47"),
             RunFault::Schedule { line } => writeln!(messages, "geocom: fault 51 line {line}"),
             RunFault::Memory => writeln!(messages, "geocom: fault 52"),
             RunFault::InputTooLong => writeln!(messages, "geocom: fault 53"),
             RunFault::Socket => writeln!(messages, "geocom: fault 54"),
             RunFault::Output => writeln!(messages, "geocom: fault 55"),
+            RunFault::StreamClosed => writeln!(messages, "geocom: fault 56"),
+            RunFault::Log => writeln!(messages, "geocom: fault 57"),
         }
     }
 }

@@ -59,7 +59,7 @@ fn beginnings(rt: HostRuntime) -> Result<(), Fail> {
         timed([QUIET].as_slice()),
         b"open@0 lf@0 #0@10 close@120 ",
         b"",
-        Some(RunFault::Read),
+        Some(RunFault::Mute),
     );
     Ok(())
 }
@@ -170,7 +170,7 @@ fn seven_given_up(rt: HostRuntime) -> Result<(), Fail> {
         timed([QUIET, BEGUN].as_slice()),
         b"open@0 lf@0 #0@10 #1@15 #2@15 #3@15 #4@15 #5@15 #6@15 #7@15 close@125 ",
         LOST,
-        Some(RunFault::Read),
+        Some(RunFault::Mute),
     );
     Ok(())
 }

@@ -24,7 +24,7 @@ fn faults(rt: HostRuntime) -> Result<(), Fail> {
         Script::new([QUIET, BEGUN].as_slice()),
         FLUSHED,
         b"10x 11x ",
-        Some(RunFault::Read),
+        Some(RunFault::Mute),
     );
     runs_to(
         &rt,
@@ -51,7 +51,7 @@ fn faults(rt: HostRuntime) -> Result<(), Fail> {
         Script::new([QUIET, BEGUN, Step::NoMoment].as_slice()),
         first,
         lost,
-        Some(RunFault::Read),
+        Some(RunFault::Clock),
     );
     Ok(())
 }
@@ -65,7 +65,7 @@ fn failing_opens_and_clocks(rt: HostRuntime) -> Result<(), Fail> {
         failing([].as_slice(), 0, 0, true),
         b"open lf close ",
         b"",
-        Some(RunFault::Read),
+        Some(RunFault::Clock),
     );
     runs_to(
         &rt,

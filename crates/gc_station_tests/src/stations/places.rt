@@ -208,13 +208,13 @@ const ALL_REPLIES: &[u8] =
 
 // What was put and what was written where nothing comes any more behind so many of these steps, and the fault's number.
 const DEAD: &[(&[u8], &[u8], Option<u8>)] = &[
-    (NONE, b"", Some(42)),
-    (NONE, b"", Some(42)),
-    (NO_REPLY, b"10x 11x ", Some(42)),
-    (NO_REPLY, b"10x 11x ", Some(42)),
-    (ONE_REPLY, b"10a1 11x ", Some(42)),
-    (TWO_REPLIES, b"10a1 11a2 20x 21x ", Some(42)),
-    (THREE_REPLIES, b"10a1 11a2 20a3 21x ", Some(42)),
+    (NONE, b"", Some(46)),
+    (NONE, b"", Some(46)),
+    (NO_REPLY, b"10x 11x ", Some(46)),
+    (NO_REPLY, b"10x 11x ", Some(46)),
+    (ONE_REPLY, b"10a1 11x ", Some(46)),
+    (TWO_REPLIES, b"10a1 11a2 20x 21x ", Some(46)),
+    (THREE_REPLIES, b"10a1 11a2 20a3 21x ", Some(46)),
     (ALL_REPLIES, b"10a1 11a2 20a3 21a4 ", None),
 ];
 
@@ -334,20 +334,20 @@ const ENDED: &[u8] =
 
 // What was put and what was written where nothing comes any more behind so many of the steps, and the fault's number.
 const RECONNECTED: &[(&[u8], &[u8], Option<u8>)] = &[
-    (TWO_BEGINNINGS, b"", Some(42)),
-    (TWO_BEGINNINGS, b"", Some(42)),
+    (TWO_BEGINNINGS, b"", Some(46)),
+    (TWO_BEGINNINGS, b"", Some(46)),
     (
         b"open lf %R1Q,0,0: %R1Q,0,1: %R1Q,0,2: %R1Q,0,3: close open lf %R1Q,0,4: %R1Q,0,5: %R1Q,0,6: close ",
         b"10x 11x ",
-        Some(42),
+        Some(46),
     ),
-    (ENDED, b"10x 11x ", Some(42)),
-    (ENDED, b"10x 11x ", Some(42)),
-    (ENDED, b"10x 11x ", Some(42)),
+    (ENDED, b"10x 11x ", Some(46)),
+    (ENDED, b"10x 11x ", Some(46)),
+    (ENDED, b"10x 11x ", Some(46)),
     (
         b"open lf %R1Q,0,0: %R1Q,0,1: close open lf %R1Q,0,2: %R1Q,0,3: %R1Q,0,4: close open lf %R1Q,0,5: %R1Q,0,6: %R1Q,0,7: close ",
         b"10a 11x ",
-        Some(42),
+        Some(46),
     ),
     (EACH, b"10a 11a ", None),
 ];
@@ -366,21 +366,21 @@ fn dead_at_every_place_of_a_reconnection(rt: HostRuntime) -> Result<(), Fail> {
 const CALLS: &[(&[u8], &[u8], Option<u8>)] = &[
     (b"shut ", b"", Some(54)),
     (b"open cut close ", b"", Some(43)),
-    (b"open lf close ", b"", Some(42)),
+    (b"open lf close ", b"", Some(47)),
     (b"open lf close ", b"", Some(42)),
     (b"open lf cut close ", b"", Some(43)),
+    (NONE, b"", Some(47)),
     (NONE, b"", Some(42)),
-    (NONE, b"", Some(42)),
-    (NONE, b"", Some(42)),
+    (NONE, b"", Some(47)),
     (b"open lf %R1Q,0,0: cut close ", b"10x ", Some(43)),
-    (b"open lf %R1Q,0,0: %R1Q,0,1: close ", b"10x ", Some(42)),
+    (b"open lf %R1Q,0,0: %R1Q,0,1: close ", b"10x ", Some(47)),
     (b"open lf %R1Q,0,0: %R1Q,0,1: close ", b"10x ", Some(42)),
     (
         b"open lf %R1Q,0,0: %R1Q,0,1: cut close ",
         b"10a 11x ",
         Some(43),
     ),
-    (BOTH, b"10a 11x ", Some(42)),
+    (BOTH, b"10a 11x ", Some(47)),
     (BOTH, b"10a 11x ", Some(42)),
     (BOTH, b"10a 11a ", None),
 ];
@@ -412,7 +412,7 @@ const CALLS_AND_A_TRY: &[(&[u8], &[u8], Option<u8>)] = &[
         b"10a1 11a2 ",
         None,
     ),
-    (b"open lf close ", b"", Some(42)),
+    (b"open lf close ", b"", Some(47)),
     (
         b"open lf close open lf %R1Q,0,0: %R1Q,0,1: %R1Q,0,2: close ",
         b"10a1 11a2 ",
@@ -423,26 +423,26 @@ const CALLS_AND_A_TRY: &[(&[u8], &[u8], Option<u8>)] = &[
         b"10a1 11a2 ",
         None,
     ),
-    (NONE, b"", Some(42)),
+    (NONE, b"", Some(47)),
     (
         b"open lf %R1Q,0,0: close open lf %R1Q,0,0: %R1Q,0,1: %R1Q,0,2: close ",
         b"10a2 11a3 ",
         None,
     ),
-    (NONE, b"", Some(42)),
+    (NONE, b"", Some(47)),
     (
         b"open lf %R1Q,0,0: cut close open lf %R1Q,0,2: close ",
         b"10x 11a1 ",
         None,
     ),
-    (b"open lf %R1Q,0,0: %R1Q,0,1: close ", b"10x ", Some(42)),
+    (b"open lf %R1Q,0,0: %R1Q,0,1: close ", b"10x ", Some(47)),
     (EACH, b"10x 11a2 ", None),
     (
         b"open lf %R1Q,0,0: %R1Q,0,1: cut close open lf %R1Q,0,3: close ",
         b"10a1 11x ",
         None,
     ),
-    (BOTH, b"10a1 11x ", Some(42)),
+    (BOTH, b"10a1 11x ", Some(47)),
     (
         b"open lf %R1Q,0,0: %R1Q,0,1: %R1Q,0,2: close open lf %R1Q,0,3: close ",
         b"10a1 11x ",

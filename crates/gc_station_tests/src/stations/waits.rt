@@ -180,7 +180,7 @@ fn dead_lines(rt: HostRuntime) -> Result<(), Fail> {
         timed([QUIET, BEGUN].as_slice()),
         b"open@0 lf@0 #0@10 #1@15 #2@115 #3@215 close@225 ",
         lost,
-        Some(RunFault::Read),
+        Some(RunFault::Mute),
     );
     runs_to(
         &rt,
@@ -189,7 +189,7 @@ fn dead_lines(rt: HostRuntime) -> Result<(), Fail> {
         timed([QUIET, BEGUN, Step::Noise].as_slice()),
         b"open@0 lf@0 #0@10 #1@15 #2@115 #3@215 close@225 ",
         lost,
-        Some(RunFault::Read),
+        Some(RunFault::Mute),
     );
     runs_to(
         &rt,
@@ -198,7 +198,7 @@ fn dead_lines(rt: HostRuntime) -> Result<(), Fail> {
         timed([QUIET, BEGUN, GIVEN_UP, BEGUN].as_slice()),
         b"open@0 lf@0 #0@10 #1@15 #2@115 #3@215 #4@315 #5@415 close@425 ",
         lost,
-        Some(RunFault::Read),
+        Some(RunFault::Mute),
     );
     runs_to(
         &rt,
@@ -207,7 +207,7 @@ fn dead_lines(rt: HostRuntime) -> Result<(), Fail> {
         timed([QUIET, BEGUN, FIRST, SECOND].as_slice()),
         b"open@0 lf@0 #0@10 #1@15 #2@20 #3@1015 #4@1115 #5@1215 close@1225 ",
         b"10a 11a 20x 21x ",
-        Some(RunFault::Read),
+        Some(RunFault::Mute),
     );
     runs_to(
         &rt,
@@ -226,7 +226,7 @@ fn dead_lines(rt: HostRuntime) -> Result<(), Fail> {
         timed([QUIET, BEGUN, Step::End, QUIET, QUIET, Step::Noise].as_slice()),
         b"open@0 lf@0 #0@10 #1@15 #2@15 #3@15 #4@15 #5@15 #6@15 #7@15 close@15 open@25 lf@25 close@245 ",
         b"10x 11x 12x 13x 14x 15x 16x ",
-        Some(RunFault::Read),
+        Some(RunFault::Mute),
     );
     Ok(())
 }
