@@ -24,11 +24,7 @@ still_waits place command rest bytes left kept to settled a b Read x = x.2
 still_waits place command rest bytes left kept to settled a b (Write count part) x = x.3
 still_waits place command rest bytes left kept to settled a b TooManyReads x = x.2
 still_waits place command rest bytes left kept to settled a b LinkClosed x = x.2
-still_waits place command rest bytes left kept to settled a b (Schedule n) x = x.2
-still_waits place command rest bytes left kept to settled a b Memory x = x.2
-still_waits place command rest bytes left kept to settled a b InputTooLong x = x.2
-still_waits place command rest bytes left kept to settled a b Socket x = x.2
-still_waits place command rest bytes left kept to settled a b Output x = x.2
+still_waits place command rest bytes left kept to settled a b other x = x.2
 
 -- so its restart settles the command as lost
 pub lost_alone : (place : ℕ) (command : Command) (to : ById) (settled : List Settlement) → to ≡ waiting_for place command → AreSettlements settled (restarts to).settlements → map settlement_seen settled ≡ lost_of command ∷ []
@@ -46,11 +42,7 @@ sent_part place command rest bytes left kept to settled a b e x = by_fault e x w
   by_fault (Write count part) x = (part, x.2)
   by_fault TooManyReads x = whole x.0
   by_fault LinkClosed x = whole x.0
-  by_fault (Schedule n) x = whole x.0
-  by_fault Memory x = whole x.0
-  by_fault InputTooLong x = whole x.0
-  by_fault Socket x = whole x.0
-  by_fault Output x = whole x.0
+  by_fault other x = whole x.0
 
 -- the line of the lost request was written
 lost_told : (place : ℕ) (command : Command) (rest bytes left : List ℕ) (kept kept' : Kept) (to to' : ById) (settled : List Settlement) (a b c d : Option (List ℕ)) (e : RunFault) (old new : Ports) (before after : ℕ)
@@ -60,11 +52,7 @@ lost_told place command rest bytes left kept kept' to to' settled a b c d Read o
 lost_told place command rest bytes left kept kept' to to' settled a b c d (Write count part) old new before after x ends told = (x.0, x.1, x.2, told)
 lost_told place command rest bytes left kept kept' to to' settled a b c d TooManyReads old new before after x ends told = (x.0, x.1, told)
 lost_told place command rest bytes left kept kept' to to' settled a b c d LinkClosed old new before after x ends told = (x.0, x.1, told)
-lost_told place command rest bytes left kept kept' to to' settled a b c d (Schedule n) old new before after x ends told = absurd ends.0
-lost_told place command rest bytes left kept kept' to to' settled a b c d Memory old new before after x ends told = absurd ends.0
-lost_told place command rest bytes left kept kept' to to' settled a b c d InputTooLong old new before after x ends told = absurd ends.0
-lost_told place command rest bytes left kept kept' to to' settled a b c d Socket old new before after x ends told = absurd ends.0
-lost_told place command rest bytes left kept kept' to to' settled a b c d Output old new before after x ends told = absurd ends.0
+lost_told place command rest bytes left kept kept' to to' settled a b c d other old new before after x ends told = absurd ends.0
 
 -- the lost settlements, as they are written
 lost_lines : (place : ℕ) (command : Command) (rest bytes left : List ℕ) (kept : Kept) (to : ById) (settled : List Settlement) (lost now : List Settlement) (a b : Option (List ℕ)) (e : RunFault)
@@ -90,11 +78,8 @@ asks_untold place command rest bytes left kept kept' to to' settled lost now a b
       by_fault (Write count part) t = absurd t
       by_fault TooManyReads t = absurd t
       by_fault LinkClosed t = absurd t
-      by_fault (Schedule n) t = absurd t
-      by_fault Memory t = absurd t
-      by_fault InputTooLong t = absurd t
-      by_fault Socket t = absurd t
       by_fault Output t = let sent = sent_part place command rest bytes left kept to settled a b e ex in inr (sent.0, sent.1, t.0)
+      by_fault other t = absurd t
 
 -- The run.
 
@@ -109,10 +94,6 @@ course_fault commands done later command place given left more left' kept kept' 
   by_fault (Write count part) one ends = course_part commands done later command given left more kept client a b b' c d d' count part at order one.0 one.1 one.2 one.3
   by_fault TooManyReads one ends = course_up_to commands done later command given left more kept client a b b' c d d' at order one.1 one.0 one.2
   by_fault LinkClosed one ends = course_up_to commands done later command given left more kept client a b b' c d d' at order one.1 one.0 one.2
-  by_fault (Schedule n) one ends = absurd ends.0.0
-  by_fault Memory one ends = absurd ends.0.0
-  by_fault InputTooLong one ends = absurd ends.0.0
-  by_fault Socket one ends = absurd ends.0.0
   by_fault Output (inl o) ends =
       let is = settled_is (length done) command _ _ _ _ _ _ o.1.2 in
       let text = request_text (length done) command in
@@ -121,6 +102,7 @@ course_fault commands done later command place given left more left' kept kept' 
       (Appends-is _ _ _ _ (sym (take_all (length text) text (omega arith))) o.0)
       (subst (λ (zs : List Rule.Settlement). ToldPart (length done) zs d d') is.0 o.1.3)
   by_fault Output (inr o) ends = course_tells commands done later command given left more kept client a b b' c d d' o.0 (lost_of command) at order (inr refl) o.1 o.2
+  by_fault other one ends = absurd ends.0.0
 
 -- Why it ended.
 
@@ -165,22 +147,15 @@ link_on old mid new x y before after (Err (Write count part)) g grows ends =
     (still_going old mid new x y g grows (λ some. absurd (omega (arith, some, ends.0))) (λ _. ends.1), ends.2 ∙ g.source, ends.3)
 link_on old mid new x y before after (Err TooManyReads) g grows ends = (still_going old mid new x y g grows ends.0.0 ends.0.1, ends.0.3 ∙ g.source, ends.1 ∙ g.link)
 link_on old mid new x y before after (Err LinkClosed) g grows ends = (omega (arith, g.grows, ends.0.0), ends.0.1, ends.0.2 ∙ g.source, ends.1 ∙ g.link)
-link_on old mid new x y before after (Err (Schedule n)) g grows ends = absurd ends.0
-link_on old mid new x y before after (Err Memory) g grows ends = absurd ends.0
-link_on old mid new x y before after (Err InputTooLong) g grows ends = absurd ends.0
-link_on old mid new x y before after (Err Socket) g grows ends = absurd ends.0
-link_on old mid new x y before after (Err Output) g grows ends = absurd ends.0
+link_on old mid new x y before after (Err other) g grows ends = absurd ends.0
 
 pub going_fault : (old mid new : Ports) (x y z : Bool) (before after : ℕ) (e : RunFault) → Going old mid x y → mid.reads ≤ new.reads → AskOneEnds mid new before after y z (Err e) → AskEnds old new x z (Err e)
 going_fault old mid new x y z before after Read g grows ends = (link_on old mid new x y before after (Err Read) g grows ends.0, ends.1 ∙ g.sink)
 going_fault old mid new x y z before after (Write count part) g grows ends = (link_on old mid new x y before after (Err (Write count part)) g grows ends.0, ends.1 ∙ g.sink)
 going_fault old mid new x y z before after TooManyReads g grows ends = (link_on old mid new x y before after (Err TooManyReads) g grows ends.0, ends.1 ∙ g.sink)
 going_fault old mid new x y z before after LinkClosed g grows ends = (link_on old mid new x y before after (Err LinkClosed) g grows ends.0, ends.1 ∙ g.sink)
-going_fault old mid new x y z before after (Schedule n) g grows ends = absurd ends.0.0
-going_fault old mid new x y z before after Memory g grows ends = absurd ends.0.0
-going_fault old mid new x y z before after InputTooLong g grows ends = absurd ends.0.0
-going_fault old mid new x y z before after Socket g grows ends = absurd ends.0.0
 going_fault old mid new x y z before after Output g grows ends = (ends.0, (ends.1.0, link_on old mid new x y before after ends.1.0 g grows ends.1.1))
+going_fault old mid new x y z before after other g grows ends = absurd ends.0.0
 
 -- one more command was asked
 pub course_next : (commands done later : List Command) (command : Command) (place : ℕ) (given left more left' : List ℕ) (kept kept' : Kept) (client to : ById) (a b b' c d d' : Option (List ℕ))

@@ -1,6 +1,7 @@
 mod FirstReplies
 mod Asked
 mod Exchanging
+mod Keeps
 mod ById
 mod Refusing
 mod Looping

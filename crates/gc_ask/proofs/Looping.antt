@@ -40,11 +40,7 @@ step_sends place command old new (Write count bytes) s reads ended source = reco
 step_sends place command old new Read s reads ended source = absurd s
 step_sends place command old new TooManyReads s reads ended source = absurd s
 step_sends place command old new LinkClosed s reads ended source = absurd s
-step_sends place command old new (Schedule n) s reads ended source = absurd s
-step_sends place command old new Memory s reads ended source = absurd s
-step_sends place command old new InputTooLong s reads ended source = absurd s
-step_sends place command old new Socket s reads ended source = absurd s
-step_sends place command old new Output s reads ended source = absurd s
+step_sends place command old new other s reads ended source = absurd s
 
 -- its reply was waited for
 pub step_hears : (old new : Ports) (before after : ℕ) (r : Result (Unit {0}) RunFault) → ReadEnds old.reads new.reads old.ended new.ended old.source_failed new.source_failed before after r
@@ -54,11 +50,7 @@ step_hears old new before after (Err Read) h grows sink = record { ends = (h.0, 
 step_hears old new before after (Err TooManyReads) h grows sink = record { ends = (h.0, h.3, sink); same = h.1; grows = grows }
 step_hears old new before after (Err LinkClosed) h grows sink = record { ends = (h.0, h.1, h.2, sink); same = λ e. absurd (omega (arith, e, h.0)); grows = grows }
 step_hears old new before after (Err (Write count part)) h grows sink = absurd h
-step_hears old new before after (Err (Schedule n)) h grows sink = absurd h
-step_hears old new before after (Err Memory) h grows sink = absurd h
-step_hears old new before after (Err InputTooLong) h grows sink = absurd h
-step_hears old new before after (Err Socket) h grows sink = absurd h
-step_hears old new before after (Err Output) h grows sink = absurd h
+step_hears old new before after (Err other) h grows sink = absurd h
 
 -- a sound end, and a step of it
 pub record Sound (old new : Ports) : Type 0 where
@@ -77,11 +69,7 @@ link_step old mid new (Err Read) g s = (on old mid new (Err Read) g s s.ends.0, 
 link_step old mid new (Err (Write count part)) g s = (on old mid new (Err (Write count part)) g s s.ends.0, s.ends.1 ∙ g.ends.1, s.ends.2)
 link_step old mid new (Err TooManyReads) g s = (on old mid new (Err TooManyReads) g s s.ends.0, s.ends.1 ∙ g.ends.1, s.ends.2 ∙ g.ends.2)
 link_step old mid new (Err LinkClosed) g s = (omega (arith, g.grows, s.ends.0), s.ends.1, s.ends.2 ∙ g.ends.1, s.ends.3 ∙ g.ends.2)
-link_step old mid new (Err (Schedule n)) g s = absurd s.ends
-link_step old mid new (Err Memory) g s = absurd s.ends
-link_step old mid new (Err InputTooLong) g s = absurd s.ends
-link_step old mid new (Err Socket) g s = absurd s.ends
-link_step old mid new (Err Output) g s = absurd s.ends
+link_step old mid new (Err other) g s = absurd s.ends
 
 sound_step : (old mid new : Ports) → Sound old mid → StepEnds mid new (Ok tt) → Sound old new
 sound_step old mid new g s = record { ends = link_step old mid new (Ok tt) g s; grows = omega (arith, g.grows, s.grows) }
@@ -107,11 +95,8 @@ loop_ends_fault c0 c c' i0 i i' x y z Read gc gi same ends = (both_end c0 c c' i
 loop_ends_fault c0 c c' i0 i i' x y z (Write count part) gc gi same ends = (both_end c0 c c' i0 i i' (Err (Write count part)) gc gi ends.0, ends.1 ∙ same)
 loop_ends_fault c0 c c' i0 i i' x y z TooManyReads gc gi same ends = (both_end c0 c c' i0 i i' (Err TooManyReads) gc gi ends.0, ends.1 ∙ same)
 loop_ends_fault c0 c c' i0 i i' x y z LinkClosed gc gi same ends = (both_end c0 c c' i0 i i' (Err LinkClosed) gc gi ends.0, ends.1 ∙ same)
-loop_ends_fault c0 c c' i0 i i' x y z (Schedule n) gc gi same ends = (both_end c0 c c' i0 i i' (Err (Schedule n)) gc gi ends.0, ends.1 ∙ same)
-loop_ends_fault c0 c c' i0 i i' x y z Memory gc gi same ends = (both_end c0 c c' i0 i i' (Err Memory) gc gi ends.0, ends.1 ∙ same)
-loop_ends_fault c0 c c' i0 i i' x y z InputTooLong gc gi same ends = (both_end c0 c c' i0 i i' (Err InputTooLong) gc gi ends.0, ends.1 ∙ same)
-loop_ends_fault c0 c c' i0 i i' x y z Socket gc gi same ends = (both_end c0 c c' i0 i i' (Err Socket) gc gi ends.0, ends.1 ∙ same)
 loop_ends_fault c0 c c' i0 i i' x y z Output gc gi same ends = (ends.0, (ends.1.0, both_end c0 c c' i0 i i' ends.1.0 gc gi ends.1.1))
+loop_ends_fault c0 c c' i0 i i' x y z other gc gi same ends = (both_end c0 c c' i0 i i' (Err other) gc gi ends.0, ends.1 ∙ same)
 
 -- One command.
 
@@ -122,11 +107,7 @@ unsent place command rest bytes left kept to settled a b x y (Write count part) 
 unsent place command rest bytes left kept to settled a b x y Read s is = absurd s
 unsent place command rest bytes left kept to settled a b x y TooManyReads s is = absurd s
 unsent place command rest bytes left kept to settled a b x y LinkClosed s is = absurd s
-unsent place command rest bytes left kept to settled a b x y (Schedule n) s is = absurd s
-unsent place command rest bytes left kept to settled a b x y Memory s is = absurd s
-unsent place command rest bytes left kept to settled a b x y InputTooLong s is = absurd s
-unsent place command rest bytes left kept to settled a b x y Socket s is = absurd s
-unsent place command rest bytes left kept to settled a b x y Output s is = absurd s
+unsent place command rest bytes left kept to settled a b x y other s is = absurd s
 
 -- it was sent, and wasn't answered
 pub unanswered : (place : ℕ) (command : Command) (rest bytes left : List ℕ) (kept : Kept) (to : ById) (settled : List Settlement) (a b : Option (List ℕ)) (e : RunFault)
@@ -136,11 +117,7 @@ unanswered place command rest bytes left kept to settled a b (Write count part) 
 unanswered place command rest bytes left kept to settled a b Read sent of is = (sent, is)
 unanswered place command rest bytes left kept to settled a b TooManyReads sent of is = (sent, is)
 unanswered place command rest bytes left kept to settled a b LinkClosed sent of is = (sent, is)
-unanswered place command rest bytes left kept to settled a b (Schedule n) sent of is = (sent, is)
-unanswered place command rest bytes left kept to settled a b Memory sent of is = (sent, is)
-unanswered place command rest bytes left kept to settled a b InputTooLong sent of is = (sent, is)
-unanswered place command rest bytes left kept to settled a b Socket sent of is = (sent, is)
-unanswered place command rest bytes left kept to settled a b Output sent of is = (sent, is)
+unanswered place command rest bytes left kept to settled a b other sent of is = (sent, is)
 
 -- it was sent, and its reply waited for
 pub exchanged : (place : ℕ) (command : Command) (rest bytes left : List ℕ) (kept : Kept) (from to : ById) (settled : List Settlement) (a b : Option (List ℕ)) (old_reads new_reads : ℕ) (v w x y : Bool) (before after : ℕ) (r : Result (Unit {0}) RunFault)
@@ -152,11 +129,7 @@ exchanged place command rest bytes left kept from to settled a b m n v w x y bef
 exchanged place command rest bytes left kept from to settled a b m n v w x y before after (Err TooManyReads) sent is heard ends = (sent, heard.1 ∙ is)
 exchanged place command rest bytes left kept from to settled a b m n v w x y before after (Err LinkClosed) sent is heard ends = (sent, heard.1 ∙ is)
 exchanged place command rest bytes left kept from to settled a b m n v w x y before after (Err (Write count part)) sent is heard ends = absurd ends
-exchanged place command rest bytes left kept from to settled a b m n v w x y before after (Err (Schedule k)) sent is heard ends = absurd ends
-exchanged place command rest bytes left kept from to settled a b m n v w x y before after (Err Memory) sent is heard ends = absurd ends
-exchanged place command rest bytes left kept from to settled a b m n v w x y before after (Err InputTooLong) sent is heard ends = absurd ends
-exchanged place command rest bytes left kept from to settled a b m n v w x y before after (Err Socket) sent is heard ends = absurd ends
-exchanged place command rest bytes left kept from to settled a b m n v w x y before after (Err Output) sent is heard ends = absurd ends
+exchanged place command rest bytes left kept from to settled a b m n v w x y before after (Err other) sent is heard ends = absurd ends
 
 -- after a fault the client waits
 pub loop_waits : (place : ℕ) (command : Command) (rest bytes left : List ℕ) (kept : Kept) (to : ById) (settled : List Settlement) (a b : Option (List ℕ)) (e : RunFault) → LoopExchanges place command rest bytes left kept to settled a b (Err e) → to ≡ waiting_for place command
@@ -164,11 +137,7 @@ loop_waits place command rest bytes left kept to settled a b Read x = x.1
 loop_waits place command rest bytes left kept to settled a b (Write count part) x = x.2
 loop_waits place command rest bytes left kept to settled a b TooManyReads x = x.1
 loop_waits place command rest bytes left kept to settled a b LinkClosed x = x.1
-loop_waits place command rest bytes left kept to settled a b (Schedule n) x = x.1
-loop_waits place command rest bytes left kept to settled a b Memory x = x.1
-loop_waits place command rest bytes left kept to settled a b InputTooLong x = x.1
-loop_waits place command rest bytes left kept to settled a b Socket x = x.1
-loop_waits place command rest bytes left kept to settled a b Output x = x.1
+loop_waits place command rest bytes left kept to settled a b other x = x.1
 
 loop_sent : (place : ℕ) (command : Command) (rest bytes left : List ℕ) (kept : Kept) (to : ById) (settled : List Settlement) (a b : Option (List ℕ)) (e : RunFault) → LoopExchanges place command rest bytes left kept to settled a b (Err e)
     → (part : ℕ) × Appends a b (take part (request_text place command))
@@ -181,11 +150,7 @@ loop_sent place command rest bytes left kept to settled a b e x = by_fault e x w
   by_fault (Write count part) x = x.1
   by_fault TooManyReads x = whole x.0
   by_fault LinkClosed x = whole x.0
-  by_fault (Schedule n) x = whole x.0
-  by_fault Memory x = whole x.0
-  by_fault InputTooLong x = whole x.0
-  by_fault Socket x = whole x.0
-  by_fault Output x = whole x.0
+  by_fault other x = whole x.0
 
 -- its settlement was written, or the sink failed
 pub loop_told : (place : ℕ) (command : Command) (rest bytes left : List ℕ) (kept : Kept) (to : ById) (settled now : List Settlement) (a b c d : Option (List ℕ)) (x y : Bool) (r : Result (Unit {0}) RunFault)
@@ -196,10 +161,7 @@ loop_told place command rest bytes left kept to settled now a b c d x y (Err Rea
 loop_told place command rest bytes left kept to settled now a b c d x y (Err (Write count part)) ex is told = absurd told
 loop_told place command rest bytes left kept to settled now a b c d x y (Err TooManyReads) ex is told = absurd told
 loop_told place command rest bytes left kept to settled now a b c d x y (Err LinkClosed) ex is told = absurd told
-loop_told place command rest bytes left kept to settled now a b c d x y (Err (Schedule n)) ex is told = absurd told
-loop_told place command rest bytes left kept to settled now a b c d x y (Err Memory) ex is told = absurd told
-loop_told place command rest bytes left kept to settled now a b c d x y (Err InputTooLong) ex is told = absurd told
-loop_told place command rest bytes left kept to settled now a b c d x y (Err Socket) ex is told = absurd told
+loop_told place command rest bytes left kept to settled now a b c d x y (Err other) ex is told = absurd told
 
 -- the lost settlement, as it is written
 loop_lines : (place : ℕ) (command : Command) (rest bytes left : List ℕ) (kept : Kept) (to : ById) (settled lost now : List Settlement) (a b : Option (List ℕ)) (e : RunFault)
@@ -221,11 +183,8 @@ loop_lost place command rest bytes left left' kept kept' to to' settled lost now
       by_fault (Write count part) x ends told = (x.0, x.1, told)
       by_fault TooManyReads x ends told = (x.0, told)
       by_fault LinkClosed x ends told = (x.0, told)
-      by_fault (Schedule n) x ends told = (x.0, told)
-      by_fault Memory x ends told = (x.0, told)
-      by_fault InputTooLong x ends told = (x.0, told)
-      by_fault Socket x ends told = (x.0, told)
       by_fault Output x ends told = absurd (none Output (λ h. h) (λ h. h) ends)
+      by_fault other x ends told = (x.0, told)
 
 pub loop_untold : (place : ℕ) (command : Command) (rest bytes left left' : List ℕ) (kept kept' : Kept) (to to' : ById) (settled lost now : List Settlement) (a b c d : Option (List ℕ)) (x y : Bool) (e f : RunFault)
     → LoopExchanges place command rest bytes left kept to settled a b (Err e) → AreSettlements lost (restarts to).settlements → now ≡ lost
@@ -237,11 +196,8 @@ loop_untold place command rest bytes left left' kept kept' to to' settled lost n
       by_fault (Write count part) t = absurd t
       by_fault TooManyReads t = absurd t
       by_fault LinkClosed t = absurd t
-      by_fault (Schedule n) t = absurd t
-      by_fault Memory t = absurd t
-      by_fault InputTooLong t = absurd t
-      by_fault Socket t = absurd t
       by_fault Output t = let sent = loop_sent place command rest bytes left kept to settled a b e ex in inr (sent.0, sent.1, t.0)
+      by_fault other t = absurd t
 
 -- why that ended
 pub loop_ends_told : (p p' q q' : Ports) (place : ℕ) (settled : List Rule.Settlement) (c d : Option (List ℕ)) (x y : Bool) (r : Result (Unit {0}) RunFault)
@@ -252,22 +208,16 @@ loop_ends_told p p' q q' place settled c d x y (Err Read) ends told = absurd tol
 loop_ends_told p p' q q' place settled c d x y (Err (Write count part)) ends told = absurd told
 loop_ends_told p p' q q' place settled c d x y (Err TooManyReads) ends told = absurd told
 loop_ends_told p p' q q' place settled c d x y (Err LinkClosed) ends told = absurd told
-loop_ends_told p p' q q' place settled c d x y (Err (Schedule n)) ends told = absurd told
-loop_ends_told p p' q q' place settled c d x y (Err Memory) ends told = absurd told
-loop_ends_told p p' q q' place settled c d x y (Err InputTooLong) ends told = absurd told
-loop_ends_told p p' q q' place settled c d x y (Err Socket) ends told = absurd told
+loop_ends_told p p' q q' place settled c d x y (Err other) ends told = absurd told
 
 pub loop_ends_lost : (p p' q q' : Ports) (x y : Bool) (e : RunFault) → BothStep p p' q q' (Err e) → y ≡ x → LoopOneEnds p p' q q' x y (Err e)
 loop_ends_lost p p' q q' x y Read ends same = (ends, same)
 loop_ends_lost p p' q q' x y (Write count part) ends same = (ends, same)
 loop_ends_lost p p' q q' x y TooManyReads ends same = (ends, same)
 loop_ends_lost p p' q q' x y LinkClosed ends same = (ends, same)
-loop_ends_lost p p' q q' x y (Schedule n) ends same = (ends, same)
-loop_ends_lost p p' q q' x y Memory ends same = (ends, same)
-loop_ends_lost p p' q q' x y InputTooLong ends same = (ends, same)
-loop_ends_lost p p' q q' x y Socket ends same = (ends, same)
 loop_ends_lost p p' q q' x y Output (inl s) same = absurd s.0.ends
 loop_ends_lost p p' q q' x y Output (inr s) same = absurd s.1.ends
+loop_ends_lost p p' q q' x y other ends same = (ends, same)
 
 pub loop_ends_untold : (p p' q q' : Ports) (place : ℕ) (settled : List Rule.Settlement) (c d : Option (List ℕ)) (x y : Bool) (e f : RunFault)
     → BothStep p p' q q' (Err e) → Told place settled c d x y (Err f) → LoopOneEnds p p' q q' x y (Err f)
@@ -276,10 +226,7 @@ loop_ends_untold p p' q q' place settled c d x y e Read ends told = absurd told
 loop_ends_untold p p' q q' place settled c d x y e (Write count part) ends told = absurd told
 loop_ends_untold p p' q q' place settled c d x y e TooManyReads ends told = absurd told
 loop_ends_untold p p' q q' place settled c d x y e LinkClosed ends told = absurd told
-loop_ends_untold p p' q q' place settled c d x y e (Schedule n) ends told = absurd told
-loop_ends_untold p p' q q' place settled c d x y e Memory ends told = absurd told
-loop_ends_untold p p' q q' place settled c d x y e InputTooLong ends told = absurd told
-loop_ends_untold p p' q q' place settled c d x y e Socket ends told = absurd told
+loop_ends_untold p p' q q' place settled c d x y e other ends told = absurd told
 
 -- The run.
 
@@ -334,10 +281,6 @@ loop_fault commands done later command place given left more left' kept kept' cl
   by_fault (Write count part) one ends = loop_part commands done later command given left more kept client a b b' c d d' count one.1.0 at order one.0 one.1.1 one.2
   by_fault TooManyReads one ends = loop_up_to commands done later command given left more kept client a b b' c d d' at order one.0 one.1
   by_fault LinkClosed one ends = loop_up_to commands done later command given left more kept client a b b' c d d' at order one.0 one.1
-  by_fault (Schedule n) one ends = absurd (none (λ h. h) (λ h. h) ends.0)
-  by_fault Memory one ends = absurd (none (λ h. h) (λ h. h) ends.0)
-  by_fault InputTooLong one ends = absurd (none (λ h. h) (λ h. h) ends.0)
-  by_fault Socket one ends = absurd (none (λ h. h) (λ h. h) ends.0)
   by_fault Output (inl o) ends =
       let is = settled_is (length done) command _ _ _ _ _ _ o.1.2 in
       let text = request_text (length done) command in
@@ -346,3 +289,4 @@ loop_fault commands done later command place given left more left' kept kept' cl
       (Appends-is _ _ _ _ (sym (take_all (length text) text (omega arith))) o.0)
       (subst (λ (zs : List Rule.Settlement). ToldPart (length done) zs d d') is.0 o.1.3)
   by_fault Output (inr o) ends = course_tells commands done later command given left more kept client a b b' c d d' o.0 (lost_of command) at order (inr refl) o.1 o.2
+  by_fault other one ends = absurd (none (λ h. h) (λ h. h) ends.0)

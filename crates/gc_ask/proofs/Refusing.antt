@@ -33,5 +33,4 @@ refused_commands given old new Read within whole ended last failed is = absurd i
 refused_commands given old new (Write count part) within whole ended last failed is = absurd is
 refused_commands given old new TooManyReads within whole ended last failed is = absurd is
 refused_commands given old new LinkClosed within whole ended last failed is = absurd is
-refused_commands given old new Socket within whole ended last failed is = absurd is
-refused_commands given old new Output within whole ended last failed is = absurd is
+refused_commands given old new other within whole ended last failed is = absurd is

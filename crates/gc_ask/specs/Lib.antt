@@ -1,5 +1,6 @@
 pub mod Asking
 pub mod AskRuns
+pub mod Keeping
 pub mod Listening
 pub mod Laws
 pub mod Looping

@@ -2,13 +2,17 @@
 #![tactic(auto)]
 
 mod ask;
+mod callers;
 mod client_end;
 mod instrument_end;
+mod kept_port;
 pub mod laws;
 mod looped;
 mod sockets;
 mod unheard;
 
 pub use ask::{read_command_text, run_ask};
+pub use callers::{CallerFault, Callers, keep};
+pub use kept_port::{Keeping, keep_on, keep_tcp};
 pub use looped::run_loop;
 pub use sockets::{MOST_CONNECTIONS, ask_tcp, loop_tcp, serve_on, serve_tcp};

@@ -148,7 +148,7 @@ fn serve_connection<S: Source, K: Sink>(
 }
 
 // A port of this machine.
-fn here(port: u16) -> SocketAddr {
+pub(crate) fn here(port: u16) -> SocketAddr {
     SocketAddr::from(([127, 0, 0, 1], port))
 }
 
@@ -165,6 +165,6 @@ fn both_ends<R: Net<Listener = TcpListener, Stream = TcpStream>>(
 }
 
 // Sends each line as it is written. Where that can't be had, lines are only later, so it is no fault.
-fn send_at_once(stream: &TcpStream) {
+pub(crate) fn send_at_once(stream: &TcpStream) {
     let _ = stream.set_nodelay(true);
 }

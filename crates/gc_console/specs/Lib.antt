@@ -1,2 +1,3 @@
 pub mod Measuring
 pub mod Refusals
+pub mod Streams

@@ -9,11 +9,14 @@ A fault is one line on standard error, `geocom: fault N`:
   43  the output, or the connection, could not be written: `reply R byte B` says what went out
   44  as many reads were made as are allowed, and none was the end
   45  the other end closed the connection before a request was settled
+  46  no reply came any more, though the connection stood
+  47  the clock could not be read, or stands before 1970
   51  a line of the schedule, or of the commands, has no form: `line L` says which, counted from 1
   52  no memory was found
   53  the schedule, or the commands, have more than 65536 bytes
   54  a port could not be bound or connected to, or no connection accepted
-  55  the settlements, or this text, could not be written";
+  55  the settlements, or this text, could not be written
+  56  standard input, output or error is closed: `station`, `ask` and `loop` did nothing";
 
 /// What the help of `exec` ends with.
 pub(crate) const REQUESTS: &str =
@@ -61,6 +64,15 @@ Example:
   printf 'send 1 10 5003\\nup deliver\\ndown deliver\\n' | geocom drill
 writes
   0 1 answered %R1P,0,0:0,123456";
+
+/// What the help of `serve` ends with.
+pub(crate) const KEPT: &str =
+    "Each connection gets a restarted instrument. Without --keep the first fault of one ends it all, and a client that says
+nothing is waited for.
+
+With --keep each connection that was left before its end has a line on standard error, and the next one is served:
+  geocom: connection 3: fault 42   a read failed; 43, a write; 54, it couldn't be accepted, and behind it is a rest of a second
+  geocom: connection 4: idle       nothing came for as long as --idle says";
 
 /// What the help of `loop` and of `ask` ends with.
 pub(crate) const COMMANDS: &str =

@@ -1,16 +1,26 @@
 //! The program `geocom`: its command line, and a station over its ports; the engines behind the other subcommands under one name.
 #![tactic(auto)]
 
+mod asking;
+mod ending;
 mod help;
 pub mod laws;
 mod measure;
+mod ports;
 mod program;
+mod serving;
+mod standard;
 mod station;
+mod streams;
+mod words;
 
-pub use gc_ask::{MOST_CONNECTIONS, ask_tcp, loop_tcp, run_ask, run_loop, serve_tcp};
+pub use gc_ask::{
+    Keeping, MOST_CONNECTIONS, ask_tcp, keep_tcp, loop_tcp, run_ask, run_loop, serve_tcp,
+};
 pub use gc_engines::{read_schedule, run_check, run_drill, run_drill_width, run_exec};
 pub use gc_instrument::{ServeFault, Served, serve};
 pub use gc_station::{Link, Plan, Tally, TcpLink};
 pub use gc_texts::{Command, Form, RunFault, TEXT_LIMIT, read_commands};
 pub use measure::run_station_text;
 pub use program::run_program;
+pub use standard::Standard;

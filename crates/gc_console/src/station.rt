@@ -10,10 +10,11 @@ ghost use Rattle.gc_station.specs.declared.tally.Tally.{Tally};
 ghost use Rattle.gc_texts.specs.declared.commands.Command.{Command as CommandOf};
 ghost use Rattle.gc_texts.specs.declared.fault.RunFault.{RunFault};
 
+use crate::ending::refuse_numbers;
 use crate::help::STATION;
 use crate::measure::run_station_text;
-use crate::program::{port_of, refuse_numbers};
-use clap::{Arg, ArgAction, ArgMatches, Command, value_parser};
+use crate::words::{flag_of, port_of};
+use clap::{Arg, ArgMatches, Command, value_parser};
 use gc_lines::{Sink, Source};
 use gc_station::{Link, Plan, Tally, TcpLink};
 use gc_texts::{Form, RunFault};
@@ -110,14 +111,6 @@ fn time_of<'a>(
         .help(help)
 }
 
-// A word that is there or not.
-pub(crate) fn flag_of<'a>(alloc: Global, name: &'a str, help: &'a str) -> Arg<'a> {
-    Arg::new(alloc, name)
-        .long(name)
-        .action(ArgAction::SetTrue)
-        .help(help)
-}
-
 /// What the words of `station` say.
 pub(crate) fn station_of(matches: &ArgMatches) -> Station {
     let number = |name: &str| matches.get_one::<u64>(name).unwrap_or(0);
@@ -139,7 +132,7 @@ pub(crate) fn station_of(matches: &ArgMatches) -> Station {
     }
 }
 
-/// Measures on a port, and tells how it ended: the counts, or the fault's line. `Read` comes too where the clock can't be
+/// Measures on a port, and tells how it ended: the counts, or the fault's line. `Clock` comes too where the clock can't be
 /// read. The sink is handed back.
 pub(crate) fn run_station_port<
     R: Net<Listener = TcpListener, Stream = TcpStream> + Clock,
@@ -171,7 +164,7 @@ pub(crate) fn run_station_port<
         (record { acts = None; taken = K.taken sink; messages = E.contents messages.old })
         (record { acts = None; taken = K.taken result.0; messages = E.contents between })
         end)
-        ⊎ ((end ≡ Err RunFault.Read) × (S.reads source.new ≡ S.reads source.old) × (result.0 ≡ sink) × (between ≡ messages.old)))) }
+        ⊎ ((end ≡ Err RunFault.Clock) × (S.reads source.new ≡ S.reads source.old) × (result.0 ≡ sink) × (between ≡ messages.old)))) }
 
     // Status 0 only where the source gave a command text to its end, and the run over its commands is done.
     ensures done { IfOk result.1 (λ status. exit_status status ≡ 0 → (given : List ℕ) × Consumes (S.remaining source.old) (S.remaining source.new) given
@@ -190,7 +183,7 @@ pub(crate) fn run_station_port<
         return (sink, refuse_numbers(messages));
     }
     let Ok(mut link) = TcpLink::new(rt, station.port) else {
-        return (sink, tell_counts(Err(RunFault::Read), messages));
+        return (sink, tell_counts(Err(RunFault::Clock), messages));
     };
     measure_over(alloc, &mut link, station, source, sink, messages)
 }

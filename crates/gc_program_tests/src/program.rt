@@ -1,7 +1,10 @@
 //! What no clause says of the program: what a command line means, its printed texts, and a station over its ports.
 
+mod closed;
 mod far_end;
+mod far_files;
 mod faults;
+mod keeping;
 mod measure;
 mod options;
 mod station;

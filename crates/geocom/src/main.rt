@@ -1,7 +1,7 @@
-//! The program `geocom`: it hands its words, its standard streams and the net to `gc_console`.
+//! The program `geocom`: it looks which standard streams are open, and hands these, its words and the net to `gc_console`.
 #![tactic(auto)]
 
-use gc_console::run_program;
+use gc_console::{Standard, run_program};
 use std::process::ExitCode;
 use std::{env, io};
 
@@ -9,6 +9,7 @@ fn main(rt: HostRuntime) -> io::Result<ExitCode> {
     run_program(
         &rt,
         rt.alloc(),
+        Standard::look(&rt.stdin(), &rt.stdout(), &rt.stderr()),
         env::args(&rt),
         rt.reader(),
         rt.stdout(),

@@ -12,12 +12,12 @@ use std::process::Abort;
 use std::test::Fail;
 use std::time::Duration;
 
-const REQUEST: &[u8] = b"%R1Q,0,0:\r\n";
+pub(crate) const REQUEST: &[u8] = b"%R1Q,0,0:\r\n";
 
 const REPLY: &[u8] = b"%R1P,0,0:0\r\n";
 
 // A connection to a port, on which these bytes were written; a read of it waits no longer than a fifth of a second.
-fn caller<R: Net<Listener = TcpListener, Stream = TcpStream>>(
+pub(crate) fn caller<R: Net<Listener = TcpListener, Stream = TcpStream>>(
     rt: &R,
     listener: &TcpListener,
     bytes: &[u8],
@@ -28,12 +28,14 @@ fn caller<R: Net<Listener = TcpListener, Stream = TcpStream>>(
     Ok(stream)
 }
 
-fn any_port<R: Net<Listener = TcpListener, Stream = TcpStream>>(rt: &R) -> io::Result<TcpListener> {
+pub(crate) fn any_port<R: Net<Listener = TcpListener, Stream = TcpStream>>(
+    rt: &R,
+) -> io::Result<TcpListener> {
     TcpListener::bind(rt, SocketAddr::from(([127, 0, 0, 1], 0)))
 }
 
 // The bytes that a stream gives until its end. `None`: a read of it failed, or gave nothing in its time.
-fn heard(alloc: Global, stream: &mut TcpStream) -> Option<Vec<u8>> {
+pub(crate) fn heard(alloc: Global, stream: &mut TcpStream) -> Option<Vec<u8>> {
     let mut came = Vec::new(alloc);
     match stream.read_to_end(&mut came) {
         Ok(_) => Some(came),
@@ -42,7 +44,7 @@ fn heard(alloc: Global, stream: &mut TcpStream) -> Option<Vec<u8>> {
 }
 
 // Expects that a connection was served: its reply came, and then the end.
-fn expect_served(rt: &impl Abort, alloc: Global, name: &str, stream: &mut TcpStream) {
+pub(crate) fn expect_served(rt: &impl Abort, alloc: Global, name: &str, stream: &mut TcpStream) {
     let Some(came) = heard(alloc, stream) else {
         assert!(rt; false, "{name}: the end came");
         return;

@@ -41,6 +41,7 @@ fn each_fault_is_told(rt: HostRuntime) -> Result<(), Fail> {
         (RunFault::InputTooLong, 53, "fault 53"),
         (RunFault::Socket, 54, "fault 54"),
         (RunFault::Output, 55, "fault 55"),
+        (RunFault::StreamClosed, 56, "fault 56"),
     ];
     for (fault, number, text) in rows {
         let alloc = rt.alloc();

@@ -26,6 +26,8 @@ pub(crate) struct Seen {
     pub(crate) opened: u32,
     // What came, with a `>` wherever the station waited behind it.
     pub(crate) heard: Vec<u8>,
+    // The paths of the files that were to be opened, a line each. None is there.
+    pub(crate) files: Vec<u8>,
 }
 
 impl Seen {
@@ -34,6 +36,7 @@ impl Seen {
             elapsed: 0,
             opened: 0,
             heard: Vec::new(alloc),
+            files: Vec::new(alloc),
         }
     }
 
@@ -101,7 +104,7 @@ impl<'a, 'b> FarEnd<'a, 'b> {
     }
 }
 
-fn in_use() -> io::Error {
+pub(crate) fn in_use() -> io::Error {
     io::Error::from(ErrorKind::ResourceBusy)
 }
 

@@ -1,8 +1,9 @@
 //! How each subcommand tells its fault: `loop`, `ask` and `serve` from their texts, their ports and their output.
 
-use crate::program::words::{Broken, expect_fault, expect_run, words_of};
+use crate::program::words::{Broken, OPEN, expect_fault, expect_run, words_of};
 use gc_console::run_program;
 use std::alloc::Global;
+use std::fs::Files;
 use std::net::{Net, SocketAddr, TcpListener, TcpStream};
 use std::process::{Abort, ExitCode};
 use std::test::Fail;
@@ -12,7 +13,7 @@ const COMMANDS: &[u8] = b"7 5003\n8 0\n";
 
 // The words of a subcommand on a port, and what is told where it is refused or fails, with status 1 and nothing written.
 fn expect_port_fault(
-    rt: &(impl Abort + Net<Listener = TcpListener, Stream = TcpStream> + Clock),
+    rt: &(impl Abort + Net<Listener = TcpListener, Stream = TcpStream> + Clock + Files),
     alloc: Global,
     engine: &str,
     port: u16,
@@ -92,7 +93,15 @@ fn the_defaults_are_told(rt: HostRuntime) -> Result<(), Fail> {
     let mut written = Vec::new(alloc);
     let mut told = Vec::new(alloc);
     let words = Ok(words_of(alloc, &["geocom", "station", "--help"])?);
-    let status = run_program(&rt, alloc, words, b"".as_slice(), &mut written, &mut told)?;
+    let status = run_program(
+        &rt,
+        alloc,
+        OPEN,
+        words,
+        b"".as_slice(),
+        &mut written,
+        &mut told,
+    )?;
     assert_eq!(rt; status, ExitCode::SUCCESS);
     let help = str::from_utf8(written.as_slice()).expect(&rt, "help is text");
     for text in DEFAULTS {

@@ -2,7 +2,7 @@
 //! came at the far end, and how long it took by the far end's clock.
 
 use crate::program::far_end::{FarEnd, Seen, both_ends};
-use crate::program::words::words_of;
+use crate::program::words::{OPEN, words_of};
 use gc_console::run_program;
 use std::alloc::Global;
 use std::cell::RefCell;
@@ -57,7 +57,15 @@ fn measure(
     let words = Ok(words_of(alloc, words.as_slice())?);
     let mut written = Vec::new(alloc);
     let mut told = Vec::new(alloc);
-    let status = run_program(&far_end, alloc, words, commands, &mut written, &mut told)?;
+    let status = run_program(
+        &far_end,
+        alloc,
+        OPEN,
+        words,
+        commands,
+        &mut written,
+        &mut told,
+    )?;
     let seen = seen.try_borrow().expect(rt, "the run is over");
     Ok(Ended {
         status,
@@ -179,7 +187,7 @@ fn expect_unanswered(
     elapsed: u64,
 ) -> Result<String, Fail> {
     let ended = measure(rt, alloc, None, options, THREE)?;
-    assert_eq!(rt; ended.told.as_str(), "geocom: fault 42\n", "{options:?}");
+    assert_eq!(rt; ended.told.as_str(), "geocom: fault 46\n", "{options:?}");
     assert_eq!(rt; ended.written.as_str(), "", "{options:?}");
     assert_eq!(rt; ended.status, ExitCode::from(1), "{options:?}");
     assert_eq!(rt; ended.opened, opened, "{options:?}");

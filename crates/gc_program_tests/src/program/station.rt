@@ -1,8 +1,10 @@
 //! What of `station` a test in one thread can show: a link over a real connection, and a run that nobody answers.
 
+use crate::program::words::OPEN;
 use gc_console::run_program;
 use gc_station::{Came, Link, TcpLink};
 use std::alloc::Global;
+use std::fs::Files;
 use std::io::{Read, Write};
 use std::net::{Net, SocketAddr, TcpListener, TcpStream};
 use std::process::{Abort, ExitCode};
@@ -55,7 +57,7 @@ fn a_link_tells_what_a_socket_answers(rt: HostRuntime) -> Result<(), Fail> {
 // Runs `station` on a port with two commands and no retries, and expects status 1, this fault, and no record: where the null
 // procedure isn't answered no command goes out.
 fn expect_fault(
-    rt: &(impl Abort + Net<Listener = TcpListener, Stream = TcpStream> + Clock),
+    rt: &(impl Abort + Net<Listener = TcpListener, Stream = TcpStream> + Clock + Files),
     alloc: Global,
     port: u16,
     fault: &[u8],
@@ -79,7 +81,7 @@ fn expect_fault(
     let mut told = Vec::new(alloc);
     let input = b"7 5003\n8 0\n".as_slice();
     let words = Ok(words.into_iter());
-    let status = run_program(rt, alloc, words, input, &mut written, &mut told)?;
+    let status = run_program(rt, alloc, OPEN, words, input, &mut written, &mut told)?;
     assert_eq!(rt; status, ExitCode::from(1));
     assert_eq!(rt; written.as_slice(), b"".as_slice());
     assert_eq!(rt; told.as_slice(), fault);
@@ -90,7 +92,7 @@ fn expect_fault(
 fn nobody_answers_a_station(rt: HostRuntime) -> Result<(), Fail> {
     let listener = TcpListener::bind(&rt, any_port())?;
     let port = listener.local_addr()?.port();
-    expect_fault(&rt, rt.alloc(), port, b"geocom: fault 42\n")?;
+    expect_fault(&rt, rt.alloc(), port, b"geocom: fault 46\n")?;
     drop(listener);
     expect_fault(&rt, rt.alloc(), port, b"geocom: fault 54\n")
 }

@@ -1,8 +1,9 @@
 //! What a command line means: the statuses, the printed texts and each option, on and off.
 
-use gc_console::run_program;
+use gc_console::{Standard, run_program};
 use std::alloc::{AllocError, Global};
 use std::env::Args;
+use std::fs::Files;
 use std::io::{self, ErrorKind, Read};
 use std::net::{Net, TcpListener, TcpStream};
 use std::process::{Abort, ExitCode};
@@ -15,6 +16,13 @@ const REPLIES: &str = "%R1P,0,1:0\r\n%R1P,0,0:0,123456\r\n";
 
 const SCHEDULE: &[u8] = b"send 1 10 5003\nup deliver\ndown deliver\n";
 
+// All three standard streams are open.
+pub(crate) const OPEN: Standard = Standard {
+    input: true,
+    output: true,
+    messages: true,
+};
+
 // The words of a command line, as the program is given them.
 pub(crate) fn words_of(alloc: Global, texts: &[&str]) -> Result<Args, AllocError> {
     let mut words = Vec::new(alloc);
@@ -26,7 +34,7 @@ pub(crate) fn words_of(alloc: Global, texts: &[&str]) -> Result<Args, AllocError
 
 // Runs a command line, and expects this status, this output and these messages.
 pub(crate) fn expect_run(
-    rt: &(impl Abort + Net<Listener = TcpListener, Stream = TcpStream> + Clock),
+    rt: &(impl Abort + Net<Listener = TcpListener, Stream = TcpStream> + Clock + Files),
     alloc: Global,
     texts: &[&str],
     input: &[u8],
@@ -37,7 +45,7 @@ pub(crate) fn expect_run(
     let mut written = Vec::new(alloc);
     let mut told = Vec::new(alloc);
     let words = Ok(words_of(alloc, texts)?);
-    let result = run_program(rt, alloc, words, input, &mut written, &mut told)?;
+    let result = run_program(rt, alloc, OPEN, words, input, &mut written, &mut told)?;
     let written = str::from_utf8(written.as_slice()).expect(rt, "the output is text");
     let told = str::from_utf8(told.as_slice()).expect(rt, "the messages are text");
     assert_eq!(rt; result, ExitCode::from(status), "{texts:?}: {told}");
@@ -339,7 +347,7 @@ fn a_command_line_is_read_or_refused(rt: HostRuntime) -> Result<(), Fail> {
         let mut written = Vec::new(alloc);
         let mut told = Vec::new(alloc);
         let words = Ok(words_of(alloc, texts)?);
-        let result = run_program(&rt, alloc, words, REQUESTS, &mut written, &mut told)?;
+        let result = run_program(&rt, alloc, OPEN, words, REQUESTS, &mut written, &mut told)?;
         assert_eq!(rt; result, ExitCode::from(status), "{name}");
         let written = str::from_utf8(written.as_slice()).expect(&rt, name);
         let told = str::from_utf8(told.as_slice()).expect(&rt, name);
@@ -363,7 +371,7 @@ impl Read for Broken {
 
 // Runs a command line over this input and an output with room for five bytes, and expects status 1 and these messages.
 pub(crate) fn expect_fault<I: Read + Drop>(
-    rt: &(impl Abort + Net<Listener = TcpListener, Stream = TcpStream> + Clock),
+    rt: &(impl Abort + Net<Listener = TcpListener, Stream = TcpStream> + Clock + Files),
     alloc: Global,
     texts: &[&str],
     input: I,
@@ -373,7 +381,7 @@ pub(crate) fn expect_fault<I: Read + Drop>(
     let mut told = Vec::new(alloc);
     let words = Ok(words_of(alloc, texts)?);
     let output: &mut [u8] = &mut room;
-    let result = run_program(rt, alloc, words, input, output, &mut told)?;
+    let result = run_program(rt, alloc, OPEN, words, input, output, &mut told)?;
     let told = str::from_utf8(told.as_slice()).expect(rt, "the messages are text");
     assert_eq!(rt; told, messages, "{texts:?}");
     assert_eq!(rt; result, ExitCode::from(1), "{texts:?}");
@@ -409,7 +417,7 @@ fn an_input_or_an_output_fails(rt: HostRuntime) -> Result<(), Fail> {
 
 // Runs the program with words that could not be read, and expects this status and these messages.
 fn expect_words_refused(
-    rt: &(impl Abort + Net<Listener = TcpListener, Stream = TcpStream> + Clock),
+    rt: &(impl Abort + Net<Listener = TcpListener, Stream = TcpStream> + Clock + Files),
     alloc: Global,
     kind: ErrorKind,
     status: u8,
@@ -418,7 +426,7 @@ fn expect_words_refused(
     let mut written = Vec::new(alloc);
     let mut told = Vec::new(alloc);
     let words = Err(io::Error::from(kind));
-    let result = run_program(rt, alloc, words, REQUESTS, &mut written, &mut told)?;
+    let result = run_program(rt, alloc, OPEN, words, REQUESTS, &mut written, &mut told)?;
     let told = str::from_utf8(told.as_slice()).expect(rt, "the messages are text");
     assert_eq!(rt; told, messages);
     assert_eq!(rt; result, ExitCode::from(status), "{told}");

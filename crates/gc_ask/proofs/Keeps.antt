@@ -1,0 +1,61 @@
+-- Callers who are served one after the other, and what is told of them.
+use Rattle.std.proofs.Common.{◌≡◌, ℕ, suc, ◌+◌, Bool, true, List, [], ◌∷◌, ◌++◌, length, Option, Some, None, refl, sym, ap, ◌∙◌, arith, append_assoc, length-append, codes}
+use Rattle.std.proofs.lemmas.List.{append-nil}
+use Rattle.std.specs.Fmt.{decimal}
+use Rattle.std.specs.Io.KnownBytes.{Appends}
+use Rattle.gc_lines.proofs.Known.{Appends-append, Appends-nil, Appends-is}
+use Rattle.gc_ask.specs.Keeping.{End, Grows, Kept, caller_line, told_of, told_from}
+use Rattle.gc_ask.specs.declared.callers.CallerFault.TheVariants.{Write}
+
+pub grows_more : (a b c : Option (List End)) (xs ys : List End) → Grows a b xs → Grows b c ys → Grows a c (xs ++ ys)
+grows_more None b c xs ys h k = tt
+grows_more (Some a) None c xs ys h k = absurd h
+grows_more (Some a) (Some b) None xs ys h k = absurd k
+grows_more (Some a) (Some b) (Some c) xs ys h k = k ∙ ap (λ zs. zs ++ ys) h ∙ append_assoc a xs ys
+
+pub grows_none : (a : Option (List End)) → Grows a a []
+grows_none None = tt
+grows_none (Some a) = sym (append-nil a)
+
+-- what is told of one connection more
+pub told_more : (n : ℕ) (ends : List End) (end : End) → told_from n (ends ++ end ∷ []) ≡ told_from n ends ++ told_of (n + length ends) end
+told_more n [] end =
+    let at : n ≡ n + 0 = omega arith in
+    append-nil (told_of n end) ∙ ap (λ (m : ℕ). told_of m end) at
+told_more n (first ∷ later) end =
+    let at : n + 1 + length later ≡ n + suc (length later) = omega arith in
+    ap (λ xs. told_of n first ++ xs) (told_more (n + 1) later end ∙ ap (λ (m : ℕ). told_from (n + 1) later ++ told_of m end) at)
+    ∙ sym (append_assoc (told_of n first) (told_from (n + 1) later) (told_of (n + suc (length later)) end))
+
+-- nobody was served yet
+pub kept_none : (served : Option (List End)) (messages : Option (List ℕ)) → Kept 0 true served served messages messages
+kept_none served messages = record {
+  ends = [];
+  count = refl;
+  served = grows_none served;
+  lines = λ _. Appends-nil messages;
+}
+
+-- one more was served
+pub kept_more : (n : ℕ) (told told' : Bool) (s0 s1 s2 : Option (List End)) (m0 m1 m2 : Option (List ℕ)) (end : End)
+    → Kept n told s0 s1 m0 m1 → Grows s1 s2 (end ∷ []) → (told' ≡ true → (told ≡ true) × Appends m1 m2 (told_of (n + 1) end))
+    → Kept (n + 1) told' s0 s2 m0 m2
+kept_more n told told' s0 s1 s2 m0 m1 m2 end kept grew tells =
+    let at : 1 + length kept.ends ≡ n + 1 = omega (arith, kept.count) in
+    let text : told_from 1 kept.ends ++ told_of (n + 1) end ≡ told_from 1 (kept.ends ++ end ∷ []) =
+    ap (λ (m : ℕ). told_from 1 kept.ends ++ told_of m end) (sym at) ∙ sym (told_more 1 kept.ends end) in
+    record {
+      ends = kept.ends ++ end ∷ [];
+      count = length-append kept.ends (end ∷ []) ∙ ap (λ m. m + 1) kept.count;
+      served = grows_more s0 s1 s2 kept.ends (end ∷ []) kept.served grew;
+      lines = λ all.
+          let t = tells all in
+          Appends-is m0 m2 _ _ text (Appends-append m0 m1 m2 (told_from 1 kept.ends) (told_of (n + 1) end) (kept.lines t.0) t.1);
+    }
+
+-- the line of a write that was cut, as it is put together
+pub cut_line : (number count bytes : ℕ) → codes "geocom: connection " ++ (decimal number ++ (codes ": fault 43 reply " ++ (decimal count ++ (codes " byte " ++ (decimal bytes ++ codes "\n"))))) ≡ caller_line number (Write count bytes)
+cut_line number count bytes =
+    let text : (decimal count ++ codes " byte " ++ decimal bytes) ++ codes "\n" ≡ decimal count ++ (codes " byte " ++ (decimal bytes ++ codes "\n")) =
+    append_assoc (decimal count ++ codes " byte ") (decimal bytes) (codes "\n") ∙ append_assoc (decimal count) (codes " byte ") (decimal bytes ++ codes "\n") in
+    ap (λ xs. codes "geocom: connection " ++ (decimal number ++ (codes ": fault 43 reply " ++ xs))) (sym text)

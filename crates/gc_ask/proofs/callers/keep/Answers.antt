@@ -1,0 +1,26 @@
+use Rattle.std.proofs.Common.{◌≡◌, ℕ, arith, subst}
+use Rattle.gc_ask.specs.Keeping.{Kept}
+use Rattle.gc_ask.proofs.Keeps.{kept_none, kept_more}
+use Rattle.gc_ask.proofs.callers.keep.Goals as goal
+
+pub loop-at-init : goal.loop-at-init
+loop-at-init g c = record {
+  within = omega arith;
+  kept = kept_none (g.C.Callers.served c.args.callers.now) (g.E.Write.contents c.args.messages.now);
+}
+
+pub loop-at-preserved : goal.loop-at-preserved
+loop-at-preserved g c = record {
+  within = omega (arith, c.loop-at-test.true);
+  kept = kept_more c.loop-at.at c.loop-at.told c.tell_end-told.result (g.C.Callers.served c.args.callers.now) (g.C.Callers.served c.loop-at.callers) (g.C.Callers.served c.serve_next-end.new.self)
+      (g.E.Write.contents c.args.messages.now) (g.E.Write.contents c.loop-at.messages) (g.E.Write.contents c.tell_end-told.new.messages) c.serve_next-end.result
+      c.loop-at.invariant.kept c.serve_next-end.ensures c.tell_end-told.ensures;
+}
+
+pub returns : goal.returns
+returns g c =
+    let all : c.loop-at.at ≡ c.args.most = omega (arith, c.loop-at-test.false, c.loop-at.invariant.within) in
+    record {
+      kept = subst (λ (n : ℕ). Kept n c.loop-at.told (g.C.Callers.served c.args.callers.now) (g.C.Callers.served c.loop-at.callers) (g.E.Write.contents c.args.messages.now) (g.E.Write.contents c.loop-at.messages))
+          all c.loop-at.invariant.kept;
+    }

@@ -1,0 +1,90 @@
+//! The callers of a port that is kept: they are served one after the other, and no fault of one keeps the next from it.
+
+ghost use Rattle.std.specs.Prelude.{◌≡◌, [], ◌∷◌, true, OnOk};
+ghost use Rattle.std.specs.Io.KnownBytes.{Appends};
+ghost use Rattle.gc_ask.specs.Keeping.{Grows, Kept, caller_line, told_of};
+
+use std::io::{self, Write};
+
+/// Why a caller's connection was left before its end.
+#[derive(Clone, Copy, Debug, PartialEq, Eq)]
+pub enum CallerFault {
+    /// A read failed.
+    Read,
+    /// A write failed: so many replies went out whole, and so many bytes of the next.
+    Write { replies: u64, bytes: usize },
+    /// As many reads were made as are allowed, and none was the end.
+    TooManyReads,
+    /// No connection could be accepted, or none whose calls are sure to end.
+    Socket,
+    /// Nothing came for as long as a connection may be idle.
+    Idle,
+}
+
+impl CallerFault {
+    /// Writes the line of the fault: the program's name, the connection's number, counted from 1, and why it was left.
+    pub fn tell<E: Write>(self, number: u64, messages: &mut E) -> io::Result<()>
+        ensures { OnOk result (Appends (E.contents messages.old) (E.contents messages.new) (caller_line number self)) }
+    {
+        match self {
+            CallerFault::Read => writeln!(messages, "geocom: connection {number}: fault 42"),
+            CallerFault::Write { replies, bytes } => writeln!(
+                messages,
+                "geocom: connection {number}: fault 43 reply {replies} byte {bytes}"
+            ),
+            CallerFault::TooManyReads => writeln!(
+                messages,
+                "geocom: connection {number}: fault 44"
+            ),
+            CallerFault::Socket => writeln!(messages, "geocom: connection {number}: fault 54"),
+            CallerFault::Idle => writeln!(messages, "geocom: connection {number}: idle"),
+        }
+    }
+}
+
+/// Those who call at a port.
+pub trait Callers {
+    ghost use Rattle.std.specs.Prelude.{List, Option};
+    ghost use Rattle.gc_ask.specs.Keeping.{End};
+
+    /// How the connections of those who were served ended, in their order, where that is known.
+    ghost served: { Self → Option (List End) };
+
+    /// Waits for the next caller, and serves the connection to its end, or to a fault.
+    fn serve_next(&mut self) -> Result<(), CallerFault>
+        ensures { Grows (served self.old) (served self.new) (result ∷ []) };
+}
+
+/// Serves so many callers, one after the other, and writes the line of each fault on `messages`, where the callers are counted
+/// from 1. A fault ends nothing but its own connection, and a line that can't be written ends nothing. Says whether all lines
+/// were written.
+pub fn keep<C: Callers, E: Write>(callers: &mut C, most: u64, messages: &mut E) -> bool
+    // So many were served, whatever became of each; and what stands on the messages where all lines were written.
+    ensures kept { Kept most result (C.served callers.old) (C.served callers.new) (E.contents messages.old) (E.contents messages.new) }
+{
+    let mut told = true;
+    for at in 0..most {
+        let end = callers.serve_next();
+        told = tell_end(end, at + 1, told, messages);
+    }
+    told
+}
+
+// Tells how the connection with this number ended, where that was a fault. Says whether all lines were written so far.
+fn tell_end<E: Write>(
+    end: Result<(), CallerFault>,
+    number: u64,
+    told: bool,
+    messages: &mut E,
+) -> bool
+    ensures { result ≡ true → (told ≡ true)
+        × Appends (E.contents messages.old) (E.contents messages.new) (told_of number end) }
+{
+    match end {
+        Ok(()) => told,
+        Err(fault) => match fault.tell(number, messages) {
+            Ok(()) => told,
+            Err(_) => false,
+        },
+    }
+}

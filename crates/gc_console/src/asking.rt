@@ -1,0 +1,61 @@
+//! The subcommands that ask over a connection. None of them begins where a standard stream is closed.
+
+ghost use Rattle.std.specs.Prelude.{◌≡◌, ◌≤◌, false, IfOk};
+ghost use Rattle.std.specs.Process.{exit_status};
+ghost use Rattle.gc_console.specs.Streams.{are_open, TellsClosed};
+
+use crate::ports::{ask_port, loop_port};
+use crate::standard::Standard;
+use crate::station::{Station, run_station_port};
+use gc_lines::{Sink, Source};
+use std::alloc::Global;
+use std::io::{self, Write};
+use std::net::{Net, TcpListener, TcpStream};
+use std::process::ExitCode;
+use std::time::Clock;
+
+/// What is to be asked over a connection: commands once, of a simulator or on a port, or a station's.
+#[derive(Drop)]
+pub(crate) enum Asking {
+    Loop,
+    Ask { port: u16 },
+    Station(Station),
+}
+
+/// Asks, and tells how it ended; or tells that a standard stream is closed. The sink is handed back.
+pub(crate) fn run_asking<
+    R: Net<Listener = TcpListener, Stream = TcpStream> + Clock,
+    S: Source,
+    K: Sink,
+    E: Write,
+>(
+    rt: &R,
+    alloc: Global,
+    standard: Standard,
+    asking: Asking,
+    source: &mut S,
+    mut sink: K,
+    messages: &mut E,
+) -> (K, io::Result<ExitCode>)
+    // Where one is closed that is told, with status 1, and nothing was read or written.
+    ensures closed { are_open standard ≡ false → IfOk result.1 (λ status. TellsClosed standard (exit_status status) (E.contents messages.old) (E.contents messages.new)) }
+    ensures untouched { are_open standard ≡ false → (S.remaining source.new ≡ S.remaining source.old)
+        × (S.reads source.new ≡ S.reads source.old) × (S.ended source.new ≡ S.ended source.old)
+        × (S.failed source.new ≡ S.failed source.old) × (result.0 ≡ sink) }
+    ensures bound { IfOk result.1 (λ status. exit_status status ≤ 2) }
+{
+    if !standard.are_open() {
+        return (sink, standard.refuse(messages));
+    }
+    match asking {
+        Asking::Loop => {
+            let ended = loop_port(rt, alloc, source, &mut sink, messages);
+            (sink, ended)
+        }
+        Asking::Ask { port } => {
+            let ended = ask_port(rt, alloc, port, source, &mut sink, messages);
+            (sink, ended)
+        }
+        Asking::Station(station) => run_station_port(rt, alloc, station, source, sink, messages),
+    }
+}

@@ -1,0 +1,37 @@
+//! How an end is told: the status, and behind a refusal or a fault its line.
+
+ghost use Rattle.std.specs.Prelude.{◌≡◌, ◌≤◌, IfOk};
+ghost use Rattle.std.specs.Io.KnownBytes.{Appends};
+ghost use Rattle.std.specs.Process.{exit_status};
+ghost use Rattle.gc_texts.specs.Faults.{run_fault_text, Tells};
+ghost use Rattle.gc_console.specs.Refusals.{range_line};
+
+use gc_texts::RunFault;
+use std::io::{self, Write};
+use std::process::ExitCode;
+
+/// A number that is out of its range: that is told.
+pub(crate) fn refuse_numbers<E: Write>(messages: &mut E) -> io::Result<ExitCode>
+    ensures status { IfOk result (λ status. exit_status status ≡ 2) }
+    ensures told { IfOk result (λ status. (exit_status status ≡ 2) × Appends (E.contents messages.old) (E.contents messages.new) range_line) }
+{
+    writeln!(
+        messages,
+        "error: a number of the command line is out of its range"
+    )?;
+    Ok(ExitCode::from(2))
+}
+
+/// Tells how a run ended: the status, and after a fault its line.
+pub(crate) fn end_of<E: Write>(end: Result<(), RunFault>, messages: &mut E) -> io::Result<ExitCode>
+    ensures told { IfOk result (λ status. Tells run_fault_text end (exit_status status) (E.contents messages.old) (E.contents messages.new)) }
+    ensures bound { IfOk result (λ status. exit_status status ≤ 1) }
+{
+    match end {
+        Ok(()) => Ok(ExitCode::SUCCESS),
+        Err(fault) => {
+            fault.tell(messages)?;
+            Ok(ExitCode::from(1))
+        }
+    }
+}

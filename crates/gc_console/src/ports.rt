@@ -1,0 +1,66 @@
+//! The subcommands over connections to ports, but the station's and a kept port, and how their ends are told.
+
+ghost use Rattle.std.specs.Prelude.{◌≤◌, IfOk};
+ghost use Rattle.std.specs.Process.{exit_status};
+
+use crate::ending::{end_of, refuse_numbers};
+use gc_ask::{MOST_CONNECTIONS, ask_tcp, loop_tcp, serve_tcp};
+use gc_instrument::Instrument;
+use gc_lines::{Sink, Source};
+use std::alloc::Global;
+use std::io::{self, Write};
+use std::net::{Net, TcpListener, TcpStream};
+use std::process::ExitCode;
+
+// Serves a port, and tells how it ended. Numbers out of their range, which clap refuses by no clause, are refused here.
+pub(crate) fn serve_port<R: Net<Listener = TcpListener, Stream = TcpStream>, E: Write>(
+    rt: &R,
+    port: u16,
+    connections: u32,
+    messages: &mut E,
+) -> io::Result<ExitCode>
+    ensures { IfOk result (λ status. exit_status status ≤ 2) }
+{
+    if port == 0 || connections == 0 || connections > MOST_CONNECTIONS {
+        return refuse_numbers(messages);
+    }
+    let mut instrument = Instrument::simulator();
+    end_of(
+        serve_tcp(rt, port, connections, &mut instrument, u32::MAX),
+        messages,
+    )
+}
+
+// Asks over a connection to a simulator, and tells how it ended.
+pub(crate) fn loop_port<
+    R: Net<Listener = TcpListener, Stream = TcpStream>,
+    S: Source,
+    K: Sink,
+    E: Write,
+>(rt: &R, alloc: Global, source: &mut S, sink: &mut K, messages: &mut E) -> io::Result<ExitCode>
+    ensures { IfOk result (λ status. exit_status status ≤ 1) }
+{
+    end_of(loop_tcp(rt, alloc, source, sink, u32::MAX), messages)
+}
+
+// Asks on a port, and tells how it ended.
+pub(crate) fn ask_port<
+    R: Net<Listener = TcpListener, Stream = TcpStream>,
+    S: Source,
+    K: Sink,
+    E: Write,
+>(
+    rt: &R,
+    alloc: Global,
+    port: u16,
+    source: &mut S,
+    sink: &mut K,
+    messages: &mut E,
+) -> io::Result<ExitCode>
+    ensures { IfOk result (λ status. exit_status status ≤ 2) }
+{
+    if port == 0 {
+        return refuse_numbers(messages);
+    }
+    end_of(ask_tcp(rt, alloc, port, source, sink, u32::MAX), messages)
+}

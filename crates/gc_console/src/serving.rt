@@ -1,0 +1,77 @@
+//! `geocom serve`: a simulator on a port, over places of the standard streams that are all taken.
+
+ghost use Rattle.std.specs.Prelude.{◌≤◌, IfOk};
+ghost use Rattle.std.specs.Process.{exit_status};
+
+use crate::ending::{end_of, refuse_numbers};
+use crate::ports::serve_port;
+use crate::standard::Standard;
+use gc_ask::{Keeping, MOST_CONNECTIONS, keep_tcp};
+use gc_instrument::Instrument;
+use std::fs::Files;
+use std::io::{self, Write};
+use std::net::{Net, TcpListener, TcpStream};
+use std::process::ExitCode;
+use std::time::Clock;
+
+// The longest time for which a kept connection may be idle, in seconds: a day.
+const LONGEST_IDLE: u32 = 86_400;
+
+/// Serves a port, or keeps it where it is told after how many seconds a connection is idle, and tells how it ended. The places
+/// of standard streams that are closed are filled first, and stay so. `StreamClosed` comes where that can't be done.
+pub(crate) fn serve_filled<
+    R: Net<Listener = TcpListener, Stream = TcpStream> + Clock + Files,
+    E: Write,
+>(
+    rt: &R,
+    standard: Standard,
+    port: u16,
+    connections: Option<u32>,
+    idle: Option<u32>,
+    messages: &mut E,
+) -> io::Result<ExitCode>
+    ensures { IfOk result (λ status. exit_status status ≤ 2) }
+{
+    let Ok(places) = standard.fill(rt) else {
+        return standard.refuse(messages);
+    };
+    let ended = match idle {
+        None => serve_port(rt, port, connections.unwrap_or(1), messages),
+        Some(idle) => keep_port(rt, port, connections, idle, messages),
+    };
+    drop(places);
+    ended
+}
+
+// Keeps a port, and tells how it ended. Numbers out of their range, which clap refuses by no clause, are refused here.
+fn keep_port<R: Net<Listener = TcpListener, Stream = TcpStream> + Clock, E: Write>(
+    rt: &R,
+    port: u16,
+    connections: Option<u32>,
+    idle: u32,
+    messages: &mut E,
+) -> io::Result<ExitCode>
+    ensures { IfOk result (λ status. exit_status status ≤ 2) }
+{
+    if port == 0 || idle == 0 || idle > LONGEST_IDLE || !are_few(connections) {
+        return refuse_numbers(messages);
+    }
+    let keeping = Keeping {
+        connections,
+        idle,
+        max_reads: u32::MAX,
+    };
+    let mut instrument = Instrument::simulator();
+    match keep_tcp(rt, port, keeping, &mut instrument, messages) {
+        Ok(_) => Ok(ExitCode::SUCCESS),
+        Err(fault) => end_of(Err(fault), messages),
+    }
+}
+
+// Whether so many connections may be asked for, where it is said how many.
+fn are_few(connections: Option<u32>) -> bool {
+    match connections {
+        None => true,
+        Some(connections) => 1 <= connections && connections <= MOST_CONNECTIONS,
+    }
+}

@@ -1,0 +1,184 @@
+//! The words of the command line: which there are, and what they ask for.
+
+use crate::asking::Asking;
+use crate::help::{COMMANDS, EVENTS, FAULTS, KEPT, REQUESTS, VERDICTS};
+use crate::station::{station_command, station_of};
+use clap::{Arg, ArgAction, ArgMatches, Command, Error, value_parser};
+use std::alloc::{AllocError, Global};
+
+/// What a command line asks for.
+pub(crate) enum Subcommand {
+    Exec,
+    Check,
+    Drill {
+        totals: bool,
+        width: u8,
+    },
+    // A port that is kept says after how many seconds a connection is idle.
+    Serve {
+        port: u16,
+        connections: Option<u32>,
+        idle: Option<u32>,
+    },
+    Asks(Asking),
+}
+
+/// What the words ask for. A subcommand is required.
+// Each function adds few of them: the proof of a chain of calls grows faster than the chain.
+pub(crate) fn subcommand_of(alloc: Global, words: &[String]) -> Result<Subcommand, Error> {
+    let command = Command::new(alloc, "geocom")
+        .version("0.1.0")
+        .about("A simulated instrument that speaks GeoCOM's ASCII protocol")
+        .after_help(FAULTS)
+        .subcommand_required(true)
+        .disable_help_subcommand(true);
+    let command = with_streams(alloc, command)?;
+    let matches = with_ports(alloc, command)?.try_get_matches_from(words)?;
+    Ok(asked_for(&matches))
+}
+
+// The subcommands that go from standard input to standard output.
+fn with_streams<'a>(alloc: Global, command: Command<'a>) -> Result<Command<'a>, AllocError> {
+    let exec = Command::new(alloc, "exec")
+        .about("Answers the requests of standard input on standard output")
+        .after_help(REQUESTS);
+    let check = Command::new(alloc, "check")
+        .about("Says of each frame of standard input what it is, or what is wrong with it")
+        .after_help(VERDICTS);
+    command
+        .subcommand(exec)?
+        .subcommand(check)?
+        .subcommand(drill_of(alloc)?)
+}
+
+// The subcommands over connections.
+fn with_ports<'a>(alloc: Global, command: Command<'a>) -> Result<Command<'a>, AllocError> {
+    let looped = Command::new(alloc, "loop")
+        .about("Asks the commands of standard input over a connection to a simulator of its own")
+        .after_help(COMMANDS);
+    let command = command.subcommand(looped)?.subcommand(serve_of(alloc)?)?;
+    command
+        .subcommand(ask_of(alloc)?)?
+        .subcommand(station_command(alloc)?)
+}
+
+// The subcommand that serves a port.
+fn serve_of<'a>(alloc: Global) -> Result<Command<'a>, AllocError> {
+    let connections = Arg::new(alloc, "connections")
+        .long("connections")
+        .value_name("N")
+        .value_parser(value_parser!(u32).range(1..=1000))
+        .help(
+            "Serves so many connections, 1 to 1000, one after the other [default: 1, and with --keep no end]",
+        );
+    let command = Command::new(alloc, "serve")
+        .about("Serves a simulator on a port of 127.0.0.1")
+        .after_help(KEPT)
+        .arg(port_of(alloc))?
+        .arg(connections)?;
+    with_keeping(alloc, command)
+}
+
+// How a port is kept.
+fn with_keeping<'a>(alloc: Global, command: Command<'a>) -> Result<Command<'a>, AllocError> {
+    let keep = flag_of(
+        alloc,
+        "keep",
+        "Serves on behind a connection that fails, which is told",
+    );
+    let idle = Arg::new(alloc, "idle")
+        .long("idle")
+        .value_name("SECONDS")
+        .value_parser(value_parser!(u32).range(1..=86_400))
+        .default_value("60")
+        .help(
+            "With --keep: closes a connection on which nothing came for so many seconds, 1 to 86400",
+        )
+        .requires_arg("keep")?;
+    command.arg(keep)?.arg(idle)
+}
+
+// After how many seconds a connection is idle, where a port is to be kept.
+fn idle_of(serve: &ArgMatches) -> Option<u32> {
+    if serve.get_flag("keep") {
+        Some(serve.get_one::<u32>("idle").unwrap_or(0))
+    } else {
+        None
+    }
+}
+
+// The subcommand that asks on a port.
+fn ask_of<'a>(alloc: Global) -> Result<Command<'a>, AllocError> {
+    Command::new(alloc, "ask")
+        .about("Asks the commands of standard input on a port of 127.0.0.1")
+        .after_help(COMMANDS)
+        .arg(port_of(alloc))
+}
+
+// Which subcommand the words ask for.
+fn asked_for(matches: &ArgMatches) -> Subcommand {
+    if matches.subcommand_matches("check").is_some() {
+        return Subcommand::Check;
+    }
+    if let Some(drill) = matches.subcommand_matches("drill") {
+        return Subcommand::Drill {
+            totals: drill.get_flag("totals"),
+            width: drill.get_one::<u8>("width").unwrap_or(0),
+        };
+    }
+    if let Some(serve) = matches.subcommand_matches("serve") {
+        return Subcommand::Serve {
+            port: serve.get_one::<u16>("port").unwrap_or(0),
+            connections: serve.get_one::<u32>("connections"),
+            idle: idle_of(serve),
+        };
+    }
+    if let Some(ask) = matches.subcommand_matches("ask") {
+        return Subcommand::Asks(Asking::Ask {
+            port: ask.get_one::<u16>("port").unwrap_or(0),
+        });
+    }
+    if let Some(station) = matches.subcommand_matches("station") {
+        return Subcommand::Asks(Asking::Station(station_of(station)));
+    }
+    if matches.subcommand_matches("loop").is_some() {
+        return Subcommand::Asks(Asking::Loop);
+    }
+    Subcommand::Exec
+}
+
+// The subcommand that plays a schedule.
+fn drill_of<'a>(alloc: Global) -> Result<Command<'a>, AllocError> {
+    let width = Arg::new(alloc, "width")
+        .long("width")
+        .value_name("W")
+        .value_parser(value_parser!(u8).range(1..=7))
+        .default_value("7")
+        .help("Lets so many requests wait: a send beyond them is refused");
+    Command::new(alloc, "drill")
+        .about("Plays the schedule of standard input, and writes a line for each settlement")
+        .after_help(EVENTS)
+        .arg(flag_of(
+            alloc,
+            "totals",
+            "Writes a line of totals behind the settlements",
+        ))?
+        .arg(width)
+}
+
+// A port, as a required word.
+pub(crate) fn port_of<'a>(alloc: Global) -> Arg<'a> {
+    Arg::new(alloc, "port")
+        .value_name("PORT")
+        .required(true)
+        .value_parser(value_parser!(u16).range(1..))
+        .help("A port of 127.0.0.1, from 1 on")
+}
+
+// A word that is there or not.
+pub(crate) fn flag_of<'a>(alloc: Global, name: &'a str, help: &'a str) -> Arg<'a> {
+    Arg::new(alloc, name)
+        .long(name)
+        .action(ArgAction::SetTrue)
+        .help(help)
+}
