@@ -9,7 +9,7 @@ use gc_instrument::Instrument;
 use gc_lines::{Answers, Assembler, Line, Outgoing, Sink, Source, write_whole};
 use gc_texts::RunFault;
 
-/// A simulator behind an assembler.
+/// An instrument behind an assembler.
 #[derive(Drop)]
 pub(crate) struct InstrumentEnd {
     instrument: Instrument,
@@ -18,9 +18,9 @@ pub(crate) struct InstrumentEnd {
 }
 
 impl InstrumentEnd {
-    pub(crate) fn new() -> InstrumentEnd {
+    pub(crate) fn new(instrument: Instrument) -> InstrumentEnd {
         InstrumentEnd {
-            instrument: Instrument::simulator(),
+            instrument,
             assembler: Assembler::new(),
             ahead: Unheard::new(),
         }

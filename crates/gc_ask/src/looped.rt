@@ -1,4 +1,4 @@
-//! A loop: a client and a simulator at the two ends of one link, in one thread.
+//! A loop: a client and an instrument at the two ends of one link, in one thread.
 
 ghost use Rattle.std.specs.Prelude.{◌≡◌, ◌+◌, ◌*◌, ◌-◌, ◌≤◌, ◌++◌, ℕ, List, length, Err};
 ghost use Rattle.std.specs.Io.KnownBytes.{Consumes};
@@ -11,18 +11,20 @@ ghost use Rattle.gc_texts.specs.declared.fault.RunFault.{RunFault};
 
 use crate::ask::{Asking, read_command_text};
 use crate::instrument_end::InstrumentEnd;
+use gc_instrument::Instrument;
 use gc_lines::{Sink, Source};
 use gc_texts::{Command, RunFault, write_settlements};
 use std::alloc::Global;
 
-/// Reads the whole command text of a source, and asks its commands over a link at whose other end a simulator stands, in
-/// at most `max_reads` reads of both ends together.
+/// Reads the whole command text of a source, and asks its commands over a link at whose other end an instrument stands,
+/// in at most `max_reads` reads of both ends together.
 ///
 /// After each request the instrument's end is read until one line was answered, and that reply is written; then the
 /// client's end is read until the request is settled. The faults are those of `run_ask`: 43 counts requests where the
 /// client's end can't be written and replies where the instrument's can't, and 45 is the end of either input.
-pub fn run_loop<S: Source, A: Source, B: Sink, C: Source, D: Sink, K: Sink>(
+pub fn run_loop_on<S: Source, A: Source, B: Sink, C: Source, D: Sink, K: Sink>(
     alloc: Global,
+    instrument: Instrument,
     commands: &mut S,
     client_in: &mut A,
     client_out: &mut B,
@@ -61,6 +63,49 @@ pub fn run_loop<S: Source, A: Source, B: Sink, C: Source, D: Sink, K: Sink>(
     };
     loop_all(
         commands.as_slice(),
+        instrument,
+        client_in,
+        client_out,
+        instrument_in,
+        instrument_out,
+        sink,
+        max_reads,
+    )
+}
+
+/// Asks the commands of a source as `run_loop_on` does, of a simulator, and has the same ends.
+pub fn run_loop<S: Source, A: Source, B: Sink, C: Source, D: Sink, K: Sink>(
+    alloc: Global,
+    commands: &mut S,
+    client_in: &mut A,
+    client_out: &mut B,
+    instrument_in: &mut C,
+    instrument_out: &mut D,
+    sink: &mut K,
+    max_reads: u32,
+) -> Result<(), RunFault>
+    ensures loops { (given : List ℕ) × Consumes (S.remaining commands.old) (S.remaining commands.new) given
+        × (S.reads commands.new ≤ S.reads commands.old + length given + end_reads (S.ended commands.new))
+        × LoopRuns given
+        (record { remaining = S.remaining commands.old; reads = S.reads commands.old; ended = S.ended commands.old; failed = S.failed commands.old })
+        (record { remaining = S.remaining commands.new; reads = S.reads commands.new; ended = S.ended commands.new; failed = S.failed commands.new })
+        (record { remaining = A.remaining client_in.old; reads = A.reads client_in.old; ended = A.ended client_in.old; source_failed = A.failed client_in.old; taken = B.taken client_out.old; sink_failed = B.failed client_out.old })
+        (record { remaining = A.remaining client_in.new; reads = A.reads client_in.new; ended = A.ended client_in.new; source_failed = A.failed client_in.new; taken = B.taken client_out.new; sink_failed = B.failed client_out.new })
+        (record { remaining = C.remaining instrument_in.old; reads = C.reads instrument_in.old; ended = C.ended instrument_in.old; source_failed = C.failed instrument_in.old; taken = D.taken instrument_out.old; sink_failed = D.failed instrument_out.old })
+        (record { remaining = C.remaining instrument_in.new; reads = C.reads instrument_in.new; ended = C.ended instrument_in.new; source_failed = C.failed instrument_in.new; taken = D.taken instrument_out.new; sink_failed = D.failed instrument_out.new })
+        (K.taken sink.old) (K.taken sink.new) (K.failed sink.old) (K.failed sink.new) result }
+    ensures bound { A.reads client_in.new + C.reads instrument_in.new ≤ A.reads client_in.old + C.reads instrument_in.old + max_reads }
+    ensures too_many { result ≡ Err RunFault.TooManyReads → A.reads client_in.new + C.reads instrument_in.new ≡ A.reads client_in.old + C.reads instrument_in.old + max_reads }
+    ensures memory { result ≡ Err RunFault.Memory
+        → (A.remaining client_in.new ≡ A.remaining client_in.old) × (A.reads client_in.new ≡ A.reads client_in.old)
+        × (C.remaining instrument_in.new ≡ C.remaining instrument_in.old) × (C.reads instrument_in.new ≡ C.reads instrument_in.old)
+        × (B.taken client_out.new ≡ B.taken client_out.old) × (D.taken instrument_out.new ≡ D.taken instrument_out.old)
+        × (K.taken sink.new ≡ K.taken sink.old) }
+{
+    run_loop_on(
+        alloc,
+        Instrument::simulator(),
+        commands,
         client_in,
         client_out,
         instrument_in,
@@ -73,6 +118,7 @@ pub fn run_loop<S: Source, A: Source, B: Sink, C: Source, D: Sink, K: Sink>(
 // Asks commands in order, in so many reads of both ends together.
 pub(crate) fn loop_all<A: Source, B: Sink, C: Source, D: Sink, K: Sink>(
     commands: &[Command],
+    instrument: Instrument,
     client_in: &mut A,
     client_out: &mut B,
     instrument_in: &mut C,
@@ -100,7 +146,7 @@ pub(crate) fn loop_all<A: Source, B: Sink, C: Source, D: Sink, K: Sink>(
     let asking = Asking::new(max_reads);
     let mut ends = Ends {
         asking,
-        instrument: InstrumentEnd::new(),
+        instrument: InstrumentEnd::new(instrument),
     };
     for (place, command) in commands.iter().enumerate() {
         if let Err(fault) = ends.ask(

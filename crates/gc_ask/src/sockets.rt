@@ -21,13 +21,14 @@ use std::net::{Net, SocketAddr, TcpListener, TcpStream};
 pub const MOST_CONNECTIONS: u32 = 1000;
 
 /// Reads the whole command text of a source, binds a free port, connects to it, and asks the commands over that one
-/// connection, at whose other end a simulator stands, in at most `max_reads` reads of both ends together.
+/// connection, at whose other end an instrument stands, in at most `max_reads` reads of both ends together.
 ///
-/// The faults are those of `run_loop`, and `Socket` where a bind, a connect or an accept failed. No socket is opened
+/// The faults are those of `run_loop_on`, and `Socket` where a bind, a connect or an accept failed. No socket is opened
 /// before the whole text was read.
-pub fn loop_tcp<R: Net<Listener = TcpListener, Stream = TcpStream>, S: Source, K: Sink>(
+pub fn loop_tcp_on<R: Net<Listener = TcpListener, Stream = TcpStream>, S: Source, K: Sink>(
     rt: &R,
     alloc: Global,
+    instrument: Instrument,
     commands: &mut S,
     sink: &mut K,
     max_reads: u32,
@@ -38,10 +39,29 @@ pub fn loop_tcp<R: Net<Listener = TcpListener, Stream = TcpStream>, S: Source, K
     };
     loop_all(
         commands.as_slice(),
+        instrument,
         &mut FromReader::new(&near),
         &mut ToWriter::new(&near),
         &mut FromReader::new(&far),
         &mut ToWriter::new(&far),
+        sink,
+        max_reads,
+    )
+}
+
+/// Asks the commands of a source as `loop_tcp_on` does, of a simulator, and has the same ends.
+pub fn loop_tcp<R: Net<Listener = TcpListener, Stream = TcpStream>, S: Source, K: Sink>(
+    rt: &R,
+    alloc: Global,
+    commands: &mut S,
+    sink: &mut K,
+    max_reads: u32,
+) -> Result<(), RunFault> {
+    loop_tcp_on(
+        rt,
+        alloc,
+        Instrument::simulator(),
+        commands,
         sink,
         max_reads,
     )

@@ -1,1 +1,2 @@
 mod Measured
+mod Started

@@ -9,6 +9,7 @@ use crate::standard::Standard;
 use crate::station::{Station, run_station_port};
 use gc_lines::{Sink, Source};
 use std::alloc::Global;
+use std::fs::Files;
 use std::io::{self, Write};
 use std::net::{Net, TcpListener, TcpStream};
 use std::process::ExitCode;
@@ -16,15 +17,16 @@ use std::time::Clock;
 
 /// What is to be asked over a connection: commands once, of a simulator or on a port, or a station's.
 #[derive(Drop)]
-pub(crate) enum Asking {
-    Loop,
+pub(crate) enum Asking<'a> {
+    // Of the instrument in the file of a scene, where one is named.
+    Loop { scene: Option<&'a str> },
     Ask { port: u16 },
     Station(Station),
 }
 
 /// Asks, and tells how it ended; or tells that a standard stream is closed. The sink is handed back.
 pub(crate) fn run_asking<
-    R: Net<Listener = TcpListener, Stream = TcpStream> + Clock,
+    R: Net<Listener = TcpListener, Stream = TcpStream> + Clock + Files,
     S: Source,
     K: Sink,
     E: Write,
@@ -32,7 +34,7 @@ pub(crate) fn run_asking<
     rt: &R,
     alloc: Global,
     standard: Standard,
-    asking: Asking,
+    asking: Asking<'_>,
     source: &mut S,
     mut sink: K,
     messages: &mut E,
@@ -48,8 +50,8 @@ pub(crate) fn run_asking<
         return (sink, standard.refuse(messages));
     }
     match asking {
-        Asking::Loop => {
-            let ended = loop_port(rt, alloc, source, &mut sink, messages);
+        Asking::Loop { scene } => {
+            let ended = loop_port(rt, alloc, scene, source, &mut sink, messages);
             (sink, ended)
         }
         Asking::Ask { port } => {

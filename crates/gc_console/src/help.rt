@@ -1,19 +1,29 @@
 //! The texts behind the options of `--help`: what a command reads and writes, and the faults.
 
 /// What the help ends with.
-pub(crate) const FAULTS: &str =
-    "Exit status: 0 where it is done, 1 after a fault, 2 for a command line that doesn't parse.
+pub(crate) const SCENES_AND_FAULTS: &str =
+    "The instrument of `exec`, `drill`, `loop` and `serve` has the serial number 123456, the name GEOCOM SIM, and the targets
+  target 0.5 1.5 25.125
+  target 2.25 1.625 110.0625
+  target 4.0 1.5 48.5
+With --scene FILE it is the file's. A scene has a line for each thing; empty lines and lines that begin with # are skipped:
+  serial N               its serial number; without one 123456
+  name TEXT              its name, at most 64 bytes; without one GEOCOM SIM
+  target HZ V DISTANCE   one more target, at most 32: angles in radians, the slope distance in metres
+
+Exit status: 0 where it is done, 1 after a fault, 2 for a command line that doesn't parse.
 
 A fault is one line on standard error, `geocom: fault N`:
-  42  the input, or the connection, could not be read
+  41  a scene has more than 32 targets
+  42  the input, the connection, or the file of a scene could not be read
   43  the output, or the connection, could not be written: `reply R byte B` says what went out
   44  as many reads were made as are allowed, and none was the end
   45  the other end closed the connection before a request was settled
   46  no reply came any more, though the connection stood
   47  the clock could not be read, or stands before 1970
-  51  a line of the schedule, or of the commands, has no form: `line L` says which, counted from 1
+  51  a line of the schedule, of the commands, or of a scene has no form: `line L` says which, counted from 1
   52  no memory was found
-  53  the schedule, or the commands, have more than 65536 bytes
+  53  the schedule, the commands, or a scene have more than 65536 bytes
   54  a port could not be bound or connected to, or no connection accepted
   55  the settlements, or this text, could not be written
   56  standard input, output or error is closed: `station`, `ask` and `loop` did nothing";

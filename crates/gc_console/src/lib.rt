@@ -8,6 +8,7 @@ pub mod laws;
 mod measure;
 mod ports;
 mod program;
+mod scene;
 mod serving;
 mod standard;
 mod station;
@@ -15,9 +16,12 @@ mod streams;
 mod words;
 
 pub use gc_ask::{
-    Keeping, MOST_CONNECTIONS, ask_tcp, keep_tcp, loop_tcp, run_ask, run_loop, serve_tcp,
+    Keeping, MOST_CONNECTIONS, ask_tcp, keep_tcp, loop_tcp, loop_tcp_on, run_ask, run_loop,
+    run_loop_on, serve_tcp,
 };
-pub use gc_engines::{read_schedule, run_check, run_drill, run_drill_width, run_exec};
+pub use gc_engines::{
+    read_scene, read_schedule, run_check, run_drill, run_drill_on, run_drill_width, run_exec,
+};
 pub use gc_instrument::{ServeFault, Served, serve};
 pub use gc_station::{Link, Plan, Tally, TcpLink};
 pub use gc_texts::{Command, Form, RunFault, TEXT_LIMIT, read_commands};

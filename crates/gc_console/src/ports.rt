@@ -4,10 +4,12 @@ ghost use Rattle.std.specs.Prelude.{◌≤◌, IfOk};
 ghost use Rattle.std.specs.Process.{exit_status};
 
 use crate::ending::{end_of, refuse_numbers};
-use gc_ask::{MOST_CONNECTIONS, ask_tcp, loop_tcp, serve_tcp};
+use crate::scene::instrument_of;
+use gc_ask::{MOST_CONNECTIONS, ask_tcp, loop_tcp_on, serve_tcp};
 use gc_instrument::Instrument;
 use gc_lines::{Sink, Source};
 use std::alloc::Global;
+use std::fs::Files;
 use std::io::{self, Write};
 use std::net::{Net, TcpListener, TcpStream};
 use std::process::ExitCode;
@@ -17,6 +19,7 @@ pub(crate) fn serve_port<R: Net<Listener = TcpListener, Stream = TcpStream>, E: 
     rt: &R,
     port: u16,
     connections: u32,
+    instrument: &mut Instrument,
     messages: &mut E,
 ) -> io::Result<ExitCode>
     ensures { IfOk result (λ status. exit_status status ≤ 2) }
@@ -24,23 +27,35 @@ pub(crate) fn serve_port<R: Net<Listener = TcpListener, Stream = TcpStream>, E: 
     if port == 0 || connections == 0 || connections > MOST_CONNECTIONS {
         return refuse_numbers(messages);
     }
-    let mut instrument = Instrument::simulator();
     end_of(
-        serve_tcp(rt, port, connections, &mut instrument, u32::MAX),
+        serve_tcp(rt, port, connections, instrument, u32::MAX),
         messages,
     )
 }
 
-// Asks over a connection to a simulator, and tells how it ended.
+// Asks over a connection to the instrument of a scene, which is read first, and tells how it ended.
 pub(crate) fn loop_port<
-    R: Net<Listener = TcpListener, Stream = TcpStream>,
+    R: Net<Listener = TcpListener, Stream = TcpStream> + Files,
     S: Source,
     K: Sink,
     E: Write,
->(rt: &R, alloc: Global, source: &mut S, sink: &mut K, messages: &mut E) -> io::Result<ExitCode>
+>(
+    rt: &R,
+    alloc: Global,
+    scene: Option<&str>,
+    source: &mut S,
+    sink: &mut K,
+    messages: &mut E,
+) -> io::Result<ExitCode>
     ensures { IfOk result (λ status. exit_status status ≤ 1) }
 {
-    end_of(loop_tcp(rt, alloc, source, sink, u32::MAX), messages)
+    match instrument_of(rt, alloc, scene) {
+        Ok(instrument) => end_of(
+            loop_tcp_on(rt, alloc, instrument, source, sink, u32::MAX),
+            messages,
+        ),
+        Err(fault) => end_of(Err(fault), messages),
+    }
 }
 
 // Asks on a port, and tells how it ended.

@@ -9,7 +9,7 @@ ghost use Rattle.gc_texts.specs.Faults.{run_fault_text, fault_line};
 use crate::asking::run_asking;
 use crate::serving::serve_filled;
 use crate::standard::Standard;
-use crate::streams::{check, drill_within, exec};
+use crate::streams::{check, drill_scene, exec_scene};
 use crate::words::{Subcommand, subcommand_of};
 use clap::Error;
 use clap::error::ErrorKind;
@@ -75,7 +75,7 @@ fn run_subcommand<
     rt: &R,
     alloc: Global,
     standard: Standard,
-    subcommand: Subcommand,
+    subcommand: Subcommand<'_>,
     input: I,
     output: O,
     messages: &mut E,
@@ -84,7 +84,10 @@ fn run_subcommand<
 {
     let mut sink = ToWriter::new(output);
     match subcommand {
-        Subcommand::Exec => exec(
+        Subcommand::Exec { scene } => exec_scene(
+            rt,
+            alloc,
+            scene,
             &mut FromReader::new(ReadAhead::new(input)),
             &mut sink,
             messages,
@@ -94,8 +97,14 @@ fn run_subcommand<
             &mut sink,
             messages,
         ),
-        Subcommand::Drill { totals, width } => drill_within(
+        Subcommand::Drill {
+            scene,
+            totals,
+            width,
+        } => drill_scene(
+            rt,
             alloc,
+            scene,
             &mut FromReader::new(input),
             &mut sink,
             totals,
@@ -103,10 +112,20 @@ fn run_subcommand<
             messages,
         ),
         Subcommand::Serve {
+            scene,
             port,
             connections,
             idle,
-        } => serve_filled(rt, standard, port, connections, idle, messages),
+        } => serve_filled(
+            rt,
+            alloc,
+            standard,
+            scene,
+            port,
+            connections,
+            idle,
+            messages,
+        ),
         Subcommand::Asks(asking) => {
             let mut source = FromReader::new(input);
             run_asking(rt, alloc, standard, asking, &mut source, sink, messages).1

@@ -1,13 +1,15 @@
-//! `geocom serve`: a simulator on a port, over places of the standard streams that are all taken.
+//! `geocom serve`: an instrument on a port, over places of the standard streams that are all taken.
 
 ghost use Rattle.std.specs.Prelude.{◌≤◌, IfOk};
 ghost use Rattle.std.specs.Process.{exit_status};
 
 use crate::ending::{end_of, refuse_numbers};
 use crate::ports::serve_port;
+use crate::scene::instrument_of;
 use crate::standard::Standard;
 use gc_ask::{Keeping, MOST_CONNECTIONS, keep_tcp};
 use gc_instrument::Instrument;
+use std::alloc::Global;
 use std::fs::Files;
 use std::io::{self, Write};
 use std::net::{Net, TcpListener, TcpStream};
@@ -18,13 +20,16 @@ use std::time::Clock;
 const LONGEST_IDLE: u32 = 86_400;
 
 /// Serves a port, or keeps it where it is told after how many seconds a connection is idle, and tells how it ended. The places
-/// of standard streams that are closed are filled first, and stay so. `StreamClosed` comes where that can't be done.
+/// of standard streams that are closed are filled first, and stay so. `StreamClosed` comes where that can't be done. Then the scene
+/// is read, and no port is bound before.
 pub(crate) fn serve_filled<
     R: Net<Listener = TcpListener, Stream = TcpStream> + Clock + Files,
     E: Write,
 >(
     rt: &R,
+    alloc: Global,
     standard: Standard,
+    scene: Option<&str>,
     port: u16,
     connections: Option<u32>,
     idle: Option<u32>,
@@ -35,9 +40,18 @@ pub(crate) fn serve_filled<
     let Ok(places) = standard.fill(rt) else {
         return standard.refuse(messages);
     };
-    let ended = match idle {
-        None => serve_port(rt, port, connections.unwrap_or(1), messages),
-        Some(idle) => keep_port(rt, port, connections, idle, messages),
+    let ended = match instrument_of(rt, alloc, scene) {
+        Ok(mut instrument) => match idle {
+            None => serve_port(
+                rt,
+                port,
+                connections.unwrap_or(1),
+                &mut instrument,
+                messages,
+            ),
+            Some(idle) => keep_port(rt, port, connections, idle, &mut instrument, messages),
+        },
+        Err(fault) => end_of(Err(fault), messages),
     };
     drop(places);
     ended
@@ -49,6 +63,7 @@ fn keep_port<R: Net<Listener = TcpListener, Stream = TcpStream> + Clock, E: Writ
     port: u16,
     connections: Option<u32>,
     idle: u32,
+    instrument: &mut Instrument,
     messages: &mut E,
 ) -> io::Result<ExitCode>
     ensures { IfOk result (λ status. exit_status status ≤ 2) }
@@ -61,8 +76,7 @@ fn keep_port<R: Net<Listener = TcpListener, Stream = TcpStream> + Clock, E: Writ
         idle,
         max_reads: u32::MAX,
     };
-    let mut instrument = Instrument::simulator();
-    match keep_tcp(rt, port, keeping, &mut instrument, messages) {
+    match keep_tcp(rt, port, keeping, instrument, messages) {
         Ok(_) => Ok(ExitCode::SUCCESS),
         Err(fault) => end_of(Err(fault), messages),
     }

@@ -1,35 +1,42 @@
 //! The words of the command line: which there are, and what they ask for.
 
 use crate::asking::Asking;
-use crate::help::{COMMANDS, EVENTS, FAULTS, KEPT, REQUESTS, VERDICTS};
+use crate::help::{COMMANDS, EVENTS, KEPT, REQUESTS, SCENES_AND_FAULTS, VERDICTS};
 use crate::station::{station_command, station_of};
 use clap::{Arg, ArgAction, ArgMatches, Command, Error, value_parser};
 use std::alloc::{AllocError, Global};
 
-/// What a command line asks for.
-pub(crate) enum Subcommand {
-    Exec,
+/// What a command line asks for. A scene is the name of its file, where one is named.
+pub(crate) enum Subcommand<'a> {
+    Exec {
+        scene: Option<&'a str>,
+    },
     Check,
     Drill {
+        scene: Option<&'a str>,
         totals: bool,
         width: u8,
     },
     // A port that is kept says after how many seconds a connection is idle.
     Serve {
+        scene: Option<&'a str>,
         port: u16,
         connections: Option<u32>,
         idle: Option<u32>,
     },
-    Asks(Asking),
+    Asks(Asking<'a>),
 }
 
 /// What the words ask for. A subcommand is required.
 // Each function adds few of them: the proof of a chain of calls grows faster than the chain.
-pub(crate) fn subcommand_of(alloc: Global, words: &[String]) -> Result<Subcommand, Error> {
+pub(crate) fn subcommand_of<'a>(
+    alloc: Global,
+    words: &'a [String],
+) -> Result<Subcommand<'a>, Error> {
     let command = Command::new(alloc, "geocom")
         .version("0.1.0")
         .about("A simulated instrument that speaks GeoCOM's ASCII protocol")
-        .after_help(FAULTS)
+        .after_help(SCENES_AND_FAULTS)
         .subcommand_required(true)
         .disable_help_subcommand(true);
     let command = with_streams(alloc, command)?;
@@ -41,7 +48,8 @@ pub(crate) fn subcommand_of(alloc: Global, words: &[String]) -> Result<Subcomman
 fn with_streams<'a>(alloc: Global, command: Command<'a>) -> Result<Command<'a>, AllocError> {
     let exec = Command::new(alloc, "exec")
         .about("Answers the requests of standard input on standard output")
-        .after_help(REQUESTS);
+        .after_help(REQUESTS)
+        .arg(scene_of(alloc))?;
     let check = Command::new(alloc, "check")
         .about("Says of each frame of standard input what it is, or what is wrong with it")
         .after_help(VERDICTS);
@@ -55,7 +63,8 @@ fn with_streams<'a>(alloc: Global, command: Command<'a>) -> Result<Command<'a>, 
 fn with_ports<'a>(alloc: Global, command: Command<'a>) -> Result<Command<'a>, AllocError> {
     let looped = Command::new(alloc, "loop")
         .about("Asks the commands of standard input over a connection to a simulator of its own")
-        .after_help(COMMANDS);
+        .after_help(COMMANDS)
+        .arg(scene_of(alloc))?;
     let command = command.subcommand(looped)?.subcommand(serve_of(alloc)?)?;
     command
         .subcommand(ask_of(alloc)?)?
@@ -76,7 +85,7 @@ fn serve_of<'a>(alloc: Global) -> Result<Command<'a>, AllocError> {
         .after_help(KEPT)
         .arg(port_of(alloc))?
         .arg(connections)?;
-    with_keeping(alloc, command)
+    with_keeping(alloc, command)?.arg(scene_of(alloc))
 }
 
 // How a port is kept.
@@ -116,18 +125,20 @@ fn ask_of<'a>(alloc: Global) -> Result<Command<'a>, AllocError> {
 }
 
 // Which subcommand the words ask for.
-fn asked_for(matches: &ArgMatches) -> Subcommand {
+fn asked_for<'a>(matches: &ArgMatches<'a>) -> Subcommand<'a> {
     if matches.subcommand_matches("check").is_some() {
         return Subcommand::Check;
     }
     if let Some(drill) = matches.subcommand_matches("drill") {
         return Subcommand::Drill {
+            scene: drill.get_str("scene"),
             totals: drill.get_flag("totals"),
             width: drill.get_one::<u8>("width").unwrap_or(0),
         };
     }
     if let Some(serve) = matches.subcommand_matches("serve") {
         return Subcommand::Serve {
+            scene: serve.get_str("scene"),
             port: serve.get_one::<u16>("port").unwrap_or(0),
             connections: serve.get_one::<u32>("connections"),
             idle: idle_of(serve),
@@ -141,10 +152,17 @@ fn asked_for(matches: &ArgMatches) -> Subcommand {
     if let Some(station) = matches.subcommand_matches("station") {
         return Subcommand::Asks(Asking::Station(station_of(station)));
     }
-    if matches.subcommand_matches("loop").is_some() {
-        return Subcommand::Asks(Asking::Loop);
+    if let Some(looped) = matches.subcommand_matches("loop") {
+        return Subcommand::Asks(Asking::Loop {
+            scene: looped.get_str("scene"),
+        });
     }
-    Subcommand::Exec
+    match matches.subcommand_matches("exec") {
+        Some(exec) => Subcommand::Exec {
+            scene: exec.get_str("scene"),
+        },
+        None => Subcommand::Exec { scene: None },
+    }
 }
 
 // The subcommand that plays a schedule.
@@ -163,7 +181,8 @@ fn drill_of<'a>(alloc: Global) -> Result<Command<'a>, AllocError> {
             "totals",
             "Writes a line of totals behind the settlements",
         ))?
-        .arg(width)
+        .arg(width)?
+        .arg(scene_of(alloc))
 }
 
 // A port, as a required word.
@@ -173,6 +192,14 @@ pub(crate) fn port_of<'a>(alloc: Global) -> Arg<'a> {
         .required(true)
         .value_parser(value_parser!(u16).range(1..))
         .help("A port of 127.0.0.1, from 1 on")
+}
+
+// The file of a scene.
+fn scene_of<'a>(alloc: Global) -> Arg<'a> {
+    Arg::new(alloc, "scene")
+        .long("scene")
+        .value_name("FILE")
+        .help("Sets up the instrument of this file: `geocom --help` says how")
 }
 
 // A word that is there or not.

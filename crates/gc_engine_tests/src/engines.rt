@@ -5,4 +5,5 @@ mod check;
 mod drill;
 mod exec;
 mod failing;
+mod scenes;
 mod writes;

@@ -15,7 +15,7 @@ pub numbered_is : (word line rest : List ℕ) (max : ℕ) (r : Option ℕ) → l
 numbered_is word line rest max None e none = λ n found. none n (subst (λ (ds : List ℕ). IsNumber ds n max) (append_cancel_left word found.digits rest (sym found.line_is ∙ e)) found.number)
 numbered_is word line rest max (Some n) e number = record { digits = rest; line_is = e; number = number }
 
-some_is : (a b : List ℕ) → Some a ≡ Some b → a ≡ b
+pub some_is : (a b : List ℕ) → Some a ≡ Some b → a ≡ b
 some_is a b e = cc
 
 module _ (text : List ℕ) (t : ℕ) (call : Call) (d : ℕ) (r : IsRequested text t call d) where

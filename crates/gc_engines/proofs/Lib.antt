@@ -1,4 +1,5 @@
 mod Forms
+mod Scenes
 mod OneSchedule
 mod Shown
 mod Checked

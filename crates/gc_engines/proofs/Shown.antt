@@ -1,8 +1,8 @@
 -- The text of a report is that of the run that it shows.
-use Rattle.std.proofs.Common.{◌≡◌, ℕ, List, [], ◌++◌, Bool, true, false, if◌then◌else◌, length, refl, sym, ap, ◌∙◌, subst}
+use Rattle.std.proofs.Common.{◌≡◌, ℕ, List, [], ◌++◌, Bool, true, false, if◌then◌else◌, length, refl, sym, ap, ◌∙◌}
 use Rattle.std.proofs.lemmas.List.{length-map}
 use Rattle.gc_client.specs.Settlements.{settlement_seen}
-use Rattle.gc_instrument.specs.State.{State, simulator_opening}
+use Rattle.gc_instrument.specs.State.{State}
 use Rattle.gc_world.specs.declared.event.Event.{Event}
 use Rattle.gc_world.specs.declared.report.Report.{Report}
 use Rattle.gc_world.specs.Clients.{played}
@@ -11,7 +11,7 @@ use Rattle.gc_world.specs.Reports.{IsReport, made_seen}
 use Rattle.gc_world.specs.World.{Wire}
 use Rattle.gc_texts.specs.Settlements.{settlement_lines}
 use Rattle.gc_engines.specs.Reports.{totals_text, report_text}
-use Rattle.gc_engines.specs.Drill.{wire_text, drill_text}
+use Rattle.gc_engines.specs.Drill.{wire_text, drill_text_on}
 
 six : (f : ℕ → ℕ → ℕ → ℕ → ℕ → ℕ → List ℕ) (a b c d e g a' b' c' d' e' g' : ℕ) → a ≡ a' → b ≡ b' → c ≡ c' → d ≡ d' → e ≡ e' → g ≡ g' → f a b c d e g ≡ f a' b' c' d' e' g'
 six f a b c d e g a' b' c' d' e' g' ea eb ec ed ee eg = cc
@@ -30,11 +30,9 @@ text_shown r w totals is =
     (six totals_text (length r.sent) (length r.executed) (length r.made) (length r.settled) r.refused_sends r.idle_events (length w.sent) (length w.executed) (length w.made) (length w.settled) w.refused w.idle
     sent (ap length is.executed) made settled is.refused is.idle)
 
-text_of_run : (width : ℕ) (events : List Event) (totals : Bool) → drill_text width events totals ≡ wire_text (played width simulator_opening events).wire totals
-text_of_run width events totals = unfold drill_text in refl
+text_of_run : (opening : State) (width : ℕ) (events : List Event) (totals : Bool) → drill_text_on opening width events totals ≡ wire_text (played width opening events).wire totals
+text_of_run opening width events totals = unfold drill_text_on in refl
 
--- what is written of a report of the simulator's run
-pub drill_shown : (width : ℕ) (opening : State) (events : List Event) (totals : Bool) (r : Report) → opening ≡ simulator_opening → IsReport r (played width opening events).wire → report_text r totals ≡ drill_text width events totals
-drill_shown width opening events totals r simulator is =
-    let at : IsReport r (played width simulator_opening events).wire = subst (λ o. IsReport r (played width o events).wire) simulator is in
-    text_shown r (played width simulator_opening events).wire totals at ∙ sym (text_of_run width events totals)
+-- what is written of a report of an instrument's run
+pub drill_shown : (opening : State) (width : ℕ) (events : List Event) (totals : Bool) (r : Report) → IsReport r (played width opening events).wire → report_text r totals ≡ drill_text_on opening width events totals
+drill_shown opening width events totals r is = text_shown r (played width opening events).wire totals is ∙ sym (text_of_run opening width events totals)

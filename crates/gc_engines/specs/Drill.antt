@@ -20,23 +20,31 @@ totals_line w = totals_text (length w.sent) (length w.executed) (length w.made) 
 abbrev pub wire_text : Wire State → Bool → List ℕ
 wire_text w totals = settlement_lines w.settled ++ (if totals then totals_line w else [])
 
--- what is written for events that are played on the simulator, with a window of this width
-unfoldable pub drill_text : ℕ → List Event → Bool → List ℕ
-drill_text width events totals = wire_text (played width simulator_opening events).wire totals
+-- what is written for events that are played on an instrument that starts so, with a window of this width
+unfoldable pub drill_text_on : State → ℕ → List Event → Bool → List ℕ
+drill_text_on opening width events totals = wire_text (played width opening events).wire totals
+
+-- what is written for events that are played on the simulator
+abbrev pub drill_text : ℕ → List Event → Bool → List ℕ
+drill_text width events totals = drill_text_on simulator_opening width events totals
 
 -- a sink took the front of this text, and not all of it
 abbrev pub TookPart : Option (List ℕ) → Option (List ℕ) → List ℕ → Type 0
 TookPart old new text = (n : ℕ) × (n < length text) × Appends old new (take n text)
 
--- what became of the bytes that were given, with a window of this width, and what a sink took
+-- what became of the bytes that were given, with an instrument that starts so and a window of this width, and what a sink took
+abbrev pub DrillsOn : State → ℕ → List ℕ → Bool → Option (List ℕ) → Option (List ℕ) → Result (Unit {0}) RunFault → Type 0
+DrillsOn opening width given totals old new (Ok _) = (length given ≤ TEXT_LIMIT) × ((events : List Event) × IsSchedule given events × Appends old new (drill_text_on opening width events totals))
+DrillsOn opening width given totals old new (Err Read) = (length given ≤ TEXT_LIMIT) × (new ≡ old)
+DrillsOn opening width given totals old new (Err InputTooLong) = (length given ≡ TEXT_LIMIT + 1) × (new ≡ old)
+DrillsOn opening width given totals old new (Err (Schedule n)) = (length given ≤ TEXT_LIMIT) × IsFirstFaulty given n × (new ≡ old)
+DrillsOn opening width given totals old new (Err Memory) = (length given ≤ TEXT_LIMIT) × (new ≡ old)
+DrillsOn opening width given totals old new (Err Output) = (length given ≤ TEXT_LIMIT) × ((events : List Event) × IsSchedule given events × TookPart old new (drill_text_on opening width events totals))
+DrillsOn opening width given totals old new (Err _) = ⊥
+
+-- the same, with the simulator
 abbrev pub Drills : ℕ → List ℕ → Bool → Option (List ℕ) → Option (List ℕ) → Result (Unit {0}) RunFault → Type 0
-Drills width given totals old new (Ok _) = (length given ≤ TEXT_LIMIT) × ((events : List Event) × IsSchedule given events × Appends old new (drill_text width events totals))
-Drills width given totals old new (Err Read) = (length given ≤ TEXT_LIMIT) × (new ≡ old)
-Drills width given totals old new (Err InputTooLong) = (length given ≡ TEXT_LIMIT + 1) × (new ≡ old)
-Drills width given totals old new (Err (Schedule n)) = (length given ≤ TEXT_LIMIT) × IsFirstFaulty given n × (new ≡ old)
-Drills width given totals old new (Err Memory) = (length given ≤ TEXT_LIMIT) × (new ≡ old)
-Drills width given totals old new (Err Output) = (length given ≤ TEXT_LIMIT) × ((events : List Event) × IsSchedule given events × TookPart old new (drill_text width events totals))
-Drills width given totals old new (Err _) = ⊥
+Drills width given totals old new result = DrillsOn simulator_opening width given totals old new result
 
 -- whether the source was read to its end
 abbrev pub is_read_whole : Result (Unit {0}) RunFault → Bool

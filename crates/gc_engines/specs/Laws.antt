@@ -1,7 +1,9 @@
--- Laws of schedules and verdicts: this project's own, as they are.
+-- Laws of schedules, scenes and verdicts: this project's own, as they are.
 use Rattle.std.specs.Prelude.{◌≡◌, ℕ, List}
 use Rattle.gc_lines.specs.declared.frame.Frame.{Frame}
 use Rattle.gc_world.specs.declared.event.Event.{Event}
+use Rattle.gc_instrument.specs.State.{State}
+use Rattle.gc_engines.specs.Scenes.{IsScene, IsFullScene}
 use Rattle.gc_engines.specs.Schedule.{IsSchedule}
 use Rattle.gc_engines.specs.Verdicts.{IsVerdict, AreVerdictLines}
 use Rattle.gc_engines.specs.declared.verdict.Verdict.{Verdict}
@@ -9,6 +11,11 @@ use Rattle.gc_engines.specs.declared.verdict.Verdict.{Verdict}
 -- a text has one list of events
 abbrev pub OneSchedule : Type 0
 OneSchedule = (text : List ℕ) (xs ys : List Event) → IsSchedule text xs → IsSchedule text ys → xs ≡ ys
+
+-- a text sets up one instrument, or has too many targets
+pub record OneScene : Type 0 where
+  pub state : (text : List ℕ) (s t : State) → IsScene text s → IsScene text t → s ≡ t
+  pub full : (text : List ℕ) (s : State) → IsScene text s → IsFullScene text → ⊥
 
 -- a frame has one verdict, and a stream one list of their lines
 pub record OneVerdict : Type 0 where

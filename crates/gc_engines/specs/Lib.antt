@@ -1,4 +1,5 @@
 pub mod Schedule
+pub mod Scenes
 pub mod Reports
 pub mod Drill
 pub mod Verdicts

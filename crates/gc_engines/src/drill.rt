@@ -1,11 +1,11 @@
-//! A schedule, read from a source, played on the simulator, and its settlements written into a sink.
+//! A schedule, read from a source, played on an instrument, and its settlements written into a sink.
 
 ghost use Rattle.std.specs.Prelude.{◌≡◌, ◌+◌, ◌<◌, ◌≤◌, ℕ, List, length, true, Err, IfOk};
 ghost use Rattle.std.specs.Io.KnownBytes.{Consumes, IsAtEnd};
 ghost use Rattle.gc_texts.specs.Texts.{end_reads};
 ghost use Rattle.gc_texts.specs.declared.fault.RunFault.{RunFault};
 ghost use Rattle.gc_texts.specs.declared.text.TheConstants.{TEXT_LIMIT};
-ghost use Rattle.gc_engines.specs.Drill.{drill_text, Drills, is_read_whole, source_failed, sink_failed};
+ghost use Rattle.gc_engines.specs.Drill.{drill_text_on, Drills, DrillsOn, is_read_whole, source_failed, sink_failed};
 
 use crate::report_text::text_of;
 use crate::schedule::read_schedule;
@@ -16,7 +16,7 @@ use gc_texts::{RunFault, read_text};
 use gc_world::{Event, play_width};
 use std::alloc::{AllocError, Global};
 
-/// Plays the schedule that a source gives on the simulator and a client that lets `width` requests wait, and writes one
+/// Plays the schedule that a source gives on an instrument and a client that lets `width` requests wait, and writes one
 /// line for each settlement, then with `totals` one more line. Nothing is written before the whole schedule was read and
 /// played, and its whole text made.
 ///
@@ -24,8 +24,9 @@ use std::alloc::{AllocError, Global};
 /// line that has the form of no event, counted from 1; then, and after `Memory`, which comes only where a growth was
 /// refused, the sink has taken nothing. `Output` comes where the sink failed; it has taken a part of the text. The lines
 /// are this project's own.
-pub fn run_drill_width<S: Source, K: Sink>(
+pub fn run_drill_on<S: Source, K: Sink>(
     alloc: Global,
+    instrument: Instrument,
     source: &mut S,
     sink: &mut K,
     totals: bool,
@@ -38,7 +39,7 @@ pub fn run_drill_width<S: Source, K: Sink>(
     // least, but the last where it was the end: behind the end nothing was read.
     ensures drills { (given : List ℕ) × Consumes (S.remaining source.old) (S.remaining source.new) given
         × (S.reads source.new ≤ S.reads source.old + length given + end_reads (S.ended source.new))
-        × Drills width given totals (K.taken sink.old) (K.taken sink.new) result }
+        × DrillsOn instrument width given totals (K.taken sink.old) (K.taken sink.new) result }
 
     // At most 65,537 reads were answered.
     ensures bounded { S.reads source.new ≤ S.reads source.old + (TEXT_LIMIT + 1) }
@@ -56,13 +57,36 @@ pub fn run_drill_width<S: Source, K: Sink>(
 {
     let text = read_text(alloc, source)?;
     let events = read_schedule(alloc, text.as_slice())?;
-    let Ok(output) = output_of(alloc, events.as_slice(), totals, width) else {
+    let Ok(output) = output_of(alloc, instrument, events.as_slice(), totals, width) else {
         return Err(RunFault::Memory);
     };
     match write_whole(sink, output.as_slice()) {
         Ok(()) => Ok(()),
         Err(_) => Err(RunFault::Output),
     }
+}
+
+/// Plays a schedule on the simulator as `run_drill_on` does on an instrument, and has the same ends.
+pub fn run_drill_width<S: Source, K: Sink>(
+    alloc: Global,
+    source: &mut S,
+    sink: &mut K,
+    totals: bool,
+    width: u8,
+) -> Result<(), RunFault>
+    requires least { 1 ≤ width }
+    requires most { width ≤ WINDOW }
+    ensures drills { (given : List ℕ) × Consumes (S.remaining source.old) (S.remaining source.new) given
+        × (S.reads source.new ≤ S.reads source.old + length given + end_reads (S.ended source.new))
+        × Drills width given totals (K.taken sink.old) (K.taken sink.new) result }
+    ensures bounded { S.reads source.new ≤ S.reads source.old + (TEXT_LIMIT + 1) }
+    ensures whole { is_read_whole result ≡ true
+        → IsAtEnd (S.remaining source.new) × (S.ended source.new ≡ true) × (S.reads source.old < S.reads source.new) }
+    ensures memory { result ≡ Err RunFault.Memory → S.reads source.old < S.reads source.new }
+    ensures source { S.failed source.new ≡ source_failed result (S.failed source.old) }
+    ensures sink { K.failed sink.new ≡ sink_failed result (K.failed sink.old) }
+{
+    run_drill_on(alloc, Instrument::simulator(), source, sink, totals, width)
 }
 
 /// Plays a schedule as `run_drill_width` does, with a client that lets seven requests wait, and has the same ends.
@@ -88,14 +112,15 @@ pub fn run_drill<S: Source, K: Sink>(
 // What is written for events that are played.
 fn output_of(
     alloc: Global,
+    instrument: Instrument,
     events: &[Event],
     totals: bool,
     width: u8,
 ) -> Result<Vec<u8>, AllocError>
     requires least { 1 ≤ width }
     requires most { width ≤ WINDOW }
-    ensures { IfOk result (λ text. text.items ≡ drill_text width events.now totals) }
+    ensures { IfOk result (λ text. text.items ≡ drill_text_on instrument width events.now totals) }
 {
-    let (report, _) = play_width(alloc, Instrument::simulator(), Slots::new(), width, events)?;
+    let (report, _) = play_width(alloc, instrument, Slots::new(), width, events)?;
     text_of(alloc, &report, totals)
 }

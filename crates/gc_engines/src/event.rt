@@ -14,7 +14,7 @@ use gc_world::Event;
 const COUNT_MAX: u64 = 4294967295;
 
 // What stands behind a word, where the line begins with it.
-fn behind<'a>(word: &[u8], line: &'a [u8]) -> Option<&'a [u8]>
+pub(crate) fn behind<'a>(word: &[u8], line: &'a [u8]) -> Option<&'a [u8]>
     ensures { MatchOption result ((rest : List ℕ) → line.now ≡ word.now ++ rest → ⊥) (λ rest. line.now ≡ word.now ++ rest.now) }
 {
     line.strip_prefix(word)

@@ -1,6 +1,6 @@
 //! What is proved of the definitions themselves. The functions have no effect: their contracts are the laws.
 
-ghost use Rattle.gc_engines.specs.Laws.{OneSchedule, OneVerdict};
+ghost use Rattle.gc_engines.specs.Laws.{OneSchedule, OneScene, OneVerdict};
 ghost use Rattle.gc_engines.specs.Verdicts.{IsLineVerdict};
 ghost use Rattle.gc_engines.specs.declared.verdict.Verdict.{Verdict};
 
@@ -9,6 +9,11 @@ use crate::verdict::line_verdict;
 /// A text is the schedule of one list of events at most.
 pub fn schedule_has_one_reading()
     ensures { OneSchedule }
+{}
+
+/// A text sets up one instrument at most, and then it has no more targets than one has.
+pub fn scene_has_one_reading()
+    ensures { OneScene }
 {}
 
 /// A frame has one verdict at most, and a stream one list of their lines.

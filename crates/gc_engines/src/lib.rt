@@ -1,4 +1,4 @@
-//! The engines over a source and a sink alone: requests served, frames judged, schedules read and played.
+//! The engines over a source and a sink alone: requests served, frames judged, schedules read and played, scenes read.
 #![tactic(auto)]
 
 mod check;
@@ -7,10 +7,14 @@ mod event;
 mod exec;
 pub mod laws;
 mod report_text;
+mod scene;
+mod scene_line;
 mod schedule;
 mod verdict;
 
 pub use check::run_check;
-pub use drill::{run_drill, run_drill_width};
+pub use drill::{run_drill, run_drill_on, run_drill_width};
 pub use exec::run_exec;
+pub use scene::read_scene;
+pub use scene_line::SceneLine;
 pub use schedule::read_schedule;

@@ -7,5 +7,6 @@ mod faults;
 mod keeping;
 mod measure;
 mod options;
+mod scenes;
 mod station;
 mod words;

@@ -6,10 +6,11 @@ use Rattle.gc_lines.specs.declared.served.Served.{Served}
 use Rattle.gc_lines.specs.declared.served.ServeFault.{ServeFault}
 use Rattle.gc_lines.specs.declared.served.ServeFault.TheVariants as serving
 use Rattle.gc_texts.specs.declared.fault.RunFault.{RunFault}
-use Rattle.gc_texts.specs.declared.fault.RunFault.TheVariants.{Read, Write, TooManyReads, LinkClosed, Mute, Clock, Schedule, Memory, InputTooLong, Socket, Output, StreamClosed, Log}
+use Rattle.gc_texts.specs.declared.fault.RunFault.TheVariants.{SceneFull, Read, Write, TooManyReads, LinkClosed, Mute, Clock, Schedule, Memory, InputTooLong, Socket, Output, StreamClosed, Log}
 
 -- the number of a fault
 abbrev pub run_fault_number : RunFault → ℕ
+run_fault_number SceneFull = 41
 run_fault_number Read = 42
 run_fault_number (Write _ _) = 43
 run_fault_number TooManyReads = 44
@@ -26,6 +27,7 @@ run_fault_number Log = 57
 
 -- a fault as it is printed
 abbrev pub run_fault_text : RunFault → List ℕ
+run_fault_text SceneFull = codes "fault 41"
 run_fault_text Read = codes "fault 42"
 run_fault_text (Write count bytes) = codes "fault 43 reply " ++ decimal count ++ codes " byte " ++ decimal bytes
 run_fault_text TooManyReads = codes "fault 44"

@@ -10,6 +10,9 @@ use thiserror::Error;
 /// Why an engine of the program stopped. The text is what the program prints behind its name.
 #[derive(Clone, Copy, Debug, PartialEq, Eq, Error)]
 pub enum RunFault {
+    /// The scene has more than 32 targets.
+    #[error("fault 41")]
+    SceneFull,
     /// A read of the input, or of the link, failed.
     #[error("fault 42")]
     Read,
@@ -52,11 +55,12 @@ pub enum RunFault {
 }
 
 impl RunFault {
-    /// The number of the fault, 42 to 57. This project's own.
+    /// The number of the fault, 41 to 57. This project's own.
     pub fn number(self) -> u8
         ensures { result ≡ run_fault_number self }
     {
         match self {
+            RunFault::SceneFull => 41,
             RunFault::Read => 42,
             RunFault::Write { .. } => 43,
             RunFault::TooManyReads => 44,
@@ -79,6 +83,7 @@ impl RunFault {
         ensures { OnOk result (Appends (E.contents messages.old) (E.contents messages.new) (fault_line (run_fault_text self))) }
     {
         match self {
+            RunFault::SceneFull => writeln!(messages, "geocom: fault 41"),
             RunFault::Read => writeln!(messages, "geocom: fault 42"),
             RunFault::Write { replies, bytes } => writeln!(
                 messages,

@@ -32,6 +32,7 @@ fn each_fault_is_told(rt: HostRuntime) -> Result<(), Fail> {
         bytes: 21,
     };
     let rows = [
+        (RunFault::SceneFull, 41, "fault 41"),
         (RunFault::Read, 42, "fault 42"),
         (written, 43, "fault 43 reply 7 byte 21"),
         (RunFault::TooManyReads, 44, "fault 44"),

@@ -175,12 +175,26 @@ fn a_text_of_the_engines_is_refused(rt: HostRuntime) -> Result<(), Fail> {
 }
 
 // A name, a command line, its status, and a part of its output and of its messages.
-const COMMAND_LINES: [(&str, &[&str], u8, &str, &str); 24] = [
+const COMMAND_LINES: [(&str, &[&str], u8, &str, &str); 26] = [
     (
         "help",
         &["geocom", "--help"],
         0,
         "Usage: geocom <COMMAND>\n",
+        "",
+    ),
+    (
+        "the help tells the simulator's targets",
+        &["geocom", "--help"],
+        0,
+        "\n  target 2.25 1.625 110.0625\n",
+        "",
+    ),
+    (
+        "help of a scene",
+        &["geocom", "serve", "--help"],
+        0,
+        "--scene <FILE>",
         "",
     ),
     (

@@ -1,0 +1,5 @@
+use Rattle.gc_engines.proofs.Scenes.{one_state, no_full}
+use Rattle.gc_engines.proofs.laws.scene_has_one_reading.Goals as goal
+
+pub returns : goal.returns
+returns c = record { state = one_state; full = no_full }

@@ -1,0 +1,7 @@
+use Rattle.std.proofs.Common.{◌≡◌, drop}
+use Rattle.gc_instrument.specs.State.{simulator_opening}
+use Rattle.gc_engines.specs.Scenes.{name_of}
+use Rattle.gc_engines.proofs.scene.name_of.Given as goal
+
+abbrev pub invariant-loop-line : goal.invariant-loop-line
+invariant-loop-line l = name_of l.name (drop l.line-index l.lines) ≡ name_of simulator_opening.name l.lines

@@ -1,0 +1,7 @@
+use Rattle.std.proofs.Common.{◌≡◌, drop}
+use Rattle.gc_instrument.specs.State.{simulator_opening}
+use Rattle.gc_engines.specs.Scenes.{serial_of}
+use Rattle.gc_engines.proofs.scene.serial_of.Given as goal
+
+abbrev pub invariant-loop-line : goal.invariant-loop-line
+invariant-loop-line l = serial_of l.serial (drop l.line-index l.lines) ≡ serial_of simulator_opening.serial l.lines

@@ -1,0 +1,94 @@
+-- A scene's text, and the instrument that it sets up: this project's own.
+use Rattle.std.specs.Prelude.{◌≡◌, ℕ, ℤ, ◌<◌, ◌≤◌, List, [], ◌∷◌, ◌++◌, length, codes}
+use Rattle.gc_values.specs.Spelling.{Spells}
+use Rattle.gc_values.specs.Text as text
+use Rattle.gc_values.specs.Whole.{NamesWhole, FitsLong}
+use Rattle.gc_instrument.specs.State.{State, opening, simulator_opening}
+use Rattle.gc_instrument.specs.declared.target.Target.{Target}
+use Rattle.gc_texts.specs.Cuts.{Lacks}
+use Rattle.gc_texts.specs.LineForms.{IsText, TextFault}
+use Rattle.gc_texts.specs.declared.fault.RunFault.{RunFault}
+use Rattle.gc_texts.specs.declared.fault.RunFault.TheVariants.{SceneFull}
+use Rattle.gc_texts.specs.declared.text.TheConstants.{TEXT_LIMIT}
+use Rattle.gc_engines.specs.declared.scene_line.SceneLine.{SceneLine}
+use Rattle.gc_engines.specs.declared.scene_line.SceneLine.TheVariants as says
+
+-- `serial N`: a whole number in the range of a Long
+pub record IsSerial (line : List ℕ) (n : ℤ) : Type 0 where
+  pub digits : List ℕ
+  pub line_is : line ≡ codes "serial " ++ digits
+  pub number : NamesWhole digits n
+  pub fits : FitsLong n
+
+-- `name TEXT`: at most 64 bytes, none of them a double quote, CR or LF
+pub record IsName (line bytes : List ℕ) : Type 0 where
+  pub line_is : line ≡ codes "name " ++ bytes
+  pub text : text.IsText bytes
+
+-- `HZ V DISTANCE`: three decimals, parted by one space each
+pub record IsPrism (words : List ℕ) (target : Target) : Type 0 where
+  pub hz_text : List ℕ
+  pub v_text : List ℕ
+  pub distance_text : List ℕ
+  pub words_are : words ≡ hz_text ++ 32 ∷ (v_text ++ 32 ∷ distance_text)
+  pub hz_lacks : Lacks 32 hz_text
+  pub v_lacks : Lacks 32 v_text
+  pub hz_is : Spells hz_text target.hz.digits target.hz.scale
+  pub v_is : Spells v_text target.v.digits target.v.scale
+  pub distance_is : Spells distance_text target.distance.digits target.distance.scale
+
+-- `target`, and where it stands
+pub record IsTarget (line : List ℕ) (target : Target) : Type 0 where
+  pub words : List ℕ
+  pub line_is : line ≡ codes "target " ++ words
+  pub prism : IsPrism words target
+
+-- the line has the form of what it says
+abbrev pub IsSceneLine : List ℕ → SceneLine → Type 0
+IsSceneLine line (says.Serial n) = IsSerial line n
+IsSceneLine line (says.Name bytes) = IsName line bytes
+IsSceneLine line (says.Target target) = IsTarget line target
+
+-- the serial number that the last of these lines with one says, and else this one
+abbrev pub serial_of : ℤ → List SceneLine → ℤ
+serial_of n [] = n
+serial_of n (says.Serial m ∷ rest) = serial_of m rest
+serial_of n (says.Name bytes ∷ rest) = serial_of n rest
+serial_of n (says.Target target ∷ rest) = serial_of n rest
+
+-- the name that the last of these lines with one says, and else this one
+abbrev pub name_of : List ℕ → List SceneLine → List ℕ
+name_of name [] = name
+name_of name (says.Serial m ∷ rest) = name_of name rest
+name_of name (says.Name bytes ∷ rest) = name_of bytes rest
+name_of name (says.Target target ∷ rest) = name_of name rest
+
+-- the targets of these lines, in order
+abbrev pub targets_of : List SceneLine → List Target
+targets_of [] = []
+targets_of (says.Serial m ∷ rest) = targets_of rest
+targets_of (says.Name bytes ∷ rest) = targets_of rest
+targets_of (says.Target target ∷ rest) = target ∷ targets_of rest
+
+-- the opening state of the instrument that these lines set up: what they don't say of the serial number and the name is the
+-- simulator's, and the targets are theirs alone
+abbrev pub scene_opening : List SceneLine → State
+scene_opening lines = opening (serial_of simulator_opening.serial lines) (name_of simulator_opening.name lines) (targets_of lines)
+
+-- the text is a scene of at most 32 targets, and this is the opening state of its instrument
+pub record IsScene (text : List ℕ) (state : State) : Type 0 where
+  pub lines : List SceneLine
+  pub are : IsText IsSceneLine text lines
+  pub few : length (targets_of lines) ≤ 32
+  pub opens : state ≡ scene_opening lines
+
+-- the text is a scene of more targets than an instrument has
+pub record IsFullScene (text : List ℕ) : Type 0 where
+  pub lines : List SceneLine
+  pub are : IsText IsSceneLine text lines
+  pub many : 32 < length (targets_of lines)
+
+-- why a text sets up no instrument, or none was set up
+abbrev pub SceneFault : List ℕ → RunFault → Type 0
+SceneFault text SceneFull = (length text ≤ TEXT_LIMIT) × IsFullScene text
+SceneFault text fault = TextFault IsSceneLine text fault

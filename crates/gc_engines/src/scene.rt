@@ -1,0 +1,110 @@
+//! The text of a scene, read into the instrument that it sets up.
+
+ghost use Rattle.std.specs.Prelude.{◌≡◌, ◌<◌, ◌↔◌, ℤ, ℕ, List, length, Err, IfOk, IfErr, IsErr, MatchOption};
+ghost use Rattle.gc_instrument.specs.State.{IsFittingState, simulator_opening};
+ghost use Rattle.gc_texts.specs.declared.fault.RunFault.{RunFault};
+ghost use Rattle.gc_texts.specs.declared.text.TheConstants.{TEXT_LIMIT};
+ghost use Rattle.gc_engines.specs.Scenes.{IsScene, IsFullScene, SceneFault, scene_opening, serial_of, name_of, targets_of};
+ghost use Rattle.gc_engines.specs.declared.scene_line.SceneLine.{SceneLine};
+
+use crate::scene_line::{SceneForm, SceneLine};
+use arrayvec::ArrayVec;
+use gc_instrument::{Instrument, SceneFull, Target};
+use gc_texts::{RunFault, read_items};
+use gc_values::Text;
+use std::alloc::Global;
+
+// The most targets of an instrument.
+const MOST_TARGETS: usize = 32;
+
+/// Reads the text of a scene, and gives the instrument that it sets up, in its opening state.
+///
+/// A line is `serial N`, `name TEXT` or `target HZ V DISTANCE`, with angles in radians and the slope distance in metres. Of
+/// several serial numbers, or names, the last one counts; where there is none it is the simulator's. The targets are those of
+/// the text alone, in its order.
+///
+/// Refused are a text of more than 65,536 bytes (`InputTooLong`, before any line is looked at), the first line that has no form
+/// (`Schedule`, with its number counted from 1), and where each line has one, more than 32 targets (`SceneFull`). `Memory`
+/// comes only where a growth was refused, behind a line that has a form.
+pub fn read_scene(alloc: Global, text: &[u8]) -> Result<Instrument, RunFault>
+    ensures found { IfOk result (λ instrument. IsScene text.now instrument) }
+    ensures fits { IfOk result (λ instrument. IsFittingState instrument) }
+    ensures too_long { (result ≡ Err RunFault.InputTooLong) ↔ (TEXT_LIMIT < length text.now) }
+    ensures full { result ≡ Err RunFault.SceneFull → IsFullScene text.now }
+    ensures faults { IfErr result (λ e. SceneFault text.now e) }
+{
+    let lines = match read_items::<SceneForm>(alloc, text) {
+        Ok(lines) => lines,
+        Err(fault) => return Err(fault),
+    };
+    match set_up(lines.as_slice()) {
+        Ok(instrument) => Ok(instrument),
+        Err(_) => Err(RunFault::SceneFull),
+    }
+}
+
+// The instrument that these lines set up.
+fn set_up(lines: &[SceneLine]) -> Result<Instrument, SceneFull>
+    ensures opens { IfOk result (λ instrument. instrument ≡ scene_opening lines.now) }
+    ensures fits { IfOk result (λ instrument. IsFittingState instrument) }
+    ensures full { IsErr result ↔ (32 < length (targets_of lines.now)) }
+{
+    match targets_of(lines) {
+        Some(targets) => Instrument::new(serial_of(lines), name_of(lines), targets.as_slice()),
+        None => Err(SceneFull),
+    }
+}
+
+// The serial number of the last line that says one, or the simulator's.
+fn serial_of(lines: &[SceneLine]) -> i32
+    ensures { result ≡ serial_of simulator_opening.serial lines.now }
+{
+    let mut serial = 123456;
+    for line in lines {
+        let SceneLine::Serial(said) = *line else {
+            continue;
+        };
+        serial = said;
+    }
+    serial
+}
+
+// The name of the last line that says one, or the simulator's.
+fn name_of(lines: &[SceneLine]) -> Text
+    ensures { result ≡ name_of simulator_opening.name lines.now }
+{
+    let mut name = simulator_name();
+    for line in lines {
+        let SceneLine::Name(said) = *line else {
+            continue;
+        };
+        name = said;
+    }
+    name
+}
+
+// The simulator's name.
+fn simulator_name() -> Text
+    ensures { result ≡ simulator_opening.name }
+{
+    match Text::new(b"GEOCOM SIM") {
+        Ok(name) => name,
+        Err(_) => unreachable!(),
+    }
+}
+
+// The targets of these lines, in order; none where they are more than an instrument has.
+fn targets_of(lines: &[SceneLine]) -> Option<ArrayVec<Target, MOST_TARGETS>>
+    ensures { MatchOption result (32 < length (targets_of lines.now)) (λ targets. targets.items ≡ targets_of lines.now) }
+{
+    let mut targets = ArrayVec::new();
+    for line in lines {
+        let SceneLine::Target(target) = *line else {
+            continue;
+        };
+        if targets.try_push(target).is_err() {
+            return None;
+        }
+    }
+    Some(targets)
+}

@@ -1,0 +1,134 @@
+//! One line of a scene, read: the only place that knows the words of a scene.
+
+ghost use Rattle.std.specs.Prelude.{◌≡◌, ℕ, ℤ, List, MatchOption};
+ghost use Rattle.gc_values.specs.Spelling.{Spells};
+ghost use Rattle.gc_values.specs.Text.{IsText};
+ghost use Rattle.gc_values.specs.Whole.{NamesWhole, FitsLong};
+ghost use Rattle.gc_values.specs.declared.decimal.Decimal.{Decimal};
+ghost use Rattle.gc_instrument.specs.declared.target.Target.{Target};
+ghost use Rattle.gc_engines.specs.Scenes.{IsSerial, IsName, IsPrism, IsTarget, IsSceneLine};
+
+use crate::event::behind;
+use gc_instrument::Target;
+use gc_texts::{LineForm, cut_at};
+use gc_values::{Decimal, Text, read_long};
+
+/// What a line of a scene says of the instrument.
+#[derive(Clone, Copy, Debug, PartialEq, Eq)]
+pub enum SceneLine {
+    /// Its serial number.
+    Serial(i32),
+    /// Its name.
+    Name(Text),
+    /// One more target.
+    Target(Target),
+}
+
+/// The form of a scene's lines.
+pub(crate) struct SceneForm;
+
+impl LineForm for SceneForm {
+    type Item = SceneLine;
+
+    ghost form = { IsSceneLine };
+
+    fn read(line: &[u8]) -> Option<SceneLine> {
+        read_scene_line(line)
+    }
+}
+
+// Reads one line of a scene; none where it has no form.
+fn read_scene_line(line: &[u8]) -> Option<SceneLine>
+    ensures { MatchOption result ((says : SceneLine) → IsSceneLine line.now says → ⊥) (λ says. IsSceneLine line.now says) }
+{
+    if let Some(serial) = read_serial(line) {
+        return Some(SceneLine::Serial(serial));
+    }
+    if let Some(name) = read_name(line) {
+        return Some(SceneLine::Name(name));
+    }
+    match read_target(line) {
+        Some(target) => Some(SceneLine::Target(target)),
+        None => None,
+    }
+}
+
+// `serial N`.
+fn read_serial(line: &[u8]) -> Option<i32>
+    ensures { MatchOption result ((n : ℤ) → IsSerial line.now n → ⊥) (λ n. IsSerial line.now n) }
+{
+    match behind(b"serial ", line) {
+        Some(digits) => long_of(digits),
+        None => None,
+    }
+}
+
+// A whole number of 32 bits.
+fn long_of(digits: &[u8]) -> Option<i32>
+    ensures { MatchOption result ((n : ℤ) → NamesWhole digits.now n → FitsLong n → ⊥) (λ n. NamesWhole digits.now n × FitsLong n) }
+{
+    match read_long(digits) {
+        Ok(n) => Some(n),
+        Err(_) => None,
+    }
+}
+
+// `name TEXT`.
+fn read_name(line: &[u8]) -> Option<Text>
+    ensures { MatchOption result ((bytes : List ℕ) → IsName line.now bytes → ⊥) (λ bytes. IsName line.now bytes) }
+{
+    match behind(b"name ", line) {
+        Some(bytes) => text_of(bytes),
+        None => None,
+    }
+}
+
+// The bytes of a name.
+fn text_of(bytes: &[u8]) -> Option<Text>
+    ensures { MatchOption result (IsText bytes.now → ⊥) (λ name. (name ≡ bytes.now) × IsText bytes.now) }
+{
+    match Text::new(bytes) {
+        Ok(name) => Some(name),
+        Err(_) => None,
+    }
+}
+
+// `target HZ V DISTANCE`.
+fn read_target(line: &[u8]) -> Option<Target>
+    ensures { MatchOption result ((target : Target) → IsTarget line.now target → ⊥) (λ target. IsTarget line.now target) }
+{
+    match behind(b"target ", line) {
+        Some(words) => read_prism(words),
+        None => None,
+    }
+}
+
+// `HZ V DISTANCE`.
+fn read_prism(words: &[u8]) -> Option<Target>
+    ensures { MatchOption result ((target : Target) → IsPrism words.now target → ⊥) (λ target. IsPrism words.now target) }
+{
+    let (hz, rest) = cut_at(b' ', words);
+    let Some(rest) = rest else { return None };
+    let (v, distance) = cut_at(b' ', rest);
+    let Some(distance) = distance else {
+        return None
+    };
+    let Some(hz) = decimal_of(hz) else {
+        return None
+    };
+    let Some(v) = decimal_of(v) else { return None };
+    match decimal_of(distance) {
+        Some(distance) => Some(Target { hz, v, distance }),
+        None => None,
+    }
+}
+
+// A decimal of a scene.
+fn decimal_of(text: &[u8]) -> Option<Decimal>
+    ensures { MatchOption result ((d : Decimal) → Spells text.now d.digits d.scale → ⊥) (λ d. Spells text.now d.digits d.scale) }
+{
+    match Decimal::read(text) {
+        Ok(d) => Some(d),
+        Err(_) => None,
+    }
+}
