@@ -1,2 +1,3 @@
 mod Measured
+mod Refused
 mod Started

@@ -1,3 +1,6 @@
+pub mod Choices
 pub mod Measuring
 pub mod Refusals
+pub mod Stops
 pub mod Streams
+pub mod TaskTexts

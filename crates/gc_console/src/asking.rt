@@ -4,6 +4,7 @@ ghost use Rattle.std.specs.Prelude.{◌≡◌, ◌≤◌, false, IfOk};
 ghost use Rattle.std.specs.Process.{exit_status};
 ghost use Rattle.gc_console.specs.Streams.{are_open, TellsClosed};
 
+use crate::logging::run_logged_port;
 use crate::ports::{ask_port, loop_port};
 use crate::standard::Standard;
 use crate::station::{Station, run_station_port};
@@ -22,6 +23,8 @@ pub(crate) enum Asking<'a> {
     Loop { scene: Option<&'a str> },
     Ask { port: u16 },
     Station(Station),
+    // With a log, into the file of this path.
+    Logged(Station, String),
 }
 
 /// Asks, and tells how it ended; or tells that a standard stream is closed. The sink is handed back.
@@ -58,6 +61,13 @@ pub(crate) fn run_asking<
             let ended = ask_port(rt, alloc, port, source, &mut sink, messages);
             (sink, ended)
         }
-        Asking::Station(station) => run_station_port(rt, alloc, station, source, sink, messages),
+        Asking::Station(station) => {
+            let station = station.watched(standard.terminal);
+            run_station_port(rt, alloc, station, source, sink, messages)
+        }
+        Asking::Logged(station, path) => {
+            let station = station.watched(standard.terminal);
+            run_logged_port(rt, alloc, station, path.as_str(), source, sink, messages)
+        }
     }
 }

@@ -26,7 +26,8 @@ A fault is one line on standard error, `geocom: fault N`:
   53  the schedule, the commands, or a scene have more than 65536 bytes
   54  a port could not be bound or connected to, or no connection accepted
   55  the settlements, or this text, could not be written
-  56  standard input, output or error is closed: `station`, `ask` and `loop` did nothing";
+  56  standard input, output or error is closed: `station`, `ask` and `loop` did nothing
+  57  the log could not be opened";
 
 /// What the help of `exec` ends with.
 pub(crate) const REQUESTS: &str =
@@ -47,6 +48,9 @@ pub(crate) const VERDICTS: &str =
   N cleared                a line feed without a CR before it: an instrument drops what came
   N overlong               more than 512 bytes
 Bytes behind the last line feed get none.
+
+With --log each line of a log of `station --log` gets a line: its moment, its mark, and what the bytes are. `>` went and `<` came,
+whole; `>|` and `<|` are `cleared` or `part`, since no CR LF ended them whole; `-` is the connection. Other lines: `no log line`.
 
 Example:
   printf '%%R1Q,5003,2:\\r\\n%%R1P,0,2:0,123456\\r\\nnoise\\r\\n' | geocom check
@@ -100,16 +104,31 @@ writes
 /// What the help of `station` ends with.
 pub(crate) const STATION: &str =
     "A command is a line `T RPC` or `T RPC PARAMS`, which asks target T for procedure RPC; empty lines and lines that
-begin with # are skipped. Each is asked once in each cycle, and each gets a line as it ends, which begins with the moment:
-  answered  its reply came before its deadline
-  late      its reply came after it was given up; what it said is dropped
-  lost      no reply came, and none will be taken
+begin with # are skipped. Other lines say how the commands behind them go out, and what a target is called:
+  deadline MS   1 to 86400000: how long each waits before it is given up
+  chained       each but the first of a row, which is of one target, waits for the one before it to be answered well: with
+                both codes 0 and values that read. Where it isn't, or the connection was closed since, the rest is skipped
+  unchained     each goes out by itself
+  name T TEXT   1 to 64 bytes, for all rows of target T
+
+Each is asked once in each cycle, and each gets a line as it ends, which begins with the moment:
+  answered      its reply came before its deadline
+  unreadable N  its reply came before its deadline, with both codes 0, and its values have fault N, 11 to 15
+  late          its reply came after it was given up; what it said is dropped
+  lost          no reply came, and none will be taken
+  skipped       it wasn't sent: the one before it in its row wasn't answered well
+  missed        it wasn't sent: its cycle couldn't begin before the next was due
 
 A request that is given up keeps its id, and holds up no other. The connection is closed and made anew where it ends or
-fails, and where something waits and no reply came for twice the deadline and the quiet time. Ids go on then. At the start,
-and where seven requests are given up, it begins anew: a null procedure has to be answered before any command goes out.
+fails, and where something waits and no reply came for twice the longest deadline and the quiet time. Ids go on then. At the
+start, and where seven requests are given up, it begins anew: a null procedure has to be answered before any command goes out.
+
+While it measures it tells on standard error, each at most once a minute, since when there is no connection, the line isn't
+quiet, nothing was heard or commands were skipped, and that a cycle is late. Where that is a terminal, and the output none, a
+line with the counts is written over, too. With --silent it tells nothing of that.
 
 Each answer is the reply to its own request, also by an instrument that keeps its last reply, where
+  - the station is alone on the line: no other client sends on it;
   - the line keeps order, over connections too, loses lines whole, and repeats a line only directly behind it;
   - nothing from before is under way once a beginning was drained;
   - what else comes reads as no reply with an id, and a line feed behind half a request clears it at the instrument;
@@ -121,4 +140,4 @@ writes two lines as
   2026-11-22T23:08:27.123Z 0 7 answered %R1P,0,1:0,123456
   2026-11-22T23:08:27.124Z 1 8 answered %R1P,0,2:0,0
 and on standard error, at its end,
-  answered 2 late 0 lost 0";
+  answered 2 late 0 lost 0 skipped 0 unreadable 0 missed 0";

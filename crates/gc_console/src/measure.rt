@@ -1,154 +1,185 @@
-//! A text of commands, read from a source, measured over a link, and its records written into a sink, all in one form.
+//! A station's text, read from a source, measured over a link, and its records written into a sink, all in one form.
 
 ghost use Rattle.std.specs.Prelude.{◌+◌, ◌≤◌, ℕ, List, length, OnOk};
 ghost use Rattle.std.specs.Io.KnownBytes.{Consumes, Appends};
+ghost use Rattle.gc_catalogue.specs.declared.answer.Reading.{Reading};
+ghost use Rattle.gc_catalogue.specs.declared.call.Call.{Call};
 ghost use Rattle.gc_console.specs.Measuring.{text_in, Measures, IsUntouched, overrun_line};
+ghost use Rattle.gc_console.specs.Stops.{with_fault};
 ghost use Rattle.gc_station.specs.Runs.{Ran, FailsAtOutput};
+ghost use Rattle.gc_station.specs.Scopes.{AreReadings};
 ghost use Rattle.gc_texts.specs.Texts.{end_reads};
-ghost use Rattle.gc_texts.specs.declared.record.Form.TheVariants as form;
 ghost use Rattle.gc_texts.specs.declared.text.TheConstants.{TEXT_LIMIT};
 
-use gc_ask::read_command_text;
-use gc_client::Settlement;
+use crate::choice::Choice;
+use crate::signs::Signs;
+use crate::stop::Stop;
+use crate::task_text::read_task_text;
 use gc_lines::{PortFailed, Sink, Source};
-use gc_station::{Book, Link, Plan, Stamp, Tally, run_station};
-use gc_texts::{Command, Form, RunFault, write_head, write_record};
+use gc_station::{Book, Link, Moment, Plan, Sight, Stamp, Tally, run_station};
+use gc_texts::{Command, Ending, Form, RunFault, Task, Tasks, write_head, write_record};
 use std::alloc::Global;
 use std::io::{self, Write};
-use std::marker::PhantomData;
 
-/// Reads the whole command text of a source, writes what stands in front of the records in this form, and measures the
-/// commands over a link as the plan has it, in at most `max_turns` acts. The sink is handed back, with how the run ended.
+/// Reads the whole text of a source, writes what stands in front of the records in this form, and measures the commands over a
+/// link as the choice has it, in at most `max_turns` acts. The sink is handed back, with how the run ended.
 ///
-/// Before the link is used or anything is written, `Read` comes where the source failed, `InputTooLong` where it gave more
-/// than 65,536 bytes, `Schedule` at the first line that has the form of no command, counted from 1, and `Memory` where a
-/// growth was refused. The faults behind it are those of [`run_station`]. `Output` comes where the sink failed: in front of
-/// the records, and then the link wasn't used, or at a record.
+/// Before the link is used or anything is written, `Text` comes with `Read` where the source failed, with `InputTooLong` where it
+/// gave more than 65,536 bytes, and with `Memory` where a growth was refused, and `Line` at the first line without form. `Run`
+/// comes with the faults of [`run_station`], and with `Output` where the sink failed: in front of the records, and then the link
+/// wasn't used, or at a record.
 ///
-/// Of a cycle that was not done when the next was due a line goes to `messages`. Where that can't be written the station
-/// measures on.
+/// A quiet time that is shorter than the longest deadline is told on `messages` at the start, and so are signs of life, each at
+/// most once a minute, where the choice has them. Where that can't be written the station measures on.
 pub fn run_station_text<L: Link, S: Source, K: Sink, E: Write>(
     alloc: Global,
     link: &mut L,
     form: Form,
-    plan: &Plan,
+    choice: &Choice,
     source: &mut S,
     mut sink: K,
     messages: &mut E,
     max_turns: u64,
-) -> (K, Result<Tally, RunFault>)
+) -> (K, Result<Tally, Stop>)
     // What the text was, and what of its commands was measured: what the link told, what the sink took, and why it ended.
     ensures measures { (given : List ℕ) × Consumes (S.remaining source.old) (S.remaining source.new) given
         × (S.reads source.new ≤ S.reads source.old + length given + end_reads (S.ended source.new))
         × Measures given
         (record { remaining = S.remaining source.old; reads = S.reads source.old; ended = S.ended source.old; failed = S.failed source.old })
         (record { remaining = S.remaining source.new; reads = S.reads source.new; ended = S.ended source.new; failed = S.failed source.new })
-        form plan.now max_turns
+        form choice.now max_turns
         (record { acts = L.acts link.old; taken = K.taken sink; messages = E.contents messages.old })
         (record { acts = L.acts link.new; taken = K.taken result.0; messages = E.contents messages.new })
         result.1 }
 
     // The sink failed exactly where that is the fault.
-    ensures output { FailsAtOutput (K.failed sink) (K.failed result.0) result.1 }
+    ensures output { FailsAtOutput (K.failed sink) (K.failed result.0) (with_fault result.1) }
 
     // At most 65,537 reads of the source were answered.
     ensures bounded { S.reads source.new ≤ S.reads source.old + (TEXT_LIMIT + 1) }
 
-    // After a fault that a text alone has, and after want of memory, nothing was done over the link, and nothing written.
+    // Where the text was refused nothing was done over the link, and nothing written.
     ensures untouched { IsUntouched
         (record { acts = L.acts link.old; taken = K.taken sink; messages = E.contents messages.old })
         (record { acts = L.acts link.new; taken = K.taken result.0; messages = E.contents messages.new })
         result.1 }
 {
-    let commands = match read_command_text(alloc, source) {
-        Ok(commands) => commands,
-        Err(fault) => return (sink, Err(fault)),
+    let tasks = match read_task_text(alloc, source, choice.deadline, choice.chained) {
+        Ok(tasks) => tasks,
+        Err(stop) => return (sink, Err(stop)),
     };
     let Ok(()) = write_head(&mut sink, form) else {
-        return (sink, Err(RunFault::Output));
+        return (sink, Err(Stop::Run(RunFault::Output)));
     };
-    let commands = commands.as_slice();
-    match form {
-        Form::Lines => {
-            measure::<AsLines, L, K, E>(link, plan, commands, sink, messages, max_turns)
-        }
-        Form::Csv => measure::<AsRows, L, K, E>(link, plan, commands, sink, messages, max_turns),
+    let plan = choice.plan(tasks.tasks.as_slice());
+    let _ = warn(choice, &plan, messages);
+    let signs = Signs::new(choice.watch);
+    let Tasks { tasks, names } = tasks;
+    let named = Tasks {
+        tasks: Vec::new(alloc),
+        names,
+    };
+    let (sink, end, mut signs) = measure(
+        link,
+        form,
+        &plan,
+        tasks.as_slice(),
+        named,
+        sink,
+        signs,
+        messages,
+        max_turns,
+    );
+    let _ = signs.clear(messages);
+    match end {
+        Ok(tally) => (sink, Ok(tally)),
+        Err(fault) => (sink, Err(Stop::Run(fault))),
     }
 }
 
-// Measures commands over a link, and writes their records in this form into a sink, which is handed back.
-fn measure<F: InForm, L: Link, K: Sink, E: Write>(
+// Tells that the quiet time that was chosen is shorter than the longest deadline, where it is.
+fn warn<E: Write>(choice: &Choice, plan: &Plan, messages: &mut E) -> io::Result<()> {
+    match choice.quiet {
+        Some(quiet) if quiet < plan.deadline => {
+            let deadline = plan.deadline;
+            writeln!(
+                messages,
+                "geocom: the quiet time of {quiet} ms is shorter than the longest deadline of {deadline} ms"
+            )
+        }
+        _ => Ok(()),
+    }
+}
+
+// Measures tasks over a link, and writes their records in this form, with these names, into a sink, which is handed back, as the
+// signs of life are.
+fn measure<L: Link, K: Sink, E: Write>(
     link: &mut L,
+    form: Form,
     plan: &Plan,
-    commands: &[Command],
+    tasks: &[Task],
+    named: Tasks,
     sink: K,
+    signs: Signs,
     messages: &mut E,
     max_turns: u64,
-) -> (K, Result<Tally, RunFault>)
-    ensures ran { Ran plan.now commands.now max_turns (text_in F.FORM) (L.acts link.old) (L.acts link.new) (K.taken sink) (K.taken result.0) result.1 }
+) -> (K, Result<Tally, RunFault>, Signs)
+    ensures ran { (reads : Call → List ℕ → Reading) → AreReadings reads
+        → Ran plan.now tasks.now (record { turns = max_turns; reads = reads }) (text_in form named.names.items)
+        (L.acts link.old) (L.acts link.new) (K.taken sink) (K.taken result.0) result.1 }
     ensures output { FailsAtOutput (K.failed sink) (K.failed result.0) result.1 }
 {
     let mut records = Records {
         sink,
+        form,
+        named,
+        signs,
         messages,
-        form: PhantomData::<F>,
     };
-    let end = run_station(link, &mut records, commands, plan, max_turns);
+    let end = run_station(link, &mut records, tasks, plan, max_turns);
     let Records {
         sink,
-        messages: _,
         form: _,
+        named: _,
+        signs,
+        messages: _,
     } = records;
-    (sink, end)
+    (sink, end, signs)
 }
 
-// A form as a type, since one type of book writes all its records in one form.
-trait InForm {
-    ghost use Rattle.gc_texts.specs.declared.record.Form.{Form};
-
-    ghost FORM: { Form };
-
-    const FORM: Form;
-}
-
-struct AsLines;
-
-impl InForm for AsLines {
-    ghost FORM = { form.Lines };
-
-    const FORM: Form = Form::Lines;
-}
-
-struct AsRows;
-
-impl InForm for AsRows {
-    ghost FORM = { form.Csv };
-
-    const FORM: Form = Form::Csv;
-}
-
-// A book of records in one form, and where cycles that were not done in time are told.
-struct Records<'a, F, K, E> {
+// A book of records in one form, with the names of targets, and where signs of life are told.
+struct Records<'a, K, E> {
     sink: K,
+    form: Form,
+    // The names, beside no tasks.
+    named: Tasks,
+    signs: Signs,
     messages: &'a mut E,
-    form: PhantomData<F>,
 }
 
-impl<'a, F: InForm, K: Sink, E: Write> Book for Records<'a, F, K, E> {
-    ghost text = { text_in F.FORM };
+impl<'a, K: Sink, E: Write> Book for Records<'a, K, E> {
+    ghost text = { λ book. text_in book.form book.named.names.items };
 
     ghost taken = { λ book. K.taken book.sink };
 
     ghost failed = { λ book. K.failed book.sink };
 
-    fn write(&mut self, stamp: Stamp, settlement: &Settlement) -> Result<(), PortFailed> {
+    fn write(
+        &mut self,
+        stamp: Stamp,
+        command: &Command,
+        ending: Ending<'_>,
+    ) -> Result<(), PortFailed> {
+        self.signs.count(stamp, ending);
         let taken = write_record(
             &mut self.sink,
-            F::FORM,
+            self.form,
             stamp.utc,
             stamp.cycle,
             stamp.place,
-            settlement,
+            self.named.name_of(command.target),
+            command,
+            ending,
         );
         match taken {
             Ok(()) => Ok(()),
@@ -157,13 +188,21 @@ impl<'a, F: InForm, K: Sink, E: Write> Book for Records<'a, F, K, E> {
     }
 
     // Where that can't be written the station measures on: what it writes of each request doesn't depend on it.
-    fn overran(&mut self, cycle: u32) {
-        let _ = tell_overrun(self.messages, cycle);
+    fn sees(&mut self, sight: Sight, moment: Moment) {
+        let _ = self.signs.see(sight, moment, self.messages);
+    }
+
+    // As signs of life are.
+    fn overran(&mut self, cycle: u64) {
+        if self.signs.may_tell_late() {
+            let _ = self.signs.clear(self.messages);
+            let _ = tell_overrun(self.messages, cycle);
+        }
     }
 }
 
 // The line of a cycle that was not done when the next was due.
-fn tell_overrun<E: Write>(messages: &mut E, cycle: u32) -> io::Result<()>
+fn tell_overrun<E: Write>(messages: &mut E, cycle: u64) -> io::Result<()>
     ensures { OnOk result (Appends (E.contents messages.old) (E.contents messages.new) (overrun_line cycle)) }
 {
     writeln!(

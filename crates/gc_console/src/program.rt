@@ -7,6 +7,7 @@ ghost use Rattle.gc_texts.specs.declared.fault.RunFault.{RunFault};
 ghost use Rattle.gc_texts.specs.Faults.{run_fault_text, fault_line};
 
 use crate::asking::run_asking;
+use crate::logging::check_log;
 use crate::serving::serve_filled;
 use crate::standard::Standard;
 use crate::streams::{check, drill_scene, exec_scene};
@@ -92,7 +93,12 @@ fn run_subcommand<
             &mut sink,
             messages,
         ),
-        Subcommand::Check => check(
+        Subcommand::Check { log: true } => check_log(
+            &mut FromReader::new(ReadAhead::new(input)),
+            &mut sink,
+            messages,
+        ),
+        Subcommand::Check { log: false } => check(
             &mut FromReader::new(ReadAhead::new(input)),
             &mut sink,
             messages,

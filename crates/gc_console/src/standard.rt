@@ -7,25 +7,28 @@ ghost use Rattle.gc_console.specs.Streams.{are_open, TellsClosed};
 
 use gc_texts::RunFault;
 use std::fs::{Files, OpenOptions};
-use std::io::{self, Write};
+use std::io::{self, IsTerminal, Write};
 use std::os::fd::AsFd;
 use std::process::ExitCode;
 
-/// Which of the standard streams are open.
+/// Which of the standard streams are open, and whether somebody reads the messages at a terminal.
 #[derive(Clone, Copy, Debug, PartialEq, Eq)]
 pub struct Standard {
     pub input: bool,
     pub output: bool,
     pub messages: bool,
+    /// Whether the messages go to a terminal, and the output to none.
+    pub terminal: bool,
 }
 
 impl Standard {
-    /// Looks which of these are open. It changes none, and opens nothing that stays open.
+    /// Looks which of these are open, and which a terminal. It changes none, and opens nothing that stays open.
     pub fn look<I: AsFd, O: AsFd, E: AsFd>(input: &I, output: &O, messages: &E) -> Standard {
         Standard {
             input: is_open(input),
             output: is_open(output),
             messages: is_open(messages),
+            terminal: messages.as_fd().is_terminal() && !output.as_fd().is_terminal(),
         }
     }
 

@@ -1,22 +1,28 @@
 //! `geocom station`: its words, and its run over connections to a port.
 
-ghost use Rattle.std.specs.Prelude.{◌≡◌, ◌≤◌, ◌↔◌, ◌⊎◌, ℕ, List, Option, None, Result, Ok, Err, IfOk};
-ghost use Rattle.std.specs.Io.KnownBytes.{Consumes};
+ghost use Rattle.std.specs.Prelude.{◌≡◌, ◌≤◌, ◌↔◌, ◌⊎◌, ℕ, List, Option, None, Result, Ok, Err, IfOk, OnOk};
+ghost use Rattle.std.specs.Io.KnownBytes.{Consumes, Appends};
 ghost use Rattle.std.specs.Process.{exit_status};
-ghost use Rattle.gc_ask.specs.AskRuns.{GivesCommands};
-ghost use Rattle.gc_console.specs.Measuring.{Measures, RunsBehind, TellsCounts};
+ghost use Rattle.gc_console.specs.Measuring.{Measures, RunsBehind, TellsCounts, ends_text, others_text, tally_line};
+ghost use Rattle.gc_console.specs.Stops.{with_fault};
+ghost use Rattle.gc_console.specs.TaskTexts.{GivesTasks};
+ghost use Rattle.gc_console.specs.declared.stop.Stop.{Stop};
 ghost use Rattle.gc_station.specs.Runs.{FailsAtOutput};
 ghost use Rattle.gc_station.specs.declared.tally.Tally.{Tally};
-ghost use Rattle.gc_texts.specs.declared.commands.Command.{Command as CommandOf};
 ghost use Rattle.gc_texts.specs.declared.fault.RunFault.{RunFault};
+ghost use Rattle.gc_texts.specs.declared.name.Name.{Name};
+ghost use Rattle.gc_texts.specs.declared.tasks.Task.{Task};
 
+use crate::choice::{Choice, Watch};
 use crate::ending::refuse_numbers;
 use crate::help::STATION;
+use crate::logging::with_log;
 use crate::measure::run_station_text;
+use crate::stop::Stop;
 use crate::words::{flag_of, port_of};
 use clap::{Arg, ArgMatches, Command, value_parser};
 use gc_lines::{Sink, Source};
-use gc_station::{Link, Plan, Tally, TcpLink};
+use gc_station::{Link, Tally, TcpLink};
 use gc_texts::{Form, RunFault};
 use std::alloc::{AllocError, Global};
 use std::io::{self, Write};
@@ -27,12 +33,26 @@ use std::time::Clock;
 /// What the words of `station` ask for.
 #[derive(Clone, Copy)]
 pub(crate) struct Station {
-    port: u16,
+    pub(crate) port: u16,
     form: Form,
-    plan: Plan,
+    choice: Choice,
+}
+
+impl Station {
+    /// The same, where somebody may watch at a terminal.
+    pub(crate) fn watched(self, at_terminal: bool) -> Station
+        ensures { result.port ≡ self.port }
+    {
+        let mut station = self;
+        if at_terminal && self.choice.watch == Watch::Lines {
+            station.choice.watch = Watch::Terminal;
+        }
+        station
+    }
 }
 
 /// The words of `station`.
+// Each function adds few of them: the proof of a chain of calls grows faster than the chain.
 pub(crate) fn station_command<'a>(alloc: Global) -> Result<Command<'a>, AllocError> {
     let command = Command::new(alloc, "station")
         .about(
@@ -42,7 +62,8 @@ pub(crate) fn station_command<'a>(alloc: Global) -> Result<Command<'a>, AllocErr
         .arg(port_of(alloc))?;
     let command = with_pace(alloc, command)?;
     let command = with_bounds(alloc, command)?;
-    command.arg(flag_of(alloc, "csv", "Writes comma-separated values, with a header"))
+    let command = with_flags(alloc, command)?;
+    with_log(alloc, command)
 }
 
 // How many requests are under way, how long each waits, and how far apart the cycles begin.
@@ -57,17 +78,17 @@ fn with_pace<'a>(alloc: Global, command: Command<'a>) -> Result<Command<'a>, All
         alloc,
         "deadline",
         "MS",
-        "10000",
-        "Gives each request up so many milliseconds after it was sent",
-    );
+        "Gives a request up so many milliseconds after it was sent, 1 to 86400000, until a line `deadline MS` says otherwise",
+    )
+    .default_value("10000");
     let every = time_of(
         alloc,
         "every",
         "SECONDS",
-        "0",
-        "Begins a cycle so many seconds after the last began",
+        "Begins a cycle so many seconds after the last was due, 1 to 86400, or 0: once the last is done",
     )
-    .value_parser(value_parser!(u64).range(0..=86_400));
+    .value_parser(value_parser!(u64).range(0..=86_400))
+    .default_value("0");
     command.arg(width)?.arg(deadline)?.arg(every)
 }
 
@@ -76,38 +97,42 @@ fn with_bounds<'a>(alloc: Global, command: Command<'a>) -> Result<Command<'a>, A
     let cycles = Arg::new(alloc, "cycles")
         .long("cycles")
         .value_name("N")
-        .value_parser(value_parser!(u32).range(1..))
+        .value_parser(value_parser!(u64))
         .default_value("1")
-        .help("Asks all commands so many times");
+        .help("Asks all commands so many times, or 0: without end");
     let quiet = time_of(
         alloc,
         "quiet",
         "MS",
-        "2000",
-        "Takes the line for quiet where nothing came or went for so many milliseconds",
+        "Takes the line for quiet where nothing came or went for so many milliseconds, 1 to 86400000 [default: the longest deadline]",
     );
     let retries = Arg::new(alloc, "retries")
         .long("retries")
         .value_name("N")
         .value_parser(value_parser!(u32))
         .default_value("10")
-        .help("Connects anew so many times in a row");
+        .help("Connects anew so many times in a row, or 0: without end");
     command.arg(cycles)?.arg(quiet)?.arg(retries)
 }
 
-// A time, as a word with a default.
-fn time_of<'a>(
-    alloc: Global,
-    name: &'a str,
-    value: &'a str,
-    default: &'a str,
-    help: &'a str,
-) -> Arg<'a> {
+// What is there or not: rows, chains, and signs of life.
+fn with_flags<'a>(alloc: Global, command: Command<'a>) -> Result<Command<'a>, AllocError> {
+    let csv = flag_of(alloc, "csv", "Writes comma-separated values, with a header");
+    let unchained = flag_of(
+        alloc,
+        "unchained",
+        "Sends each command by itself, until a line `chained` says otherwise",
+    );
+    let silent = flag_of(alloc, "silent", "Leaves out the signs of life");
+    command.arg(csv)?.arg(unchained)?.arg(silent)
+}
+
+// A time, as a word.
+fn time_of<'a>(alloc: Global, name: &'a str, value: &'a str, help: &'a str) -> Arg<'a> {
     Arg::new(alloc, name)
         .long(name)
         .value_name(value)
         .value_parser(value_parser!(u64).range(1..=86_400_000))
-        .default_value(default)
         .help(help)
 }
 
@@ -121,14 +146,38 @@ pub(crate) fn station_of(matches: &ArgMatches) -> Station {
         } else {
             Form::Lines
         },
-        plan: Plan {
+        choice: Choice {
             width: matches.get_one::<u8>("width").unwrap_or(1),
             deadline: number("deadline"),
+            chained: !matches.get_flag("unchained"),
             every: number("every").saturating_mul(1000),
-            cycles: matches.get_one::<u32>("cycles").unwrap_or(1),
-            quiet: number("quiet"),
-            retries: matches.get_one::<u32>("retries").unwrap_or(0),
+            cycles: cycles_of(matches),
+            quiet: matches.get_one::<u64>("quiet"),
+            retries: retries_of(matches),
+            watch: if matches.get_flag("silent") {
+                Watch::Nobody
+            } else {
+                Watch::Lines
+            },
         },
+    }
+}
+
+// How many times in a row it connects anew: 0 stands for no end.
+fn retries_of(matches: &ArgMatches) -> u32 {
+    match matches.get_one::<u32>("retries") {
+        Some(0) => u32::MAX,
+        Some(retries) => retries,
+        None => 1,
+    }
+}
+
+// How many cycles are measured: 0 stands for no end.
+fn cycles_of(matches: &ArgMatches) -> u64 {
+    match matches.get_one::<u64>("cycles") {
+        Some(0) => u64::MAX,
+        Some(cycles) => cycles,
+        None => 1,
     }
 }
 
@@ -153,27 +202,27 @@ pub(crate) fn run_station_port<
 
     // Else the status and the messages tell how it ended: what the text was, and what of its commands was measured, as the
     // sink has it that is handed back; or that the clock couldn't be read, and then nothing was read or written.
-    ensures told { IfOk result.1 (λ status. 1 ≤ station.port → (end : Result Tally RunFault) × (between : E)
+    ensures told { IfOk result.1 (λ status. 1 ≤ station.port → (end : Result Tally Stop) × (between : E)
         × TellsCounts end (exit_status status) (E.contents between) (E.contents messages.new)
-        × FailsAtOutput (K.failed sink) (K.failed result.0) end
+        × FailsAtOutput (K.failed sink) (K.failed result.0) (with_fault end)
         × (((given : List ℕ) × Consumes (S.remaining source.old) (S.remaining source.new) given
         × Measures given
         (record { remaining = S.remaining source.old; reads = S.reads source.old; ended = S.ended source.old; failed = S.failed source.old })
         (record { remaining = S.remaining source.new; reads = S.reads source.new; ended = S.ended source.new; failed = S.failed source.new })
-        station.form station.plan 18446744073709551615
+        station.form station.choice 18446744073709551615
         (record { acts = None; taken = K.taken sink; messages = E.contents messages.old })
         (record { acts = None; taken = K.taken result.0; messages = E.contents between })
         end)
-        ⊎ ((end ≡ Err RunFault.Clock) × (S.reads source.new ≡ S.reads source.old) × (result.0 ≡ sink) × (between ≡ messages.old)))) }
+        ⊎ ((end ≡ Err (Stop.Run RunFault.Clock)) × (S.reads source.new ≡ S.reads source.old) × (result.0 ≡ sink) × (between ≡ messages.old)))) }
 
-    // Status 0 only where the source gave a command text to its end, and the run over its commands is done.
+    // Status 0 only where the source gave a text to its end, and the run over its commands is done.
     ensures done { IfOk result.1 (λ status. exit_status status ≡ 0 → (given : List ℕ) × Consumes (S.remaining source.old) (S.remaining source.new) given
-        × ((commands : List CommandOf) × (tally : Tally) × (between : E)
-        × GivesCommands given
+        × ((tasks : List Task) × (names : List Name) × (tally : Tally) × (between : E)
+        × GivesTasks given
         (record { remaining = S.remaining source.old; reads = S.reads source.old; ended = S.ended source.old; failed = S.failed source.old })
         (record { remaining = S.remaining source.new; reads = S.reads source.new; ended = S.ended source.new; failed = S.failed source.new })
-        commands
-        × RunsBehind station.form station.plan commands 18446744073709551615
+        station.choice.deadline station.choice.chained tasks names
+        × RunsBehind station.form station.choice names tasks 18446744073709551615
         (record { acts = None; taken = K.taken sink; messages = E.contents messages.old })
         (record { acts = None; taken = K.taken result.0; messages = E.contents between })
         (Ok tally))) }
@@ -183,13 +232,13 @@ pub(crate) fn run_station_port<
         return (sink, refuse_numbers(messages));
     }
     let Ok(mut link) = TcpLink::new(rt, station.port) else {
-        return (sink, tell_counts(Err(RunFault::Clock), messages));
+        return (sink, tell_counts(Err(Stop::Run(RunFault::Clock)), messages));
     };
     measure_over(alloc, &mut link, station, source, sink, messages)
 }
 
 // Measures over a link, and tells how it ended. The sink is handed back.
-fn measure_over<L: Link, S: Source, K: Sink, E: Write>(
+pub(crate) fn measure_over<L: Link, S: Source, K: Sink, E: Write>(
     alloc: Global,
     link: &mut L,
     station: Station,
@@ -198,26 +247,26 @@ fn measure_over<L: Link, S: Source, K: Sink, E: Write>(
     messages: &mut E,
 ) -> (K, io::Result<ExitCode>)
     // What the text was, what of its commands was measured, and that the messages and the status tell how that ended.
-    ensures told { IfOk result.1 (λ status. (end : Result Tally RunFault) × (between : E)
+    ensures told { IfOk result.1 (λ status. (end : Result Tally Stop) × (between : E)
         × ((given : List ℕ) × Consumes (S.remaining source.old) (S.remaining source.new) given
         × Measures given
         (record { remaining = S.remaining source.old; reads = S.reads source.old; ended = S.ended source.old; failed = S.failed source.old })
         (record { remaining = S.remaining source.new; reads = S.reads source.new; ended = S.ended source.new; failed = S.failed source.new })
-        station.form station.plan 18446744073709551615
+        station.form station.choice 18446744073709551615
         (record { acts = L.acts link.old; taken = K.taken sink; messages = E.contents messages.old })
         (record { acts = L.acts link.new; taken = K.taken result.0; messages = E.contents between })
         end)
-        × FailsAtOutput (K.failed sink) (K.failed result.0) end
+        × FailsAtOutput (K.failed sink) (K.failed result.0) (with_fault end)
         × TellsCounts end (exit_status status) (E.contents between) (E.contents messages.new)) }
 
-    // Status 0 only where the source gave a command text to its end, and the run over its commands is done.
+    // Status 0 only where the source gave a text to its end, and the run over its commands is done.
     ensures done { IfOk result.1 (λ status. exit_status status ≡ 0 → (given : List ℕ) × Consumes (S.remaining source.old) (S.remaining source.new) given
-        × ((commands : List CommandOf) × (tally : Tally) × (between : E)
-        × GivesCommands given
+        × ((tasks : List Task) × (names : List Name) × (tally : Tally) × (between : E)
+        × GivesTasks given
         (record { remaining = S.remaining source.old; reads = S.reads source.old; ended = S.ended source.old; failed = S.failed source.old })
         (record { remaining = S.remaining source.new; reads = S.reads source.new; ended = S.ended source.new; failed = S.failed source.new })
-        commands
-        × RunsBehind station.form station.plan commands 18446744073709551615
+        station.choice.deadline station.choice.chained tasks names
+        × RunsBehind station.form station.choice names tasks 18446744073709551615
         (record { acts = L.acts link.old; taken = K.taken sink; messages = E.contents messages.old })
         (record { acts = L.acts link.new; taken = K.taken result.0; messages = E.contents between })
         (Ok tally))) }
@@ -227,7 +276,7 @@ fn measure_over<L: Link, S: Source, K: Sink, E: Write>(
         alloc,
         link,
         station.form,
-        &station.plan,
+        &station.choice,
         source,
         sink,
         messages,
@@ -236,25 +285,56 @@ fn measure_over<L: Link, S: Source, K: Sink, E: Write>(
     (sink, tell_counts(end, messages))
 }
 
-// Tells how a run ended: the status, and the counts, or the fault's line.
-fn tell_counts<E: Write>(end: Result<Tally, RunFault>, messages: &mut E) -> io::Result<ExitCode>
+// Tells how a run ended: the status, and the counts, or why it stopped.
+fn tell_counts<E: Write>(end: Result<Tally, Stop>, messages: &mut E) -> io::Result<ExitCode>
     ensures told { IfOk result (λ status. TellsCounts end (exit_status status) (E.contents messages.old) (E.contents messages.new)) }
     ensures bound { IfOk result (λ status. exit_status status ≤ 1) }
 {
     match end {
-        Ok(
-            Tally {
-                answered,
-                late,
-                lost,
-            },
-        ) => {
-            writeln!(messages, "answered {answered} late {late} lost {lost}")?;
+        Ok(tally) => {
+            write_counts(tally, messages)?;
             Ok(ExitCode::SUCCESS)
         }
-        Err(fault) => {
-            fault.tell(messages)?;
+        Err(stop) => {
+            stop.tell(messages)?;
             Ok(ExitCode::from(1))
         }
     }
+}
+
+// The line of the counts.
+fn write_counts<E: Write>(tally: Tally, messages: &mut E) -> io::Result<()>
+    ensures { OnOk result (Appends (E.contents messages.old) (E.contents messages.new) (tally_line tally)) }
+{
+    write_ends(tally, messages)?;
+    write_others(tally, messages)
+}
+
+// How many were answered, late and lost.
+fn write_ends<E: Write>(tally: Tally, messages: &mut E) -> io::Result<()>
+    ensures { OnOk result (Appends (E.contents messages.old) (E.contents messages.new) (ends_text tally)) }
+{
+    let Tally {
+        answered,
+        late,
+        lost,
+        ..
+    } = tally;
+    write!(messages, "answered {answered} late {late} lost {lost} ")
+}
+
+// How many were skipped, unreadable and missed, to the end of the line.
+fn write_others<E: Write>(tally: Tally, messages: &mut E) -> io::Result<()>
+    ensures { OnOk result (Appends (E.contents messages.old) (E.contents messages.new) (others_text tally)) }
+{
+    let Tally {
+        skipped,
+        unreadable,
+        missed,
+        ..
+    } = tally;
+    writeln!(
+        messages,
+        "skipped {skipped} unreadable {unreadable} missed {missed}"
+    )
 }

@@ -117,7 +117,10 @@ pub(crate) fn check<S: Source, K: Sink, E: Write>(
 }
 
 // Tells how serving or checking ended.
-fn tell_end<E: Write>(end: Result<Served, ServeFault>, messages: &mut E) -> io::Result<ExitCode>
+pub(crate) fn tell_end<E: Write>(
+    end: Result<Served, ServeFault>,
+    messages: &mut E,
+) -> io::Result<ExitCode>
     ensures told { IfOk result (λ status. Tells fault_text end (exit_status status) (E.contents messages.old) (E.contents messages.new)) }
 {
     match end {

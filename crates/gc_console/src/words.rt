@@ -2,6 +2,7 @@
 
 use crate::asking::Asking;
 use crate::help::{COMMANDS, EVENTS, KEPT, REQUESTS, SCENES_AND_FAULTS, VERDICTS};
+use crate::logging::logged_of;
 use crate::station::{station_command, station_of};
 use clap::{Arg, ArgAction, ArgMatches, Command, Error, value_parser};
 use std::alloc::{AllocError, Global};
@@ -11,7 +12,10 @@ pub(crate) enum Subcommand<'a> {
     Exec {
         scene: Option<&'a str>,
     },
-    Check,
+    // Of a log, or of a stream.
+    Check {
+        log: bool,
+    },
     Drill {
         scene: Option<&'a str>,
         totals: bool,
@@ -41,6 +45,9 @@ pub(crate) fn subcommand_of<'a>(
         .disable_help_subcommand(true);
     let command = with_streams(alloc, command)?;
     let matches = with_ports(alloc, command)?.try_get_matches_from(words)?;
+    if let Some(logged) = logged_of(alloc, &matches)? {
+        return Ok(Subcommand::Asks(logged));
+    }
     Ok(asked_for(&matches))
 }
 
@@ -52,7 +59,8 @@ fn with_streams<'a>(alloc: Global, command: Command<'a>) -> Result<Command<'a>, 
         .arg(scene_of(alloc))?;
     let check = Command::new(alloc, "check")
         .about("Says of each frame of standard input what it is, or what is wrong with it")
-        .after_help(VERDICTS);
+        .after_help(VERDICTS)
+        .arg(flag_of(alloc, "log", "Reads a log that `station --log` wrote"))?;
     command
         .subcommand(exec)?
         .subcommand(check)?
@@ -126,8 +134,10 @@ fn ask_of<'a>(alloc: Global) -> Result<Command<'a>, AllocError> {
 
 // Which subcommand the words ask for.
 fn asked_for<'a>(matches: &ArgMatches<'a>) -> Subcommand<'a> {
-    if matches.subcommand_matches("check").is_some() {
-        return Subcommand::Check;
+    if let Some(check) = matches.subcommand_matches("check") {
+        return Subcommand::Check {
+            log: check.get_flag("log"),
+        };
     }
     if let Some(drill) = matches.subcommand_matches("drill") {
         return Subcommand::Drill {

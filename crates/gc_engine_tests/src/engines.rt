@@ -2,6 +2,7 @@
 //! files of `examples/`, and `gc_examples` plays them.
 
 mod check;
+mod check_log;
 mod drill;
 mod exec;
 mod failing;

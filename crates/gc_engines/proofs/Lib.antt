@@ -4,3 +4,4 @@ mod OneSchedule
 mod Shown
 mod Checked
 mod OneVerdict
+mod LogSaid

@@ -4,4 +4,5 @@ pub mod Reports
 pub mod Drill
 pub mod Verdicts
 pub mod Checking
+pub mod LogChecking
 pub mod Laws

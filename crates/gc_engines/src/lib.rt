@@ -2,6 +2,7 @@
 #![tactic(auto)]
 
 mod check;
+mod check_log;
 mod drill;
 mod event;
 mod exec;
@@ -13,6 +14,7 @@ mod schedule;
 mod verdict;
 
 pub use check::run_check;
+pub use check_log::run_check_log;
 pub use drill::{run_drill, run_drill_on, run_drill_width};
 pub use exec::run_exec;
 pub use scene::read_scene;

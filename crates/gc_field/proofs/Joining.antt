@@ -2,15 +2,20 @@
 use Rattle.std.proofs.Common.{◌≡◌, ℕ, zero, suc, Bool, true, false, List, [], ◌∷◌, ◌++◌, map, Some, refl, sym, ◌∙◌, ap, subst, append_assoc, append-nil}
 use Rattle.std.specs.Prelude.{slice_get}
 use Rattle.std.specs.List.{AllByRecursion}
+use Rattle.gc_catalogue.specs.declared.answer.Reading.{Reading}
+use Rattle.gc_catalogue.specs.declared.call.Call.{Call}
 use Rattle.gc_client.specs.OneForOne.{Asked, Step, Restart, begun}
 use Rattle.gc_client.specs.declared.pending.Pending.{Pending}
-use Rattle.gc_client.specs.Rule.{ById, Answered, Lost, Settlement, fresh, lost}
+use Rattle.gc_client.specs.Rule.{ById, Outcome, Answered, Lost, Settlement, fresh, lost}
 use Rattle.gc_instrument.specs.State.{State, IsFittingState}
-use Rattle.gc_texts.specs.declared.commands.Command.{Command}
+use Rattle.gc_texts.specs.declared.tasks.Task.{Task}
+use Rattle.gc_texts.specs.Endings.{End}
+use Rattle.gc_texts.specs.Endings as end
 use Rattle.gc_station.specs.declared.plan.Plan.{Plan}
 use Rattle.gc_station.specs.Acts.{Act}
-use Rattle.gc_station.specs.Marks.{records_of}
-use Rattle.gc_station.specs.Parts.{Part, joined, AreOf, parts_of, timeless}
+use Rattle.gc_station.specs.Answers.{answer_of}
+use Rattle.gc_station.specs.Marks.{record_of, records_of}
+use Rattle.gc_station.specs.Parts.{Part, joined, AreOf, parts_of, went_out, sent_with, sent_of, timeless}
 use Rattle.gc_station.specs.Records.{Record}
 use Rattle.gc_station.specs.Runs.{stood}
 use Rattle.gc_station.specs.Standing.{Standing, opening}
@@ -18,7 +23,9 @@ use Rattle.gc_station.proofs.Beginning.{IfForeign, IsAloneIn}
 use Rattle.gc_station.proofs.Booking.{Books, client_after, settled_by, sent_by, settled_append, sent_append, course_settled, course_sent, course_client, of_at, all_records, restarting}
 use Rattle.gc_station.proofs.EachRun.{fine_opening, each_once}
 use Rattle.gc_station.proofs.Following.{Follows, follows}
+use Rattle.gc_station.proofs.Meets.{was_answered}
 use Rattle.gc_station.proofs.Lone.{IsLone, IsNullFirst, beyond_first, all_parts_lone}
+use Rattle.gc_station.specs.Scopes.{Scope}
 use Rattle.gc_world.specs.Clients.{ends, by_ids, ids_open}
 use Rattle.gc_world.specs.Record.{IsReplyTo}
 use Rattle.gc_world.specs.World.{Sent, World}
@@ -104,29 +111,29 @@ fit_ended p s f =
     ∙ ap (λ l. settled_by fresh p.steps ++ l) (append-nil (map lost c.waiting) ∙ ap (λ (d : ById). map lost d.waiting) (fit_client p s f))
     ∙ ap (λ l. l ++ map lost (world s).client.waiting) (fit_settled p s f)
 
-module _ (commands : List Command) where
+module _ (reads : Call → List ℕ → Reading) (commands : List Task) where
   -- the requests of a part
-  of_last : (rs : List Record) (p : Part) (s : Stretch State) (end : Standing) → Fits p s → Books commands fresh [] rs p end.client end.marks end.records → AreOf commands p.marks (map asked (world s).wire.sent)
+  of_last : (rs : List Record) (p : Part) (s : Stretch State) (end : Standing) → Fits p s → Books reads commands fresh [] rs p end.client end.marks (sent_of end.records) → AreOf commands p.marks (map asked (world s).wire.sent)
   of_last rs p s end f h = subst (AreOf commands p.marks) (fit_sent p s f) h.wrote.sent
 
-  of_ended : (rs mid : List Record) (p : Part) (s : Stretch State) → Fits p s → Books commands fresh [] rs (joined p restarting) fresh [] mid → AreOf commands p.marks (map asked (world s).wire.sent)
+  of_ended : (rs mid : List Record) (p : Part) (s : Stretch State) → Fits p s → Books reads commands fresh [] rs (joined p restarting) fresh [] mid → AreOf commands p.marks (map asked (world s).wire.sent)
   of_ended rs mid p s f h =
       let asks : sent_by fresh (p.steps ++ Restart ∷ []) ≡ map asked (world s).wire.sent = sent_append fresh p.steps (Restart ∷ []) ∙ append-nil (sent_by fresh p.steps) ∙ fit_sent p s f in
       subst (λ marks. AreOf commands marks (map asked (world s).wire.sent)) (append-nil p.marks) (subst (AreOf commands (p.marks ++ [])) asks h.wrote.sent)
 
   -- its records
-  written_last : (rs : List Record) (p : Part) (s : Stretch State) (end : Standing) → Fits p s → Books commands fresh [] rs p end.client end.marks end.records
-      → map timeless end.records ≡ map timeless rs ++ records_of 0 p.marks (world s).wire.settled
-  written_last rs p s end f h = h.wrote.records ∙ ap (λ l. map timeless rs ++ records_of 0 p.marks l) (fit_settled p s f)
+  written_last : (rs : List Record) (p : Part) (s : Stretch State) (end : Standing) → Fits p s → Books reads commands fresh [] rs p end.client end.marks (sent_of end.records)
+      → map timeless (sent_of end.records) ≡ map timeless rs ++ records_of reads 0 p.marks (world s).wire.settled
+  written_last rs p s end f h = h.wrote.records ∙ ap (λ l. map timeless rs ++ records_of reads 0 p.marks l) (fit_settled p s f)
 
-  written_ended : (rs mid : List Record) (p : Part) (s : Stretch State) → Fits p s → Books commands fresh [] rs (joined p restarting) fresh [] mid
-      → map timeless mid ≡ map timeless rs ++ records_of 0 p.marks ((world s).wire.settled ++ map lost (world s).client.waiting)
+  written_ended : (rs mid : List Record) (p : Part) (s : Stretch State) → Fits p s → Books reads commands fresh [] rs (joined p restarting) fresh [] mid
+      → map timeless mid ≡ map timeless rs ++ records_of reads 0 p.marks ((world s).wire.settled ++ map lost (world s).client.waiting)
   written_ended rs mid p s f h =
-      h.wrote.records ∙ ap (λ marks. map timeless rs ++ records_of 0 marks (settled_by fresh (p.steps ++ Restart ∷ []))) (append-nil p.marks)
-      ∙ ap (λ l. map timeless rs ++ records_of 0 p.marks l) (fit_ended p s f)
+      h.wrote.records ∙ ap (λ marks. map timeless rs ++ records_of reads 0 marks (settled_by fresh (p.steps ++ Restart ∷ []))) (append-nil p.marks)
+      ∙ ap (λ l. map timeless rs ++ records_of reads 0 p.marks l) (fit_ended p s f)
 
   -- over all parts
-  pub sent_all : (ps : List Part) (ss : List (Stretch State)) (rs : List Record) (end : Standing) → AllFit ps ss → Follows commands fresh [] rs ps end → AreSentAs commands ps ss
+  pub sent_all : (ps : List Part) (ss : List (Stretch State)) (rs : List Record) (end : Standing) → AllFit ps ss → Follows reads commands fresh [] rs ps end → AreSentAs commands ps ss
   sent_all [] [] rs end f h = tt
   sent_all [] (s ∷ ss) rs end f h = absurd f
   sent_all (p ∷ ps) [] rs end f h = absurd f
@@ -135,7 +142,7 @@ module _ (commands : List Command) where
   sent_all (p ∷ q ∷ ps) (s ∷ []) rs end f h = absurd f.1
   sent_all (p ∷ q ∷ ps) (s ∷ t ∷ ss) rs end f h = (of_ended rs h.0 p s f.0 h.1, sent_all (q ∷ ps) (t ∷ ss) h.0 end f.1 h.2)
 
-  pub written_all : (ps : List Part) (ss : List (Stretch State)) (rs : List Record) (end : Standing) → AllFit ps ss → Follows commands fresh [] rs ps end → map timeless end.records ≡ map timeless rs ++ written_over ps ss
+  pub written_all : (ps : List Part) (ss : List (Stretch State)) (rs : List Record) (end : Standing) → AllFit ps ss → Follows reads commands fresh [] rs ps end → map timeless (sent_of end.records) ≡ map timeless rs ++ written_over reads ps ss
   written_all [] [] rs end f h = absurd h
   written_all [] (s ∷ ss) rs end f h = absurd f
   written_all (p ∷ ps) [] rs end f h = absurd f
@@ -143,8 +150,8 @@ module _ (commands : List Command) where
   written_all (p ∷ []) (s ∷ t ∷ ss) rs end f h = absurd f.1
   written_all (p ∷ q ∷ ps) (s ∷ []) rs end f h = absurd f.1
   written_all (p ∷ q ∷ ps) (s ∷ t ∷ ss) rs end f h =
-      written_all (q ∷ ps) (t ∷ ss) h.0 end f.1 h.2 ∙ ap (λ l. l ++ written_over (q ∷ ps) (t ∷ ss)) (written_ended rs h.0 p s f.0 h.1)
-      ∙ append_assoc (map timeless rs) (records_of 0 p.marks ((world s).wire.settled ++ map lost (world s).client.waiting)) (written_over (q ∷ ps) (t ∷ ss))
+      written_all (q ∷ ps) (t ∷ ss) h.0 end f.1 h.2 ∙ ap (λ l. l ++ written_over reads (q ∷ ps) (t ∷ ss)) (written_ended rs h.0 p s f.0 h.1)
+      ∙ append_assoc (map timeless rs) (records_of reads 0 p.marks ((world s).wire.settled ++ map lost (world s).client.waiting)) (written_over reads (q ∷ ps) (t ∷ ss))
 
 -- Its own.
 
@@ -173,7 +180,7 @@ asked_at (r ∷ rs) zero a e = (r, refl, same (asked r) a e) where
 asked_at (r ∷ rs) (suc n) a e = asked_at rs n a e
 
 -- in a later stretch
-own_later : (commands : List Command) (p : Part) (s : Stretch State) (ps : List Part) (ss : List (Stretch State)) (r : Record) (line : List ℕ) → IsItsOwn commands ps ss r line → IsItsOwn commands (p ∷ ps) (s ∷ ss) r line
+own_later : (commands : List Task) (p : Part) (s : Stretch State) (ps : List Part) (ss : List (Stretch State)) (r : Record) (line : List ℕ) → IsItsOwn commands ps ss r line → IsItsOwn commands (p ∷ ps) (s ∷ ss) r line
 own_later commands p s ps ss r line h = record {
   k = suc h.k;
   part = h.part;
@@ -184,7 +191,7 @@ own_later commands p s ps ss r line h = record {
   mark = h.mark;
   request = h.request;
   sent = h.sent;
-  command = h.command;
+  task = h.task;
   listed = h.listed;
   asks = h.asks;
   settled = h.settled;
@@ -194,7 +201,7 @@ own_later commands p s ps ss r line h = record {
 }
 
 -- whenever it was written down
-own_timeless : (commands : List Command) (ps : List Part) (ss : List (Stretch State)) (r : Record) (line : List ℕ) → IsItsOwn commands ps ss (timeless r) line → IsItsOwn commands ps ss r line
+own_timeless : (commands : List Task) (ps : List Part) (ss : List (Stretch State)) (r : Record) (line : List ℕ) → IsItsOwn commands ps ss (timeless r) line → IsItsOwn commands ps ss r line
 own_timeless commands ps ss r line h = record {
   k = h.k;
   part = h.part;
@@ -205,7 +212,7 @@ own_timeless commands ps ss r line h = record {
   mark = h.mark;
   request = h.request;
   sent = h.sent;
-  command = h.command;
+  task = h.task;
   listed = h.listed;
   asks = h.asks;
   settled = h.settled;
@@ -214,11 +221,11 @@ own_timeless commands ps ss r line h = record {
   executed = h.executed;
 }
 
-all_timeless : (commands : List Command) (ps : List Part) (ss : List (Stretch State)) (rs : List Record) → AllByRecursion (IsOwnAnswer commands ps ss) (map timeless rs) → AllByRecursion (IsOwnAnswer commands ps ss) rs
+all_timeless : (commands : List Task) (ps : List Part) (ss : List (Stretch State)) (rs : List Record) → AllByRecursion (IsOwnAnswer commands ps ss) (map timeless rs) → AllByRecursion (IsOwnAnswer commands ps ss) rs
 all_timeless commands ps ss [] h = tt
 all_timeless commands ps ss (r ∷ rs) h = (λ line answered. own_timeless commands ps ss r line (h.0 line answered), all_timeless commands ps ss rs h.1)
 
-all_later : (commands : List Command) (p : Part) (s : Stretch State) (ps : List Part) (ss : List (Stretch State)) (rs : List Record) → AllByRecursion (IsOwnAnswer commands ps ss) rs → AllByRecursion (IsOwnAnswer commands (p ∷ ps) (s ∷ ss)) rs
+all_later : (commands : List Task) (p : Part) (s : Stretch State) (ps : List Part) (ss : List (Stretch State)) (rs : List Record) → AllByRecursion (IsOwnAnswer commands ps ss) rs → AllByRecursion (IsOwnAnswer commands (p ∷ ps) (s ∷ ss)) rs
 all_later commands p s ps ss [] h = tt
 all_later commands p s ps ss (r ∷ rs) h = (λ line answered. own_later commands p s ps ss r line (h.0 line answered), all_later commands p s ps ss rs h.1)
 
@@ -227,17 +234,18 @@ all_append P [] ys h g = g
 all_append P (x ∷ xs) ys h g = (h.0, all_append P xs ys h.1 g)
 
 -- in the first one, among what is settled there and then what is lost
-own_first : (commands : List Command) (p : Part) (s : Stretch State) (ps : List Part) (ss : List (Stretch State)) (waiting : List Pending) (xs : List Settlement) → xs ≡ (world s).wire.settled ++ map lost waiting → Fits p s → AreOf commands p.marks (map asked (world s).wire.sent)
-    → AllByRecursion (IsOwnAnswer commands (p ∷ ps) (s ∷ ss)) (records_of 0 p.marks xs)
-own_first commands p s ps ss waiting xs e f sent =
-    all_records (IsOwnAnswer commands (p ∷ ps) (s ∷ ss)) p.marks xs
-    (λ n mark x at got line answered.
+own_first : (reads : Call → List ℕ → Reading) (commands : List Task) (p : Part) (s : Stretch State) (ps : List Part) (ss : List (Stretch State)) (waiting : List Pending) (xs : List Settlement) → xs ≡ (world s).wire.settled ++ map lost waiting → Fits p s → AreOf commands p.marks (map asked (world s).wire.sent)
+    → AllByRecursion (IsOwnAnswer commands (p ∷ ps) (s ∷ ss)) (records_of reads 0 p.marks xs)
+own_first reads commands p s ps ss waiting xs e f sent =
+    all_records reads (IsOwnAnswer commands (p ∷ ps) (s ∷ ss)) p.marks xs
+    (λ n mark x at got line says.
+    let answered : x.outcome ≡ Answered line = was_answered (record_of reads 0 mark x) x (record { reads = reads; command = refl; ended = refl }) line says in
     let here = among_settled (world s).wire.settled waiting n x line (sym (ap (λ l. slice_get l n) e) ∙ got) answered in
     let beyond = beyond_first p.marks n mark f.first at in
     let a = of_at commands p.marks (map asked (world s).wire.sent) n (Some mark) sent at in
     let r = asked_at (world s).wire.sent n a.0 a.1 in
     let b = f.faithful.booked n x beyond here line answered in
-    let right : x.call ≡ a.2.0.call = (f.faithful.one_for_one.same n x r.0 here r.1).1 ∙ ap (λ (o : Asked). o.call) (r.2 ∙ a.2.2) in
+    let right : x.call ≡ a.2.0.command.call = (f.faithful.one_for_one.same n x r.0 here r.1).1 ∙ ap (λ (o : Asked). o.call) (r.2 ∙ a.2.2) in
     record {
       k = 0;
       part = p;
@@ -248,43 +256,63 @@ own_first commands p s ps ss waiting xs e f sent =
       mark = at;
       request = r.0;
       sent = r.1;
-      command = a.2.0;
+      task = a.2.0;
       listed = a.2.1;
       asks = r.2 ∙ a.2.2;
-      settled = here;
+      settled = here ∙ ap (λ (o : Outcome). Some (record { target = x.target; call = x.call; outcome = o })) answered;
       made = b.0;
       reply = subst (λ call. IsReplyTo ends IsFittingState call line) right b.1;
       executed = f.faithful.executed n x line beyond here answered;
     })
 
-pub own_all : (commands : List Command) (ps : List Part) (ss : List (Stretch State)) → AllFit ps ss → AreSentAs commands ps ss → AllByRecursion (IsOwnAnswer commands ps ss) (written_over ps ss)
-own_all commands [] [] f h = tt
-own_all commands [] (s ∷ ss) f h = tt
-own_all commands (p ∷ ps) [] f h = absurd f
-own_all commands (p ∷ []) (s ∷ []) f h = own_first commands p s [] [] [] (world s).wire.settled (sym (append-nil (world s).wire.settled)) f.0 h.0
-own_all commands (p ∷ []) (s ∷ t ∷ ss) f h = absurd f.1
-own_all commands (p ∷ q ∷ ps) (s ∷ []) f h = absurd f.1
-own_all commands (p ∷ q ∷ ps) (s ∷ t ∷ ss) f h =
+pub own_all : (reads : Call → List ℕ → Reading) (commands : List Task) (ps : List Part) (ss : List (Stretch State)) → AllFit ps ss → AreSentAs commands ps ss → AllByRecursion (IsOwnAnswer commands ps ss) (written_over reads ps ss)
+own_all reads commands [] [] f h = tt
+own_all reads commands [] (s ∷ ss) f h = tt
+own_all reads commands (p ∷ ps) [] f h = absurd f
+own_all reads commands (p ∷ []) (s ∷ []) f h = own_first reads commands p s [] [] [] (world s).wire.settled (sym (append-nil (world s).wire.settled)) f.0 h.0
+own_all reads commands (p ∷ []) (s ∷ t ∷ ss) f h = absurd f.1
+own_all reads commands (p ∷ q ∷ ps) (s ∷ []) f h = absurd f.1
+own_all reads commands (p ∷ q ∷ ps) (s ∷ t ∷ ss) f h =
     let xs = (world s).wire.settled ++ map lost (world s).client.waiting in
-    all_append (IsOwnAnswer commands (p ∷ q ∷ ps) (s ∷ t ∷ ss)) (records_of 0 p.marks xs) (written_over (q ∷ ps) (t ∷ ss))
-    (own_first commands p s (q ∷ ps) (t ∷ ss) (world s).client.waiting xs refl f.0 h.0)
-    (all_later commands p s (q ∷ ps) (t ∷ ss) (written_over (q ∷ ps) (t ∷ ss)) (own_all commands (q ∷ ps) (t ∷ ss) f.1 h.1))
+    all_append (IsOwnAnswer commands (p ∷ q ∷ ps) (s ∷ t ∷ ss)) (records_of reads 0 p.marks xs) (written_over reads (q ∷ ps) (t ∷ ss))
+    (own_first reads commands p s (q ∷ ps) (t ∷ ss) (world s).client.waiting xs refl f.0 h.0)
+    (all_later commands p s (q ∷ ps) (t ∷ ss) (written_over reads (q ∷ ps) (t ∷ ss)) (own_all reads commands (q ∷ ps) (t ∷ ss) f.1 h.1))
+
+-- A command that wasn't sent has no answer.
+
+unsent_own : (commands : List Task) (ps : List Part) (ss : List (Stretch State)) (r : Record) → went_out r.end ≡ false → IsOwnAnswer commands ps ss r
+unsent_own commands ps ss r out line answered = absurd (none r.end out answered) where
+  none : (e : End) → went_out e ≡ false → answer_of e ≡ Some line → ⊥
+  none (end.Answered l) out answered = cc
+  none (end.Unreadable l fault) out answered = cc
+  none end.Late out answered = cc
+  none end.Lost out answered = cc
+  none end.Skipped out answered = cc
+  none end.Missed out answered = cc
+
+all_sent : (commands : List Task) (ps : List Part) (ss : List (Stretch State)) (rs : List Record) → AllByRecursion (IsOwnAnswer commands ps ss) (sent_of rs) → AllByRecursion (IsOwnAnswer commands ps ss) rs
+all_sent commands ps ss [] h = tt
+all_sent commands ps ss (r ∷ rs) h = by_case (went_out r.end) refl (all_sent commands ps ss rs) h where
+  by_case : (b : Bool) → went_out r.end ≡ b → (AllByRecursion (IsOwnAnswer commands ps ss) (sent_of rs) → AllByRecursion (IsOwnAnswer commands ps ss) rs)
+      → AllByRecursion (IsOwnAnswer commands ps ss) (sent_with b r (sent_of rs)) → AllByRecursion (IsOwnAnswer commands ps ss) (r ∷ rs)
+  by_case true out others g = (g.0, others g.1)
+  by_case false out others g = (unsent_own commands ps ss r out, others g)
 
 -- The whole.
 
-pub run_faithful : Law → (plan : Plan) (commands : List Command) (turns : ℕ) (acts : List Act) (ss : List (Stretch State)) → IsInField plan commands turns acts ss → IsRunFaithful plan commands turns acts ss
-run_faithful law plan commands turns acts ss h =
-    let start = opening plan turns in
+pub run_faithful : Law → (plan : Plan) (commands : List Task) (scope : Scope) (acts : List Act) (ss : List (Stretch State)) → IsInField plan commands scope acts ss → IsRunFaithful plan commands scope acts ss
+run_faithful law plan commands scope acts ss h =
+    let start = opening plan scope in
     let ps = parts_of plan commands start acts in
-    let end = stood plan commands turns acts in
-    let fine = fine_opening plan commands turns in
+    let end = stood plan commands scope acts in
+    let fine = fine_opening plan commands scope in
     let fit = all_fit law ps ss h.steps h.possible (all_parts_lone plan commands start acts fine refl h.runs) in
-    let on = follows plan commands start acts fine h.runs in
-    let sent = sent_all commands ps ss [] end fit on in
-    let written = written_all commands ps ss [] end fit on in
+    let on = follows plan commands scope.reads start acts refl fine h.runs in
+    let sent = sent_all scope.reads commands ps ss [] end fit on in
+    let written = written_all scope.reads commands ps ss [] end fit on in
     record {
-      own = all_timeless commands ps ss end.records (subst (AllByRecursion (IsOwnAnswer commands ps ss)) (sym written) (own_all commands ps ss fit sent));
-      one_for_one = each_once plan commands turns acts;
+      own = all_sent commands ps ss end.records (all_timeless commands ps ss (sent_of end.records) (subst (AllByRecursion (IsOwnAnswer commands ps ss)) (sym written) (own_all scope.reads commands ps ss fit sent)));
+      one_for_one = each_once plan commands scope acts;
       sent = sent;
       written = written;
       meant = are_meant plan commands start acts fine h.runs;

@@ -1,7 +1,7 @@
 -- Each act of a run means its steps.
 use Rattle.std.proofs.Common.{◌≡◌, inl, inr, ℕ, Bool, true, false, List, [], ◌∷◌, refl, ◌∙◌, ap}
 use Rattle.gc_client.specs.Rule.{ById}
-use Rattle.gc_texts.specs.declared.commands.Command.{Command}
+use Rattle.gc_texts.specs.declared.tasks.Task.{Task}
 use Rattle.gc_client.specs.OneForOne.{Expire}
 use Rattle.gc_station.specs.declared.link.Moment.{Moment}
 use Rattle.gc_station.specs.declared.plan.Plan.{Plan}
@@ -34,7 +34,7 @@ gave_means : (client : ById) (h : Bool) (rest behind piece : List ℕ) (m : Mome
 gave_means client true rest behind piece m e = inl (record { lines = refl; rest = e })
 gave_means client false rest behind piece m e = inr (record { lines = refl; rest = e })
 
-module _ (plan : Plan) (commands : List Command) where
+module _ (plan : Plan) (commands : List Task) where
   act_means : (s : Standing) (act : Act) → Fine plan commands s → Obeys commands s (order_at plan s) act → Means s.client s.rest act (acting plan commands s (order_at plan s) act).steps (after plan commands s act).rest
   act_means s (Gave piece m) fine obeys = gave_means s.client (is_heard s.progress.phase) s.rest (after plan commands s (Gave piece m)).rest piece m (rest_is plan commands s (Gave piece m) obeys)
   act_means s (Put bytes) fine obeys = (put_means s bytes (putting plan commands s (order_at plan s)) (put_is plan commands s (Put bytes) bytes fine obeys refl), rest_is plan commands s (Put bytes) obeys ∙ plain (is_heard s.progress.phase)) where

@@ -2,19 +2,22 @@
 -- down was made for the very request of that cycle and place, as the instrument executed it.
 use Rattle.std.specs.Prelude.{◌≡◌, ℕ, ◌<◌, ◌≤◌, Bool, false, ◌||◌, if◌then◌else◌, nat_le, List, [], ◌∷◌, ◌++◌, length, map, Some, slice_get}
 use Rattle.std.specs.List.{AllByRecursion}
+use Rattle.gc_catalogue.specs.declared.answer.Reading.{Reading}
 use Rattle.gc_catalogue.specs.declared.call.Call.{Call}
 use Rattle.gc_client.specs.declared.window.TheConstants.{WINDOW}
 use Rattle.gc_client.specs.Rule.{ById, Answered, Late, lost}
 use Rattle.gc_instrument.specs.State.{State, IsFittingState}
-use Rattle.gc_texts.specs.declared.commands.Command.{Command}
+use Rattle.gc_texts.specs.declared.tasks.Task.{Task}
 use Rattle.gc_station.specs.declared.plan.Plan.{Plan}
 use Rattle.gc_station.specs.Acts.{Act}
-use Rattle.gc_station.specs.EachOnce.{EachOnce, of_command}
+use Rattle.gc_station.specs.Answers.{answer_of}
+use Rattle.gc_station.specs.EachOnce.{EachOnce, of_task}
 use Rattle.gc_station.specs.Marks.{records_of}
-use Rattle.gc_station.specs.Parts.{Part, AreOf, acting, mark_of, parts_of, timeless}
+use Rattle.gc_station.specs.Parts.{Part, AreOf, acting, mark_of, parts_of, sent_of, timeless}
 use Rattle.gc_station.specs.Records.{Record}
 use Rattle.gc_station.specs.Runs.{stood}
 use Rattle.gc_station.specs.Standing.{Standing, opening, order_at, after, Runs}
+use Rattle.gc_station.specs.Scopes.{Scope}
 use Rattle.gc_world.specs.Clients.{ends, by_ids, ids_open}
 use Rattle.gc_world.specs.Record.{IsReplyTo}
 use Rattle.gc_world.specs.World.{Numbered, Sent, World}
@@ -25,9 +28,9 @@ use Rattle.gc_field.specs.Stretches.{Stretch}
 
 -- a run of a station, and a stretch for each of its beginnings: an instrument in any good state, whatever it keeps, and moves of the line
 -- that are possible from there on, with nothing under way at first. To the client they are the run's own steps
-pub record IsInField (plan : Plan) (commands : List Command) (turns : ℕ) (acts : List Act) (stretches : List (Stretch State)) : Type 0 where
-  pub runs : Runs plan commands (opening plan turns) acts
-  pub steps : map (λ (s : Stretch State). seen s.moves) stretches ≡ map (λ (p : Part). p.steps) (parts_of plan commands (opening plan turns) acts)
+pub record IsInField (plan : Plan) (commands : List Task) (scope : Scope) (acts : List Act) (stretches : List (Stretch State)) : Type 0 where
+  pub runs : Runs plan commands (opening plan scope) acts
+  pub steps : map (λ (s : Stretch State). seen s.moves) stretches ≡ map (λ (p : Part). p.steps) (parts_of plan commands (opening plan scope) acts)
   pub possible : AllByRecursion (λ (s : Stretch State). IsFittingState s.state × ArePossible ends (by_ids WINDOW ends) s.moves (ids_open s.state)) stretches
 
 -- the world behind a stretch
@@ -35,14 +38,14 @@ abbrev pub world : Stretch State → World ById State
 world s = left WINDOW ends s.state s.moves
 
 -- the requests of each stretch are those of its part, one for one
-abbrev pub AreSentAs : List Command → List Part → List (Stretch State) → Type 0
+abbrev pub AreSentAs : List Task → List Part → List (Stretch State) → Type 0
 AreSentAs commands [] [] = Unit {0}
 AreSentAs commands (p ∷ ps) (s ∷ ss) = AreOf commands p.marks (map asked (world s).wire.sent) × AreSentAs commands ps ss
 AreSentAs commands _ _ = ⊥
 
 -- where an answer comes from: in one of the stretches, request m is the command of the record's cycle and place; this line, which the
 -- instrument made for request m as it executed that command's call, settled it; and that is the record
-pub record IsItsOwn (commands : List Command) (ps : List Part) (ss : List (Stretch State)) (r : Record) (line : List ℕ) : Type 0 where
+pub record IsItsOwn (commands : List Task) (ps : List Part) (ss : List (Stretch State)) (r : Record) (line : List ℕ) : Type 0 where
   pub k : ℕ
   pub part : Part
   pub stretch : Stretch State
@@ -52,16 +55,16 @@ pub record IsItsOwn (commands : List Command) (ps : List Part) (ss : List (Stret
   pub mark : slice_get part.marks m ≡ Some (Some (mark_of r))
   pub request : Sent
   pub sent : slice_get (world stretch).wire.sent m ≡ Some request
-  pub command : Command
-  pub listed : slice_get commands r.place ≡ Some command
-  pub asks : asked request ≡ of_command command
-  pub settled : slice_get (world stretch).wire.settled m ≡ Some r.settlement
+  pub task : Task
+  pub listed : slice_get commands r.place ≡ Some task
+  pub asks : asked request ≡ of_task task
+  pub settled : slice_get (world stretch).wire.settled m ≡ Some (record { target = r.command.target; call = r.command.call; outcome = Answered line })
   pub made : (j : ℕ) × (slice_get (world stretch).wire.made j ≡ Some (record { number = m; line = line }))
-  pub reply : IsReplyTo ends IsFittingState command.call line
+  pub reply : IsReplyTo ends IsFittingState task.command.call line
   pub executed : WasExecuted (world stretch).wire.executed m
 
-abbrev pub IsOwnAnswer : List Command → List Part → List (Stretch State) → Record → Type 0
-IsOwnAnswer commands ps ss r = (line : List ℕ) → r.settlement.outcome ≡ Answered line → IsItsOwn commands ps ss r line
+abbrev pub IsOwnAnswer : List Task → List Part → List (Stretch State) → Record → Type 0
+IsOwnAnswer commands ps ss r = (line : List ℕ) → answer_of r.end ≡ Some line → IsItsOwn commands ps ss r line
 
 -- a stretch is faithful at any time of it
 abbrev pub IsFaithfulThroughout : Stretch State → Type 0
@@ -86,29 +89,30 @@ IsInTime s =
     ≡ Some (record { target = target; call = call; outcome = if gives_up deadline between then Late else Answered line })
 
 -- each act of a run means the steps that its parts are made of: a request that goes out is one whose line these bytes are, and so on
-abbrev pub AreMeant : Plan → List Command → Standing → List Act → Type 0
+abbrev pub AreMeant : Plan → List Task → Standing → List Act → Type 0
 AreMeant plan commands s [] = Unit {0}
 AreMeant plan commands s (act ∷ acts) =
     Means s.client s.rest act (acting plan commands s (order_at plan s) act).steps (after plan commands s act).rest × AreMeant plan commands (after plan commands s act) acts
 
 -- what is written down over stretches: how each command ended in its own; where the next one begins, what waits is lost
-abbrev pub written_over : List Part → List (Stretch State) → List Record
-written_over (p ∷ []) (s ∷ []) = records_of 0 p.marks (world s).wire.settled
-written_over (p ∷ q ∷ ps) (s ∷ t ∷ ss) =
-    records_of 0 p.marks ((world s).wire.settled ++ map lost (world s).client.waiting) ++ written_over (q ∷ ps) (t ∷ ss)
-written_over _ _ = []
+abbrev pub written_over : (Call → List ℕ → Reading) → List Part → List (Stretch State) → List Record
+written_over reads (p ∷ []) (s ∷ []) = records_of reads 0 p.marks (world s).wire.settled
+written_over reads (p ∷ q ∷ ps) (s ∷ t ∷ ss) =
+    records_of reads 0 p.marks ((world s).wire.settled ++ map lost (world s).client.waiting) ++ written_over reads (q ∷ ps) (t ∷ ss)
+written_over reads _ _ = []
 
 -- what holds of it
-pub record IsRunFaithful (plan : Plan) (commands : List Command) (turns : ℕ) (acts : List Act) (stretches : List (Stretch State)) : Type 0 where
+pub record IsRunFaithful (plan : Plan) (commands : List Task) (scope : Scope) (acts : List Act) (stretches : List (Stretch State)) : Type 0 where
   -- its own: the answer of each record was made for the request of that very cycle and place
-  pub own : AllByRecursion (IsOwnAnswer commands (parts_of plan commands (opening plan turns) acts) stretches) (stood plan commands turns acts).records
-  -- one for one: the records and what waits are the commands sent, in order, each once
-  pub one_for_one : EachOnce plan commands turns acts
-  -- the requests of the stretches are these commands, and null procedures; and the records are how they ended there, answered, late or lost
-  pub sent : AreSentAs commands (parts_of plan commands (opening plan turns) acts) stretches
-  pub written : map timeless (stood plan commands turns acts).records ≡ written_over (parts_of plan commands (opening plan turns) acts) stretches
+  pub own : AllByRecursion (IsOwnAnswer commands (parts_of plan commands (opening plan scope) acts) stretches) (stood plan commands scope acts).records
+  -- one for one: the records and what waits are the commands sent, and those written down without being sent, in order, each once
+  pub one_for_one : EachOnce plan commands scope acts
+  -- the requests of the stretches are these commands, and null procedures; and the records, but for those of commands that weren't sent, are
+  -- how they ended there, answered, late or lost
+  pub sent : AreSentAs commands (parts_of plan commands (opening plan scope) acts) stretches
+  pub written : map timeless (sent_of (stood plan commands scope acts).records) ≡ written_over scope.reads (parts_of plan commands (opening plan scope) acts) stretches
   -- the steps of a run are what its acts are to a client: the bytes that go out are the lines of these requests
-  pub meant : AreMeant plan commands (opening plan turns) acts
+  pub meant : AreMeant plan commands (opening plan scope) acts
   -- in time: the first reply to a request that comes unsettled is booked, and where its deadline was told before it is told as late
   pub in_time : AllByRecursion IsInTime stretches
   -- each stretch is faithful, and so acts once: between two starts of the instrument each request is executed at most once, in order
@@ -117,5 +121,5 @@ pub record IsRunFaithful (plan : Plan) (commands : List Command) (turns : ℕ) (
 -- for every plan, all commands, every run of the station, and all that the line and the instrument may do meanwhile
 abbrev pub RunsAreFaithful : Type 0
 RunsAreFaithful =
-    (plan : Plan) (commands : List Command) (turns : ℕ) (acts : List Act) (stretches : List (Stretch State)) → IsInField plan commands turns acts stretches →
-    IsRunFaithful plan commands turns acts stretches
+    (plan : Plan) (commands : List Task) (scope : Scope) (acts : List Act) (stretches : List (Stretch State)) → IsInField plan commands scope acts stretches →
+    IsRunFaithful plan commands scope acts stretches

@@ -1,16 +1,19 @@
 -- Some run is one in the field, this project's own: a command, asked over one connection and answered. So what is said of all such runs
 -- is said of some.
-use Rattle.std.specs.Prelude.{◌≡◌, ℕ, true, List, [], ◌∷◌, codes}
+use Rattle.std.specs.Prelude.{◌≡◌, ℕ, true, false, List, [], ◌∷◌, codes}
 use Rattle.gc_lines.specs.Lines.{with_end}
+use Rattle.gc_catalogue.specs.declared.answer.Answer.TheVariants.{Nothing}
+use Rattle.gc_catalogue.specs.declared.answer.Reading.TheVariants.{Value}
 use Rattle.gc_catalogue.specs.declared.call.Call.TheVariants.{NullProc, InstrumentNo}
-use Rattle.gc_client.specs.Rule.{Answered}
 use Rattle.gc_instrument.specs.State.{State, simulator_opening}
-use Rattle.gc_texts.specs.declared.commands.Command.{Command}
+use Rattle.gc_texts.specs.declared.tasks.Task.{Task}
+use Rattle.gc_texts.specs.Endings as end
 use Rattle.gc_station.specs.declared.link.Moment.{Moment}
 use Rattle.gc_station.specs.declared.plan.Plan.{Plan}
 use Rattle.gc_station.specs.Acts.{Act, Told, Put, Gave, Silent, Closed, Opened}
 use Rattle.gc_station.specs.Progressing.{is_over}
 use Rattle.gc_station.specs.Runs.{stood}
+use Rattle.gc_station.specs.Scopes.{Scope}
 use Rattle.gc_world.specs.World.{Up_deliver}
 use Rattle.gc_field.specs.Field.{Move, Sends, Tells, Comes, OnLine}
 use Rattle.gc_field.specs.Runs.{IsInField}
@@ -21,8 +24,12 @@ abbrev pub plan : Plan
 plan = record { width = 1; deadline = 100; every = 0; cycles = 1; quiet = 10; retries = 1 }
 
 -- a request for the instrument's number
-abbrev pub commands : List Command
-commands = record { target = 7; call = InstrumentNo } ∷ []
+abbrev pub commands : List Task
+commands = record { command = record { target = 7; call = InstrumentNo }; deadline = 100; chained = false } ∷ []
+
+-- at most twenty acts; what the replies say doesn't count here, since nothing waits for it
+abbrev pub scope : Scope
+scope = record { turns = 20; reads = λ call line. Value Nothing }
 
 abbrev pub at : ℕ → Moment
 at now = record { elapsed = now; utc = now }
@@ -75,11 +82,11 @@ stretches = record { state = simulator_opening; moves = moves } ∷ record { sta
 
 -- it is a run in the field, behind which no act follows, and has written the command's answer down
 pub record IsAnsweredInField : Type 0 where
-  pub field : IsInField plan commands 20 acts stretches
-  pub over : is_over (stood plan commands 20 acts).progress ≡ true
+  pub field : IsInField plan commands scope acts stretches
+  pub over : is_over (stood plan commands scope acts).progress ≡ true
   pub records :
-      (stood plan commands 20 acts).records
-      ≡ record { utc = 20; cycle = 1; place = 0; settlement = record { target = 7; call = InstrumentNo; outcome = Answered answer } } ∷ []
+      (stood plan commands scope acts).records
+      ≡ record { utc = 20; cycle = 1; place = 0; command = record { target = 7; call = InstrumentNo }; end = end.Answered answer } ∷ []
 
 abbrev pub SomeRunIsInField : Type 0
 SomeRunIsInField = IsAnsweredInField

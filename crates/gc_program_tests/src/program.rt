@@ -1,5 +1,6 @@
 //! What no clause says of the program: what a command line means, its printed texts, and a station over its ports.
 
+mod chains;
 mod closed;
 mod far_end;
 mod far_files;
@@ -8,5 +9,6 @@ mod keeping;
 mod measure;
 mod options;
 mod scenes;
+mod signs;
 mod station;
 mod words;

@@ -4,7 +4,7 @@ use Rattle.std.proofs.lemmas.Bool.{eqb-true}
 use Rattle.gc_lines.specs.Frames.{rest_behind}
 use Rattle.gc_client.specs.Rule.{ById, heard, hears, id_settled, place_in, expiring}
 use Rattle.gc_client.proofs.OneForOne.{heard_parts}
-use Rattle.gc_texts.specs.declared.commands.Command.{Command}
+use Rattle.gc_texts.specs.declared.tasks.Task.{Task}
 use Rattle.gc_station.specs.declared.link.Moment.{Moment}
 use Rattle.gc_station.specs.declared.mark.Mark.{Mark}
 use Rattle.gc_station.specs.declared.plan.Plan.{Plan}
@@ -45,20 +45,20 @@ fail_placed p rest next marks why false is other placed = record {
   finished = λ e. absurd (clash (is_done why) e other);
 }
 
-pub mid_fail : (plan : Plan) (commands : List Command) (s : Standing) (why : Cause) → is_done why ≡ false → Mid plan commands s → Mid plan commands (with_progress (failing why) s)
+pub mid_fail : (plan : Plan) (commands : List Task) (s : Standing) (why : Cause) → is_done why ≡ false → Mid plan commands s → Mid plan commands (with_progress (failing why) s)
 mid_fail plan commands s why other mid = (mid.0, fail_placed s.progress s.rest s.client.next s.marks why (is_up s.progress.phase) refl other mid.1)
 
 -- a moment
-pub mid_moment : (plan : Plan) (commands : List Command) (s : Standing) (m : Moment) → Mid plan commands s → Mid plan commands (with_moment m s)
+pub mid_moment : (plan : Plan) (commands : List Task) (s : Standing) (m : Moment) → Mid plan commands s → Mid plan commands (with_moment m s)
 mid_moment plan commands s m mid = (sound_moment plan commands s.progress.left s.progress.unsent s.client s.marks s.records m.elapsed mid.0, mid.1)
 
 -- the clock was read
-pub mid_tell : (plan : Plan) (commands : List Command) (f : Moment → Progress → Progress) (s : Standing) (act : Act) → Mid plan commands s → ((m : Moment) → Mid plan commands (with_progress (f m) s)) → Mid plan commands (after_tell f s act)
+pub mid_tell : (plan : Plan) (commands : List Task) (f : Moment → Progress → Progress) (s : Standing) (act : Act) → Mid plan commands s → ((m : Moment) → Mid plan commands (with_progress (f m) s)) → Mid plan commands (after_tell f s act)
 mid_tell plan commands f s (Told m) mid ok = mid_moment plan commands (with_progress (f m) s) m (ok m)
 mid_tell plan commands f s act mid ok = mid_fail plan commands s cause.Clock refl mid
 
 -- bytes were put
-pub mid_put : (plan : Plan) (commands : List Command) (requests : ℕ) (f : Standing → Standing) (s : Standing) (act : Act) → Mid plan commands (f s) → Mid plan commands (after_put requests f s act)
+pub mid_put : (plan : Plan) (commands : List Task) (requests : ℕ) (f : Standing → Standing) (s : Standing) (act : Act) → Mid plan commands (f s) → Mid plan commands (after_put requests f s act)
 mid_put plan commands requests f s (Cut bytes n) mid = mid_fail plan commands (f s) (cause.Write requests n) refl mid
 mid_put plan commands requests f s act mid = mid
 
@@ -106,12 +106,12 @@ placed_again plan n why p rest next marks other single none =
     again_placed why p.anew p.alone p.left p.unsent rest next marks (is_finished n p) (is_spared plan why p || nat_lt 0 p.tries) other single none (all_sent n p)
 
 -- a connection was asked for
-mid_unopened : (plan : Plan) (commands : List Command) (s : Standing) → s.progress.phase ≡ Down → Mid plan commands s → Mid plan commands (with_progress (again plan (commands_in s.marks) cause.Open) s)
+mid_unopened : (plan : Plan) (commands : List Task) (s : Standing) → s.progress.phase ≡ Down → Mid plan commands s → Mid plan commands (with_progress (again plan (commands_in s.marks) cause.Open) s)
 mid_unopened plan commands s is mid =
     let down : is_bare s.progress.phase ≡ true = ap is_bare is in
     (mid.0, placed_again plan (commands_in s.marks) cause.Open s.progress s.rest s.client.next s.marks refl (mid.1.bare down) (mid.1.empty down))
 
-mid_opened : (plan : Plan) (commands : List Command) (s : Standing) → s.progress.phase ≡ Down → Mid plan commands s → Mid plan commands (with_progress opened s)
+mid_opened : (plan : Plan) (commands : List Task) (s : Standing) → s.progress.phase ≡ Down → Mid plan commands s → Mid plan commands (with_progress opened s)
 mid_opened plan commands s is mid =
     let placed = mid.1 in
     let down : is_bare s.progress.phase ≡ true = ap is_bare is in (
@@ -127,7 +127,7 @@ mid_opened plan commands s is mid =
       },
     )
 
-pub mid_open : (plan : Plan) (commands : List Command) (s : Standing) (act : Act) → s.progress.phase ≡ Down → Mid plan commands s → Mid plan commands (after_open plan s act)
+pub mid_open : (plan : Plan) (commands : List Task) (s : Standing) (act : Act) → s.progress.phase ≡ Down → Mid plan commands s → Mid plan commands (after_open plan s act)
 mid_open plan commands s Opened is mid = mid_opened plan commands s is mid
 mid_open plan commands s act is mid = mid_unopened plan commands s is mid
 
@@ -165,7 +165,7 @@ close_placed plan w cause.End p next marks done begins = closed_placed plan w ca
 close_placed plan w (cause.Write n m) p next marks done begins = closed_placed plan w (cause.Write n m) p next marks (p.alone || p.anew) refl (first_false p.alone p.anew)
 close_placed plan w cause.Open p next marks done begins = closed_placed plan w cause.Open p next marks (p.alone || p.anew) refl (first_false p.alone p.anew)
 
-close_sound : (plan : Plan) (commands : List Command) (s : Standing) (w : Waiting) (why : Cause) → SoundAt plan commands s.progress s.client s.marks s.records → SoundAt plan commands (closed plan w why s.progress) s.client s.marks s.records
+close_sound : (plan : Plan) (commands : List Task) (s : Standing) (w : Waiting) (why : Cause) → SoundAt plan commands s.progress s.client s.marks s.records → SoundAt plan commands (closed plan w why s.progress) s.client s.marks s.records
 close_sound plan commands s w why sound = kept why where
   anew_kept : (why : Cause) (b : Bool) → SoundAt plan commands (closed_again plan w why b s.progress) s.client s.marks s.records
   anew_kept why true = sound
@@ -182,13 +182,13 @@ close_sound plan commands s w why sound = kept why where
   kept (cause.Write n m) = anew_kept (cause.Write n m) (begins_anew (cause.Write n m) s.progress)
   kept cause.Open = anew_kept cause.Open (begins_anew cause.Open s.progress)
 
-pub mid_close : (plan : Plan) (commands : List Command) (s : Standing) (why : Cause) → (why ≡ cause.Done → (s.progress.left ≡ 0) × (s.progress.unsent ≡ 0)) → Mid plan commands s → Mid plan commands (after_close plan why s)
+pub mid_close : (plan : Plan) (commands : List Task) (s : Standing) (why : Cause) → (why ≡ cause.Done → (s.progress.left ≡ 0) × (s.progress.unsent ≡ 0)) → Mid plan commands s → Mid plan commands (after_close plan why s)
 mid_close plan commands s why done mid =
     let w : Waiting = waiting_of (with_rest [] s) in
     (close_sound plan commands s w why mid.0, close_placed plan w why s.progress s.client.next s.marks done mid.1.begins)
 
 -- Lines are heard where requests go out.
-pub record Listening (plan : Plan) (commands : List Command) (s : Standing) : Type 0 where
+pub record Listening (plan : Plan) (commands : List Task) (s : Standing) : Type 0 where
   pub sound : SoundAt plan commands s.progress s.client s.marks s.records
   pub is_ready : s.progress.phase ≡ Ready
   pub begun : s.progress.anew ≡ false
@@ -211,19 +211,19 @@ same_next c line (Some id) = by_place (nat_lt (place_in c id) (length c.waiting)
   by_place true = refl
   by_place false = refl
 
-listen_line : (plan : Plan) (commands : List Command) (s : Standing) (line : List ℕ) → Listening plan commands s → Listening plan commands (line_came s line)
+listen_line : (plan : Plan) (commands : List Task) (s : Standing) (line : List ℕ) → Listening plan commands s → Listening plan commands (line_came s line)
 listen_line plan commands s line l =
     let p = s.progress in
     let x = hears s.client line (heard line) in
     let next : x.client.next ≡ s.client.next = same_next s.client line (heard line) in
     record {
-      sound = sound_settles plan commands p.left p.unsent s.client x.client s.marks s.records p.moment.utc x.settlements (heard_parts s.client line (heard line)) (subst (λ (n : ℕ). n < 8) (sym next) l.sound.digit) l.sound;
+      sound = sound_settles s.reads plan commands p.left p.unsent s.client x.client s.marks s.records p.moment.utc x.settlements (heard_parts s.client line (heard line)) (subst (λ (n : ℕ). n < 8) (sym next) l.sound.digit) l.sound;
       is_ready = l.is_ready;
       begun = l.begun;
       few = λ e. let it = l.few e in (few_left s.marks (length x.settlements) it.0, next ∙ it.1);
     }
 
-listen_lines : (plan : Plan) (commands : List Command) (s : Standing) (lines : List (List ℕ)) → Listening plan commands s → Listening plan commands (lines_came s lines)
+listen_lines : (plan : Plan) (commands : List Task) (s : Standing) (lines : List (List ℕ)) → Listening plan commands s → Listening plan commands (lines_came s lines)
 listen_lines plan commands s [] l = l
 listen_lines plan commands s (line ∷ others) l = listen_lines plan commands (line_came s line) others (listen_line plan commands s line l)
 
@@ -254,7 +254,7 @@ some_wait : (marks : List (Option Mark)) (n : ℕ) → length marks ≡ n → no
 some_wait marks n count some (inl e) = absurd (clash (not (nat_eq n 0)) some (ap (λ k. not (nat_eq k 0)) (sym count ∙ ap length e)))
 some_wait marks n count some (inr e) = e
 
-reckoned_ready : (plan : Plan) (commands : List Command) (s : Standing) (rested : Bool) (before : ℕ) → Listening plan commands s → Mid plan commands (reckoned plan rested before s)
+reckoned_ready : (plan : Plan) (commands : List Task) (s : Standing) (rested : Bool) (before : ℕ) → Listening plan commands s → Mid plan commands (reckoned plan rested before s)
 reckoned_ready plan commands s rested before l =
     let p = s.progress in
     let some = not (nat_eq (length s.client.waiting) 0) in (
@@ -272,7 +272,7 @@ reckoned_ready plan commands s rested before l =
       never_probing : (phase : Phase) → phase ≡ Ready → phase ≡ Probing → ⊥
       never_probing phase e g = let other : Ready ≡ Probing = sym e ∙ g in cc
 
-reckoned_came : (plan : Plan) (commands : List Command) (s : Standing) (rested : Bool) (before : ℕ) (h : Bool) (piece : List ℕ) → is_heard s.progress.phase ≡ h → Mid plan commands s → Mid plan commands (reckoned plan rested before (came h piece s))
+reckoned_came : (plan : Plan) (commands : List Task) (s : Standing) (rested : Bool) (before : ℕ) (h : Bool) (piece : List ℕ) → is_heard s.progress.phase ≡ h → Mid plan commands s → Mid plan commands (reckoned plan rested before (came h piece s))
 reckoned_came plan commands s rested before true piece is mid =
     let here = heard_ready s.progress.phase is in
     reckoned_ready plan commands (came true piece s) rested before (listen_lines plan commands (with_rest (rest_behind s.rest piece) s) (lines_behind s.rest piece) (record {
@@ -284,7 +284,7 @@ reckoned_came plan commands s rested before true piece is mid =
 reckoned_came plan commands s rested before false piece is mid =
     (mid.0, still_alone s.progress.phase s.progress.anew s.progress.alone (not (nat_eq (length s.client.waiting) 0)) s.progress.left s.progress.unsent s.rest s.client.next s.marks mid.1)
 
-pub mid_piece : (plan : Plan) (commands : List Command) (s : Standing) (rested : Bool) (piece : List ℕ) (m : Moment) → Mid plan commands s → Mid plan commands (piece_at plan rested piece m s)
+pub mid_piece : (plan : Plan) (commands : List Task) (s : Standing) (rested : Bool) (piece : List ℕ) (m : Moment) → Mid plan commands s → Mid plan commands (piece_at plan rested piece m s)
 mid_piece plan commands s rested piece m mid =
     reckoned_came plan commands (with_moment m (with_progress (told m) s)) rested (commands_in s.marks) (is_heard s.progress.phase) piece refl (mid_moment plan commands (with_progress (told m) s) m mid)
 
@@ -325,14 +325,14 @@ drained_placed false alone phase left unsent rest next marks is placed = record 
 }
 
 -- what is said of a standing, once it is this far
-abbrev MidAt : Plan → List Command → Standing → Progress → Type 0
+abbrev MidAt : Plan → List Task → Standing → Progress → Type 0
 MidAt plan commands s p = SoundAt plan commands p s.client s.marks s.records × PlacedAt p s.rest s.client.next s.marks
 
-drained_there : (plan : Plan) (commands : List Command) (s : Standing) (p : Progress) (b : Bool) → p.phase ≡ Draining → MidAt plan commands s p → MidAt plan commands s (if b then drained p else p)
+drained_there : (plan : Plan) (commands : List Task) (s : Standing) (p : Progress) (b : Bool) → p.phase ≡ Draining → MidAt plan commands s p → MidAt plan commands s (if b then drained p else p)
 drained_there plan commands s p true is mid = (mid.0, drained_placed p.anew p.alone p.phase p.left p.unsent s.rest s.client.next s.marks is mid.1)
 drained_there plan commands s p false is mid = mid
 
-quiet_there : (plan : Plan) (commands : List Command) (s : Standing) (phase : Phase) (p : Progress) → p.phase ≡ phase → MidAt plan commands s p → MidAt plan commands s (quieted plan phase p)
+quiet_there : (plan : Plan) (commands : List Task) (s : Standing) (phase : Phase) (p : Progress) → p.phase ≡ phase → MidAt plan commands s p → MidAt plan commands s (quieted plan phase p)
 quiet_there plan commands s Resting p is mid = (mid.0, down_placed (is_past p.pause p && not (is_resting plan p)) p.anew p.alone p.phase p.left p.unsent s.rest s.client.next s.marks is mid.1)
 quiet_there plan commands s Draining p is mid = drained_there plan commands s p (is_past (drain_of plan p) p) is mid
 quiet_there plan commands s Down p is mid = mid
@@ -342,12 +342,12 @@ quiet_there plan commands s Ready p is mid = mid
 quiet_there plan commands s (Closing why) p is mid = mid
 quiet_there plan commands s (Over why) p is mid = mid
 
-pub mid_silent : (plan : Plan) (commands : List Command) (s : Standing) (rested gave_up : Bool) (m : Moment) → Mid plan commands s → Mid plan commands (with_moment m (with_progress (λ p. waiting_on gave_up m (silent plan rested m p)) s))
+pub mid_silent : (plan : Plan) (commands : List Task) (s : Standing) (rested gave_up : Bool) (m : Moment) → Mid plan commands s → Mid plan commands (with_moment m (with_progress (λ p. waiting_on gave_up m (silent plan rested m p)) s))
 mid_silent plan commands s rested gave_up m mid =
     mid_moment plan commands (with_progress (λ p. waiting_on gave_up m (silent plan rested m p)) s) m (quiet_there plan commands s s.progress.phase (waited rested m s.progress) refl mid)
 
 -- what was read
-pub mid_read : (plan : Plan) (commands : List Command) (rested : Bool) (s : Standing) (act : Act) → Mid plan commands s → Mid plan commands (after_read plan rested s act)
+pub mid_read : (plan : Plan) (commands : List Task) (rested : Bool) (s : Standing) (act : Act) → Mid plan commands s → Mid plan commands (after_read plan rested s act)
 mid_read plan commands rested s (Gave bytes m) mid = mid_piece plan commands s rested bytes m mid
 mid_read plan commands rested s (Silent m) mid = mid_silent plan commands s rested (not (is_nil (expiring m.elapsed s.client.waiting))) m mid
 mid_read plan commands rested s Ended mid = mid_fail plan commands s cause.End refl mid

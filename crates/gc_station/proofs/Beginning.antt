@@ -6,7 +6,7 @@ use Rattle.gc_catalogue.specs.declared.call.Call.{Call}
 use Rattle.gc_catalogue.specs.declared.call.Call.TheVariants.{NullProc}
 use Rattle.gc_client.specs.OneForOne.{Step, Send, Hear, Expire, Restart}
 use Rattle.gc_client.specs.Rule.{heard}
-use Rattle.gc_texts.specs.declared.commands.Command.{Command}
+use Rattle.gc_texts.specs.declared.tasks.Task.{Task}
 use Rattle.gc_station.specs.declared.cause.Cause.{Cause}
 use Rattle.gc_station.specs.declared.cause.Cause.TheVariants as cause
 use Rattle.gc_station.specs.declared.link.Moment.{Moment}
@@ -91,7 +91,7 @@ pub record IsProbed (p : Part) (t : Standing) : Type 0 where
   pub alone : t.progress.alone ≡ true
   pub goes_on : is_over t.progress ≡ false
 
-module _ (plan : Plan) (commands : List Command) where
+module _ (plan : Plan) (commands : List Task) where
   abbrev Begins : Part → Standing → Type 0
   Begins p t = IsQuiet p t ⊎ IsProbed p t
 
@@ -208,6 +208,7 @@ module _ (plan : Plan) (commands : List Command) where
       → Begins (acting plan commands s o act) (moved plan commands o (with_progress turned s) act)
   begins_order s order.Tell act fine is obeys w = begins_tell s (λ m p. reckoned_early plan (commands_in s.marks) (told m p)) order.Tell act (λ m. refl) w obeys
   begins_order s order.Begin act fine is obeys w = begins_tell s (begun plan (length commands)) order.Begin act (λ m. refl) w obeys
+  begins_order s order.Skip act fine is obeys w = absurd (clash s.progress.anew w (fine.ready is.0))
   begins_order s order.Open act fine is obeys w = begins_open s order.Open act w obeys
   begins_order s order.Clear act fine is obeys w = begins_clear s act (10 ∷ []) w obeys
   begins_order s order.Probe act fine is obeys w = begins_probe s act (request_text s.client NullProc) obeys
@@ -261,6 +262,7 @@ module _ (plan : Plan) (commands : List Command) where
   no_request : (s : Standing) (o : Order) → Fine plan commands s → IsFor plan s.progress (waiting_of s) o → s.progress.alone ≡ true → s.progress.anew ≡ false → Passes (putting plan commands s o)
   no_request s order.Tell fine is w n = λ later h. h
   no_request s order.Begin fine is w n = λ later h. h
+  no_request s order.Skip fine is w n = λ later h. h
   no_request s order.Open fine is w n = λ later h. h
   no_request s order.Clear fine is w n = λ later h. h
   no_request s order.Probe fine is w n = absurd (clash s.progress.anew (fine.probing is.0) n)
@@ -276,6 +278,7 @@ module _ (plan : Plan) (commands : List Command) where
   gave_waits s order.Rest piece m obeys w = waits_piece s true (is_heard s.progress.phase) piece m w
   gave_waits s order.Tell piece m obeys w = absurd obeys
   gave_waits s order.Begin piece m obeys w = absurd obeys
+  gave_waits s order.Skip piece m obeys w = absurd obeys
   gave_waits s order.Open piece m obeys w = absurd obeys
   gave_waits s order.Clear piece m obeys w = absurd obeys
   gave_waits s order.Probe piece m obeys w = absurd obeys
@@ -307,6 +310,7 @@ module _ (plan : Plan) (commands : List Command) where
   closed_waits s (order.Close why) obeys w = closed_loses (waiting_of (with_rest [] (with_progress turned s))) why (turned s.progress) w
   closed_waits s order.Tell obeys w = absurd obeys
   closed_waits s order.Begin obeys w = absurd obeys
+  closed_waits s order.Skip obeys w = absurd obeys
   closed_waits s order.Open obeys w = absurd obeys
   closed_waits s order.Clear obeys w = absurd obeys
   closed_waits s order.Probe obeys w = absurd obeys

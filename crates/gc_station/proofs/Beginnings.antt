@@ -7,7 +7,7 @@ use Rattle.gc_lines.specs.Frames.{frame_of, line_in, lines, pieces_behind, rest_
 use Rattle.gc_lines.proofs.Cutting.{pieces-append, rest-append}
 use Rattle.gc_catalogue.specs.declared.call.Call.TheVariants.{NullProc}
 use Rattle.gc_client.specs.Rule.{ById, heard}
-use Rattle.gc_texts.specs.declared.commands.Command.{Command}
+use Rattle.gc_texts.specs.declared.tasks.Task.{Task}
 use Rattle.gc_station.specs.declared.link.Moment.{Moment}
 use Rattle.gc_station.specs.declared.plan.Plan.{Plan}
 use Rattle.gc_station.specs.declared.cause.Cause.{Cause}
@@ -40,6 +40,7 @@ use Rattle.gc_station.proofs.Lists.{all_append}
 use Rattle.gc_station.proofs.Midway.{clash}
 use Rattle.gc_station.proofs.Probing.{Comes, Goes, alone_moved, alone_fine, over_stops}
 use Rattle.gc_station.proofs.Quiets.{stage_in, stage_stood, not_telling, not_opening, not_reading, not_clearing, not_closing}
+use Rattle.gc_station.specs.Scopes.{Scope}
 
 -- While it begins anew it goes on doing so, until the null procedure goes out.
 
@@ -183,7 +184,7 @@ calm_reading Broke o = record { open_ = tt; stays = tt; none = λ e. e }
 calm_reading act o = absurd o
 
 -- while it waits and there is a connection, only a close is no such act
-lone_act : (commands : List Command) (plan : Plan) (next : Order) (s : Standing) (act : Act) → Obeys commands s next act → IsFor plan s.progress (waiting_of s) next → s.progress.phase ≡ phase.Ready → s.progress.alone ≡ true
+lone_act : (commands : List Task) (plan : Plan) (next : Order) (s : Standing) (act : Act) → Obeys commands s next act → IsFor plan s.progress (waiting_of s) next → s.progress.phase ≡ phase.Ready → s.progress.alone ≡ true
     → ((why : Cause) × (next ≡ orders.Close why) × (act ≡ Closed)) ⊎ IsCalm act
 lone_act commands plan orders.Tell s act o needs is alone = inr (calm_telling act o)
 lone_act commands plan orders.Begin s act o needs is alone = absurd (clash s.progress.alone alone needs.1)
@@ -191,6 +192,7 @@ lone_act commands plan orders.Open s act o needs is alone = let other : phase.Re
 lone_act commands plan orders.Clear s act o needs is alone = let other : phase.Ready ≡ phase.Clearing = sym is ∙ needs in cc
 lone_act commands plan orders.Probe s act o needs is alone = let other : phase.Ready ≡ phase.Probing = sym is ∙ needs.0 in cc
 lone_act commands plan orders.Send s act o needs is alone = absurd (clash s.progress.alone alone needs.1)
+lone_act commands plan orders.Skip s act o needs is alone = absurd (clash s.progress.alone alone needs.1)
 lone_act commands plan orders.Flush s act o needs is alone = absurd (clash s.progress.alone alone needs.1)
 lone_act commands plan orders.Read s act o needs is alone = inr (calm_reading act o)
 lone_act commands plan orders.Rest s act o needs is alone = inr (calm_reading act o)
@@ -250,7 +252,7 @@ lone_put requests f s (Cut out n) acts heard rest o none left is alone = record 
   cut false there = cc
 lone_put requests f s act acts heard rest o none left is alone = absurd o
 
-anew_moved : (plan : Plan) (commands : List Command) (next : Order) (s : Standing) (act : Act) (acts : List Act) (rest : List ℕ) → Obeys commands s next act → IsFor plan s.progress (waiting_of s) next → Fine plan commands s → s.progress.anew ≡ true
+anew_moved : (plan : Plan) (commands : List Task) (next : Order) (s : Standing) (act : Act) (acts : List Act) (rest : List ℕ) → Obeys commands s next act → IsFor plan s.progress (waiting_of s) next → Fine plan commands s → s.progress.anew ≡ true
     → rest ≡ rest_with (is_heard s.progress.phase) act s.rest → Begun (moved plan commands next (with_progress turned s) act).progress rest (acts ++ act ∷ [])
 anew_moved plan commands orders.Tell s act acts rest o needs fine d left = inl (anew_tell (λ (m : Moment) (p : Progress). reckoned_early plan (commands_in s.marks) (told m p)) (with_progress turned s) act (λ m. d) d)
 anew_moved plan commands orders.Begin s act acts rest o needs fine d left = absurd (clash s.progress.anew d (fine.ready needs.0))
@@ -261,6 +263,7 @@ anew_moved plan commands orders.Probe s act acts rest o needs fine d left =
     let puts = subst (λ (c : ById). Puts (request_text c NullProc) act) (fine.anew d).0 o in
     inr (inl (lone_put _ (λ (x : Standing). with_progress probed (asks_null plan x)) (with_progress turned s) act acts (is_heard s.progress.phase) rest puts none left refl refl))
 anew_moved plan commands orders.Send s act acts rest o needs fine d left = absurd (clash s.progress.anew d (fine.ready needs.0))
+anew_moved plan commands orders.Skip s act acts rest o needs fine d left = absurd (clash s.progress.anew d (fine.ready needs.0))
 anew_moved plan commands orders.Flush s act acts rest o needs fine d left = absurd (clash s.progress.anew d (fine.ready needs.0))
 anew_moved plan commands orders.Read s act acts rest o needs fine d left = inl (anew_read plan false (with_progress turned s) act d)
 anew_moved plan commands orders.Rest s act acts rest o needs fine d left = inl (anew_read plan true (with_progress turned s) act d)
@@ -284,7 +287,7 @@ lone_more s act acts at alone rest calm ready is left l =
     }
 
 -- a close before it is answered
-lone_closed : (plan : Plan) (commands : List Command) (s : Standing) (act : Act) (acts : List Act) (why : Cause) (rest : List ℕ) → order_at plan s ≡ orders.Close why → s.progress.alone ≡ true
+lone_closed : (plan : Plan) (commands : List Task) (s : Standing) (act : Act) (acts : List Act) (why : Cause) (rest : List ℕ) → order_at plan s ≡ orders.Close why → s.progress.alone ≡ true
     → Begun (moved plan commands (order_at plan s) (with_progress turned s) act).progress rest (acts ++ act ∷ [])
 lone_closed plan commands s act acts why rest is alone =
     subst (λ (next : Order). Begun (moved plan commands next (with_progress turned s) act).progress rest (acts ++ act ∷ [])) (sym is) (on (lone_close plan (waiting_of s) why (turned s.progress) alone)) where
@@ -293,7 +296,7 @@ lone_closed plan commands s act acts why rest is alone =
       on (inl anew) = inl anew
       on (inr over) = inr (inr (inl over))
 
-lone_moved : (plan : Plan) (commands : List Command) (s : Standing) (act : Act) (acts : List Act) (rest : List ℕ) → Obeys commands s (order_at plan s) act → Fine plan commands s
+lone_moved : (plan : Plan) (commands : List Task) (s : Standing) (act : Act) (acts : List Act) (rest : List ℕ) → Obeys commands s (order_at plan s) act → Fine plan commands s
     → rest ≡ rest_with (is_heard s.progress.phase) act s.rest → IsLone s.progress.phase s.progress.alone s.rest acts
     → Begun (moved plan commands (order_at plan s) (with_progress turned s) act).progress rest (acts ++ act ∷ [])
 lone_moved plan commands s act acts rest o fine left l = by_phase (lone_at s.progress.phase s.progress.alone fine.bare l.is) where
@@ -315,7 +318,7 @@ lone_moved plan commands s act acts rest o fine left l = by_phase (lone_at s.pro
   by_phase (inr (inl closing)) = lone_closed plan commands s act acts closing.0 rest (ap (λ (x : Phase). order_in x plan s.progress (waiting_of s)) closing.1) l.is
   by_phase (inr (inr over)) = absurd (over_stops plan commands s act o over.0 over.1)
 
-begun_moved : (plan : Plan) (commands : List Command) (s : Standing) (act : Act) (acts : List Act) (rest : List ℕ) → Obeys commands s (order_at plan s) act → Fine plan commands s
+begun_moved : (plan : Plan) (commands : List Task) (s : Standing) (act : Act) (acts : List Act) (rest : List ℕ) → Obeys commands s (order_at plan s) act → Fine plan commands s
     → rest ≡ rest_with (is_heard s.progress.phase) act s.rest → Begun s.progress s.rest acts
     → Begun (moved plan commands (order_at plan s) (with_progress turned s) act).progress rest (acts ++ act ∷ [])
 begun_moved plan commands s act acts rest o fine left (inl anew) = anew_moved plan commands (order_at plan s) s act acts rest o (order_for plan s.progress (waiting_of s)) fine anew left
@@ -323,7 +326,7 @@ begun_moved plan commands s act acts rest o fine left (inr (inl l)) = lone_moved
 begun_moved plan commands s act acts rest o fine left (inr (inr (inl over))) = absurd (over_stops plan commands s act o over.0 over.1)
 begun_moved plan commands s act acts rest o fine left (inr (inr (inr a))) = inr (inr (inr (answered_more acts act a)))
 
-begun_after : (plan : Plan) (commands : List Command) (s : Standing) (act : Act) (acts : List Act) → Obeys commands s (order_at plan s) act → Fine plan commands s → Begun s.progress s.rest acts
+begun_after : (plan : Plan) (commands : List Task) (s : Standing) (act : Act) (acts : List Act) → Obeys commands s (order_at plan s) act → Fine plan commands s → Begun s.progress s.rest acts
     → Begun (after plan commands s act).progress (after plan commands s act).rest (acts ++ act ∷ [])
 begun_after plan commands s act acts o fine b =
     let t = moved plan commands (order_at plan s) (with_progress turned s) act in
@@ -332,24 +335,24 @@ begun_after plan commands s act acts o fine b =
 
 -- Whole runs.
 
-begun_stood : (plan : Plan) (commands : List Command) (turns : ℕ) (earlier between : List Act) → (stood plan commands turns earlier).progress.anew ≡ true → Runs plan commands (stood plan commands turns earlier) between
-    → Begun (stood plan commands turns (earlier ++ between)).progress (stood plan commands turns (earlier ++ between)).rest between
-begun_stood plan commands turns earlier between anew runs =
-    subst (λ (s : Standing). Begun s.progress s.rest between) (sym (after_all-append plan commands (opening plan turns) earlier between))
-    (along plan commands (stood plan commands turns earlier)
-    (λ (xs : List Act). Begun (after_all plan commands (stood plan commands turns earlier) xs).progress (after_all plan commands (stood plan commands turns earlier) xs).rest xs) step [] between runs (inl anew)) where
-      step : (done later : List Act) (act : Act) → Runs plan commands (stood plan commands turns earlier) (done ++ act ∷ later)
-          → Begun (after_all plan commands (stood plan commands turns earlier) done).progress (after_all plan commands (stood plan commands turns earlier) done).rest done
-          → Begun (after_all plan commands (stood plan commands turns earlier) (done ++ act ∷ [])).progress (after_all plan commands (stood plan commands turns earlier) (done ++ act ∷ [])).rest (done ++ act ∷ [])
+begun_stood : (plan : Plan) (commands : List Task) (scope : Scope) (earlier between : List Act) → (stood plan commands scope earlier).progress.anew ≡ true → Runs plan commands (stood plan commands scope earlier) between
+    → Begun (stood plan commands scope (earlier ++ between)).progress (stood plan commands scope (earlier ++ between)).rest between
+begun_stood plan commands scope earlier between anew runs =
+    subst (λ (s : Standing). Begun s.progress s.rest between) (sym (after_all-append plan commands (opening plan scope) earlier between))
+    (along plan commands (stood plan commands scope earlier)
+    (λ (xs : List Act). Begun (after_all plan commands (stood plan commands scope earlier) xs).progress (after_all plan commands (stood plan commands scope earlier) xs).rest xs) step [] between runs (inl anew)) where
+      step : (done later : List Act) (act : Act) → Runs plan commands (stood plan commands scope earlier) (done ++ act ∷ later)
+          → Begun (after_all plan commands (stood plan commands scope earlier) done).progress (after_all plan commands (stood plan commands scope earlier) done).rest done
+          → Begun (after_all plan commands (stood plan commands scope earlier) (done ++ act ∷ [])).progress (after_all plan commands (stood plan commands scope earlier) (done ++ act ∷ [])).rest (done ++ act ∷ [])
       step done later act runs b =
-          let from = stood plan commands turns earlier in
+          let from = stood plan commands scope earlier in
           let s = after_all plan commands from done in
-          let fine = subst (λ (x : Standing). Fine plan commands x) (after_all-append plan commands (opening plan turns) earlier done) (fine_stood plan commands turns (earlier ++ done)) in
+          let fine = subst (λ (x : Standing). Fine plan commands x) (after_all-append plan commands (opening plan scope) earlier done) (fine_stood plan commands scope (earlier ++ done)) in
           subst (λ (x : Standing). Begun x.progress x.rest (done ++ act ∷ [])) (sym (after_all-append plan commands from done (act ∷ [])))
           (begun_after plan commands s act done (runs_split plan commands from done later act runs).1 fine b)
 
 -- the request that goes out where it begins anew
-pub first_act : (plan : Plan) (commands : List Command) (next : Order) (s : Standing) (act : Act) → Obeys commands s next act → IsRequest act → IsFor plan s.progress (waiting_of s) next → Fine plan commands s → s.progress.anew ≡ true
+pub first_act : (plan : Plan) (commands : List Task) (next : Order) (s : Standing) (act : Act) → Obeys commands s next act → IsRequest act → IsFor plan s.progress (waiting_of s) next → Fine plan commands s → s.progress.anew ≡ true
     → (s.progress.phase ≡ phase.Probing) × Puts null_text act
 first_act plan commands orders.Tell s act o asks needs fine d = absurd (not_telling act o asks)
 first_act plan commands orders.Begin s act o asks needs fine d = absurd (not_telling act o asks)
@@ -357,6 +360,7 @@ first_act plan commands orders.Open s act o asks needs fine d = absurd (not_open
 first_act plan commands orders.Clear s act o asks needs fine d = absurd (not_clearing act o asks)
 first_act plan commands orders.Probe s act o asks needs fine d = (needs.0, subst (λ (c : ById). Puts (request_text c NullProc) act) (fine.anew d).0 o)
 first_act plan commands orders.Send s act o asks needs fine d = absurd (clash s.progress.anew d (fine.ready needs.0))
+first_act plan commands orders.Skip s act o asks needs fine d = absurd (not_telling act o asks)
 first_act plan commands orders.Flush s act o asks needs fine d = absurd (clash s.progress.anew d (fine.ready needs.0))
 first_act plan commands orders.Read s act o asks needs fine d = absurd (not_reading act o asks)
 first_act plan commands orders.Rest s act o asks needs fine d = absurd (not_reading act o asks)
@@ -364,7 +368,7 @@ first_act plan commands (orders.Close why) s act o asks needs fine d = absurd (n
 first_act plan commands (orders.Stop why) s act o asks needs fine d = absurd o
 
 -- none goes out while it waits
-lone_none : (plan : Plan) (commands : List Command) (s : Standing) (act : Act) (acts : List Act) → Obeys commands s (order_at plan s) act → IsRequest act → Fine plan commands s → IsLone s.progress.phase s.progress.alone s.rest acts → ⊥
+lone_none : (plan : Plan) (commands : List Task) (s : Standing) (act : Act) (acts : List Act) → Obeys commands s (order_at plan s) act → IsRequest act → Fine plan commands s → IsLone s.progress.phase s.progress.alone s.rest acts → ⊥
 lone_none plan commands s act acts o asks fine l = by_phase (lone_at s.progress.phase s.progress.alone fine.bare l.is) where
   acts_on : (((why : Cause) × (order_at plan s ≡ orders.Close why) × (act ≡ Closed)) ⊎ IsCalm act) → ⊥
   acts_on (inl closes) = not_closing act closes.2 asks
@@ -375,21 +379,21 @@ lone_none plan commands s act acts o asks fine l = by_phase (lone_at s.progress.
   by_phase (inr (inl closing)) = not_closing act (subst (λ (x : Phase). Obeys commands s (order_in x plan s.progress (waiting_of s)) act) closing.1 o) asks
   by_phase (inr (inr over)) = over_stops plan commands s act o over.0 over.1
 
-pub runs_behind : (plan : Plan) (commands : List Command) (s : Standing) (xs ys : List Act) → Runs plan commands s (xs ++ ys) → Runs plan commands (after_all plan commands s xs) ys
+pub runs_behind : (plan : Plan) (commands : List Task) (s : Standing) (xs ys : List Act) → Runs plan commands s (xs ++ ys) → Runs plan commands (after_all plan commands s xs) ys
 runs_behind plan commands s [] ys runs = runs
 runs_behind plan commands s (x ∷ xs) ys runs = runs_behind plan commands (after plan commands s x) xs ys runs.1
 
-pub beginning_answered : (plan : Plan) (commands : List Command) (turns : ℕ) (earlier between later : List Act) (act : Act) → plan.quiet ≤ 18446744073709551615 → Runs plan commands (opening plan turns) ((earlier ++ between) ++ act ∷ later)
-    → (stood plan commands turns earlier).progress.anew ≡ true → IsRequest act → IsFirst plan.quiet (earlier ++ between) act ⊎ IsAnsweredAmong between
-beginning_answered plan commands turns earlier between later act small runs anew asks = by_case (begun_stood plan commands turns earlier between anew (runs_behind plan commands (opening plan turns) earlier between split.0)) where
-  split : Runs plan commands (opening plan turns) (earlier ++ between) × Obeys commands (stood plan commands turns (earlier ++ between)) (order_at plan (stood plan commands turns (earlier ++ between))) act
-  split = runs_split plan commands (opening plan turns) (earlier ++ between) later act runs
+pub beginning_answered : (plan : Plan) (commands : List Task) (scope : Scope) (earlier between later : List Act) (act : Act) → plan.quiet ≤ 18446744073709551615 → Runs plan commands (opening plan scope) ((earlier ++ between) ++ act ∷ later)
+    → (stood plan commands scope earlier).progress.anew ≡ true → IsRequest act → IsFirst plan.quiet (earlier ++ between) act ⊎ IsAnsweredAmong between
+beginning_answered plan commands scope earlier between later act small runs anew asks = by_case (begun_stood plan commands scope earlier between anew (runs_behind plan commands (opening plan scope) earlier between split.0)) where
+  split : Runs plan commands (opening plan scope) (earlier ++ between) × Obeys commands (stood plan commands scope (earlier ++ between)) (order_at plan (stood plan commands scope (earlier ++ between))) act
+  split = runs_split plan commands (opening plan scope) (earlier ++ between) later act runs
 
-  by_case : Begun (stood plan commands turns (earlier ++ between)).progress (stood plan commands turns (earlier ++ between)).rest between → IsFirst plan.quiet (earlier ++ between) act ⊎ IsAnsweredAmong between
+  by_case : Begun (stood plan commands scope (earlier ++ between)).progress (stood plan commands scope (earlier ++ between)).rest between → IsFirst plan.quiet (earlier ++ between) act ⊎ IsAnsweredAmong between
   by_case (inl anew) =
-      let s = stood plan commands turns (earlier ++ between) in
-      let it = first_act plan commands (order_at plan s) s act split.1 asks (order_for plan s.progress (waiting_of s)) (fine_stood plan commands turns (earlier ++ between)) anew in
-      inl (it.1, stage_in plan.quiet s.progress phase.Probing (earlier ++ between) it.0 (stage_stood plan commands turns (earlier ++ between) small split.0))
-  by_case (inr (inl l)) = absurd (lone_none plan commands (stood plan commands turns (earlier ++ between)) act between split.1 asks (fine_stood plan commands turns (earlier ++ between)) l)
-  by_case (inr (inr (inl over))) = absurd (over_stops plan commands (stood plan commands turns (earlier ++ between)) act split.1 over.0 over.1)
+      let s = stood plan commands scope (earlier ++ between) in
+      let it = first_act plan commands (order_at plan s) s act split.1 asks (order_for plan s.progress (waiting_of s)) (fine_stood plan commands scope (earlier ++ between)) anew in
+      inl (it.1, stage_in plan.quiet s.progress phase.Probing (earlier ++ between) it.0 (stage_stood plan commands scope (earlier ++ between) small split.0))
+  by_case (inr (inl l)) = absurd (lone_none plan commands (stood plan commands scope (earlier ++ between)) act between split.1 asks (fine_stood plan commands scope (earlier ++ between)) l)
+  by_case (inr (inr (inl over))) = absurd (over_stops plan commands (stood plan commands scope (earlier ++ between)) act split.1 over.0 over.1)
   by_case (inr (inr (inr a))) = inr a

@@ -1,19 +1,21 @@
 -- What is written down of a client's steps: how each request ended, by its mark.
-use Rattle.std.proofs.Common.{◌≡◌, ℕ, zero, suc, ◌+◌, ◌<◌, ◌≤◌, false, List, [], ◌∷◌, ◌++◌, length, map, drop, Option, Some, None, refl, sym, ◌∙◌, ap, subst, arith, append_assoc, append-nil}
+use Rattle.std.proofs.Common.{◌≡◌, ℕ, zero, suc, ◌+◌, ◌<◌, ◌≤◌, Bool, true, false, List, [], ◌∷◌, ◌++◌, length, map, drop, Option, Some, None, refl, sym, ◌∙◌, ap, subst, arith, append_assoc, append-nil}
 use Rattle.std.specs.Prelude.{slice_get}
 use Rattle.std.specs.List.{AllByRecursion}
 use Rattle.std.proofs.lemmas.List.{length-map, length-append, map-append}
 use Rattle.std.proofs.lemmas.Bool.{ne_eqb}
+use Rattle.gc_catalogue.specs.declared.answer.Reading.{Reading}
 use Rattle.gc_catalogue.specs.declared.call.Call.{Call}
+use Rattle.gc_catalogue.specs.declared.answer.Reading.TheVariants as kind
 use Rattle.gc_client.specs.OneForOne.{Asked, Course, Step, Send, Hear, Expire, Restart, sent_on, goes, course, of_settled, of_pending}
-use Rattle.gc_client.specs.Rule.{ById, Sending, Settlement, fresh, heard, hears, expires, lost, id_send, sends}
+use Rattle.gc_client.specs.Rule.{ById, Outcome, Answered, Late, Lost, Sending, Settlement, fresh, heard, hears, expires, lost, id_send, sends}
 use Rattle.gc_client.proofs.OneForOne.{heard_parts, lost_parts}
-use Rattle.gc_texts.specs.declared.commands.Command.{Command}
+use Rattle.gc_texts.specs.declared.tasks.Task.{Task}
 use Rattle.gc_station.specs.declared.mark.Mark.{Mark}
-use Rattle.gc_station.specs.Marks.{record_of, records_of}
+use Rattle.gc_station.specs.Marks.{answer_as, end_of, record_of, records_of}
 use Rattle.gc_station.specs.Records.{Record}
 use Rattle.gc_station.specs.Standing.{client_sent}
-use Rattle.gc_station.specs.Parts.{Part, only, nothing, joined, asking, IsOf, AreOf, timeless}
+use Rattle.gc_station.specs.Parts.{Part, only, nothing, joined, asking, IsOf, AreOf, went_out, sent_with, sent_of, timeless}
 
 -- Steps.
 
@@ -104,44 +106,75 @@ drop_twice [] ts xs = refl
 drop_twice (s ∷ ss) ts [] = drop_none (length ts) [] refl
 drop_twice (s ∷ ss) ts (x ∷ xs) = drop_twice ss ts xs
 
-pub records_none : (utc : ℕ) (ms : List (Option Mark)) → records_of utc ms [] ≡ []
-records_none utc [] = refl
-records_none utc (m ∷ ms) = refl
+pub records_none : (reads : Call → List ℕ → Reading) (utc : ℕ) (ms : List (Option Mark)) → records_of reads utc ms [] ≡ []
+records_none reads utc [] = refl
+records_none reads utc (m ∷ ms) = refl
 
-records_timeless : (utc : ℕ) (ms : List (Option Mark)) (ss : List Settlement) → map timeless (records_of utc ms ss) ≡ records_of 0 ms ss
-records_timeless utc [] ss = refl
-records_timeless utc (m ∷ ms) [] = refl
-records_timeless utc (None ∷ ms) (s ∷ ss) = records_timeless utc ms ss
-records_timeless utc (Some mark ∷ ms) (s ∷ ss) = ap (λ rs. record_of 0 mark s ∷ rs) (records_timeless utc ms ss)
+records_timeless : (reads : Call → List ℕ → Reading) (utc : ℕ) (ms : List (Option Mark)) (ss : List Settlement) → map timeless (records_of reads utc ms ss) ≡ records_of reads 0 ms ss
+records_timeless reads utc [] ss = refl
+records_timeless reads utc (m ∷ ms) [] = refl
+records_timeless reads utc (None ∷ ms) (s ∷ ss) = records_timeless reads utc ms ss
+records_timeless reads utc (Some mark ∷ ms) (s ∷ ss) = ap (λ rs. record_of reads 0 mark s ∷ rs) (records_timeless reads utc ms ss)
 
-records_append : (ms : List (Option Mark)) (ss ts : List Settlement) → records_of 0 ms (ss ++ ts) ≡ records_of 0 ms ss ++ records_of 0 (drop (length ss) ms) ts
-records_append [] [] ts = refl
-records_append [] (s ∷ ss) ts = refl
-records_append (m ∷ ms) [] ts = refl
-records_append (None ∷ ms) (s ∷ ss) ts = records_append ms ss ts
-records_append (Some mark ∷ ms) (s ∷ ss) ts = ap (λ rs. record_of 0 mark s ∷ rs) (records_append ms ss ts)
+records_append : (reads : Call → List ℕ → Reading) (ms : List (Option Mark)) (ss ts : List Settlement) → records_of reads 0 ms (ss ++ ts) ≡ records_of reads 0 ms ss ++ records_of reads 0 (drop (length ss) ms) ts
+records_append reads [] [] ts = refl
+records_append reads [] (s ∷ ss) ts = refl
+records_append reads (m ∷ ms) [] ts = refl
+records_append reads (None ∷ ms) (s ∷ ss) ts = records_append reads ms ss ts
+records_append reads (Some mark ∷ ms) (s ∷ ss) ts = ap (λ rs. record_of reads 0 mark s ∷ rs) (records_append reads ms ss ts)
 
 -- marks of later requests don't count
-records_more : (ms more : List (Option Mark)) (ss : List Settlement) → length ss ≤ length ms → records_of 0 (ms ++ more) ss ≡ records_of 0 ms ss
-records_more [] more [] le = records_none 0 more
-records_more [] more (s ∷ ss) le = absurd (omega (arith, le))
-records_more (m ∷ ms) more [] le = refl
-records_more (None ∷ ms) more (s ∷ ss) le = records_more ms more ss (omega (arith, le))
-records_more (Some mark ∷ ms) more (s ∷ ss) le = ap (λ rs. record_of 0 mark s ∷ rs) (records_more ms more ss (omega (arith, le)))
+records_more : (reads : Call → List ℕ → Reading) (ms more : List (Option Mark)) (ss : List Settlement) → length ss ≤ length ms → records_of reads 0 (ms ++ more) ss ≡ records_of reads 0 ms ss
+records_more reads [] more [] le = records_none reads 0 more
+records_more reads [] more (s ∷ ss) le = absurd (omega (arith, le))
+records_more reads (m ∷ ms) more [] le = refl
+records_more reads (None ∷ ms) more (s ∷ ss) le = records_more reads ms more ss (omega (arith, le))
+records_more reads (Some mark ∷ ms) more (s ∷ ss) le = ap (λ rs. record_of reads 0 mark s ∷ rs) (records_more reads ms more ss (omega (arith, le)))
 
-pub of_append : (commands : List Command) (ms ns : List (Option Mark)) (xs ys : List Asked) → AreOf commands ms xs → AreOf commands ns ys → AreOf commands (ms ++ ns) (xs ++ ys)
+-- those that are of settlements went out, all of them
+end_sent : (reading : Reading) (line : List ℕ) → went_out (answer_as reading line) ≡ true
+end_sent (kind.Value answer) line = refl
+end_sent (kind.Refused code) line = refl
+end_sent (kind.ComFault code) line = refl
+end_sent (kind.Unreadable fault) line = refl
+
+ended_sent : (reads : Call → List ℕ → Reading) (call : Call) (o : Outcome) → went_out (end_of reads call o) ≡ true
+ended_sent reads call (Answered line) = end_sent (reads call line) line
+ended_sent reads call Late = refl
+ended_sent reads call Lost = refl
+
+records_sent : (reads : Call → List ℕ → Reading) (utc : ℕ) (ms : List (Option Mark)) (ss : List Settlement) → sent_of (records_of reads utc ms ss) ≡ records_of reads utc ms ss
+records_sent reads utc [] ss = refl
+records_sent reads utc (m ∷ ms) [] = refl
+records_sent reads utc (None ∷ ms) (s ∷ ss) = records_sent reads utc ms ss
+records_sent reads utc (Some mark ∷ ms) (s ∷ ss) =
+    let r = record_of reads utc mark s in
+    ap (λ (b : Bool). sent_with b r (sent_of (records_of reads utc ms ss))) (ended_sent reads s.call s.outcome) ∙ ap (λ rs. r ∷ rs) (records_sent reads utc ms ss)
+
+sent_more : (b : Bool) (r : Record) (xs ys : List Record) → sent_with b r (xs ++ ys) ≡ sent_with b r xs ++ ys
+sent_more true r xs ys = refl
+sent_more false r xs ys = refl
+
+pub sent_both : (xs ys : List Record) → sent_of (xs ++ ys) ≡ sent_of xs ++ sent_of ys
+sent_both [] ys = refl
+sent_both (r ∷ xs) ys = ap (sent_with (went_out r.end) r) (sent_both xs ys) ∙ sent_more (went_out r.end) r (sent_of xs) (sent_of ys)
+
+pub sent_records : (reads : Call → List ℕ → Reading) (rs : List Record) (utc : ℕ) (ms : List (Option Mark)) (ss : List Settlement) → sent_of (rs ++ records_of reads utc ms ss) ≡ sent_of rs ++ records_of reads utc ms ss
+sent_records reads rs utc ms ss = sent_both rs (records_of reads utc ms ss) ∙ ap (λ xs. sent_of rs ++ xs) (records_sent reads utc ms ss)
+
+pub of_append : (commands : List Task) (ms ns : List (Option Mark)) (xs ys : List Asked) → AreOf commands ms xs → AreOf commands ns ys → AreOf commands (ms ++ ns) (xs ++ ys)
 of_append commands [] ns [] ys h g = g
 of_append commands [] ns (x ∷ xs) ys h g = absurd h
 of_append commands (m ∷ ms) ns [] ys h g = absurd h
 of_append commands (m ∷ ms) ns (x ∷ xs) ys h g = (h.0, of_append commands ms ns xs ys h.1 g)
 
-pub of_length : (commands : List Command) (ms : List (Option Mark)) (xs : List Asked) → AreOf commands ms xs → length ms ≡ length xs
+pub of_length : (commands : List Task) (ms : List (Option Mark)) (xs : List Asked) → AreOf commands ms xs → length ms ≡ length xs
 of_length commands [] [] h = refl
 of_length commands [] (x ∷ xs) h = absurd h
 of_length commands (m ∷ ms) [] h = absurd h
 of_length commands (m ∷ ms) (x ∷ xs) h = ap suc (of_length commands ms xs h.1)
 
-pub of_at : (commands : List Command) (ms : List (Option Mark)) (xs : List Asked) (n : ℕ) (mark : Option Mark) → AreOf commands ms xs → slice_get ms n ≡ Some mark → (a : Asked) × (slice_get xs n ≡ Some a) × IsOf commands mark a
+pub of_at : (commands : List Task) (ms : List (Option Mark)) (xs : List Asked) (n : ℕ) (mark : Option Mark) → AreOf commands ms xs → slice_get ms n ≡ Some mark → (a : Asked) × (slice_get xs n ≡ Some a) × IsOf commands mark a
 of_at commands [] [] n mark h e = cc
 of_at commands [] (x ∷ xs) n mark h e = absurd h
 of_at commands (m ∷ ms) [] n mark h e = absurd h
@@ -151,26 +184,26 @@ of_at commands (m ∷ ms) (x ∷ xs) zero mark h e = (x, refl, subst (λ (k : Op
 of_at commands (m ∷ ms) (x ∷ xs) (suc n) mark h e = of_at commands ms xs n mark h.1 e
 
 -- what holds of each record, by its mark and its settlement
-pub all_records : (P : Record → Type 0) (ms : List (Option Mark)) (ss : List Settlement)
-    → ((n : ℕ) (mark : Mark) (s : Settlement) → slice_get ms n ≡ Some (Some mark) → slice_get ss n ≡ Some s → P (record_of 0 mark s)) → AllByRecursion P (records_of 0 ms ss)
-all_records P [] ss f = tt
-all_records P (m ∷ ms) [] f = tt
-all_records P (None ∷ ms) (s ∷ ss) f = all_records P ms ss (λ n mark x at got. f (suc n) mark x at got)
-all_records P (Some mark ∷ ms) (s ∷ ss) f = (f 0 mark s refl refl, all_records P ms ss (λ n other x at got. f (suc n) other x at got))
+pub all_records : (reads : Call → List ℕ → Reading) (P : Record → Type 0) (ms : List (Option Mark)) (ss : List Settlement)
+    → ((n : ℕ) (mark : Mark) (s : Settlement) → slice_get ms n ≡ Some (Some mark) → slice_get ss n ≡ Some s → P (record_of reads 0 mark s)) → AllByRecursion P (records_of reads 0 ms ss)
+all_records reads P [] ss f = tt
+all_records reads P (m ∷ ms) [] f = tt
+all_records reads P (None ∷ ms) (s ∷ ss) f = all_records reads P ms ss (λ n mark x at got. f (suc n) mark x at got)
+all_records reads P (Some mark ∷ ms) (s ∷ ss) f = (f 0 mark s refl refl, all_records reads P ms ss (λ n other x at got. f (suc n) other x at got))
 
 -- What is written down.
 
 -- of these requests that wait, and then these that go out, these are settled: so many marks are left, and these records
-pub record Wrote (commands : List Command) (ms : List (Option Mark)) (rs : List Record) (more : List (Option Mark)) (ss : List Settlement) (asks : List Asked) (ms' : List (Option Mark)) (rs' : List Record) : Type 0 where
+pub record Wrote (reads : Call → List ℕ → Reading) (commands : List Task) (ms : List (Option Mark)) (rs : List Record) (more : List (Option Mark)) (ss : List Settlement) (asks : List Asked) (ms' : List (Option Mark)) (rs' : List Record) : Type 0 where
   pub marks : ms' ≡ drop (length ss) (ms ++ more)
   pub count : length ss ≤ length (ms ++ more)
-  pub records : map timeless rs' ≡ map timeless rs ++ records_of 0 (ms ++ more) ss
+  pub records : map timeless rs' ≡ map timeless rs ++ records_of reads 0 (ms ++ more) ss
   pub sent : AreOf commands more asks
 
-wrote_both : (commands : List Command) (ms ms1 ms2 more1 more2 : List (Option Mark)) (rs rs1 rs2 : List Record) (ss1 ss2 : List Settlement) (asks1 asks2 : List Asked)
-    → Wrote commands ms rs more1 ss1 asks1 ms1 rs1 → Wrote commands ms1 rs1 more2 ss2 asks2 ms2 rs2
-    → Wrote commands ms rs (more1 ++ more2) (ss1 ++ ss2) (asks1 ++ asks2) ms2 rs2
-wrote_both commands ms ms1 ms2 more1 more2 rs rs1 rs2 ss1 ss2 asks1 asks2 h g =
+wrote_both : (reads : Call → List ℕ → Reading) (commands : List Task) (ms ms1 ms2 more1 more2 : List (Option Mark)) (rs rs1 rs2 : List Record) (ss1 ss2 : List Settlement) (asks1 asks2 : List Asked)
+    → Wrote reads commands ms rs more1 ss1 asks1 ms1 rs1 → Wrote reads commands ms1 rs1 more2 ss2 asks2 ms2 rs2
+    → Wrote reads commands ms rs (more1 ++ more2) (ss1 ++ ss2) (asks1 ++ asks2) ms2 rs2
+wrote_both reads commands ms ms1 ms2 more1 more2 rs rs1 rs2 ss1 ss2 asks1 asks2 h g =
     let all = ms ++ (more1 ++ more2) in
     let whole : (ms ++ more1) ++ more2 ≡ all = append_assoc ms more1 more2 in
     let left : ms1 ++ more2 ≡ drop (length ss1) all = ap (λ xs. xs ++ more2) h.marks ∙ sym (drop_append (length ss1) (ms ++ more1) more2 h.count) ∙ ap (drop (length ss1)) whole in
@@ -183,11 +216,11 @@ wrote_both commands ms ms1 ms2 more1 more2 rs rs1 rs2 ss1 ss2 asks1 asks2 h g =
       marks = g.marks ∙ ap (drop (length ss2)) left ∙ drop_twice ss1 ss2 all;
       count = omega (arith, many, first, dropped, lens1, lens2, g.count);
       records =
-          g.records ∙ ap (λ l. l ++ records_of 0 (ms1 ++ more2) ss2) h.records
-          ∙ append_assoc (map timeless rs) (records_of 0 (ms ++ more1) ss1) (records_of 0 (ms1 ++ more2) ss2)
-          ∙ ap (λ l. map timeless rs ++ (records_of 0 (ms ++ more1) ss1 ++ records_of 0 l ss2)) left
-          ∙ ap (λ l. map timeless rs ++ (l ++ records_of 0 (drop (length ss1) all) ss2)) (sym (records_more (ms ++ more1) more2 ss1 h.count) ∙ ap (λ l. records_of 0 l ss1) whole)
-          ∙ ap (λ l. map timeless rs ++ l) (sym (records_append all ss1 ss2));
+          g.records ∙ ap (λ l. l ++ records_of reads 0 (ms1 ++ more2) ss2) h.records
+          ∙ append_assoc (map timeless rs) (records_of reads 0 (ms ++ more1) ss1) (records_of reads 0 (ms1 ++ more2) ss2)
+          ∙ ap (λ l. map timeless rs ++ (records_of reads 0 (ms ++ more1) ss1 ++ records_of reads 0 l ss2)) left
+          ∙ ap (λ l. map timeless rs ++ (l ++ records_of reads 0 (drop (length ss1) all) ss2)) (sym (records_more reads (ms ++ more1) more2 ss1 h.count) ∙ ap (λ l. records_of reads 0 l ss1) whole)
+          ∙ ap (λ l. map timeless rs ++ l) (sym (records_append reads all ss1 ss2));
       sent = of_append commands more1 more2 asks1 asks2 h.sent g.sent;
     } where
       drop_length : {A : Type 0} (n : ℕ) (xs : List A) → n ≤ length xs → length xs ≡ n + length (drop n xs)
@@ -196,49 +229,49 @@ wrote_both commands ms ms1 ms2 more1 more2 rs rs1 rs2 ss1 ss2 asks1 asks2 h g =
       drop_length (suc n) (x ∷ xs) le = let rest = drop_length n xs (omega (arith, le)) in omega (arith, rest)
 
 -- a client took these steps, and went on to this one; and what was written down
-pub record Books (commands : List Command) (c : ById) (ms : List (Option Mark)) (rs : List Record) (p : Part) (c' : ById) (ms' : List (Option Mark)) (rs' : List Record) : Type 0 where
+pub record Books (reads : Call → List ℕ → Reading) (commands : List Task) (c : ById) (ms : List (Option Mark)) (rs : List Record) (p : Part) (c' : ById) (ms' : List (Option Mark)) (rs' : List Record) : Type 0 where
   pub client : client_after c p.steps ≡ c'
-  pub wrote : Wrote commands ms rs p.marks (settled_by c p.steps) (sent_by c p.steps) ms' rs'
+  pub wrote : Wrote reads commands ms rs p.marks (settled_by c p.steps) (sent_by c p.steps) ms' rs'
 
-pub books_both : (commands : List Command) (c c1 c2 : ById) (ms ms1 ms2 : List (Option Mark)) (rs rs1 rs2 : List Record) (p q : Part)
-    → Books commands c ms rs p c1 ms1 rs1 → Books commands c1 ms1 rs1 q c2 ms2 rs2 → Books commands c ms rs (joined p q) c2 ms2 rs2
-books_both commands c c1 c2 ms ms1 ms2 rs rs1 rs2 p q h g =
+pub books_both : (reads : Call → List ℕ → Reading) (commands : List Task) (c c1 c2 : ById) (ms ms1 ms2 : List (Option Mark)) (rs rs1 rs2 : List Record) (p q : Part)
+    → Books reads commands c ms rs p c1 ms1 rs1 → Books reads commands c1 ms1 rs1 q c2 ms2 rs2 → Books reads commands c ms rs (joined p q) c2 ms2 rs2
+books_both reads commands c c1 c2 ms ms1 ms2 rs rs1 rs2 p q h g =
     let at = client_after c p.steps in
-    let g' : Wrote commands ms1 rs1 q.marks (settled_by at q.steps) (sent_by at q.steps) ms2 rs2 =
-    subst (λ (d : ById). Wrote commands ms1 rs1 q.marks (settled_by d q.steps) (sent_by d q.steps) ms2 rs2) (sym h.client) g.wrote in
+    let g' : Wrote reads commands ms1 rs1 q.marks (settled_by at q.steps) (sent_by at q.steps) ms2 rs2 =
+    subst (λ (d : ById). Wrote reads commands ms1 rs1 q.marks (settled_by d q.steps) (sent_by d q.steps) ms2 rs2) (sym h.client) g.wrote in
     record {
       client = client_append c p.steps q.steps ∙ ap (λ d. client_after d q.steps) h.client ∙ g.client;
       wrote =
-          subst (λ ss. Wrote commands ms rs (p.marks ++ q.marks) ss (sent_by c (p.steps ++ q.steps)) ms2 rs2) (sym (settled_append c p.steps q.steps))
-          (subst (λ (asks : List Asked). Wrote commands ms rs (p.marks ++ q.marks) (settled_by c p.steps ++ settled_by at q.steps) asks ms2 rs2) (sym (sent_append c p.steps q.steps))
-          (wrote_both commands ms ms1 ms2 p.marks q.marks rs rs1 rs2 (settled_by c p.steps) (settled_by at q.steps) (sent_by c p.steps) (sent_by at q.steps) h.wrote g'));
+          subst (λ ss. Wrote reads commands ms rs (p.marks ++ q.marks) ss (sent_by c (p.steps ++ q.steps)) ms2 rs2) (sym (settled_append c p.steps q.steps))
+          (subst (λ (asks : List Asked). Wrote reads commands ms rs (p.marks ++ q.marks) (settled_by c p.steps ++ settled_by at q.steps) asks ms2 rs2) (sym (sent_append c p.steps q.steps))
+          (wrote_both reads commands ms ms1 ms2 p.marks q.marks rs rs1 rs2 (settled_by c p.steps) (settled_by at q.steps) (sent_by c p.steps) (sent_by at q.steps) h.wrote g'));
     }
 
 -- Single steps.
 
 -- nothing is settled, and nothing sent
-wrote_none : (commands : List Command) (ms : List (Option Mark)) (rs : List Record) → Wrote commands ms rs [] [] [] ms rs
-wrote_none commands ms rs = record {
+wrote_none : (reads : Call → List ℕ → Reading) (commands : List Task) (ms : List (Option Mark)) (rs : List Record) → Wrote reads commands ms rs [] [] [] ms rs
+wrote_none reads commands ms rs = record {
   marks = sym (append-nil ms);
   count = omega arith;
-  records = sym (append-nil (map timeless rs)) ∙ ap (λ l. map timeless rs ++ l) (sym (records_none 0 (ms ++ [])));
+  records = sym (append-nil (map timeless rs)) ∙ ap (λ l. map timeless rs ++ l) (sym (records_none reads 0 (ms ++ [])));
   sent = tt;
 }
 
-pub books_nothing : (commands : List Command) (c : ById) (ms : List (Option Mark)) (rs : List Record) → Books commands c ms rs nothing c ms rs
-books_nothing commands c ms rs = record { client = refl; wrote = wrote_none commands ms rs }
+pub books_nothing : (reads : Call → List ℕ → Reading) (commands : List Task) (c : ById) (ms : List (Option Mark)) (rs : List Record) → Books reads commands c ms rs nothing c ms rs
+books_nothing reads commands c ms rs = record { client = refl; wrote = wrote_none reads commands ms rs }
 
-pub books_moment : (commands : List Command) (c : ById) (ms : List (Option Mark)) (rs : List Record) (now : ℕ) → Books commands c ms rs (only (Expire now ∷ [])) (expires c now) ms rs
-books_moment commands c ms rs now = record { client = refl; wrote = wrote_none commands ms rs }
+pub books_moment : (reads : Call → List ℕ → Reading) (commands : List Task) (c : ById) (ms : List (Option Mark)) (rs : List Record) (now : ℕ) → Books reads commands c ms rs (only (Expire now ∷ [])) (expires c now) ms rs
+books_moment reads commands c ms rs now = record { client = refl; wrote = wrote_none reads commands ms rs }
 
 -- these are settled
-wrote_settled : (commands : List Command) (ms : List (Option Mark)) (rs : List Record) (utc : ℕ) (ss ts : List Settlement) → ts ≡ ss → length ss ≤ length ms → Wrote commands ms rs [] ts [] (drop (length ss) ms) (rs ++ records_of utc ms ss)
-wrote_settled commands ms rs utc ss ts same few =
+wrote_settled : (reads : Call → List ℕ → Reading) (commands : List Task) (ms : List (Option Mark)) (rs : List Record) (utc : ℕ) (ss ts : List Settlement) → ts ≡ ss → length ss ≤ length ms → Wrote reads commands ms rs [] ts [] (drop (length ss) ms) (rs ++ records_of reads utc ms ss)
+wrote_settled reads commands ms rs utc ss ts same few =
     let whole : ms ++ [] ≡ ms = append-nil ms in
-    subst (λ xs. Wrote commands ms rs [] xs [] (drop (length ss) ms) (rs ++ records_of utc ms ss)) (sym same) (record {
+    subst (λ xs. Wrote reads commands ms rs [] xs [] (drop (length ss) ms) (rs ++ records_of reads utc ms ss)) (sym same) (record {
       marks = ap (drop (length ss)) (sym whole);
       count = subst (λ (xs : List (Option Mark)). length ss ≤ length xs) (sym whole) few;
-      records = map-append timeless rs (records_of utc ms ss) ∙ ap (λ l. map timeless rs ++ l) (records_timeless utc ms ss ∙ ap (λ xs. records_of 0 xs ss) (sym whole));
+      records = map-append timeless rs (records_of reads utc ms ss) ∙ ap (λ l. map timeless rs ++ l) (records_timeless reads utc ms ss ∙ ap (λ xs. records_of reads 0 xs ss) (sym whole));
       sent = tt;
     })
 
@@ -250,20 +283,20 @@ few_settled ms c d ss paired parts =
     sym (length-append (map of_settled ss) (map of_pending d.waiting)) ∙ ap length parts ∙ length-map c.waiting of_pending in
     omega (arith, ended, count, paired)
 
-pub books_line : (commands : List Command) (c : ById) (ms : List (Option Mark)) (rs : List Record) (utc : ℕ) (line : List ℕ) → length ms ≡ length c.waiting
-    → (let x = hears c line (heard line) in Books commands c ms rs (only (Hear line ∷ [])) x.client (drop (length x.settlements) ms) (rs ++ records_of utc ms x.settlements))
-books_line commands c ms rs utc line paired =
+pub books_line : (reads : Call → List ℕ → Reading) (commands : List Task) (c : ById) (ms : List (Option Mark)) (rs : List Record) (utc : ℕ) (line : List ℕ) → length ms ≡ length c.waiting
+    → (let x = hears c line (heard line) in Books reads commands c ms rs (only (Hear line ∷ [])) x.client (drop (length x.settlements) ms) (rs ++ records_of reads utc ms x.settlements))
+books_line reads commands c ms rs utc line paired =
     let x = hears c line (heard line) in
-    record { client = refl; wrote = wrote_settled commands ms rs utc x.settlements (x.settlements ++ []) (append-nil x.settlements) (few_settled ms c x.client x.settlements paired (heard_parts c line (heard line))) }
+    record { client = refl; wrote = wrote_settled reads commands ms rs utc x.settlements (x.settlements ++ []) (append-nil x.settlements) (few_settled ms c x.client x.settlements paired (heard_parts c line (heard line))) }
 
 abbrev pub restarting : Part
 restarting = only (Restart ∷ [])
 
-pub books_restart : (commands : List Command) (c : ById) (ms : List (Option Mark)) (rs : List Record) (utc : ℕ) → length ms ≡ length c.waiting
-    → Books commands c ms rs restarting fresh (drop (length (map lost c.waiting)) ms) (rs ++ records_of utc ms (map lost c.waiting))
-books_restart commands c ms rs utc paired =
+pub books_restart : (reads : Call → List ℕ → Reading) (commands : List Task) (c : ById) (ms : List (Option Mark)) (rs : List Record) (utc : ℕ) → length ms ≡ length c.waiting
+    → Books reads commands c ms rs restarting fresh (drop (length (map lost c.waiting)) ms) (rs ++ records_of reads utc ms (map lost c.waiting))
+books_restart reads commands c ms rs utc paired =
     let ss = map lost c.waiting in
-    record { client = refl; wrote = wrote_settled commands ms rs utc ss (ss ++ []) (append-nil ss) (few_settled ms c fresh ss paired (append-nil (map of_settled ss) ∙ lost_parts c.waiting)) }
+    record { client = refl; wrote = wrote_settled reads commands ms rs utc ss (ss ++ []) (append-nil ss) (few_settled ms c fresh ss paired (append-nil (map of_settled ss) ∙ lost_parts c.waiting)) }
 
 -- a request goes out
 abbrev pub sending_of : ById → ℕ → Call → ℕ → Sending ById
@@ -272,26 +305,26 @@ sending_of c target call deadline = record { id = c.next; client = client_sent c
 pub sends_with_room : (c : ById) (target : ℕ) (call : Call) (deadline : ℕ) → length c.waiting < 7 → sends 7 c target call deadline ≡ Some (sending_of c target call deadline)
 sends_with_room c target call deadline room = ap (λ b. id_send c target call deadline b) (ne_eqb (length c.waiting) 7 (λ e. omega (arith, e, room)))
 
-abbrev pub SentAt : List Command → ById → List (Option Mark) → List Record → ℕ → Call → Option Mark → Option (Sending ById) → Type 0
-SentAt commands c ms rs target call mark o =
+abbrev pub SentAt : (Call → List ℕ → Reading) → List Task → ById → List (Option Mark) → List Record → ℕ → Call → Option Mark → Option (Sending ById) → Type 0
+SentAt reads commands c ms rs target call mark o =
     ((sent_on (course_at c) target call o).client ≡ client_sent c o)
-    × Wrote commands ms rs (mark ∷ []) ((sent_on (course_at c) target call o).settlements ++ []) ((sent_on (course_at c) target call o).sent ++ []) (ms ++ mark ∷ []) rs
+    × Wrote reads commands ms rs (mark ∷ []) ((sent_on (course_at c) target call o).settlements ++ []) ((sent_on (course_at c) target call o).sent ++ []) (ms ++ mark ∷ []) rs
 
-sent_some : (commands : List Command) (c : ById) (ms : List (Option Mark)) (rs : List Record) (target : ℕ) (call : Call) (mark : Option Mark) (x : Sending ById) → IsOf commands mark (record { target = target; call = call })
-    → SentAt commands c ms rs target call mark (Some x)
-sent_some commands c ms rs target call mark x is = (
+sent_some : (reads : Call → List ℕ → Reading) (commands : List Task) (c : ById) (ms : List (Option Mark)) (rs : List Record) (target : ℕ) (call : Call) (mark : Option Mark) (x : Sending ById) → IsOf commands mark (record { target = target; call = call })
+    → SentAt reads commands c ms rs target call mark (Some x)
+sent_some reads commands c ms rs target call mark x is = (
   refl,
   record {
     marks = refl;
     count = omega arith;
-    records = sym (append-nil (map timeless rs)) ∙ ap (λ l. map timeless rs ++ l) (sym (records_none 0 (ms ++ mark ∷ [])));
+    records = sym (append-nil (map timeless rs)) ∙ ap (λ l. map timeless rs ++ l) (sym (records_none reads 0 (ms ++ mark ∷ [])));
     sent = (is, tt);
   },
 )
 
-pub books_send : (commands : List Command) (c : ById) (ms : List (Option Mark)) (rs : List Record) (target : ℕ) (call : Call) (deadline : ℕ) (mark : Option Mark) → length c.waiting < 7 → IsOf commands mark (record { target = target; call = call })
-    → Books commands c ms rs (asking target call deadline mark) (client_sent c (sends 7 c target call deadline)) (ms ++ mark ∷ []) rs
-books_send commands c ms rs target call deadline mark room is =
-    let h : SentAt commands c ms rs target call mark (sends 7 c target call deadline) =
-    subst (SentAt commands c ms rs target call mark) (sym (sends_with_room c target call deadline room)) (sent_some commands c ms rs target call mark (sending_of c target call deadline) is) in
+pub books_send : (reads : Call → List ℕ → Reading) (commands : List Task) (c : ById) (ms : List (Option Mark)) (rs : List Record) (target : ℕ) (call : Call) (deadline : ℕ) (mark : Option Mark) → length c.waiting < 7 → IsOf commands mark (record { target = target; call = call })
+    → Books reads commands c ms rs (asking target call deadline mark) (client_sent c (sends 7 c target call deadline)) (ms ++ mark ∷ []) rs
+books_send reads commands c ms rs target call deadline mark room is =
+    let h : SentAt reads commands c ms rs target call mark (sends 7 c target call deadline) =
+    subst (SentAt reads commands c ms rs target call mark) (sym (sends_with_room c target call deadline room)) (sent_some reads commands c ms rs target call mark (sending_of c target call deadline) is) in
     record { client = h.0; wrote = h.1 }

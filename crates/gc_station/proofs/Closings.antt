@@ -2,7 +2,7 @@
 use Rattle.std.proofs.Common.{◌≡◌, ℕ, ◌⊎◌, inl, inr, ◌&&◌, ◌||◌, Bool, true, false, not, List, [], ◌∷◌, ◌++◌, length, drop, Option, Some, None, if◌then◌else◌, nat_lt, nat_eq, refl, sym, ap, ◌∙◌, subst, arith}
 use Rattle.std.proofs.lemmas.Bool.Decides.{nat_tests}
 use Rattle.gc_lines.specs.Frames.{rest_behind}
-use Rattle.gc_texts.specs.declared.commands.Command.{Command}
+use Rattle.gc_texts.specs.declared.tasks.Task.{Task}
 use Rattle.gc_station.specs.declared.plan.Plan.{Plan}
 use Rattle.gc_station.specs.declared.cause.Cause.{Cause}
 use Rattle.gc_station.specs.declared.cause.Cause.TheVariants as cause
@@ -17,17 +17,18 @@ use Rattle.gc_station.specs.declared.progress.Waiting.{Waiting}
 use Rattle.gc_station.specs.Acts.{Act, Told, Untold, Put, Cut, Gave, Silent, Ended, Broke, Closed, Opened, Unopened}
 use Rattle.gc_station.specs.Deciding.{is_up, is_past, drain_of, order_in}
 use Rattle.gc_station.specs.Marks.{commands_in}
-use Rattle.gc_station.specs.Progressing.{turned, told, begun, failing, quieted, drained, waited, asking, reckoned_early, is_finished, is_resting, begins_anew, closed_again, closed, cleared, probed, sent, is_spared}
+use Rattle.gc_station.specs.Progressing.{turned, told, begun, skipped, failing, quieted, drained, waited, asking, reckoned_early, is_finished, is_resting, begins_anew, closed_again, closed, cleared, probed, sent, is_spared}
 use Rattle.gc_station.specs.Closing.{IsAlone, IsReasoned, Shows, ClosesForACause, EndsDone, EndsBehind, EndsGone, Ends, StopsForACause, commands_behind}
 use Rattle.gc_station.specs.Reasons.{IsFor, IsAtItsEnd}
 use Rattle.gc_station.specs.Runs.{stood}
-use Rattle.gc_station.specs.Standing.{Standing, waiting_of, opening, order_at, place_next, mark_next, with_progress, with_moment, with_rest, is_heard, line_came, lines_came, lines_behind, came, asks_null, asks_first, asks_next, after_tell, after_put, after_open, after_read, Puts, IsTelling, IsOpening, IsReading, Obeys, moved, after, after_all, Runs}
+use Rattle.gc_station.specs.Standing.{Standing, waiting_of, opening, order_at, place_next, bound_next, mark_next, with_progress, with_moment, with_rest, is_heard, line_came, lines_came, lines_behind, came, asks_null, asks_first, asks_next, with_records, skips, after_tell, after_put, after_open, after_read, Puts, IsTelling, IsOpening, IsReading, Obeys, moved, after, after_all, Runs}
 use Rattle.gc_station.proofs.Counts.{ended_progress}
 use Rattle.gc_station.proofs.EachRun.{fine_stood}
 use Rattle.gc_station.proofs.Facts.{order_for}
 use Rattle.gc_station.proofs.Fine.{Fine, is_bare, says_done}
 use Rattle.gc_station.proofs.Going.{after_all-append}
 use Rattle.gc_station.proofs.Turns.{again_down, closed_down}
+use Rattle.gc_station.specs.Scopes.{Scope}
 
 -- the end that a phase has decided
 abbrev pub end_of : Phase → Option Cause
@@ -153,11 +154,11 @@ open_decides plan s Unopened c o e =
     inr (inl (again_down plan n cause.Open p, inr (refl, again_ends plan cause.Open c n p (is_finished n p) (nat_lt 0 p.tries) refl refl e)))
 open_decides plan s act c o e = absurd o
 
-first_phase : (plan : Plan) (mark : Mark) (left : List Command) (s : Standing) → (asks_first plan mark left s).progress.phase ≡ s.progress.phase
-first_phase plan mark [] s = refl
-first_phase plan mark (command ∷ others) s = refl
+first_phase : (mark : Mark) (left : List Task) (s : Standing) → (asks_first mark left s).progress.phase ≡ s.progress.phase
+first_phase mark [] s = refl
+first_phase mark (command ∷ others) s = refl
 
-moved_decides : (plan : Plan) (commands : List Command) (next : Order) (s : Standing) (act : Act) (c : Cause) → Obeys commands s next act → (next ≡ order.Close cause.Done → NoneLeft s.progress (commands_in s.marks))
+moved_decides : (plan : Plan) (commands : List Task) (next : Order) (s : Standing) (act : Act) (c : Cause) → Obeys commands s next act → (next ≡ order.Close cause.Done → NoneLeft s.progress (commands_in s.marks))
     → end_of (moved plan commands next (with_progress turned s) act).progress.phase ≡ Some c
     → Decides (Gone plan s next (moved plan commands next (with_progress turned s) act).progress.phase c act) s.progress.phase (moved plan commands next (with_progress turned s) act).progress.phase c act
 moved_decides plan commands order.Tell s act c o done e = tell_decides (λ (m : Moment) (p : Progress). reckoned_early plan (commands_in s.marks) (told m p)) (with_progress turned s) act c o (λ m. refl) e
@@ -166,8 +167,10 @@ moved_decides plan commands order.Open s act c o done e = open_decides plan s ac
 moved_decides plan commands order.Clear s act c o done e = put_decides _ (10 ∷ []) (with_progress cleared) (with_progress turned s) act c o (λ g. cc) (λ d. cc) e
 moved_decides plan commands order.Probe s act c o done e = put_decides _ _ (λ (x : Standing). with_progress probed (asks_null plan x)) (with_progress turned s) act c o (λ g. cc) (λ d. cc) e
 moved_decides plan commands order.Send s act c o done e =
-    let same = first_phase plan (mark_next plan commands s.progress) (drop (place_next commands s.progress) commands) (with_progress turned s) in
-    put_decides _ _ (λ (x : Standing). with_progress sent (asks_next plan commands x)) (with_progress turned s) act c o (λ g. same) (λ d. sym (ap is_up same) ∙ d) e
+    let same = first_phase (mark_next plan commands s.progress) (drop (place_next commands s.progress) commands) (with_progress turned s) in
+    put_decides _ _ (λ (x : Standing). with_progress (sent (bound_next commands x.progress)) (asks_next plan commands x)) (with_progress turned s) act c o (λ g. same) (λ d. sym (ap is_up same) ∙ d) e
+moved_decides plan commands order.Skip s act c o done e =
+    tell_decides (λ (m : Moment) (p : Progress). reckoned_early plan (commands_in s.marks) (skipped (bound_next commands s.progress) m p)) (with_records (skips plan commands (turned s.progress) act) (with_progress turned s)) act c o (λ m. refl) e
 moved_decides plan commands order.Flush s act c o done e = put_decides _ _ (λ (x : Standing). with_progress asking (asks_null plan x)) (with_progress turned s) act c o (λ g. refl) (λ d. d) e
 moved_decides plan commands order.Read s act c o done e = read_decides plan false (with_progress turned s) act c o e
 moved_decides plan commands order.Rest s act c o done e = read_decides plan true (with_progress turned s) act c o e
@@ -176,7 +179,7 @@ moved_decides plan commands (order.Close why) s act c o done e =
 moved_decides plan commands (order.Stop why) s act c o done e = absurd o
 
 -- where the end is decided, no act leaves the phase: a connection is closed, and without one no act is made
-not_twice : (plan : Plan) (commands : List Command) (s : Standing) (act : Act) (c : Cause) (phase : Phase) → s.progress.phase ≡ phase → end_of phase ≡ Some c → Obeys commands s (order_in phase plan s.progress (waiting_of s)) act
+not_twice : (plan : Plan) (commands : List Task) (s : Standing) (act : Act) (c : Cause) (phase : Phase) → s.progress.phase ≡ phase → end_of phase ≡ Some c → Obeys commands s (order_in phase plan s.progress (waiting_of s)) act
     → (moved plan commands (order_in phase plan s.progress (waiting_of s)) (with_progress turned s) act).progress.phase ≡ phase → ⊥
 not_twice plan commands s act c (Closing why) is e o same = let down : true ≡ false = sym (ap is_up same) ∙ closed_down plan (waiting_of s) why (turned s.progress) in cc
 not_twice plan commands s act c (Over why) is e o same = absurd o
@@ -186,7 +189,7 @@ not_twice plan commands s act c phase is e o same = cc
 abbrev pub Decided : Plan → Standing → Phase → Cause → Act → Type 0
 Decided plan s behind c act = Failed s.progress.phase behind c act ⊎ Gone plan s (order_at plan s) behind c act
 
-moved_decided : (plan : Plan) (commands : List Command) (s : Standing) (act : Act) (c : Cause) → Obeys commands s (order_at plan s) act → (order_at plan s ≡ order.Close cause.Done → NoneLeft s.progress (commands_in s.marks))
+moved_decided : (plan : Plan) (commands : List Task) (s : Standing) (act : Act) (c : Cause) → Obeys commands s (order_at plan s) act → (order_at plan s ≡ order.Close cause.Done → NoneLeft s.progress (commands_in s.marks))
     → end_of (moved plan commands (order_at plan s) (with_progress turned s) act).progress.phase ≡ Some c → Decided plan s (moved plan commands (order_at plan s) (with_progress turned s) act).progress.phase c act
 moved_decided plan commands s act c o done e = pick (moved_decides plan commands (order_at plan s) s act c o done e) where
   pick : Decides (Gone plan s (order_at plan s) (moved plan commands (order_at plan s) (with_progress turned s) act).progress.phase c act) s.progress.phase (moved plan commands (order_at plan s) (with_progress turned s) act).progress.phase c act
@@ -195,31 +198,31 @@ moved_decided plan commands s act c o done e = pick (moved_decides plan commands
   pick (inr (inl gone)) = inr gone
   pick (inr (inr same)) = absurd (not_twice plan commands s act c s.progress.phase refl (ap end_of (sym same) ∙ e) o same)
 
-pub after_decided : (plan : Plan) (commands : List Command) (s : Standing) (act : Act) (c : Cause) → Obeys commands s (order_at plan s) act → (order_at plan s ≡ order.Close cause.Done → NoneLeft s.progress (commands_in s.marks))
+pub after_decided : (plan : Plan) (commands : List Task) (s : Standing) (act : Act) (c : Cause) → Obeys commands s (order_at plan s) act → (order_at plan s ≡ order.Close cause.Done → NoneLeft s.progress (commands_in s.marks))
     → end_of (after plan commands s act).progress.phase ≡ Some c → Decided plan s (after plan commands s act).progress.phase c act
 after_decided plan commands s act c o done e =
     let same : (after plan commands s act).progress.phase ≡ (moved plan commands (order_at plan s) (with_progress turned s) act).progress.phase =
     ap (λ (p : Progress). p.phase) (ended_progress (moved plan commands (order_at plan s) (with_progress turned s) act)) in
     subst (λ (behind : Phase). Decided plan s behind c act) (sym same) (moved_decided plan commands s act c o done (sym (ap end_of same) ∙ e))
 
-pub runs_split : (plan : Plan) (commands : List Command) (s : Standing) (earlier later : List Act) (act : Act) → Runs plan commands s (earlier ++ act ∷ later)
+pub runs_split : (plan : Plan) (commands : List Task) (s : Standing) (earlier later : List Act) (act : Act) → Runs plan commands s (earlier ++ act ∷ later)
     → Runs plan commands s earlier × Obeys commands (after_all plan commands s earlier) (order_at plan (after_all plan commands s earlier)) act
 runs_split plan commands s [] later act runs = (tt, runs.0)
 runs_split plan commands s (x ∷ xs) later act runs = let r = runs_split plan commands (after plan commands s x) xs later act runs.1 in ((runs.0, r.0), r.1)
 
 -- the null procedure with which it begins anew goes out where nothing waits
-goes_alone : (plan : Plan) (commands : List Command) (s : Standing) (next : Order) → Fine plan commands s → IsFor plan s.progress (waiting_of s) next → IsAlone next s
+goes_alone : (plan : Plan) (commands : List Task) (s : Standing) (next : Order) → Fine plan commands s → IsFor plan s.progress (waiting_of s) next → IsAlone next s
 goes_alone plan commands s order.Probe fine needs = ((fine.anew (fine.probing needs.0)).0, fine.rest (ap is_bare needs.0))
 goes_alone plan commands s next fine needs = tt
 
-pub act_reasoned : (plan : Plan) (commands : List Command) (turns : ℕ) (earlier later : List Act) (act : Act) → Runs plan commands (opening plan turns) (earlier ++ act ∷ later) → IsReasoned plan commands (stood plan commands turns earlier) act
-act_reasoned plan commands turns earlier later act runs =
-    let s = stood plan commands turns earlier in
+pub act_reasoned : (plan : Plan) (commands : List Task) (scope : Scope) (earlier later : List Act) (act : Act) → Runs plan commands (opening plan scope) (earlier ++ act ∷ later) → IsReasoned plan commands (stood plan commands scope earlier) act
+act_reasoned plan commands scope earlier later act runs =
+    let s = stood plan commands scope earlier in
     let needs = order_for plan s.progress (waiting_of s) in
     record {
-      obeys = (runs_split plan commands (opening plan turns) earlier later act runs).1;
+      obeys = (runs_split plan commands (opening plan scope) earlier later act runs).1;
       needs = needs;
-      alone = goes_alone plan commands s (order_at plan s) (fine_stood plan commands turns earlier) needs;
+      alone = goes_alone plan commands s (order_at plan s) (fine_stood plan commands scope earlier) needs;
     }
 
 -- the last of some acts
@@ -230,7 +233,7 @@ last_of (x ∷ xs) = on (last_of xs) where
   on (inl none) = inr ([], x, ap (λ ys. x ∷ ys) none)
   on (inr some) = inr (x ∷ some.0, some.1, ap (λ ys. x ∷ ys) some.2)
 
-pub closes_only : (commands : List Command) (s : Standing) (next : Order) → Obeys commands s next Closed → (why : Cause) × (next ≡ order.Close why)
+pub closes_only : (commands : List Task) (s : Standing) (next : Order) → Obeys commands s next Closed → (why : Cause) × (next ≡ order.Close why)
 closes_only commands s (order.Close why) o = (why, refl)
 closes_only commands s next o = absurd o
 
@@ -239,73 +242,73 @@ pub needs_of : (plan : Plan) (s : Standing) (next : Order) → order_at plan s �
 needs_of plan s next is = subst (λ (o : Order). IsFor plan s.progress (waiting_of s) o) is (order_for plan s.progress (waiting_of s))
 
 -- a connection is closed for being done where nothing is left to be sent, and no command waits
-pub done_sent : (plan : Plan) (commands : List Command) (turns : ℕ) (acts : List Act) → order_at plan (stood plan commands turns acts) ≡ order.Close cause.Done
-    → NoneLeft (stood plan commands turns acts).progress (commands_in (stood plan commands turns acts).marks)
-done_sent plan commands turns acts is = by_needs (needs_of plan (stood plan commands turns acts) (order.Close cause.Done) is).1 where
-  by_needs : (((stood plan commands turns acts).progress.phase ≡ Closing cause.Done) ⊎ IsAtItsEnd plan (stood plan commands turns acts).progress (waiting_of (stood plan commands turns acts)) cause.Done)
-      → NoneLeft (stood plan commands turns acts).progress (commands_in (stood plan commands turns acts).marks)
-  by_needs (inl phase) = (fine_stood plan commands turns acts).finished (ap says_done phase)
+pub done_sent : (plan : Plan) (commands : List Task) (scope : Scope) (acts : List Act) → order_at plan (stood plan commands scope acts) ≡ order.Close cause.Done
+    → NoneLeft (stood plan commands scope acts).progress (commands_in (stood plan commands scope acts).marks)
+done_sent plan commands scope acts is = by_needs (needs_of plan (stood plan commands scope acts) (order.Close cause.Done) is).1 where
+  by_needs : (((stood plan commands scope acts).progress.phase ≡ Closing cause.Done) ⊎ IsAtItsEnd plan (stood plan commands scope acts).progress (waiting_of (stood plan commands scope acts)) cause.Done)
+      → NoneLeft (stood plan commands scope acts).progress (commands_in (stood plan commands scope acts).marks)
+  by_needs (inl phase) = (fine_stood plan commands scope acts).finished (ap says_done phase)
   by_needs (inr end) = end
 
 -- the last act of a run whose end is decided shows by what
-decided_last : (plan : Plan) (commands : List Command) (turns : ℕ) (acts : List Act) (c : Cause) → Runs plan commands (opening plan turns) acts → end_of (stood plan commands turns acts).progress.phase ≡ Some c
-    → (earlier : List Act) × (last : Act) × (acts ≡ earlier ++ last ∷ []) × Decided plan (stood plan commands turns earlier) (stood plan commands turns acts).progress.phase c last
-decided_last plan commands turns acts c runs e = by_last (last_of acts) where
-  by_last : ((acts ≡ []) ⊎ ((earlier : List Act) × (last : Act) × (acts ≡ earlier ++ last ∷ []))) → (earlier : List Act) × (last : Act) × (acts ≡ earlier ++ last ∷ []) × Decided plan (stood plan commands turns earlier) (stood plan commands turns acts).progress.phase c last
-  by_last (inl none) = let down : None ≡ Some c = sym (ap (λ (xs : List Act). end_of (stood plan commands turns xs).progress.phase) none) ∙ e in cc
+decided_last : (plan : Plan) (commands : List Task) (scope : Scope) (acts : List Act) (c : Cause) → Runs plan commands (opening plan scope) acts → end_of (stood plan commands scope acts).progress.phase ≡ Some c
+    → (earlier : List Act) × (last : Act) × (acts ≡ earlier ++ last ∷ []) × Decided plan (stood plan commands scope earlier) (stood plan commands scope acts).progress.phase c last
+decided_last plan commands scope acts c runs e = by_last (last_of acts) where
+  by_last : ((acts ≡ []) ⊎ ((earlier : List Act) × (last : Act) × (acts ≡ earlier ++ last ∷ []))) → (earlier : List Act) × (last : Act) × (acts ≡ earlier ++ last ∷ []) × Decided plan (stood plan commands scope earlier) (stood plan commands scope acts).progress.phase c last
+  by_last (inl none) = let down : None ≡ Some c = sym (ap (λ (xs : List Act). end_of (stood plan commands scope xs).progress.phase) none) ∙ e in cc
   by_last (inr some) =
       let earlier = some.0 in
       let last = some.1 in
-      let s = stood plan commands turns earlier in
-      let split = runs_split plan commands (opening plan turns) earlier [] last (subst (λ (xs : List Act). Runs plan commands (opening plan turns) xs) some.2 runs) in
-      let behind : (stood plan commands turns acts).progress.phase ≡ (after plan commands s last).progress.phase =
-      ap (λ (xs : List Act). (stood plan commands turns xs).progress.phase) some.2 ∙ ap (λ (x : Standing). x.progress.phase) (after_all-append plan commands (opening plan turns) earlier (last ∷ [])) in (
+      let s = stood plan commands scope earlier in
+      let split = runs_split plan commands (opening plan scope) earlier [] last (subst (λ (xs : List Act). Runs plan commands (opening plan scope) xs) some.2 runs) in
+      let behind : (stood plan commands scope acts).progress.phase ≡ (after plan commands s last).progress.phase =
+      ap (λ (xs : List Act). (stood plan commands scope xs).progress.phase) some.2 ∙ ap (λ (x : Standing). x.progress.phase) (after_all-append plan commands (opening plan scope) earlier (last ∷ [])) in (
         earlier,
         last,
         some.2,
         subst (λ (phase : Phase). Decided plan s phase c last) (sym behind)
-            (after_decided plan commands s last c split.1 (done_sent plan commands turns earlier) (ap end_of (sym behind) ∙ e)),
+            (after_decided plan commands s last c split.1 (done_sent plan commands scope earlier) (ap end_of (sym behind) ∙ e)),
       )
 
 -- where a connection is to be closed for a call that failed, the last act shows it
-pub closing_shown : (plan : Plan) (commands : List Command) (turns : ℕ) (acts : List Act) (why : Cause) → Runs plan commands (opening plan turns) acts → (stood plan commands turns acts).progress.phase ≡ Closing why
+pub closing_shown : (plan : Plan) (commands : List Task) (scope : Scope) (acts : List Act) (why : Cause) → Runs plan commands (opening plan scope) acts → (stood plan commands scope acts).progress.phase ≡ Closing why
     → (earlier : List Act) × (last : Act) × (acts ≡ earlier ++ last ∷ []) × Shows why last
-closing_shown plan commands turns acts why runs phase =
-    let d = decided_last plan commands turns acts why runs (ap end_of phase) in (d.0, d.1, d.2, shows (stood plan commands turns d.0) d.1 d.3) where
-      shows : (before : Standing) (last : Act) → Decided plan before (stood plan commands turns acts).progress.phase why last → Shows why last
+closing_shown plan commands scope acts why runs phase =
+    let d = decided_last plan commands scope acts why runs (ap end_of phase) in (d.0, d.1, d.2, shows (stood plan commands scope d.0) d.1 d.3) where
+      shows : (before : Standing) (last : Act) → Decided plan before (stood plan commands scope acts).progress.phase why last → Shows why last
       shows before last (inl failed) = failed.1
       shows before last (inr gone) = let up : true ≡ false = sym (ap is_up phase) ∙ gone.0 in cc
 
-pub closed_for : (plan : Plan) (commands : List Command) (turns : ℕ) (acts later : List Act) → Runs plan commands (opening plan turns) (acts ++ Closed ∷ later) → ClosesForACause plan commands turns acts
-closed_for plan commands turns acts later runs =
-    let s = stood plan commands turns acts in
-    let split = runs_split plan commands (opening plan turns) acts later Closed runs in
+pub closed_for : (plan : Plan) (commands : List Task) (scope : Scope) (acts later : List Act) → Runs plan commands (opening plan scope) (acts ++ Closed ∷ later) → ClosesForACause plan commands scope acts
+closed_for plan commands scope acts later runs =
+    let s = stood plan commands scope acts in
+    let split = runs_split plan commands (opening plan scope) acts later Closed runs in
     let it = closes_only commands s (order_at plan s) split.1 in
     record {
       why = it.0;
       closes = it.1;
       shown = by_needs it.0 (needs_of plan s (order.Close it.0) it.1).1 split.0;
     } where
-      by_needs : (why : Cause) → (((stood plan commands turns acts).progress.phase ≡ Closing why) ⊎ IsAtItsEnd plan (stood plan commands turns acts).progress (waiting_of (stood plan commands turns acts)) why)
-          → Runs plan commands (opening plan turns) acts
-          → IsAtItsEnd plan (stood plan commands turns acts).progress (waiting_of (stood plan commands turns acts)) why
+      by_needs : (why : Cause) → (((stood plan commands scope acts).progress.phase ≡ Closing why) ⊎ IsAtItsEnd plan (stood plan commands scope acts).progress (waiting_of (stood plan commands scope acts)) why)
+          → Runs plan commands (opening plan scope) acts
+          → IsAtItsEnd plan (stood plan commands scope acts).progress (waiting_of (stood plan commands scope acts)) why
           ⊎ ((earlier : List Act) × (last : Act) × (acts ≡ earlier ++ last ∷ []) × Shows why last)
-      by_needs why (inl phase) runs = inr (closing_shown plan commands turns acts why runs phase)
+      by_needs why (inl phase) runs = inr (closing_shown plan commands scope acts why runs phase)
       by_needs why (inr end) runs = inl end
 
-pub stopped_for : (plan : Plan) (commands : List Command) (turns : ℕ) (acts : List Act) (why : Cause) → Runs plan commands (opening plan turns) acts → order_at plan (stood plan commands turns acts) ≡ order.Stop why → StopsForACause plan commands turns acts why
-stopped_for plan commands turns acts why runs stop =
-    let needs = needs_of plan (stood plan commands turns acts) (order.Stop why) stop in
+pub stopped_for : (plan : Plan) (commands : List Task) (scope : Scope) (acts : List Act) (why : Cause) → Runs plan commands (opening plan scope) acts → order_at plan (stood plan commands scope acts) ≡ order.Stop why → StopsForACause plan commands scope acts why
+stopped_for plan commands scope acts why runs stop =
+    let needs = needs_of plan (stood plan commands scope acts) (order.Stop why) stop in
     record {
       down = needs.0;
       shown = by_needs needs.1;
     } where
-      ends : (before : Standing) (last : Act) → (stood plan commands turns acts).progress.phase ≡ Over why → Decided plan before (stood plan commands turns acts).progress.phase why last → Ends plan before why last
+      ends : (before : Standing) (last : Act) → (stood plan commands scope acts).progress.phase ≡ Over why → Decided plan before (stood plan commands scope acts).progress.phase why last → Ends plan before why last
       ends before last phase (inl failed) = inl (failed.0 (ap is_up phase), failed.1)
       ends before last phase (inr gone) = inr gone.1
 
-      by_needs : (((stood plan commands turns acts).progress.phase ≡ Over why) ⊎ ((why ≡ cause.Turns) × ((stood plan commands turns acts).progress.turns ≡ 0)))
-          → ((why ≡ cause.Turns) × ((stood plan commands turns acts).progress.turns ≡ 0))
-          ⊎ ((earlier : List Act) × (last : Act) × (acts ≡ earlier ++ last ∷ []) × Ends plan (stood plan commands turns earlier) why last)
-      by_needs (inl phase) = let d = decided_last plan commands turns acts why runs (ap end_of phase) in inr (d.0, d.1, d.2, ends (stood plan commands turns d.0) d.1 phase d.3)
+      by_needs : (((stood plan commands scope acts).progress.phase ≡ Over why) ⊎ ((why ≡ cause.Turns) × ((stood plan commands scope acts).progress.turns ≡ 0)))
+          → ((why ≡ cause.Turns) × ((stood plan commands scope acts).progress.turns ≡ 0))
+          ⊎ ((earlier : List Act) × (last : Act) × (acts ≡ earlier ++ last ∷ []) × Ends plan (stood plan commands scope earlier) why last)
+      by_needs (inl phase) = let d = decided_last plan commands scope acts why runs (ap end_of phase) in inr (d.0, d.1, d.2, ends (stood plan commands scope d.0) d.1 phase d.3)
       by_needs (inr none) = inl none

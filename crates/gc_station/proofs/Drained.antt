@@ -8,7 +8,7 @@ use Rattle.gc_lines.specs.Lines.{with_end}
 use Rattle.gc_catalogue.specs.declared.call.Call.TheVariants.{NullProc}
 use Rattle.gc_catalogue.specs.Texts.{request_line}
 use Rattle.gc_client.specs.Rule.{expiring}
-use Rattle.gc_texts.specs.declared.commands.Command.{Command}
+use Rattle.gc_texts.specs.declared.tasks.Task.{Task}
 use Rattle.gc_station.specs.declared.link.Moment.{Moment}
 use Rattle.gc_station.specs.declared.mark.Mark.{Mark}
 use Rattle.gc_station.specs.declared.plan.Plan.{Plan}
@@ -24,11 +24,11 @@ use Rattle.gc_station.specs.Acts.{Act, Told, Untold, Put, Cut, Gave, Silent, End
 use Rattle.gc_station.specs.Beginnings.{IsUnasked, IsFirst, BeginsWith, quiet_times}
 use Rattle.gc_station.specs.Deciding.{is_up, is_past, drain_of}
 use Rattle.gc_station.specs.Marks.{commands_in}
-use Rattle.gc_station.specs.Progressing.{turned, told, begun, reckoned_early, cleared, probed, sent, asking, waited, waiting_on, quieted, is_resting, drained, begins_anew, closed_again, closed}
+use Rattle.gc_station.specs.Progressing.{turned, told, begun, skipped, reckoned_early, cleared, probed, sent, asking, waited, waiting_on, quieted, is_resting, drained, begins_anew, closed_again, closed}
 use Rattle.gc_station.specs.Quiet.{IsRequest, AsksNothing}
 use Rattle.gc_station.specs.Reasons.{IsFor}
 use Rattle.gc_station.specs.Runs.{stood}
-use Rattle.gc_station.specs.Standing.{Standing, opening, order_at, waiting_of, with_progress, with_moment, with_rest, line_came, lines_came, lines_behind, came, is_heard, is_nil, asks_null, asks_first, asks_next, mark_next, place_next, after_tell, after_put, after_open, after_read, IsTelling, IsOpening, IsReading, Puts, Obeys, moved, after, Runs}
+use Rattle.gc_station.specs.Standing.{Standing, opening, order_at, waiting_of, with_progress, with_moment, with_rest, line_came, lines_came, lines_behind, came, is_heard, is_nil, asks_null, asks_first, asks_next, with_records, skips, mark_next, place_next, bound_next, after_tell, after_put, after_open, after_read, IsTelling, IsOpening, IsReading, Puts, Obeys, moved, after, Runs}
 use Rattle.gc_station.proofs.Beginnings.{anew_tell, anew_put, anew_open, anew_read, anew_close, first_act, runs_behind}
 use Rattle.gc_station.proofs.Closings.{runs_split, closes_only}
 use Rattle.gc_station.proofs.Drains.{along, progress_behind, moved_drain}
@@ -39,6 +39,7 @@ use Rattle.gc_station.proofs.Going.{after_all-append}
 use Rattle.gc_station.proofs.Midway.{clash}
 use Rattle.gc_station.proofs.Quiets.{Timely, in_timely, IsDrained, StageAt, stage_in, stage_stood, quiet_now, more_unasked, not_longer, draining_read}
 use Rattle.gc_station.proofs.Turns.{again_down, closed_down}
+use Rattle.gc_station.specs.Scopes.{Scope}
 
 -- Where the null procedure is next the connection was silent for as many quiet times.
 
@@ -116,9 +117,9 @@ put_unasked plan requests bytes f s (Put out) acts o never = λ e. absurd (never
 put_unasked plan requests bytes f s (Cut out n) acts o never = λ e. absurd (failed_elsewhere (is_up (f s).progress.phase) (cause.Write requests n) e)
 put_unasked plan requests bytes f s act acts o never = absurd o
 
-first_phase : (plan : Plan) (mark : Mark) (left : List Command) (s : Standing) → (asks_first plan mark left s).progress.phase ≡ s.progress.phase
-first_phase plan mark [] s = refl
-first_phase plan mark (command ∷ others) s = refl
+first_phase : (mark : Mark) (left : List Task) (s : Standing) → (asks_first mark left s).progress.phase ≡ s.progress.phase
+first_phase mark [] s = refl
+first_phase mark (command ∷ others) s = refl
 
 ready_elsewhere : (at : Phase) → at ≡ phase.Ready → at ≡ phase.Probing → ⊥
 ready_elsewhere at is e = let both : phase.Ready ≡ phase.Probing = sym is ∙ e in cc
@@ -126,7 +127,7 @@ ready_elsewhere at is e = let both : phase.Ready ≡ phase.Probing = sym is ∙ 
 told_unasked : (plan : Plan) (p : Progress) (acts : List Act) (m : Moment) → Unasked plan p acts → Unasked plan (told m p) (acts ++ Told m ∷ [])
 told_unasked plan p acts m u e = more_unasked (quiet_times plan p.drain) acts (Told m) tt (λ x. x) (u e)
 
-unasked_moved : (plan : Plan) (commands : List Command) (next : Order) (s : Standing) (act : Act) (acts : List Act) → Obeys commands s next act → IsFor plan s.progress (waiting_of s) next → Timely s.progress next → StageAt plan.quiet s.progress acts
+unasked_moved : (plan : Plan) (commands : List Task) (next : Order) (s : Standing) (act : Act) (acts : List Act) → Obeys commands s next act → IsFor plan s.progress (waiting_of s) next → Timely s.progress next → StageAt plan.quiet s.progress acts
     → Unasked plan s.progress acts → Unasked plan (moved plan commands next (with_progress turned s) act).progress (acts ++ act ∷ [])
 unasked_moved plan commands orders.Tell s act acts o needs time st u = tell_unasked plan (λ (m : Moment) (p : Progress). reckoned_early plan (commands_in s.marks) (told m p)) (with_progress turned s) act acts o (λ m. told_unasked plan s.progress acts m u)
 unasked_moved plan commands orders.Begin s act acts o needs time st u = tell_unasked plan (begun plan (length commands)) (with_progress turned s) act acts o (λ m. told_unasked plan s.progress acts m u)
@@ -134,8 +135,11 @@ unasked_moved plan commands orders.Open s act acts o needs time st u = open_unas
 unasked_moved plan commands orders.Clear s act acts o needs time st u = put_unasked plan _ _ (with_progress cleared) (with_progress turned s) act acts o (λ e. cc)
 unasked_moved plan commands orders.Probe s act acts o needs time st u = put_unasked plan _ _ (λ (x : Standing). with_progress probed (asks_null plan x)) (with_progress turned s) act acts o (λ e. cc)
 unasked_moved plan commands orders.Send s act acts o needs time st u =
-    put_unasked plan _ _ (λ (x : Standing). with_progress sent (asks_next plan commands x)) (with_progress turned s) act acts o
-    (ready_elsewhere _ (first_phase plan (mark_next plan commands s.progress) (drop (place_next commands s.progress) commands) (with_progress turned s) ∙ needs.0))
+    put_unasked plan _ _ (λ (x : Standing). with_progress (sent (bound_next commands x.progress)) (asks_next plan commands x)) (with_progress turned s) act acts o
+    (ready_elsewhere _ (first_phase (mark_next plan commands s.progress) (drop (place_next commands s.progress) commands) (with_progress turned s) ∙ needs.0))
+unasked_moved plan commands orders.Skip s act acts o needs time st u =
+    tell_unasked plan (λ (m : Moment) (p : Progress). reckoned_early plan (commands_in s.marks) (skipped (bound_next commands s.progress) m p))
+    (with_records (skips plan commands (turned s.progress) act) (with_progress turned s)) act acts o (λ m. told_unasked plan s.progress acts m u)
 unasked_moved plan commands orders.Flush s act acts o needs time st u =
     put_unasked plan _ _ (λ (x : Standing). with_progress asking (asks_null plan x)) (with_progress turned s) act acts o (ready_elsewhere s.progress.phase needs.0)
 unasked_moved plan commands orders.Read s act acts o needs time st u = read_unasked plan false (with_progress turned s) act acts o time.0 st u
@@ -144,14 +148,14 @@ unasked_moved plan commands (orders.Close why) s act acts o needs time st u =
     λ e. absurd (down_elsewhere (closed plan (waiting_of s) why (turned s.progress)).phase (closed_down plan (waiting_of s) why (turned s.progress)) e)
 unasked_moved plan commands (orders.Stop why) s act acts o needs time st u = absurd o
 
-unasked_stood : (plan : Plan) (commands : List Command) (turns : ℕ) (acts : List Act) → plan.quiet ≤ 18446744073709551615 → Runs plan commands (opening plan turns) acts → Unasked plan (stood plan commands turns acts).progress acts
-unasked_stood plan commands turns acts small runs = along plan commands (opening plan turns) (λ (xs : List Act). Unasked plan (stood plan commands turns xs).progress xs) step [] acts runs (λ e. cc) where
-  step : (done later : List Act) (act : Act) → Runs plan commands (opening plan turns) (done ++ act ∷ later) → Unasked plan (stood plan commands turns done).progress done → Unasked plan (stood plan commands turns (done ++ act ∷ [])).progress (done ++ act ∷ [])
+unasked_stood : (plan : Plan) (commands : List Task) (scope : Scope) (acts : List Act) → plan.quiet ≤ 18446744073709551615 → Runs plan commands (opening plan scope) acts → Unasked plan (stood plan commands scope acts).progress acts
+unasked_stood plan commands scope acts small runs = along plan commands (opening plan scope) (λ (xs : List Act). Unasked plan (stood plan commands scope xs).progress xs) step [] acts runs (λ e. cc) where
+  step : (done later : List Act) (act : Act) → Runs plan commands (opening plan scope) (done ++ act ∷ later) → Unasked plan (stood plan commands scope done).progress done → Unasked plan (stood plan commands scope (done ++ act ∷ [])).progress (done ++ act ∷ [])
   step done later act runs u =
-      let s = stood plan commands turns done in
-      let split = runs_split plan commands (opening plan turns) done later act runs in
-      subst (λ (p : Progress). Unasked plan p (done ++ act ∷ [])) (sym (progress_behind plan commands turns done act))
-      (unasked_moved plan commands (order_at plan s) s act done split.1 (order_for plan s.progress (waiting_of s)) (in_timely plan s.progress.phase s.progress (waiting_of s)) (stage_stood plan commands turns done small split.0) u)
+      let s = stood plan commands scope done in
+      let split = runs_split plan commands (opening plan scope) done later act runs in
+      subst (λ (p : Progress). Unasked plan p (done ++ act ∷ [])) (sym (progress_behind plan commands scope done act))
+      (unasked_moved plan commands (order_at plan s) s act done split.1 (order_for plan s.progress (waiting_of s)) (in_timely plan s.progress.phase s.progress (waiting_of s)) (stage_stood plan commands scope done small split.0) u)
 
 -- While no request goes out it begins anew still, with as many.
 
@@ -166,7 +170,7 @@ puts_asks line act o none = absurd o
 abbrev With : ℕ → Progress → Type 0
 With n p = (p.anew ≡ true) × (p.drain ≡ n)
 
-anew_stays : (plan : Plan) (commands : List Command) (next : Order) (s : Standing) (act : Act) → Obeys commands s next act → IsFor plan s.progress (waiting_of s) next → Fine plan commands s → AsksNothing act → s.progress.anew ≡ true
+anew_stays : (plan : Plan) (commands : List Task) (next : Order) (s : Standing) (act : Act) → Obeys commands s next act → IsFor plan s.progress (waiting_of s) next → Fine plan commands s → AsksNothing act → s.progress.anew ≡ true
     → (moved plan commands next (with_progress turned s) act).progress.anew ≡ true
 anew_stays plan commands orders.Tell s act o needs fine none d = anew_tell (λ (m : Moment) (p : Progress). reckoned_early plan (commands_in s.marks) (told m p)) (with_progress turned s) act (λ m. d) d
 anew_stays plan commands orders.Begin s act o needs fine none d = absurd (clash s.progress.anew d (fine.ready needs.0))
@@ -174,27 +178,28 @@ anew_stays plan commands orders.Open s act o needs fine none d = anew_open plan 
 anew_stays plan commands orders.Clear s act o needs fine none d = anew_put _ (with_progress cleared) (with_progress turned s) act d
 anew_stays plan commands orders.Probe s act o needs fine none d = absurd (puts_asks (request_line (Some s.client.next) NullProc) act o none)
 anew_stays plan commands orders.Send s act o needs fine none d = absurd (clash s.progress.anew d (fine.ready needs.0))
+anew_stays plan commands orders.Skip s act o needs fine none d = absurd (clash s.progress.anew d (fine.ready needs.0))
 anew_stays plan commands orders.Flush s act o needs fine none d = absurd (clash s.progress.anew d (fine.ready needs.0))
 anew_stays plan commands orders.Read s act o needs fine none d = anew_read plan false (with_progress turned s) act d
 anew_stays plan commands orders.Rest s act o needs fine none d = anew_read plan true (with_progress turned s) act d
 anew_stays plan commands (orders.Close why) s act o needs fine none d = anew_close plan (waiting_of s) why (turned s.progress) d
 anew_stays plan commands (orders.Stop why) s act o needs fine none d = absurd o
 
-with_moved : (plan : Plan) (commands : List Command) (n : ℕ) (next : Order) (s : Standing) (act : Act) → Obeys commands s next act → IsFor plan s.progress (waiting_of s) next → Fine plan commands s → AsksNothing act → With n s.progress
+with_moved : (plan : Plan) (commands : List Task) (n : ℕ) (next : Order) (s : Standing) (act : Act) → Obeys commands s next act → IsFor plan s.progress (waiting_of s) next → Fine plan commands s → AsksNothing act → With n s.progress
     → With n (moved plan commands next (with_progress turned s) act).progress
 with_moved plan commands n next s act o needs fine none w =
     (anew_stays plan commands next s act o needs fine none w.0, moved_drain (λ d. d ≡ n) plan commands next s act w.1 (λ why is begins old. absurd (clash s.progress.anew w.0 old)) o)
 
 -- along acts behind others
-with_along : (plan : Plan) (commands : List Command) (turns n : ℕ) (done left : List Act) → Runs plan commands (stood plan commands turns done) left → AllByRecursion AsksNothing left → With n (stood plan commands turns done).progress
-    → With n (stood plan commands turns (done ++ left)).progress
-with_along plan commands turns n done [] runs none w = subst (λ (xs : List Act). With n (stood plan commands turns xs).progress) (sym (append-nil done)) w
-with_along plan commands turns n done (act ∷ left) runs none w =
-    let s = stood plan commands turns done in
-    let here = subst (With n) (sym (progress_behind plan commands turns done act)) (with_moved plan commands n (order_at plan s) s act runs.0 (order_for plan s.progress (waiting_of s)) (fine_stood plan commands turns done) none.0 w) in
-    let there : stood plan commands turns (done ++ act ∷ []) ≡ after plan commands s act = after_all-append plan commands (opening plan turns) done (act ∷ []) in
-    subst (λ (xs : List Act). With n (stood plan commands turns xs).progress) (append_assoc done (act ∷ []) left)
-    (with_along plan commands turns n (done ++ act ∷ []) left (subst (λ (x : Standing). Runs plan commands x left) (sym there) runs.1) none.1 here)
+with_along : (plan : Plan) (commands : List Task) (scope : Scope) (n : ℕ) (done left : List Act) → Runs plan commands (stood plan commands scope done) left → AllByRecursion AsksNothing left → With n (stood plan commands scope done).progress
+    → With n (stood plan commands scope (done ++ left)).progress
+with_along plan commands scope n done [] runs none w = subst (λ (xs : List Act). With n (stood plan commands scope xs).progress) (sym (append-nil done)) w
+with_along plan commands scope n done (act ∷ left) runs none w =
+    let s = stood plan commands scope done in
+    let here = subst (With n) (sym (progress_behind plan commands scope done act)) (with_moved plan commands n (order_at plan s) s act runs.0 (order_for plan s.progress (waiting_of s)) (fine_stood plan commands scope done) none.0 w) in
+    let there : stood plan commands scope (done ++ act ∷ []) ≡ after plan commands s act = after_all-append plan commands (opening plan scope) done (act ∷ []) in
+    subst (λ (xs : List Act). With n (stood plan commands scope xs).progress) (append_assoc done (act ∷ []) left)
+    (with_along plan commands scope n (done ++ act ∷ []) left (subst (λ (x : Standing). Runs plan commands x left) (sym there) runs.1) none.1 here)
 
 -- It begins with as many as waited.
 
@@ -208,42 +213,42 @@ close_with plan w cause.Clock p old new = absurd (clash p.anew new old)
 close_with plan w cause.Turns p old new = absurd (clash p.anew new old)
 close_with plan w why p old new = again_with plan w why (begins_anew why p) p old new
 
-moved_with : (plan : Plan) (commands : List Command) (s : Standing) (next : Order) (why : Cause) → next ≡ orders.Close why → s.progress.anew ≡ false → (moved plan commands next (with_progress turned s) Closed).progress.anew ≡ true
+moved_with : (plan : Plan) (commands : List Task) (s : Standing) (next : Order) (why : Cause) → next ≡ orders.Close why → s.progress.anew ≡ false → (moved plan commands next (with_progress turned s) Closed).progress.anew ≡ true
     → (moved plan commands next (with_progress turned s) Closed).progress.drain ≡ length s.client.waiting
 moved_with plan commands s next why is old =
     subst (λ (o : Order). (moved plan commands o (with_progress turned s) Closed).progress.anew ≡ true → (moved plan commands o (with_progress turned s) Closed).progress.drain ≡ length s.client.waiting) (sym is)
     (λ new. close_with plan (waiting_of s) why (turned s.progress) old new)
 
-begins_with : (plan : Plan) (commands : List Command) (turns : ℕ) (acts : List Act) (waiting : ℕ) → Runs plan commands (opening plan turns) acts → BeginsWith plan commands turns acts waiting → With waiting (stood plan commands turns acts).progress
-begins_with plan commands turns acts waiting runs (inl (none, one)) = (ap (λ (xs : List Act). (stood plan commands turns xs).progress.anew) none, ap (λ (xs : List Act). (stood plan commands turns xs).progress.drain) none ∙ sym one)
-begins_with plan commands turns acts waiting runs (inr (front, order, old, new, is)) = (new, subst (λ (xs : List Act). (stood plan commands turns xs).progress.drain ≡ waiting) (sym order) count) where
+begins_with : (plan : Plan) (commands : List Task) (scope : Scope) (acts : List Act) (waiting : ℕ) → Runs plan commands (opening plan scope) acts → BeginsWith plan commands scope acts waiting → With waiting (stood plan commands scope acts).progress
+begins_with plan commands scope acts waiting runs (inl (none, one)) = (ap (λ (xs : List Act). (stood plan commands scope xs).progress.anew) none, ap (λ (xs : List Act). (stood plan commands scope xs).progress.drain) none ∙ sym one)
+begins_with plan commands scope acts waiting runs (inr (front, order, old, new, is)) = (new, subst (λ (xs : List Act). (stood plan commands scope xs).progress.drain ≡ waiting) (sym order) count) where
   s : Standing
-  s = stood plan commands turns front
+  s = stood plan commands scope front
 
-  split : Runs plan commands (opening plan turns) front × Obeys commands s (order_at plan s) Closed
-  split = runs_split plan commands (opening plan turns) front [] Closed (subst (λ (xs : List Act). Runs plan commands (opening plan turns) xs) order runs)
+  split : Runs plan commands (opening plan scope) front × Obeys commands s (order_at plan s) Closed
+  split = runs_split plan commands (opening plan scope) front [] Closed (subst (λ (xs : List Act). Runs plan commands (opening plan scope) xs) order runs)
 
   closes : (why : Cause) × (order_at plan s ≡ orders.Close why)
   closes = closes_only commands s (order_at plan s) split.1
 
-  there : (stood plan commands turns (front ++ Closed ∷ [])).progress ≡ (moved plan commands (order_at plan s) (with_progress turned s) Closed).progress
-  there = progress_behind plan commands turns front Closed
+  there : (stood plan commands scope (front ++ Closed ∷ [])).progress ≡ (moved plan commands (order_at plan s) (with_progress turned s) Closed).progress
+  there = progress_behind plan commands scope front Closed
 
-  count : (stood plan commands turns (front ++ Closed ∷ [])).progress.drain ≡ waiting
+  count : (stood plan commands scope (front ++ Closed ∷ [])).progress.drain ≡ waiting
   count =
       ap (λ (p : Progress). p.drain) there
-      ∙ moved_with plan commands s (order_at plan s) closes.0 closes.1 old (sym (ap (λ (p : Progress). p.anew) there) ∙ sym (ap (λ (xs : List Act). (stood plan commands turns xs).progress.anew) order) ∙ new)
+      ∙ moved_with plan commands s (order_at plan s) closes.0 closes.1 old (sym (ap (λ (p : Progress). p.anew) there) ∙ sym (ap (λ (xs : List Act). (stood plan commands scope xs).progress.anew) order) ∙ new)
       ∙ sym is
 
-pub beginning_drained : (plan : Plan) (commands : List Command) (turns : ℕ) (earlier between later : List Act) (act : Act) (waiting : ℕ) → plan.quiet ≤ 18446744073709551615
-    → Runs plan commands (opening plan turns) ((earlier ++ between) ++ act ∷ later) → BeginsWith plan commands turns earlier waiting → AllByRecursion AsksNothing between → IsRequest act → IsFirst (quiet_times plan waiting) (earlier ++ between) act
-beginning_drained plan commands turns earlier between later act waiting small runs begins none asks =
-    let s = stood plan commands turns (earlier ++ between) in
-    let split = runs_split plan commands (opening plan turns) (earlier ++ between) later act runs in
-    let w = with_along plan commands turns waiting earlier between (runs_behind plan commands (opening plan turns) earlier between split.0) none
-    (begins_with plan commands turns earlier waiting (runs_front plan commands (opening plan turns) earlier between split.0) begins) in
-    let it = first_act plan commands (order_at plan s) s act split.1 asks (order_for plan s.progress (waiting_of s)) (fine_stood plan commands turns (earlier ++ between)) w.0 in
-    (it.1, subst (λ n. IsUnasked (quiet_times plan n) (earlier ++ between)) w.1 (unasked_stood plan commands turns (earlier ++ between) small split.0 it.0)) where
-      runs_front : (plan : Plan) (commands : List Command) (s : Standing) (xs ys : List Act) → Runs plan commands s (xs ++ ys) → Runs plan commands s xs
+pub beginning_drained : (plan : Plan) (commands : List Task) (scope : Scope) (earlier between later : List Act) (act : Act) (waiting : ℕ) → plan.quiet ≤ 18446744073709551615
+    → Runs plan commands (opening plan scope) ((earlier ++ between) ++ act ∷ later) → BeginsWith plan commands scope earlier waiting → AllByRecursion AsksNothing between → IsRequest act → IsFirst (quiet_times plan waiting) (earlier ++ between) act
+beginning_drained plan commands scope earlier between later act waiting small runs begins none asks =
+    let s = stood plan commands scope (earlier ++ between) in
+    let split = runs_split plan commands (opening plan scope) (earlier ++ between) later act runs in
+    let w = with_along plan commands scope waiting earlier between (runs_behind plan commands (opening plan scope) earlier between split.0) none
+    (begins_with plan commands scope earlier waiting (runs_front plan commands (opening plan scope) earlier between split.0) begins) in
+    let it = first_act plan commands (order_at plan s) s act split.1 asks (order_for plan s.progress (waiting_of s)) (fine_stood plan commands scope (earlier ++ between)) w.0 in
+    (it.1, subst (λ n. IsUnasked (quiet_times plan n) (earlier ++ between)) w.1 (unasked_stood plan commands scope (earlier ++ between) small split.0 it.0)) where
+      runs_front : (plan : Plan) (commands : List Task) (s : Standing) (xs ys : List Act) → Runs plan commands s (xs ++ ys) → Runs plan commands s xs
       runs_front plan commands s [] ys runs = tt
       runs_front plan commands s (x ∷ xs) ys runs = (runs.0, runs_front plan commands (after plan commands s x) xs ys runs.1)

@@ -1,13 +1,15 @@
 -- The records and the commands that wait are the commands that were sent, whatever the link tells.
 use Rattle.std.proofs.Common.{◌≡◌, ℕ, zero, suc, ◌+◌, ◌<◌, List, [], ◌∷◌, ◌++◌, length, take, drop, map, Option, Some, None, refl, sym, ap, ◌∙◌, arith, append_assoc, append-nil}
 use Rattle.std.proofs.lemmas.List.{length-map, map-append}
+use Rattle.gc_catalogue.specs.declared.answer.Reading.{Reading}
+use Rattle.gc_catalogue.specs.declared.call.Call.{Call}
 use Rattle.gc_client.specs.declared.pending.Pending.{Pending}
 use Rattle.gc_client.specs.Rule.{Settlement, expired, lost}
 use Rattle.gc_client.specs.OneForOne.{Asked, of_settled, of_pending}
 use Rattle.gc_client.proofs.OneForOne.{lost_parts, expired_parts}
-use Rattle.gc_texts.specs.declared.commands.Command.{Command}
+use Rattle.gc_texts.specs.declared.tasks.Task.{Task}
 use Rattle.gc_station.specs.declared.mark.Mark.{Mark}
-use Rattle.gc_station.specs.EachOnce.{Request, requests, of_command, all_cycles, sent_by, of_record, of_waiting, still_waiting}
+use Rattle.gc_station.specs.EachOnce.{Request, requests, of_task, all_cycles, sent_by, of_record, of_waiting, still_waiting}
 use Rattle.gc_station.specs.Marks.{commands_in, record_of, records_of}
 use Rattle.gc_station.specs.Records.{Record}
 
@@ -31,11 +33,11 @@ waiting_marked (m ∷ ms) [] = refl
 waiting_marked (None ∷ ms) (w ∷ ws) = waiting_marked ms ws
 waiting_marked (Some mark ∷ ms) (w ∷ ws) = ap (λ rs. of_waiting mark w ∷ rs) (waiting_marked ms ws)
 
-records_marked : (utc : ℕ) (ms : List (Option Mark)) (ss : List Settlement) → map of_record (records_of utc ms ss) ≡ marked ms (map of_settled ss)
-records_marked utc [] ss = refl
-records_marked utc (m ∷ ms) [] = refl
-records_marked utc (None ∷ ms) (s ∷ ss) = records_marked utc ms ss
-records_marked utc (Some mark ∷ ms) (s ∷ ss) = ap (λ rs. of_record (record_of utc mark s) ∷ rs) (records_marked utc ms ss)
+records_marked : (reads : Call → List ℕ → Reading) (utc : ℕ) (ms : List (Option Mark)) (ss : List Settlement) → map of_record (records_of reads utc ms ss) ≡ marked ms (map of_settled ss)
+records_marked reads utc [] ss = refl
+records_marked reads utc (m ∷ ms) [] = refl
+records_marked reads utc (None ∷ ms) (s ∷ ss) = records_marked reads utc ms ss
+records_marked reads utc (Some mark ∷ ms) (s ∷ ss) = ap (λ rs. of_record (record_of reads utc mark s) ∷ rs) (records_marked reads utc ms ss)
 
 marked_append : (ms : List (Option Mark)) (xs ys : List Asked) → marked ms (xs ++ ys) ≡ marked ms xs ++ marked (drop (length xs) ms) ys
 marked_append [] [] ys = refl
@@ -86,23 +88,23 @@ each_empty ms ws rs sent none h =
       nothing (m ∷ ms) = refl
 
 -- some are settled
-pub each_settles : (utc : ℕ) (ms : List (Option Mark)) (ws left : List Pending) (ss : List Settlement) (rs : List Record) (sent : List Request) → map of_settled ss ++ map of_pending left ≡ map of_pending ws
-    → EachIs ms ws rs sent → EachIs (drop (length ss) ms) left (rs ++ records_of utc ms ss) sent
-each_settles utc ms ws left ss rs sent parts h =
+pub each_settles : (reads : Call → List ℕ → Reading) (utc : ℕ) (ms : List (Option Mark)) (ws left : List Pending) (ss : List Settlement) (rs : List Record) (sent : List Request) → map of_settled ss ++ map of_pending left ≡ map of_pending ws
+    → EachIs ms ws rs sent → EachIs (drop (length ss) ms) left (rs ++ records_of reads utc ms ss) sent
+each_settles reads utc ms ws left ss rs sent parts h =
     let front = map of_record rs in
     let ended = map of_settled ss in
     let waits = map of_pending left in
     let count : length ended ≡ length ss = length-map ss of_settled in
-    ap (λ xs. xs ++ still_waiting (drop (length ss) ms) left) (map-append of_record rs (records_of utc ms ss))
-    ∙ append_assoc front (map of_record (records_of utc ms ss)) (still_waiting (drop (length ss) ms) left)
-    ∙ ap (λ xs. front ++ (xs ++ still_waiting (drop (length ss) ms) left)) (records_marked utc ms ss)
+    ap (λ xs. xs ++ still_waiting (drop (length ss) ms) left) (map-append of_record rs (records_of reads utc ms ss))
+    ∙ append_assoc front (map of_record (records_of reads utc ms ss)) (still_waiting (drop (length ss) ms) left)
+    ∙ ap (λ xs. front ++ (xs ++ still_waiting (drop (length ss) ms) left)) (records_marked reads utc ms ss)
     ∙ ap (λ xs. front ++ (marked ms ended ++ xs)) (waiting_marked (drop (length ss) ms) left ∙ ap (λ n. marked (drop n ms) waits) (sym count))
     ∙ ap (λ xs. front ++ xs) (sym (marked_append ms ended waits) ∙ ap (marked ms) parts ∙ sym (waiting_marked ms ws))
     ∙ h
 
 -- all that wait are lost
-pub each_lost : (utc : ℕ) (ms : List (Option Mark)) (ws : List Pending) (rs : List Record) (sent : List Request) → EachIs ms ws rs sent → EachIs (drop (length (map lost ws)) ms) [] (rs ++ records_of utc ms (map lost ws)) sent
-each_lost utc ms ws rs sent h = each_settles utc ms ws [] (map lost ws) rs sent (append-nil (map of_settled (map lost ws)) ∙ lost_parts ws) h
+pub each_lost : (reads : Call → List ℕ → Reading) (utc : ℕ) (ms : List (Option Mark)) (ws : List Pending) (rs : List Record) (sent : List Request) → EachIs ms ws rs sent → EachIs (drop (length (map lost ws)) ms) [] (rs ++ records_of reads utc ms (map lost ws)) sent
+each_lost reads utc ms ws rs sent h = each_settles reads utc ms ws [] (map lost ws) rs sent (append-nil (map of_settled (map lost ws)) ∙ lost_parts ws) h
 
 -- one more waits
 more_waiting : (ms : List (Option Mark)) (ws : List Pending) (m : Option Mark) (p : Pending) → length ms ≡ length ws → still_waiting (ms ++ m ∷ []) (ws ++ p ∷ []) ≡ still_waiting ms ws ++ marked (m ∷ []) (of_pending p ∷ [])
@@ -117,62 +119,72 @@ pub each_null : (ms : List (Option Mark)) (ws : List Pending) (p : Pending) (rs 
 each_null ms ws p rs sent paired h = ap (λ xs. map of_record rs ++ xs) (more_waiting ms ws None p paired ∙ append-nil (still_waiting ms ws)) ∙ h
 
 -- the commands before one place and the one at it
-take_next : (commands : List Command) (place : ℕ) (command : Command) (others : List Command) → drop place commands ≡ command ∷ others → take (place + 1) commands ≡ take place commands ++ command ∷ []
-take_next [] zero command others e = cc
-take_next [] (suc n) command others e = cc
-take_next (c ∷ cs) zero command others e = ap (λ x. x ∷ []) (head_is e) where
-  head_is : c ∷ cs ≡ command ∷ others → c ≡ command
+take_next : (commands : List Task) (place : ℕ) (task : Task) (others : List Task) → drop place commands ≡ task ∷ others → take (place + 1) commands ≡ take place commands ++ task ∷ []
+take_next [] zero task others e = cc
+take_next [] (suc n) task others e = cc
+take_next (c ∷ cs) zero task others e = ap (λ x. x ∷ []) (head_is e) where
+  head_is : c ∷ cs ≡ task ∷ others → c ≡ task
   head_is e = cc
-take_next (c ∷ cs) (suc n) command others e = let at : suc n + 1 ≡ suc (n + 1) = omega arith in rw at (ap (λ x. c ∷ x) (take_next cs n command others e))
+take_next (c ∷ cs) (suc n) task others e = let at : suc n + 1 ≡ suc (n + 1) = omega arith in rw at (ap (λ x. c ∷ x) (take_next cs n task others e))
 
 -- how many stand before a place that is taken
-take_place : (commands : List Command) (place : ℕ) (command : Command) (others : List Command) → drop place commands ≡ command ∷ others → length (take place commands) ≡ place
-take_place commands zero command others e = refl
-take_place [] (suc n) command others e = cc
-take_place (c ∷ cs) (suc n) command others e = ap suc (take_place cs n command others e)
+take_place : (commands : List Task) (place : ℕ) (task : Task) (others : List Task) → drop place commands ≡ task ∷ others → length (take place commands) ≡ place
+take_place commands zero task others e = refl
+take_place [] (suc n) task others e = cc
+take_place (c ∷ cs) (suc n) task others e = ap suc (take_place cs n task others e)
 
 -- one command more was sent
-sent_next : (commands : List Command) (begun place : ℕ) (command : Command) (others : List Command) → drop place commands ≡ command ∷ others → 0 < begun
-    → sent_by commands begun place ++ requests begun place (of_command command ∷ []) ≡ sent_by commands begun (place + 1)
-sent_next commands zero place command others at some = absurd (omega (arith, some))
-sent_next commands (suc n) place command others at some =
-    let one : List Asked = of_command command ∷ [] in
-    let taken = map of_command (take place commands) in
+pub sent_next : (commands : List Task) (begun place : ℕ) (task : Task) (others : List Task) → drop place commands ≡ task ∷ others → 0 < begun
+    → sent_by commands begun place ++ requests begun place (of_task task ∷ []) ≡ sent_by commands begun (place + 1)
+sent_next commands zero place task others at some = absurd (omega (arith, some))
+sent_next commands (suc n) place task others at some =
+    let one : List Asked = of_task task ∷ [] in
+    let taken = map of_task (take place commands) in
     let cycles = all_cycles commands n in
-    let taken_len : length taken ≡ place = length-map (take place commands) of_command ∙ take_place commands place command others at in
+    let taken_len : length taken ≡ place = length-map (take place commands) of_task ∙ take_place commands place task others at in
     let taken_at : 0 + length taken ≡ place = omega (arith, taken_len) in
     append_assoc cycles (requests (suc n) 0 taken) (requests (suc n) place one)
     ∙ ap (λ b. cycles ++ (requests (suc n) 0 taken ++ requests (suc n) b one)) (sym taken_at)
     ∙ ap (λ xs. cycles ++ xs) (sym (requests-append (suc n) 0 taken one))
-    ∙ ap (λ xs. cycles ++ requests (suc n) 0 xs) (sym (map-append of_command (take place commands) (command ∷ [])) ∙ ap (map of_command) (sym (take_next commands place command others at)))
+    ∙ ap (λ xs. cycles ++ requests (suc n) 0 xs) (sym (map-append of_task (take place commands) (task ∷ [])) ∙ ap (map of_task) (sym (take_next commands place task others at)))
 
 -- a command is sent
-pub each_sent : (commands : List Command) (begun place : ℕ) (ms : List (Option Mark)) (ws : List Pending) (p : Pending) (rs : List Record) (command : Command) (others : List Command)
-    → length ms ≡ length ws → drop place commands ≡ command ∷ others → of_pending p ≡ of_command command → 0 < begun
+pub each_sent : (commands : List Task) (begun place : ℕ) (ms : List (Option Mark)) (ws : List Pending) (p : Pending) (rs : List Record) (task : Task) (others : List Task)
+    → length ms ≡ length ws → drop place commands ≡ task ∷ others → of_pending p ≡ of_task task → 0 < begun
     → EachIs ms ws rs (sent_by commands begun place) → EachIs (ms ++ Some (record { cycle = begun; place = place }) ∷ []) (ws ++ p ∷ []) rs (sent_by commands begun (place + 1))
-each_sent commands begun place ms ws p rs command others paired at is some h =
+each_sent commands begun place ms ws p rs task others paired at is some h =
     let front = map of_record rs in
     let mark : Mark = record { cycle = begun; place = place } in
     ap (λ xs. front ++ xs) (more_waiting ms ws (Some mark) p paired ∙ ap (λ a. still_waiting ms ws ++ requests begun place (a ∷ [])) is)
-    ∙ sym (append_assoc front (still_waiting ms ws) (requests begun place (of_command command ∷ [])))
-    ∙ ap (λ xs. xs ++ requests begun place (of_command command ∷ [])) h
-    ∙ sent_next commands begun place command others at some
+    ∙ sym (append_assoc front (still_waiting ms ws) (requests begun place (of_task task ∷ [])))
+    ∙ ap (λ xs. xs ++ requests begun place (of_task task ∷ [])) h
+    ∙ sent_next commands begun place task others at some
+
+-- a command isn't sent, and its record stands behind those of all that were, of which none waits
+pub each_skipped : (commands : List Task) (begun place : ℕ) (ms : List (Option Mark)) (ws : List Pending) (rs : List Record) (r : Record) (task : Task) (others : List Task)
+    → commands_in ms ≡ 0 → drop place commands ≡ task ∷ others → of_record r ∷ [] ≡ requests begun place (of_task task ∷ []) → 0 < begun
+    → EachIs ms ws rs (sent_by commands begun place) → EachIs ms ws (rs ++ r ∷ []) (sent_by commands begun (place + 1))
+each_skipped commands begun place ms ws rs r task others none at is some h =
+    each_nothing ms ws (rs ++ r ∷ []) (sent_by commands begun (place + 1)) none
+    (map-append of_record rs (r ∷ []) ∙ ap (λ xs. map of_record rs ++ xs) is
+    ∙ ap (λ xs. xs ++ requests begun place (of_task task ∷ [])) (each_settled ms ws rs (sent_by commands begun place) none h)
+    ∙ sent_next commands begun place task others at some)
 
 -- a whole cycle was sent
-pub sent_whole : (commands : List Command) (begun place : ℕ) → place ≡ length commands → sent_by commands begun place ≡ all_cycles commands begun
+pub sent_whole : (commands : List Task) (begun place : ℕ) → place ≡ length commands → sent_by commands begun place ≡ all_cycles commands begun
 sent_whole commands zero place e = refl
-sent_whole commands (suc n) place e = ap (λ xs. all_cycles commands n ++ requests (suc n) 0 (map of_command xs)) (ap (λ m. take m commands) e ∙ whole commands) where
-  whole : (xs : List Command) → take (length xs) xs ≡ xs
+sent_whole commands (suc n) place e = ap (λ xs. all_cycles commands n ++ requests (suc n) 0 (map of_task xs)) (ap (λ m. take m commands) e ∙ whole commands) where
+  whole : (xs : List Task) → take (length xs) xs ≡ xs
   whole [] = refl
   whole (x ∷ xs) = ap (λ ys. x ∷ ys) (whole xs)
 
 -- a cycle begins
-pub sent_none : (commands : List Command) (begun next place : ℕ) → next ≡ suc begun → place ≡ 0 → sent_by commands next place ≡ all_cycles commands begun
+pub sent_none : (commands : List Task) (begun next place : ℕ) → next ≡ suc begun → place ≡ 0 → sent_by commands next place ≡ all_cycles commands begun
 sent_none commands begun next place is none =
-    ap (λ n. sent_by commands n place) is ∙ ap (λ m. all_cycles commands begun ++ requests (suc begun) 0 (map of_command (take m commands))) none ∙ append-nil (all_cycles commands begun)
+    ap (λ n. sent_by commands n place) is ∙ ap (λ m. all_cycles commands begun ++ requests (suc begun) 0 (map of_task (take m commands))) none ∙ append-nil (all_cycles commands begun)
 
--- behind a whole cycle, each command of which is settled, the next one begins
-pub each_begun : (commands : List Command) (begun next place place' : ℕ) (ms : List (Option Mark)) (ws : List Pending) (rs : List Record)
+-- behind a whole cycle, each task of which is settled, the next one begins
+pub each_begun : (commands : List Task) (begun next place place' : ℕ) (ms : List (Option Mark)) (ws : List Pending) (rs : List Record)
     → commands_in ms ≡ 0 → place ≡ length commands → next ≡ suc begun → place' ≡ 0 → EachIs ms ws rs (sent_by commands begun place) → EachIs ms ws rs (sent_by commands next place')
 each_begun commands begun next place place' ms ws rs settled whole is none h =
     each_nothing ms ws rs (sent_by commands next place') settled

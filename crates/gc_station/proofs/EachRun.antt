@@ -1,9 +1,9 @@
 -- Each order, and so each run, keeps them.
-use Rattle.std.proofs.Common.{◌≡◌, ℕ, ◌-◌, ◌<◌, ◌⊎◌, inl, inr, ◌||◌, ◌&&◌, Bool, true, false, not, List, [], ◌∷◌, ◌++◌, length, drop, map, nat_eq, Option, None, refl, sym, ap, ◌∙◌, subst, arith}
+use Rattle.std.proofs.Common.{◌≡◌, ℕ, ◌-◌, ◌<◌, ◌⊎◌, inl, inr, ◌||◌, ◌&&◌, Bool, true, false, not, List, [], ◌∷◌, ◌++◌, length, drop, map, nat_eq, Option, None, refl, sym, ap, ◌∙◌, subst, arith, append-nil, if◌then◌else◌}
 use Rattle.std.proofs.lemmas.List.{length-drop, nil_from_length}
 use Rattle.gc_catalogue.specs.declared.call.Call.TheVariants.{NullProc}
 use Rattle.gc_client.specs.Rule.{ById, fresh}
-use Rattle.gc_texts.specs.declared.commands.Command.{Command}
+use Rattle.gc_texts.specs.declared.tasks.Task.{Task}
 use Rattle.gc_station.specs.declared.link.Moment.{Moment}
 use Rattle.gc_station.specs.declared.mark.Mark.{Mark}
 use Rattle.gc_station.specs.declared.plan.Plan.{Plan}
@@ -15,19 +15,26 @@ use Rattle.gc_station.specs.declared.progress.Order.{Order}
 use Rattle.gc_station.specs.declared.progress.Order.TheVariants as order
 use Rattle.gc_station.specs.declared.progress.Progress.{Progress}
 use Rattle.gc_station.specs.declared.progress.Waiting.{Waiting}
-use Rattle.gc_station.specs.Acts.{Act}
+use Rattle.gc_station.specs.Acts.{Act, Told}
 use Rattle.gc_station.specs.Deciding.{later, is_up}
 use Rattle.gc_station.specs.EachOnce.{EachOnce, sent_by, of_record, all_cycles}
 use Rattle.gc_station.specs.Marks.{commands_in}
-use Rattle.gc_station.specs.Progressing.{turned, told, reckoned_early, begun, cleared, asking, probed, sent, is_over, is_over_in}
+use Rattle.gc_station.specs.Progressing.{turned, told, skipped_at, reckoned_early, begun, skipped, cleared, asking, probed, sent, is_over, is_over_in}
 use Rattle.gc_station.specs.Reasons.{IsFor}
+use Rattle.gc_station.specs.Records.{Record}
 use Rattle.gc_station.specs.Runs.{stood}
-use Rattle.gc_station.specs.Standing.{Standing, opening, order_at, waiting_of, place_next, mark_next, with_progress, asks_null, asks_first, asks_next, moved, after, after_all}
-use Rattle.gc_station.proofs.Acting.{mid_tell, mid_put, mid_open, mid_close, mid_read}
+use Rattle.gc_texts.specs.Endings.{Skipped, Missed}
+use Rattle.gc_station.specs.Standing.{Standing, opening, order_at, waiting_of, place_next, mark_next, with_progress, asks_null, asks_first, asks_next, bound_next, with_records, skips, skips_first, after_tell, moved, after, after_all}
+use Rattle.gc_station.proofs.Acting.{mid_fail, mid_moment, mid_tell, mid_put, mid_open, mid_close, mid_read}
 use Rattle.gc_station.proofs.Each.{each_empty, sent_whole}
 use Rattle.gc_station.proofs.Facts.{order_for}
 use Rattle.gc_station.proofs.Fine.{Fine, is_bare, says_done}
-use Rattle.gc_station.proofs.Midway.{Placed, Mid, mid_of, clash, sound_null, sound_sent, sound_begun, fine_ended}
+use Rattle.gc_station.proofs.Midway.{Placed, Mid, mid_of, clash, sound_null, sound_sent, sound_skipped, sound_begun, fine_ended}
+use Rattle.gc_station.specs.Scopes.{Scope}
+
+-- nothing more is written down
+mid_nothing : (plan : Plan) (commands : List Task) (s : Standing) → Mid plan commands s → Mid plan commands (with_records [] s)
+mid_nothing plan commands s mid = subst (λ (rs : List Record). Mid plan commands (record s { records = rs })) (sym (append-nil s.records)) mid
 
 -- while requests go out, and no null procedure of a beginning waits
 going_placed : (phase : Phase) (anew alone : Bool) (left unsent : ℕ) (rest : List ℕ) (next : ℕ) (marks : List (Option Mark)) → phase ≡ Ready → anew ≡ false → alone ≡ false → Placed phase anew alone left unsent rest next marks
@@ -42,7 +49,7 @@ going_placed phase anew alone left unsent rest next marks is begun single = reco
 }
 
 -- the clock was read, and a cycle begins
-mid_begun : (plan : Plan) (commands : List Command) (s : Standing) (m : Moment) → s.progress.phase ≡ Ready → s.progress.alone ≡ false → s.progress.unsent ≡ 0 → commands_in s.marks ≡ 0 → 0 < s.progress.left → Mid plan commands s
+mid_begun : (plan : Plan) (commands : List Task) (s : Standing) (m : Moment) → s.progress.phase ≡ Ready → s.progress.alone ≡ false → s.progress.unsent ≡ 0 → commands_in s.marks ≡ 0 → 0 < s.progress.left → Mid plan commands s
     → Mid plan commands (with_progress (begun plan (length commands) m) s)
 mid_begun plan commands s m is single none settled some mid =
     let p = s.progress in (
@@ -51,7 +58,7 @@ mid_begun plan commands s m is single none settled some mid =
     )
 
 -- the line feed went out
-mid_cleared : (plan : Plan) (commands : List Command) (s : Standing) → s.progress.phase ≡ Clearing → Mid plan commands s → Mid plan commands (with_progress cleared s)
+mid_cleared : (plan : Plan) (commands : List Task) (s : Standing) → s.progress.phase ≡ Clearing → Mid plan commands s → Mid plan commands (with_progress cleared s)
 mid_cleared plan commands s is mid =
     let placed = mid.1 in
     let here : is_bare s.progress.phase ≡ true = ap is_bare is in (
@@ -68,7 +75,7 @@ mid_cleared plan commands s is mid =
     )
 
 -- the null procedure of a beginning is sent
-mid_probed : (plan : Plan) (commands : List Command) (s : Standing) → s.client ≡ fresh → length s.client.waiting < 7 → Mid plan commands s → Mid plan commands (with_progress probed (asks_null plan s))
+mid_probed : (plan : Plan) (commands : List Task) (s : Standing) → s.client ≡ fresh → length s.client.waiting < 7 → Mid plan commands s → Mid plan commands (with_progress probed (asks_null plan s))
 mid_probed plan commands s fresh_is room mid =
     let p = s.progress in
     let sound = mid.0 in
@@ -86,7 +93,7 @@ mid_probed plan commands s fresh_is room mid =
     )
 
 -- a null procedure is sent behind those that are given up
-mid_flushed : (plan : Plan) (commands : List Command) (s : Standing) → s.progress.phase ≡ Ready → s.progress.alone ≡ false → length s.client.waiting < 7 → Mid plan commands s → Mid plan commands (with_progress asking (asks_null plan s))
+mid_flushed : (plan : Plan) (commands : List Task) (s : Standing) → s.progress.phase ≡ Ready → s.progress.alone ≡ false → length s.client.waiting < 7 → Mid plan commands s → Mid plan commands (with_progress asking (asks_null plan s))
 mid_flushed plan commands s is single room mid =
     let p = s.progress in (
       sound_null plan commands p.left p.unsent s.client s.marks s.records 0 NullProc (later p.moment.elapsed plan.deadline) room mid.0,
@@ -94,30 +101,51 @@ mid_flushed plan commands s is single room mid =
     )
 
 -- the next command is sent
-mid_first : (plan : Plan) (commands : List Command) (s : Standing) (left : List Command) → drop (place_next commands s.progress) commands ≡ left
-    → s.progress.phase ≡ Ready → s.progress.alone ≡ false → 0 < s.progress.unsent → length s.client.waiting < 7 → Mid plan commands s → Mid plan commands (with_progress sent (asks_first plan (mark_next plan commands s.progress) left s))
-mid_first plan commands s [] at is single some room mid =
+mid_first : (plan : Plan) (commands : List Task) (bound : Bool) (s : Standing) (left : List Task) → drop (place_next commands s.progress) commands ≡ left
+    → s.progress.phase ≡ Ready → s.progress.alone ≡ false → 0 < s.progress.unsent → length s.client.waiting < 7 → Mid plan commands s → Mid plan commands (with_progress (sent bound) (asks_first (mark_next plan commands s.progress) left s))
+mid_first plan commands bound s [] at is single some room mid =
     let sound = mid.0 in
     let n : length commands - place_next commands s.progress ≡ 0 = sym (length-drop (place_next commands s.progress) commands) ∙ ap length at in
     absurd (omega (arith, n, some, sound.unsents))
-mid_first plan commands s (command ∷ others) at is single some room mid =
+mid_first plan commands bound s (task ∷ others) at is single some room mid =
     let p = s.progress in
-    let t = asks_first plan (mark_next plan commands p) (command ∷ others) s in (
-      sound_sent plan commands p.left p.unsent s.client s.marks s.records (later p.moment.elapsed plan.deadline) command others room some at mid.0,
+    let t = asks_first (mark_next plan commands p) (task ∷ others) s in (
+      sound_sent plan commands p.left p.unsent s.client s.marks s.records (later p.moment.elapsed task.deadline) task others room some at mid.0,
       going_placed p.phase p.anew p.alone p.left (p.unsent - 1) s.rest t.client.next t.marks is (mid.1.ready is) single,
     )
 
-mid_sent : (plan : Plan) (commands : List Command) (s : Standing) → s.progress.phase ≡ Ready → s.progress.alone ≡ false → 0 < s.progress.unsent → length s.client.waiting < 7 → Mid plan commands s → Mid plan commands (with_progress sent (asks_next plan commands s))
-mid_sent plan commands s is single some room mid = mid_first plan commands s (drop (place_next commands s.progress) commands) refl is single some room mid
+mid_sent : (plan : Plan) (commands : List Task) (bound : Bool) (s : Standing) → s.progress.phase ≡ Ready → s.progress.alone ≡ false → 0 < s.progress.unsent → length s.client.waiting < 7 → Mid plan commands s → Mid plan commands (with_progress (sent bound) (asks_next plan commands s))
+mid_sent plan commands bound s is single some room mid = mid_first plan commands bound s (drop (place_next commands s.progress) commands) refl is single some room mid
+
+-- the next command isn't sent
+mid_skips : (plan : Plan) (commands : List Task) (bound : Bool) (s : Standing) (m : Moment) (left : List Task) → drop (place_next commands s.progress) commands ≡ left
+    → s.progress.phase ≡ Ready → s.progress.alone ≡ false → 0 < s.progress.unsent → commands_in s.marks ≡ 0 → Mid plan commands s
+    → Mid plan commands (with_progress (λ p. reckoned_early plan (commands_in s.marks) (skipped bound m p)) (with_records (skips_first s.progress m (mark_next plan commands s.progress) left) s))
+mid_skips plan commands bound s m [] at is single some none mid =
+    let sound = mid.0 in
+    let n : length commands - place_next commands s.progress ≡ 0 = sym (length-drop (place_next commands s.progress) commands) ∙ ap length at in
+    absurd (omega (arith, n, some, sound.unsents))
+mid_skips plan commands bound s m (task ∷ others) at is single some none mid =
+    let p = s.progress in (
+      sound_skipped plan commands p.left p.unsent s.client s.marks s.records (skipped_at m p) (if p.missed then Missed else Skipped) task others none some at mid.0,
+      going_placed p.phase p.anew p.alone p.left (p.unsent - 1) s.rest s.client.next s.marks is (mid.1.ready is) single,
+    )
+
+mid_skip : (plan : Plan) (commands : List Task) (bound : Bool) (s : Standing) (act : Act) → s.progress.phase ≡ Ready → s.progress.alone ≡ false → 0 < s.progress.unsent → commands_in s.marks ≡ 0 → Mid plan commands s
+    → Mid plan commands (after_tell (λ m p. reckoned_early plan (commands_in s.marks) (skipped bound m p)) (with_records (skips plan commands s.progress act) s) act)
+mid_skip plan commands bound s (Told m) is single some none mid =
+    mid_moment plan commands (with_progress (λ p. reckoned_early plan (commands_in s.marks) (skipped bound m p)) (with_records (skips plan commands s.progress (Told m)) s)) m
+    (mid_skips plan commands bound s m (drop (place_next commands s.progress) commands) refl is single some none mid)
+mid_skip plan commands bound s act is single some none mid = mid_fail plan commands (with_records [] s) cause.Clock refl (mid_nothing plan commands s mid)
 
 -- a close for being done
-close_done : (plan : Plan) (commands : List Command) (s : Standing) (w : Waiting) (why : Cause) → Fine plan commands s → IsFor plan s.progress w (order.Close why) → why ≡ cause.Done → (s.progress.left ≡ 0) × (s.progress.unsent ≡ 0)
+close_done : (plan : Plan) (commands : List Task) (s : Standing) (w : Waiting) (why : Cause) → Fine plan commands s → IsFor plan s.progress w (order.Close why) → why ≡ cause.Done → (s.progress.left ≡ 0) × (s.progress.unsent ≡ 0)
 close_done plan commands s w cause.Done fine (up, inl phase) is = let it = fine.finished (ap says_done phase) in (it.0, it.1)
 close_done plan commands s w cause.Done fine (up, inr end) is = (end.0, end.1)
 close_done plan commands s w why fine for_it is = cc
 
 -- what an act of an order leaves
-pub mid_moved : (plan : Plan) (commands : List Command) (s : Standing) (order : Order) (act : Act) → Fine plan commands s → IsFor plan s.progress (waiting_of s) order
+pub mid_moved : (plan : Plan) (commands : List Task) (s : Standing) (order : Order) (act : Act) → Fine plan commands s → IsFor plan s.progress (waiting_of s) order
     → Mid plan commands (moved plan commands order (with_progress turned s) act)
 mid_moved plan commands s order.Tell act fine is =
     let t = with_progress turned s in mid_tell plan commands (λ m p. reckoned_early plan (commands_in t.marks) (told m p)) t act (mid_of plan commands s fine) (λ m. mid_of plan commands s fine)
@@ -133,7 +161,12 @@ mid_moved plan commands s order.Probe act fine is =
     mid_put plan commands _ (λ (x : Standing). with_progress probed (asks_null plan x)) t act (mid_probed plan commands t (fine.anew (fine.probing is.0)).0 is.1.1 (mid_of plan commands s fine))
 mid_moved plan commands s order.Send act fine is =
     let t = with_progress turned s in
-    mid_put plan commands _ (λ (x : Standing). with_progress sent (asks_next plan commands x)) t act (mid_sent plan commands t is.0 is.1 is.2 is.3.1 (mid_of plan commands s fine))
+    mid_put plan commands _ (λ (x : Standing). with_progress (sent (bound_next commands x.progress)) (asks_next plan commands x)) t act
+    (mid_sent plan commands (bound_next commands t.progress) t is.0 is.1 is.2 is.3.1 (mid_of plan commands s fine))
+mid_moved plan commands s order.Skip act fine is =
+    let t = with_progress turned s in
+    let bound = bound_next commands t.progress in
+    mid_skip plan commands bound t act is.0 is.1 is.2 is.3 (mid_of plan commands s fine)
 mid_moved plan commands s order.Flush act fine is =
     let t = with_progress turned s in
     mid_put plan commands _ (λ (x : Standing). with_progress asking (asks_null plan x)) t act (mid_flushed plan commands t is.0 is.1 is.5.1 (mid_of plan commands s fine))
@@ -142,16 +175,16 @@ mid_moved plan commands s order.Rest act fine is = mid_read plan commands true (
 mid_moved plan commands s (order.Close why) act fine is = mid_close plan commands (with_progress turned s) why (close_done plan commands s (waiting_of s) why fine is) (mid_of plan commands s fine)
 mid_moved plan commands s (order.Stop why) act fine is = mid_of plan commands s fine
 
-pub fine_after : (plan : Plan) (commands : List Command) (s : Standing) (act : Act) → Fine plan commands s → Fine plan commands (after plan commands s act)
+pub fine_after : (plan : Plan) (commands : List Task) (s : Standing) (act : Act) → Fine plan commands s → Fine plan commands (after plan commands s act)
 fine_after plan commands s act fine =
     fine_ended plan commands (moved plan commands (order_at plan s) (with_progress turned s) act) (mid_moved plan commands s (order_at plan s) act fine (order_for plan s.progress (waiting_of s)))
 
-fine_all : (plan : Plan) (commands : List Command) (s : Standing) (acts : List Act) → Fine plan commands s → Fine plan commands (after_all plan commands s acts)
+fine_all : (plan : Plan) (commands : List Task) (s : Standing) (acts : List Act) → Fine plan commands s → Fine plan commands (after_all plan commands s acts)
 fine_all plan commands s [] fine = fine
 fine_all plan commands s (act ∷ acts) fine = fine_all plan commands (after plan commands s act) acts (fine_after plan commands s act fine)
 
-pub fine_opening : (plan : Plan) (commands : List Command) (turns : ℕ) → Fine plan commands (opening plan turns)
-fine_opening plan commands turns =
+pub fine_opening : (plan : Plan) (commands : List Task) (scope : Scope) → Fine plan commands (opening plan scope)
+fine_opening plan commands scope =
     let none : plan.cycles - plan.cycles ≡ 0 = omega arith in
     record {
       unsent = omega arith;
@@ -172,8 +205,8 @@ fine_opening plan commands turns =
     }
 
 -- whatever the link tells
-pub fine_stood : (plan : Plan) (commands : List Command) (turns : ℕ) (acts : List Act) → Fine plan commands (stood plan commands turns acts)
-fine_stood plan commands turns acts = fine_all plan commands (opening plan turns) acts (fine_opening plan commands turns)
+pub fine_stood : (plan : Plan) (commands : List Task) (scope : Scope) (acts : List Act) → Fine plan commands (stood plan commands scope acts)
+fine_stood plan commands scope acts = fine_all plan commands (opening plan scope) acts (fine_opening plan commands scope)
 
 -- where a run stopped no act follows
 pub stop_over : (plan : Plan) (p : Progress) (w : Waiting) (why : Cause) → IsFor plan p w (order.Stop why) → is_over p ≡ true
@@ -185,7 +218,7 @@ stop_over plan p w why (down, inr turns) = either_way (is_over_in p.phase) (is_u
   either_way false false false d n = cc
   either_way false true none d n = cc
 
-pub stopped : (plan : Plan) (commands : List Command) (s : Standing) (why : Cause) → Fine plan commands s → order_at plan s ≡ order.Stop why
+pub stopped : (plan : Plan) (commands : List Task) (s : Standing) (why : Cause) → Fine plan commands s → order_at plan s ≡ order.Stop why
     → (s.client.waiting ≡ []) × (map of_record s.records ≡ sent_by commands (plan.cycles - s.progress.left) (place_next commands s.progress)) × (why ≡ cause.Done → (s.progress.left ≡ 0) × (s.progress.unsent ≡ 0))
 stopped plan commands s why fine stop =
     let p = s.progress in
@@ -201,10 +234,10 @@ stopped plan commands s why fine stop =
       by_reason (inr turns) e = let other : cause.Turns ≡ cause.Done = sym turns.0 ∙ e in cc
 
 -- each command once
-pub each_once : (plan : Plan) (commands : List Command) (turns : ℕ) (acts : List Act) → EachOnce plan commands turns acts
-each_once plan commands turns acts =
-    let s = stood plan commands turns acts in
-    let fine = fine_stood plan commands turns acts in
+pub each_once : (plan : Plan) (commands : List Task) (scope : Scope) (acts : List Act) → EachOnce plan commands scope acts
+each_once plan commands scope acts =
+    let s = stood plan commands scope acts in
+    let fine = fine_stood plan commands scope acts in
     record {
       each = fine.each;
       settled = λ why stop. (stopped plan commands s why fine stop).1;

@@ -1,5 +1,5 @@
 -- What has to hold where an order is next.
-use Rattle.std.proofs.Common.{◌≡◌, ℕ, ◌<◌, ◌⊎◌, ◌&&◌, Bool, true, false, if◌then◌else◌, nat_lt, nat_eq, refl, ap, inl, inr, arith}
+use Rattle.std.proofs.Common.{◌≡◌, ℕ, ◌<◌, ◌⊎◌, ◌&&◌, Bool, true, false, not, if◌then◌else◌, nat_lt, nat_eq, refl, ap, inl, inr, arith}
 use Rattle.std.proofs.lemmas.Bool.{ltb-true, ltb-false, eqb-true}
 use Rattle.std.proofs.lemmas.Bool.Decides.{nat_tests}
 use Rattle.gc_client.specs.declared.window.TheConstants.{WINDOW}
@@ -11,8 +11,8 @@ use Rattle.gc_station.specs.declared.progress.Order.{Order}
 use Rattle.gc_station.specs.declared.progress.Order.TheVariants as order
 use Rattle.gc_station.specs.declared.progress.Progress.{Progress}
 use Rattle.gc_station.specs.declared.progress.Waiting.{Waiting}
-use Rattle.gc_station.specs.Reasons.{IsFor, HasRoom, NothingMayGo}
-use Rattle.gc_station.specs.Deciding.{width_of, is_up, is_quiet, is_dead, is_due, has_room, order_of, order_in, order_on, order_told, order_ready, order_sent, order_done, order_room, order_waiting, order_up}
+use Rattle.gc_station.specs.Reasons.{IsFor, IsHeld, HasRoom, NothingMayGo}
+use Rattle.gc_station.specs.Deciding.{width_of, is_up, is_quiet, is_dead, is_due, has_room, order_of, order_in, order_on, order_told, may_go, order_ready, order_sent, order_settled, order_done, order_room, order_waiting, order_up}
 
 -- what holds of both holds of the one that a test takes
 pub either : {A : Type 0} (P : A → Type 0) (x y : A) (t : Bool) → (t ≡ true → P x) → (t ≡ false → P y) → P (if t then x else y)
@@ -61,22 +61,52 @@ done_for plan p w is alone sent settled =
     either P (order.Close cause.Done) _ (nat_eq p.left 0) (λ e. (ap is_up is, inr (eqb-true p.left 0 e, sent, settled)))
     (λ e. either P order.Begin order.Rest (is_due plan p) (λ d. (is, alone, sent, settled, some_left p.left e)) (λ d. tt))
 
-sent_for : (plan : Plan) (p : Progress) (w : Waiting) → p.phase ≡ Ready → p.alone ≡ false → p.unsent ≡ 0 → IsFor plan p w (order_sent plan p w)
-sent_for plan p w is alone sent =
+-- of what is held, what isn't the end of the cycle is of a chain
+chained : (p : Progress) → IsHeld p → nat_eq p.unsent 0 ≡ false → p.bound ≡ true
+chained p (inl none) e = let some : 0 < p.unsent = some_left p.unsent e in absurd (omega (arith, none, some))
+chained p (inr bound) e = bound
+
+settled_for : (plan : Plan) (p : Progress) (w : Waiting) → p.phase ≡ Ready → p.alone ≡ false → IsHeld p → w.commands ≡ 0 → IsFor plan p w (order_settled plan p w)
+settled_for plan p w is alone held settled =
     let P = IsFor plan p w in
     let up : is_up p.phase ≡ true = ap is_up is in
-    either P _ _ (nat_eq w.commands 0) (λ e. done_for plan p w is alone sent (eqb-true w.commands 0 e))
+    either P _ _ (nat_eq p.unsent 0) (λ e. done_for plan p w is alone (eqb-true p.unsent 0 e) settled)
+    (λ e. either P _ order.Skip (may_go p w)
+    (λ well. let it = both_true w.well p.whole well in room_for plan p w order.Send up (λ room. (is, alone, some_left p.unsent e, room, inr (settled, it.0, it.1))))
+    (λ broken. (is, alone, some_left p.unsent e, settled, chained p held e, broken)))
+
+sent_for : (plan : Plan) (p : Progress) (w : Waiting) → p.phase ≡ Ready → p.alone ≡ false → IsHeld p → IsFor plan p w (order_sent plan p w)
+sent_for plan p w is alone held =
+    let P = IsFor plan p w in
+    let up : is_up p.phase ≡ true = ap is_up is in
+    either P _ _ (nat_eq w.commands 0) (λ e. settled_for plan p w is alone held (eqb-true w.commands 0 e))
     (λ e. either P _ _ (nat_eq w.current 0)
-    (λ given. room_for plan p w order.Flush up (λ room. (is, alone, sent, some_left w.commands e, eqb-true w.current 0 given, room)))
-    (λ some. waits plan p w up (inr (inr (inr (sent, some_left w.commands e, some_left w.current some))))))
+    (λ given. room_for plan p w order.Flush up (λ room. (is, alone, held, some_left w.commands e, eqb-true w.current 0 given, room)))
+    (λ some. waits plan p w up (inr (inr (inr (held, some_left w.commands e, some_left w.current some))))))
+
+-- what may not go at once is held
+held_so : (p : Progress) → (nat_lt 0 p.unsent && not p.bound) ≡ false → IsHeld p
+held_so p e = by_half (one_false (nat_lt 0 p.unsent) (not p.bound) e) where
+  negated : (b : Bool) → not b ≡ false → b ≡ true
+  negated true e = refl
+  negated false e = cc
+
+  by_half : ((nat_lt 0 p.unsent ≡ false) ⊎ (not p.bound ≡ false)) → IsHeld p
+  by_half (inl none) = inl (none_left p.unsent none)
+  by_half (inr bound) = inr (negated p.bound bound)
+
+free_so : (b : Bool) → not b ≡ true → b ≡ false
+free_so true e = cc
+free_so false e = refl
 
 ready : (plan : Plan) (p : Progress) (w : Waiting) → p.phase ≡ Ready → IsFor plan p w (order_ready plan p w)
 ready plan p w is =
     let P = IsFor plan p w in
     let up : is_up p.phase ≡ true = ap is_up is in
     either P _ _ p.alone (λ alone. waits plan p w up (inl alone))
-    (λ alone. either P _ _ (nat_lt 0 p.unsent) (λ some. room_for plan p w order.Send up (λ room. (is, alone, ltb-true 0 p.unsent some, room)))
-    (λ none. sent_for plan p w is alone (none_left p.unsent none)))
+    (λ alone. either P _ _ (nat_lt 0 p.unsent && not p.bound)
+    (λ some. let it = both_true (nat_lt 0 p.unsent) (not p.bound) some in room_for plan p w order.Send up (λ room. (is, alone, ltb-true 0 p.unsent it.0, room, inl (free_so p.bound it.1))))
+    (λ none. sent_for plan p w is alone (held_so p none)))
 
 told_for : (plan : Plan) (phase : Phase) (p : Progress) (w : Waiting) → p.phase ≡ phase → IsFor plan p w (order_told plan phase p w)
 told_for plan Down p w is = is

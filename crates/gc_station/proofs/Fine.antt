@@ -1,7 +1,7 @@
 -- What every run keeps: the records and the requests that wait are the commands that were sent, whatever the link tells.
 use Rattle.std.proofs.Common.{◌≡◌, ◌<◌, ◌≤◌, Bool, true, false, List, [], ◌∷◌, length, None}
 use Rattle.gc_client.specs.Rule.{fresh}
-use Rattle.gc_texts.specs.declared.commands.Command.{Command}
+use Rattle.gc_texts.specs.declared.tasks.Task.{Task}
 use Rattle.gc_station.specs.declared.plan.Plan.{Plan}
 use Rattle.gc_station.specs.declared.cause.Cause.{Cause}
 use Rattle.gc_station.specs.declared.cause.Cause.TheVariants as cause
@@ -35,7 +35,7 @@ says_done (Over why) = is_done why
 says_done _ = false
 
 -- what every run keeps
-pub record Fine (plan : Plan) (commands : List Command) (s : Standing) : Type 0 where
+pub record Fine (plan : Plan) (commands : List Task) (s : Standing) : Type 0 where
   pub unsent : s.progress.unsent ≤ length commands
   pub left : s.progress.left ≤ plan.cycles
   pub begun : 0 < s.progress.unsent → s.progress.left < plan.cycles

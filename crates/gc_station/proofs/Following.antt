@@ -1,31 +1,34 @@
 -- A run, part by part: what is written down of each.
 use Rattle.std.proofs.Common.{◌≡◌, ℕ, ◌&&◌, ◌||◌, Bool, true, false, not, List, [], ◌∷◌, ◌++◌, length, map, drop, Option, refl, sym, ◌∙◌, ap, subst, append_assoc, append-nil, inl, inr, ◌⊎◌}
 use Rattle.std.proofs.lemmas.List.{nil_from_length}
+use Rattle.gc_catalogue.specs.declared.answer.Reading.{Reading}
+use Rattle.gc_catalogue.specs.declared.call.Call.{Call}
 use Rattle.gc_client.specs.OneForOne.{Step, Send, Hear, Expire, Restart}
 use Rattle.gc_client.specs.Rule.{ById, fresh, lost}
-use Rattle.gc_texts.specs.declared.commands.Command.{Command}
+use Rattle.gc_texts.specs.declared.tasks.Task.{Task}
 use Rattle.gc_station.specs.declared.mark.Mark.{Mark}
 use Rattle.gc_station.specs.declared.plan.Plan.{Plan}
 use Rattle.gc_station.specs.Acts.{Act}
 use Rattle.gc_station.specs.Marks.{records_of}
-use Rattle.gc_station.specs.Parts.{Part, nothing, joined, acting, in_front, parts_of}
+use Rattle.gc_station.specs.Parts.{Part, nothing, joined, acting, in_front, parts_of, sent_of}
 use Rattle.gc_station.specs.Progressing.{turned, is_over, loses_all}
 use Rattle.gc_station.specs.Records.{Record}
 use Rattle.gc_station.specs.Standing.{Standing, order_at, waiting_of, with_progress, moved, losing, after, after_all, Runs}
-use Rattle.gc_station.proofs.Booking.{Books, client_after, books_both, books_nothing, books_restart, records_none, restarting}
+use Rattle.gc_station.proofs.Booking.{Books, client_after, books_both, books_nothing, books_restart, records_none, sent_records, restarting}
 use Rattle.gc_station.proofs.EachRun.{fine_after, mid_moved}
 use Rattle.gc_station.proofs.Facts.{order_for}
 use Rattle.gc_station.proofs.Beginning.{Quiet, IsQuiet, IsProbed, begins}
 use Rattle.gc_station.proofs.Fine.{Fine}
 use Rattle.gc_station.proofs.Parting.{Leads, leads}
 use Rattle.gc_station.proofs.Probing.{losing_progress}
+use Rattle.gc_station.proofs.Readings.{moved_reads, ended_reads}
 
 -- parts of a run, from a client on: behind each but the last it restarts
-abbrev pub Follows : List Command → ById → List (Option Mark) → List Record → List Part → Standing → Type 0
-Follows commands c ms rs [] end = ⊥
-Follows commands c ms rs (p ∷ []) end = Books commands c ms rs p end.client end.marks end.records
-Follows commands c ms rs (p ∷ q ∷ ps) end =
-    (records : List Record) × Books commands c ms rs (joined p restarting) fresh [] records × Follows commands fresh [] records (q ∷ ps) end
+abbrev pub Follows : (Call → List ℕ → Reading) → List Task → ById → List (Option Mark) → List Record → List Part → Standing → Type 0
+Follows reads commands c ms rs [] end = ⊥
+Follows reads commands c ms rs (p ∷ []) end = Books reads commands c ms rs p end.client end.marks (sent_of end.records)
+Follows reads commands c ms rs (p ∷ q ∷ ps) end =
+    (records : List Record) × Books reads commands c ms rs (joined p restarting) fresh [] records × Follows reads commands fresh [] records (q ∷ ps) end
 
 joined_assoc : (p q r : Part) → joined (joined p q) r ≡ joined p (joined q r)
 joined_assoc p q r =
@@ -33,25 +36,27 @@ joined_assoc p q r =
     ∙ ap (λ (marks : List (Option Mark)). record { steps = p.steps ++ (q.steps ++ r.steps); marks = marks }) (append_assoc p.marks q.marks r.marks)
 
 -- a part ends
-follows_cut : (commands : List Command) (c : ById) (ms : List (Option Mark)) (rs mid : List Record) (p : Part) (ps : List Part) (end : Standing)
-    → Books commands c ms rs (joined p restarting) fresh [] mid → Follows commands fresh [] mid ps end → Follows commands c ms rs (p ∷ ps) end
-follows_cut commands c ms rs mid p [] end h g = absurd g
-follows_cut commands c ms rs mid p (q ∷ ps) end h g = (mid, h, g)
+follows_cut : (reads : Call → List ℕ → Reading) (commands : List Task) (c : ById) (ms : List (Option Mark)) (rs mid : List Record) (p : Part) (ps : List Part) (end : Standing)
+    → Books reads commands c ms rs (joined p restarting) fresh [] mid → Follows reads commands fresh [] mid ps end → Follows reads commands c ms rs (p ∷ ps) end
+follows_cut reads commands c ms rs mid p [] end h g = absurd g
+follows_cut reads commands c ms rs mid p (q ∷ ps) end h g = (mid, h, g)
 
 -- or it goes on
-follows_on : (commands : List Command) (c c1 : ById) (ms ms1 : List (Option Mark)) (rs rs1 : List Record) (p : Part) (ps : List Part) (end : Standing)
-    → Books commands c ms rs p c1 ms1 rs1 → Follows commands c1 ms1 rs1 ps end → Follows commands c ms rs (in_front p false ps) end
-follows_on commands c c1 ms ms1 rs rs1 p [] end h g = absurd g
-follows_on commands c c1 ms ms1 rs rs1 p (q ∷ []) end h g = books_both commands c c1 end.client ms ms1 end.marks rs rs1 end.records p q h g
-follows_on commands c c1 ms ms1 rs rs1 p (q ∷ next ∷ ps) end h g =
-    let both = books_both commands c c1 fresh ms ms1 [] rs rs1 g.0 p (joined q restarting) h g.1 in
-    (g.0, subst (λ (x : Part). Books commands c ms rs x fresh [] g.0) (sym (joined_assoc p q restarting)) both, g.2)
+follows_on : (reads : Call → List ℕ → Reading) (commands : List Task) (c c1 : ById) (ms ms1 : List (Option Mark)) (rs rs1 : List Record) (p : Part) (ps : List Part) (end : Standing)
+    → Books reads commands c ms rs p c1 ms1 rs1 → Follows reads commands c1 ms1 rs1 ps end → Follows reads commands c ms rs (in_front p false ps) end
+follows_on reads commands c c1 ms ms1 rs rs1 p [] end h g = absurd g
+follows_on reads commands c c1 ms ms1 rs rs1 p (q ∷ []) end h g = books_both reads commands c c1 end.client ms ms1 end.marks rs rs1 (sent_of end.records) p q h g
+follows_on reads commands c c1 ms ms1 rs rs1 p (q ∷ next ∷ ps) end h g =
+    let both = books_both reads commands c c1 fresh ms ms1 [] rs rs1 g.0 p (joined q restarting) h g.1 in
+    (g.0, subst (λ (x : Part). Books reads commands c ms rs x fresh [] g.0) (sym (joined_assoc p q restarting)) both, g.2)
 
 -- Behind an act.
 
 -- what waits is lost
-leads_lost : (commands : List Command) (t : Standing) (b : Bool) → b ≡ true → length t.marks ≡ length t.client.waiting → Leads commands t restarting (losing b t)
-leads_lost commands t true is paired = books_restart commands t.client t.marks t.records t.progress.moment.utc paired
+leads_lost : (commands : List Task) (t : Standing) (b : Bool) → b ≡ true → length t.marks ≡ length t.client.waiting → Leads commands t restarting (losing b t)
+leads_lost commands t true is paired =
+    subst (λ (rs : List Record). Books t.reads commands t.client t.marks (sent_of t.records) restarting fresh (drop (length (map lost t.client.waiting)) t.marks) rs) (sym (sent_records t.reads t.records t.progress.moment.utc t.marks (map lost t.client.waiting)))
+    (books_restart t.reads commands t.client t.marks (sent_of t.records) t.progress.moment.utc paired)
 leads_lost commands t false is paired = cc
 
 lost_fresh : (t : Standing) (b : Bool) → b ≡ true → (losing b t).client ≡ fresh
@@ -63,15 +68,15 @@ kept_same t true is = cc
 kept_same t false is = refl
 
 -- where nothing waits, nothing is lost
-leads_idle : (commands : List Command) (c : ById) (ms : List (Option Mark)) (rs : List Record) (utc : ℕ) → c ≡ fresh
-    → Books commands c ms rs nothing fresh (drop (length (map lost c.waiting)) ms) (rs ++ records_of utc ms (map lost c.waiting))
-leads_idle commands c ms rs utc is =
-    subst (λ (d : ById). Books commands d ms rs nothing fresh (drop (length (map lost d.waiting)) ms) (rs ++ records_of utc ms (map lost d.waiting))) (sym is)
-    (subst (λ (l : List Record). Books commands fresh ms rs nothing fresh ms l) (sym (ap (λ l. rs ++ l) (records_none utc ms) ∙ append-nil rs)) (books_nothing commands fresh ms rs))
+leads_idle : (reads : Call → List ℕ → Reading) (commands : List Task) (c : ById) (ms : List (Option Mark)) (rs : List Record) (utc : ℕ) → c ≡ fresh
+    → Books reads commands c ms (sent_of rs) nothing fresh (drop (length (map lost c.waiting)) ms) (sent_of (rs ++ records_of reads utc ms (map lost c.waiting)))
+leads_idle reads commands c ms rs utc is =
+    subst (λ (d : ById). Books reads commands d ms (sent_of rs) nothing fresh (drop (length (map lost d.waiting)) ms) (sent_of (rs ++ records_of reads utc ms (map lost d.waiting)))) (sym is)
+    (subst (λ (l : List Record). Books reads commands fresh ms (sent_of rs) nothing fresh ms (sent_of l)) (sym (ap (λ l. rs ++ l) (records_none reads utc ms) ∙ append-nil rs)) (books_nothing reads commands fresh ms (sent_of rs)))
 
-idle_lost : (commands : List Command) (t : Standing) (b : Bool) → t.client ≡ fresh → Leads commands t nothing (losing b t)
-idle_lost commands t true is = leads_idle commands t.client t.marks t.records t.progress.moment.utc is
-idle_lost commands t false is = books_nothing commands t.client t.marks t.records
+idle_lost : (commands : List Task) (t : Standing) (b : Bool) → t.client ≡ fresh → Leads commands t nothing (losing b t)
+idle_lost commands t true is = leads_idle t.reads commands t.client t.marks t.records t.progress.moment.utc is
+idle_lost commands t false is = books_nothing t.reads commands t.client t.marks (sent_of t.records)
 
 quiet_fresh : (steps : List Step) → Quiet steps → client_after fresh steps ≡ fresh
 quiet_fresh [] q = refl
@@ -85,45 +90,53 @@ joined_nothing p =
     ap (λ (steps : List Step). record { steps = steps; marks = p.marks ++ [] }) (append-nil p.steps)
     ∙ ap (λ (marks : List (Option Mark)). record { steps = p.steps; marks = marks }) (append-nil p.marks)
 
-module _ (plan : Plan) (commands : List Command) where
+-- from one standing to another, where replies say this
+abbrev LeadsBy : (Call → List ℕ → Reading) → List Task → Standing → Part → Standing → Type 0
+LeadsBy reads commands s p t = Books reads commands s.client s.marks (sent_of s.records) p t.client t.marks (sent_of t.records)
+
+leads_by : (reads : Call → List ℕ → Reading) (commands : List Task) (s : Standing) (p : Part) (t : Standing) → s.reads ≡ reads → Leads commands s p t → LeadsBy reads commands s p t
+leads_by reads commands s p t is h = subst (λ (r : Call → List ℕ → Reading). LeadsBy r commands s p t) is h
+
+module _ (plan : Plan) (commands : List Task) (reads : Call → List ℕ → Reading) where
   -- where it begins anew, and goes on to
-  leads_anew : (s : Standing) (act : Act) (p : Part) (t : Standing) → Fine plan commands s → s.progress.anew ≡ true → Leads commands s p t → IsQuiet p t ⊎ IsProbed p t → Leads commands s p (losing (loses_all t.progress) t)
-  leads_anew s act p t fine w h (inl q) =
+  leads_anew : (s : Standing) (act : Act) (p : Part) (t : Standing) → t.reads ≡ reads → Fine plan commands s → s.progress.anew ≡ true → LeadsBy reads commands s p t → IsQuiet p t ⊎ IsProbed p t → LeadsBy reads commands s p (losing (loses_all t.progress) t)
+  leads_anew s act p t same fine w h (inl q) =
       let u = losing (loses_all t.progress) t in
       let is : t.client ≡ fresh = sym h.client ∙ ap (λ c. client_after c p.steps) (fine.anew w).0 ∙ quiet_fresh p.steps q.steps in
-      subst (λ (x : Part). Leads commands s x u) (joined_nothing p)
-      (books_both commands s.client t.client u.client s.marks t.marks u.marks s.records t.records u.records p nothing h (idle_lost commands t (loses_all t.progress) is))
-  leads_anew s act p t fine w h (inr q) =
-      subst (λ (x : Standing). Leads commands s p x) (sym (kept_same t (loses_all t.progress) (ap (λ b. b || is_over t.progress) q.anew ∙ q.goes_on))) h
+      subst (λ (x : Part). LeadsBy reads commands s x u) (joined_nothing p)
+      (books_both reads commands s.client t.client u.client s.marks t.marks u.marks (sent_of s.records) (sent_of t.records) (sent_of u.records) p nothing h (leads_by reads commands t nothing u same (idle_lost commands t (loses_all t.progress) is)))
+  leads_anew s act p t same fine w h (inr q) =
+      subst (λ (x : Standing). LeadsBy reads commands s p x) (sym (kept_same t (loses_all t.progress) (ap (λ b. b || is_over t.progress) q.anew ∙ q.goes_on))) h
 
   -- an act in front of the others
-  one_more : (s : Standing) (p : Part) (t : Standing) (ps : List Part) (end : Standing) (anew lost_all : Bool) → s.progress.anew ≡ anew → loses_all t.progress ≡ lost_all
+  one_more : (s : Standing) (p : Part) (t : Standing) (ps : List Part) (end : Standing) (anew lost_all : Bool) → t.reads ≡ reads → s.progress.anew ≡ anew → loses_all t.progress ≡ lost_all
       → Fine plan commands s → Fine plan commands (losing (loses_all t.progress) t) → length t.marks ≡ length t.client.waiting
-      → Leads commands s p t → (s.progress.anew ≡ true → Leads commands s p (losing (loses_all t.progress) t))
-      → (let u = losing (loses_all t.progress) t in Follows commands u.client u.marks u.records ps end)
-      → Follows commands s.client s.marks s.records (in_front p (not anew && lost_all) ps) end
-  one_more s p t ps end true lost_all w l fine later paired h k others =
+      → LeadsBy reads commands s p t → (s.progress.anew ≡ true → LeadsBy reads commands s p (losing (loses_all t.progress) t))
+      → (let u = losing (loses_all t.progress) t in Follows reads commands u.client u.marks (sent_of u.records) ps end)
+      → Follows reads commands s.client s.marks (sent_of s.records) (in_front p (not anew && lost_all) ps) end
+  one_more s p t ps end true lost_all same w l fine later paired h k others =
       let u = losing (loses_all t.progress) t in
-      follows_on commands s.client u.client s.marks u.marks s.records u.records p ps end (k w) others
-  one_more s p t ps end false false w l fine later paired h k others =
-      let same = kept_same t (loses_all t.progress) l in
-      follows_on commands s.client t.client s.marks t.marks s.records t.records p ps end h
-      (subst (λ (u : Standing). Follows commands u.client u.marks u.records ps end) same others)
-  one_more s p t ps end false true w l fine later paired h k others =
+      follows_on reads commands s.client u.client s.marks u.marks (sent_of s.records) (sent_of u.records) p ps end (k w) others
+  one_more s p t ps end false false same w l fine later paired h k others =
+      let kept = kept_same t (loses_all t.progress) l in
+      follows_on reads commands s.client t.client s.marks t.marks (sent_of s.records) (sent_of t.records) p ps end h
+      (subst (λ (u : Standing). Follows reads commands u.client u.marks (sent_of u.records) ps end) kept others)
+  one_more s p t ps end false true same w l fine later paired h k others =
       let u = losing (loses_all t.progress) t in
       let new : u.client ≡ fresh = lost_fresh t (loses_all t.progress) l in
       let none : u.marks ≡ [] = nil_from_length u.marks (later.paired ∙ ap (λ (c : ById). length c.waiting) new) in
-      let lost_here = leads_lost commands t (loses_all t.progress) l paired in
-      let both = books_both commands s.client t.client u.client s.marks t.marks u.marks s.records t.records u.records p restarting h lost_here in
-      follows_cut commands s.client s.marks s.records u.records p ps end
-      (subst (λ (ms : List (Option Mark)). Books commands s.client s.marks s.records (joined p restarting) fresh ms u.records) none
-      (subst (λ (c : ById). Books commands s.client s.marks s.records (joined p restarting) c u.marks u.records) new both))
-      (subst (λ (ms : List (Option Mark)). Follows commands fresh ms u.records ps end) none
-      (subst (λ (c : ById). Follows commands c u.marks u.records ps end) new others))
+      let lost_here = leads_by reads commands t restarting u same (leads_lost commands t (loses_all t.progress) l paired) in
+      let both = books_both reads commands s.client t.client u.client s.marks t.marks u.marks (sent_of s.records) (sent_of t.records) (sent_of u.records) p restarting h lost_here in
+      follows_cut reads commands s.client s.marks (sent_of s.records) (sent_of u.records) p ps end
+      (subst (λ (ms : List (Option Mark)). Books reads commands s.client s.marks (sent_of s.records) (joined p restarting) fresh ms (sent_of u.records)) none
+      (subst (λ (c : ById). Books reads commands s.client s.marks (sent_of s.records) (joined p restarting) c u.marks (sent_of u.records)) new both))
+      (subst (λ (ms : List (Option Mark)). Follows reads commands fresh ms (sent_of u.records) ps end) none
+      (subst (λ (c : ById). Follows reads commands c u.marks (sent_of u.records) ps end) new others))
 
-  pub follows : (s : Standing) (acts : List Act) → Fine plan commands s → Runs plan commands s acts → Follows commands s.client s.marks s.records (parts_of plan commands s acts) (after_all plan commands s acts)
-  follows s [] fine runs = books_nothing commands s.client s.marks s.records
-  follows s (act ∷ acts) fine runs =
+  pub follows : (s : Standing) (acts : List Act) → s.reads ≡ reads → Fine plan commands s → Runs plan commands s acts
+      → Follows reads commands s.client s.marks (sent_of s.records) (parts_of plan commands s acts) (after_all plan commands s acts)
+  follows s [] is_so fine runs = books_nothing reads commands s.client s.marks (sent_of s.records)
+  follows s (act ∷ acts) is_so fine runs =
       let o = order_at plan s in
       let is = order_for plan s.progress (waiting_of s) in
       let p = acting plan commands s o act in
@@ -132,8 +145,9 @@ module _ (plan : Plan) (commands : List Command) where
       let ps = parts_of plan commands u acts in
       let end = after_all plan commands u acts in
       let later = fine_after plan commands s act fine in
-      let h = leads plan commands s o act fine is runs.0 in
-      subst (λ b. Follows commands s.client s.marks s.records (in_front p (not s.progress.anew && b) ps) end) (sym (ap loses_all (losing_progress (loses_all t.progress) t)))
-      (one_more s p t ps end s.progress.anew (loses_all t.progress) refl refl fine later (mid_moved plan commands s o act fine is).0.paired h
-      (λ w. leads_anew s act p t fine w h (begins plan commands s o act fine is runs.0 w))
-      (follows u acts later runs.1))
+      let same : t.reads ≡ reads = moved_reads plan commands o (with_progress turned s) act ∙ is_so in
+      let h = leads_by reads commands s p t is_so (leads plan commands s o act fine is runs.0) in
+      subst (λ b. Follows reads commands s.client s.marks (sent_of s.records) (in_front p (not s.progress.anew && b) ps) end) (sym (ap loses_all (losing_progress (loses_all t.progress) t)))
+      (one_more s p t ps end s.progress.anew (loses_all t.progress) same refl refl fine later (mid_moved plan commands s o act fine is).0.paired h
+      (λ w. leads_anew s act p t same fine w h (begins plan commands s o act fine is runs.0 w))
+      (follows u acts (ended_reads (loses_all t.progress) t ∙ same) later runs.1))

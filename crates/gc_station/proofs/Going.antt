@@ -3,11 +3,13 @@ use Rattle.std.proofs.Common.{◌≡◌, ℕ, ◌<◌, ◌≤◌, List, [], ◌�
 use Rattle.std.specs.Io.KnownBytes.{Appends}
 use Rattle.gc_lines.proofs.Known.{Appends-nil}
 use Rattle.gc_client.specs.Rule.{ById}
-use Rattle.gc_texts.specs.declared.commands.Command.{Command}
+use Rattle.gc_texts.specs.declared.tasks.Task.{Task}
 use Rattle.gc_station.specs.declared.plan.Plan.{Plan}
 use Rattle.gc_station.specs.declared.cause.Cause.{Cause}
+use Rattle.gc_station.specs.declared.cause.Cause.TheVariants as causes
+use Rattle.gc_station.specs.Causes.{fault_of}
 use Rattle.gc_station.specs.declared.progress.Order.{Order}
-use Rattle.gc_station.specs.declared.progress.Order.TheVariants.{Tell, Begin, Open, Clear, Probe, Send, Flush, Read, Rest, Close, Stop}
+use Rattle.gc_station.specs.declared.progress.Order.TheVariants.{Tell, Begin, Open, Clear, Probe, Send, Skip, Flush, Read, Rest, Close, Stop}
 use Rattle.gc_station.specs.declared.progress.Progress.{Progress}
 use Rattle.gc_station.specs.declared.station.Station.{Station}
 use Rattle.gc_station.specs.Acts.{Act, Closed, Tells}
@@ -15,23 +17,27 @@ use Rattle.gc_station.specs.Progressing.{turned, loses_all}
 use Rattle.gc_station.specs.Records.{Record, texts_of}
 use Rattle.gc_station.specs.Runs.{stood, BrokeAt}
 use Rattle.gc_station.specs.Standing.{Standing, opening, order_at, Obeys, after, after_all, moved, ended, Runs, with_progress}
-use Rattle.gc_station.specs.Stations.{IsPaired, Stands, Makes, Breaks, Made, Follows, stepped, OnCall}
+use Rattle.gc_station.specs.Stations.{waiting_in, IsPaired, Stands, Took, Makes, Breaks, Made, Follows, stepped, OnCall}
+use Rattle.gc_station.specs.Deciding.{order_of}
 use Rattle.gc_station.proofs.Counts.{unsent_within, ended_progress}
 use Rattle.gc_station.proofs.Growing.{losing_records, moved_grew}
 use Rattle.gc_station.proofs.Hearing.{tells_more}
+use Rattle.gc_station.proofs.Readings.{moved_reads, ended_reads, stood_reads, are_same}
 use Rattle.gc_station.proofs.Records.{part_grew, part_grows}
-use Rattle.gc_station.proofs.Turns.{left_to_do, less_to_do}
+use Rattle.gc_station.proofs.Turns.{left_to_do, less_stepped}
+use Rattle.gc_station.specs.Scopes.{Scope, AreReadings}
 
 -- One turn.
 
 -- an order is obeyed by the same acts, whatever the turn
-pub turn_obeys : (commands : List Command) (order : Order) (s : Standing) (act : Act) → Obeys commands (with_progress turned s) order act → Obeys commands s order act
+pub turn_obeys : (commands : List Task) (order : Order) (s : Standing) (act : Act) → Obeys commands (with_progress turned s) order act → Obeys commands s order act
 turn_obeys commands Tell s act o = o
 turn_obeys commands Begin s act o = o
 turn_obeys commands Open s act o = o
 turn_obeys commands Clear s act o = o
 turn_obeys commands Probe s act o = o
 turn_obeys commands Send s act o = o
+turn_obeys commands Skip s act o = o
 turn_obeys commands Flush s act o = o
 turn_obeys commands Read s act o = o
 turn_obeys commands Rest s act o = o
@@ -46,6 +52,7 @@ on_call Open claim never on = on
 on_call Clear claim never on = on
 on_call Probe claim never on = on
 on_call Send claim never on = on
+on_call Skip claim never on = on
 on_call Flush claim never on = on
 on_call Read claim never on = on
 on_call Rest claim never on = on
@@ -60,6 +67,7 @@ on_then Open claim other step on = step on
 on_then Clear claim other step on = step on
 on_then Probe claim other step on = step on
 on_then Send claim other step on = step on
+on_then Skip claim other step on = step on
 on_then Flush claim other step on = step on
 on_then Read claim other step on = step on
 on_then Rest claim other step on = step on
@@ -76,12 +84,13 @@ stands_turned station p s e stands = record {
   paired = stands.paired;
   assembles = stands.assembles;
   tally = stands.tally;
+  well = stands.well;
 }
 
 -- an order was obeyed, and all that wait were lost or not; or the book failed at what was lost
-pub makes_step : {X E : Type 0} (plan : Plan) (commands : List Command) (order : Order) (text : Record → List ℕ) (told told' : Option (List Act)) (taken taken' taken'' : Option (List ℕ)) (station mid new : Station) (p : Progress) (result : Result X E)
+pub makes_step : {X E : Type 0} (plan : Plan) (commands : List Task) (order : Order) (text : Record → List ℕ) (told told' : Option (List Act)) (taken taken' taken'' : Option (List ℕ)) (station mid new : Station) (p : Progress) (result : Result X E)
     → p ≡ turned station.progress → Makes commands order (moved plan commands order) text told told' taken taken' (record station { progress = p }) mid
-    → ((s : Standing) (start : Option (List ℕ)) → Stands mid s → Appends start taken' (texts_of text s.records) → Follows text s.records new start taken'' (ended s) result)
+    → ((s : Standing) (start : Option (List ℕ)) → Stands mid s → Took text start taken' s → Follows text s.records new start taken'' (ended s) result)
     → Made commands order (stepped plan commands order) text told told' taken taken'' station new result
 makes_step plan commands order text told told' taken taken' taken'' station mid new p (Ok r) e makes ends = record {
   act = makes.act;
@@ -98,11 +107,11 @@ makes_step plan commands order text told told' taken taken' taken'' station mid 
       let one = makes.goes (with_progress turned s) start (stands_turned station p s e stands) so in
       let mid : Standing = moved plan commands order (with_progress turned s) makes.act in
       let part = ends mid start one.1 one.2 in
-      (turn_obeys commands order s makes.act one.0, part_grew text s.records mid.records (ended mid).records start taken'' (moved_grew plan commands order (with_progress turned s) makes.act) part);
+      (turn_obeys commands order s makes.act one.0, λ are. part_grew text s.records mid.records (ended mid).records start taken'' (moved_grew plan commands order (with_progress turned s) makes.act) (part are));
 }
 
 -- the book failed at what the act writes down
-pub breaks_step : (plan : Plan) (commands : List Command) (order : Order) (text : Record → List ℕ) (told told' : Option (List Act)) (taken taken' : Option (List ℕ)) (station : Station) (p : Progress)
+pub breaks_step : (plan : Plan) (commands : List Task) (order : Order) (text : Record → List ℕ) (told told' : Option (List Act)) (taken taken' : Option (List ℕ)) (station : Station) (p : Progress)
     → p ≡ turned station.progress → Breaks commands order (moved plan commands order) text told told' taken taken' (record station { progress = p })
     → Breaks commands order (stepped plan commands order) text told told' taken taken' station
 breaks_step plan commands order text told told' taken taken' station p e breaks = record {
@@ -112,8 +121,13 @@ breaks_step plan commands order text told told' taken taken' station p e breaks 
       let mid : Standing = moved plan commands order (with_progress turned s) breaks.act in
       let one = breaks.goes (with_progress turned s) start (stands_turned station p s e stands) so in
       let more = losing_records (loses_all mid.progress) mid in
-      (turn_obeys commands order s breaks.act one.0, part_grows text s.records mid.records (ended mid).records start taken' more one.1);
+      (turn_obeys commands order s breaks.act one.0, λ are. part_grows text s.records mid.records (ended mid).records start taken' more (one.1 (are_same mid.reads (ended mid).reads (sym (ended_reads (loses_all mid.progress) mid)) are)));
 }
+
+stepped_reads : (plan : Plan) (commands : List Task) (order : Order) (s : Standing) (act : Act) → (stepped plan commands order s act).reads ≡ s.reads
+stepped_reads plan commands order s act =
+    let mid : Standing = moved plan commands order (with_progress turned s) act in
+    ended_reads (loses_all mid.progress) mid ∙ moved_reads plan commands order (with_progress turned s) act
 
 -- a station that stands there has a mark for each request that waits
 pub stands_paired : (station : Station) (s : Standing) → Stands station s → IsPaired station
@@ -122,21 +136,21 @@ stands_paired station s stands = ap length stands.marks ∙ stands.paired ∙ sy
 -- Many.
 
 -- what was done so far
-pub record Went (plan : Plan) (commands : List Command) (turns : ℕ) (text : Record → List ℕ) (told told' : Option (List Act)) (taken taken' : Option (List ℕ)) (station : Station) : Type 0 where
+pub record Went (plan : Plan) (commands : List Task) (scope : Scope) (text : Record → List ℕ) (told told' : Option (List Act)) (taken taken' : Option (List ℕ)) (station : Station) : Type 0 where
   pub acts : List Act
   pub tells : Tells told told' acts
-  pub runs : Runs plan commands (opening plan turns) acts
-  pub stands : Stands station (stood plan commands turns acts)
-  pub took : Appends taken taken' (texts_of text (stood plan commands turns acts).records)
+  pub runs : Runs plan commands (opening plan scope) acts
+  pub stands : Stands station (stood plan commands scope acts)
+  pub took : Appends taken taken' (texts_of text (stood plan commands scope acts).records)
 
 tells_none : (a : Option (List Act)) → Tells a a []
 tells_none None = tt
 tells_none (Some a) = sym (append-nil a)
 
 -- nothing was done
-pub went_nothing : (plan : Plan) (commands : List Command) (turns : ℕ) (text : Record → List ℕ) (told : Option (List Act)) (taken : Option (List ℕ)) (station : Station)
-    → Stands station (opening plan turns) → Went plan commands turns text told told taken taken station
-went_nothing plan commands turns text told taken station stands = record {
+pub went_nothing : (plan : Plan) (commands : List Task) (scope : Scope) (text : Record → List ℕ) (told : Option (List Act)) (taken : Option (List ℕ)) (station : Station)
+    → Stands station (opening plan scope) → Went plan commands scope text told told taken taken station
+went_nothing plan commands scope text told taken station stands = record {
   acts = [];
   tells = tells_none told;
   runs = tt;
@@ -145,82 +159,110 @@ went_nothing plan commands turns text told taken station stands = record {
 }
 
 -- a book that took nothing more
-pub went_same : (plan : Plan) (commands : List Command) (turns : ℕ) (text : Record → List ℕ) (told told' : Option (List Act)) (taken taken' taken'' : Option (List ℕ)) (station : Station) → taken'' ≡ taken'
-    → Went plan commands turns text told told' taken taken' station → Went plan commands turns text told told' taken taken'' station
-went_same plan commands turns text told told' taken taken' taken'' station same w = record {
+pub went_same : (plan : Plan) (commands : List Task) (scope : Scope) (text : Record → List ℕ) (told told' : Option (List Act)) (taken taken' taken'' : Option (List ℕ)) (station : Station) → taken'' ≡ taken'
+    → Went plan commands scope text told told' taken taken' station → Went plan commands scope text told told' taken taken'' station
+went_same plan commands scope text told told' taken taken' taken'' station same w = record {
   acts = w.acts;
   tells = w.tells;
   runs = w.runs;
   stands = w.stands;
-  took = subst (λ (t : Option (List ℕ)). Appends taken t (texts_of text (stood plan commands turns w.acts).records)) (sym same) w.took;
+  took = subst (λ (t : Option (List ℕ)). Appends taken t (texts_of text (stood plan commands scope w.acts).records)) (sym same) w.took;
 }
 
-pub after_all-append : (plan : Plan) (commands : List Command) (s : Standing) (xs ys : List Act) → after_all plan commands s (xs ++ ys) ≡ after_all plan commands (after_all plan commands s xs) ys
+pub after_all-append : (plan : Plan) (commands : List Task) (s : Standing) (xs ys : List Act) → after_all plan commands s (xs ++ ys) ≡ after_all plan commands (after_all plan commands s xs) ys
 after_all-append plan commands s [] ys = refl
 after_all-append plan commands s (x ∷ xs) ys = after_all-append plan commands (after plan commands s x) xs ys
 
-pub runs-append : (plan : Plan) (commands : List Command) (s : Standing) (xs ys : List Act) → Runs plan commands s xs → Runs plan commands (after_all plan commands s xs) ys → Runs plan commands s (xs ++ ys)
+pub runs-append : (plan : Plan) (commands : List Task) (s : Standing) (xs ys : List Act) → Runs plan commands s xs → Runs plan commands (after_all plan commands s xs) ys → Runs plan commands s (xs ++ ys)
 runs-append plan commands s [] ys p q = q
 runs-append plan commands s (x ∷ xs) ys p q = (p.0, runs-append plan commands (after plan commands s x) xs ys p.1 q)
 
 -- one act more
-pub went_on : (plan : Plan) (commands : List Command) (turns : ℕ) (text : Record → List ℕ) (told told' told'' : Option (List Act)) (taken taken' taken'' : Option (List ℕ)) (station new : Station) (order : Order)
-    → (w : Went plan commands turns text told told' taken taken' station)
-    → order ≡ order_at plan (stood plan commands turns w.acts)
+pub went_on : (plan : Plan) (commands : List Task) (scope : Scope) (text : Record → List ℕ) (told told' told'' : Option (List Act)) (taken taken' taken'' : Option (List ℕ)) (station new : Station) (order : Order)
+    → (w : Went plan commands scope text told told' taken taken' station)
+    → order ≡ order_at plan (stood plan commands scope w.acts)
     → Makes commands order (stepped plan commands order) text told' told'' taken' taken'' station new
-    → Went plan commands turns text told told'' taken taken'' new
-went_on plan commands turns text told told' told'' taken taken' taken'' station new order w is makes =
-    let s = stood plan commands turns w.acts in
-    let one = makes.goes s taken w.stands w.took in
-    let whole = after_all-append plan commands (opening plan turns) w.acts (makes.act ∷ []) in
+    → AreReadings scope.reads → Went plan commands scope text told told'' taken taken'' new
+went_on plan commands scope text told told' told'' taken taken' taken'' station new order w is makes are =
+    let s = stood plan commands scope w.acts in
+    let one = makes.goes s taken w.stands (λ ok. w.took) in
+    let same = stepped_reads plan commands order s makes.act ∙ stood_reads plan commands scope w.acts in
+    let took = one.2 (are_same (stepped plan commands order s makes.act).reads scope.reads same are) in
+    let whole = after_all-append plan commands (opening plan scope) w.acts (makes.act ∷ []) in
     let obeys : Obeys commands s (order_at plan s) makes.act = subst (λ (o : Order). Obeys commands s o makes.act) is one.0 in
     record {
       acts = w.acts ++ makes.act ∷ [];
       tells = tells_more told told' told'' w.acts (makes.act ∷ []) w.tells makes.tells;
-      runs = runs-append plan commands (opening plan turns) w.acts (makes.act ∷ []) w.runs (obeys, tt);
+      runs = runs-append plan commands (opening plan scope) w.acts (makes.act ∷ []) w.runs (obeys, tt);
       stands = rw (whole, ← is) one.1;
-      took = rw (whole, ← is) one.2;
+      took = rw (whole, ← is) took;
     }
 
 -- an act whose records the book refused, and the connection was closed
-pub went_wrong : (plan : Plan) (commands : List Command) (turns : ℕ) (text : Record → List ℕ) (told told' told'' told''' : Option (List Act)) (taken taken' taken'' : Option (List ℕ)) (station : Station) (order : Order)
-    → (w : Went plan commands turns text told told' taken taken' station)
-    → order ≡ order_at plan (stood plan commands turns w.acts)
+pub went_wrong : (plan : Plan) (commands : List Task) (scope : Scope) (text : Record → List ℕ) (told told' told'' told''' : Option (List Act)) (taken taken' taken'' : Option (List ℕ)) (station : Station) (order : Order)
+    → (w : Went plan commands scope text told told' taken taken' station)
+    → order ≡ order_at plan (stood plan commands scope w.acts)
     → Breaks commands order (stepped plan commands order) text told' told'' taken' taken'' station
     → Tells told'' told''' (Closed ∷ [])
-    → BrokeAt plan commands turns text told told''' taken taken''
-went_wrong plan commands turns text told told' told'' told''' taken taken' taken'' station order w is breaks closed =
-    let s = stood plan commands turns w.acts in
-    let one = breaks.goes s taken w.stands w.took in
-    let whole = after_all-append plan commands (opening plan turns) w.acts (breaks.act ∷ []) in
+    → AreReadings scope.reads → BrokeAt plan commands scope text told told''' taken taken''
+went_wrong plan commands scope text told told' told'' told''' taken taken' taken'' station order w is breaks closed are =
+    let s = stood plan commands scope w.acts in
+    let one = breaks.goes s taken w.stands (λ ok. w.took) in
+    let same = stepped_reads plan commands order s breaks.act ∙ stood_reads plan commands scope w.acts in
+    let took = one.1 (are_same (stepped plan commands order s breaks.act).reads scope.reads same are) in
+    let whole = after_all-append plan commands (opening plan scope) w.acts (breaks.act ∷ []) in
     let obeys : Obeys commands s (order_at plan s) breaks.act = subst (λ (o : Order). Obeys commands s o breaks.act) is one.0 in
     record {
       acts = w.acts;
       last = breaks.act;
       tells = tells_more told told' told''' w.acts (breaks.act ∷ (Closed ∷ [])) w.tells (tells_more told' told'' told''' (breaks.act ∷ []) (Closed ∷ []) breaks.tells closed);
-      runs = runs-append plan commands (opening plan turns) w.acts (breaks.act ∷ []) w.runs (obeys, tt);
-      took = rw (whole, ← is) one.1;
+      runs = runs-append plan commands (opening plan scope) w.acts (breaks.act ∷ []) w.runs (obeys, tt);
+      took = rw (whole, ← is) took;
     }
 
 -- what an act leaves: no more to be sent than there are commands, and less to be done
-pub record IsNearer (commands : List Command) (from to : Progress) : Type 0 where
+pub record IsNearer (commands : List Task) (from to : Progress) : Type 0 where
   pub within : to.unsent ≤ length commands
   pub less : left_to_do to < left_to_do from
 
-pub went_nearer : (plan : Plan) (commands : List Command) (turns : ℕ) (text : Record → List ℕ) (told told' told'' : Option (List Act)) (taken taken' taken'' : Option (List ℕ)) (station new : Station) (order : Order)
-    → (w : Went plan commands turns text told told' taken taken' station)
-    → order ≡ order_at plan (stood plan commands turns w.acts)
-    → Makes commands order (stepped plan commands order) text told' told'' taken' taken'' station new
+-- a station that stands somewhere, whatever replies say
+abbrev pub Somewhere : Station → Type 0
+Somewhere station = (s : Standing) × Stands station s
+
+pub somewhere_on : (plan : Plan) (commands : List Task) (text : Record → List ℕ) (told told' : Option (List Act)) (taken taken' : Option (List ℕ)) (station new : Station) (order : Order)
+    → Makes commands order (stepped plan commands order) text told told' taken taken' station new → Somewhere station → Somewhere new
+somewhere_on plan commands text told told' taken taken' station new order makes some =
+    let one = makes.goes some.0 None some.1 (λ are. tt) in
+    (stepped plan commands order some.0 makes.act, one.1)
+
+pub went_nearer : (plan : Plan) (commands : List Task) (text : Record → List ℕ) (told told' : Option (List Act)) (taken taken' : Option (List ℕ)) (station new : Station) (order : Order)
+    → order ≡ order_of plan station.progress (waiting_in station) → Somewhere station
+    → Makes commands order (stepped plan commands order) text told told' taken taken' station new
     → station.progress.unsent ≤ length commands → IsNearer commands station.progress new.progress
-went_nearer plan commands turns text told told' told'' taken taken' taken'' station new order w is makes within =
-    let s = stood plan commands turns w.acts in
-    let one = makes.goes s taken w.stands w.took in
-    let obeys : Obeys commands s (order_at plan s) makes.act = subst (λ (o : Order). Obeys commands s o makes.act) is one.0 in
-    let mid : Standing = moved plan commands (order_at plan s) (with_progress turned s) makes.act in
-    let next : new.progress ≡ (after plan commands s makes.act).progress = one.1.progress ∙ ap (λ (o : Order). (stepped plan commands o s makes.act).progress) is in
-    let below : s.progress.unsent ≤ length commands = subst (λ (p : Progress). p.unsent ≤ length commands) w.stands.progress within in
+went_nearer plan commands text told told' taken taken' station new order is some makes within =
+    let s = some.0 in
+    let p = station.progress in
+    let w = waiting_in station in
+    let one = makes.goes s None some.1 (λ are. tt) in
+    let o : order ≡ order_of plan s.progress w = is ∙ ap (λ (q : Progress). order_of plan q w) some.1.progress in
+    let obeys : Obeys commands s (order_of plan s.progress w) makes.act = subst (λ (x : Order). Obeys commands s x makes.act) o one.0 in
+    let mid : Standing = moved plan commands order (with_progress turned s) makes.act in
+    let next : new.progress ≡ (ended mid).progress = one.1.progress in
+    let below : s.progress.unsent ≤ length commands = subst (λ (p : Progress). p.unsent ≤ length commands) some.1.progress within in
     record {
-      within = subst (λ (p : Progress). p.unsent ≤ length commands) (sym (next ∙ ended_progress mid)) (unsent_within plan commands (order_at plan s) (with_progress turned s) makes.act below);
-      less = subst (λ (p : Progress). left_to_do p < left_to_do station.progress) (sym next)
-          (subst (λ (p : Progress). left_to_do (after plan commands s makes.act).progress < left_to_do p) (sym w.stands.progress) (less_to_do plan commands s makes.act obeys));
+      within = subst (λ (p : Progress). p.unsent ≤ length commands) (sym (next ∙ ended_progress mid)) (unsent_within plan commands order (with_progress turned s) makes.act below);
+      less = subst (λ (q : Progress). left_to_do q < left_to_do p) (sym (next ∙ ap (λ (x : Order). (stepped plan commands x s makes.act).progress) o))
+          (subst (λ (q : Progress). left_to_do (stepped plan commands (order_of plan s.progress w) s makes.act).progress < left_to_do q) (sym some.1.progress) (less_stepped plan commands s w makes.act obeys));
     }
+
+-- a run that ends with no fault is done
+pub none_done : (why : Cause) → fault_of why ≡ None → why ≡ causes.Done
+none_done causes.Done e = refl
+none_done causes.Silence e = cc
+none_done causes.Dead e = cc
+none_done causes.Read e = cc
+none_done causes.End e = cc
+none_done (causes.Write n m) e = cc
+none_done causes.Clock e = cc
+none_done causes.Open e = cc
+none_done causes.Turns e = cc

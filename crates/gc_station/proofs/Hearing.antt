@@ -9,24 +9,33 @@ use Rattle.gc_lines.specs.Frames.{line_in, rest_behind}
 use Rattle.gc_lines.specs.Passing.{completed, frames_behind}
 use Rattle.gc_lines.specs.declared.frame.Frame.{Frame}
 use Rattle.gc_lines.specs.declared.frame.Frame.TheVariants.{Line, Cleared, Overlong, More}
+use Rattle.gc_lines.specs.Lent.{lent_seen}
+use Rattle.gc_lines.specs.declared.frame.Lent.{Lent}
+use Rattle.gc_lines.specs.declared.frame.Lent.TheVariants as lent
 use Rattle.gc_lines.proofs.Passing.{Takes}
+use Rattle.gc_catalogue.specs.declared.answer.Reading.{Reading}
+use Rattle.gc_catalogue.specs.declared.call.Call.{Call}
 use Rattle.gc_client.specs.declared.pending.Pending.{Pending}
 use Rattle.gc_client.specs.Rule.{ById, Windowed, Settled, Settlement, hears, id_settled, settle, lost, restarts, place_in, deadlines, expires, expired}
 use Rattle.gc_station.specs.Acts.{Act, Tells}
 use Rattle.gc_station.specs.declared.link.Moment.{Moment}
 use Rattle.gc_station.specs.declared.mark.Mark.{Mark}
 use Rattle.gc_station.specs.declared.plan.Plan.{Plan}
+use Rattle.gc_station.specs.declared.cause.Cause.{Cause}
+use Rattle.gc_station.specs.declared.cause.Cause.TheVariants as cause
 use Rattle.gc_station.specs.declared.progress.Progress.{Progress}
 use Rattle.gc_station.specs.declared.progress.Waiting.{Waiting}
 use Rattle.gc_station.specs.declared.station.Station.{Station}
-use Rattle.gc_station.specs.Marks.{commands_in, records_of}
-use Rattle.gc_station.specs.Progressing.{noted, gave, reckoned_early}
+use Rattle.gc_station.specs.Marks.{commands_in, records_of, last_well}
+use Rattle.gc_station.specs.Progressing.{noted, gave, reckoned_early, again, begins_anew, beginning_anew, closed, closed_again}
 use Rattle.gc_station.specs.Records.{Record, texts_of, WritesPart, WritesAll}
 use Rattle.gc_station.specs.Standing.{Standing, line_came, lines_came, lines_behind, with_rest, with_progress, with_moment, waiting_of, settles, piece_came}
-use Rattle.gc_station.specs.Stations.{waiting_in, Stands, Follows}
+use Rattle.gc_station.specs.Stations.{waiting_in, Stands, Took, TookPart, Follows}
+use Rattle.gc_station.specs.Scopes.{AreReadings}
 use Rattle.gc_station.specs.Tallies.{none_yet, tallied}
 use Rattle.gc_station.proofs.Growing.{lines_records}
-use Rattle.gc_station.proofs.Records.{Grew, grew_then, part_grew, part_grows, tallied-append}
+use Rattle.gc_station.proofs.Readings.{lines_reads, are_same}
+use Rattle.gc_station.proofs.Records.{Grew, grew_then, part_grew, part_grows, tallied-append, last-append}
 
 -- the lines of a frame, and those behind it
 pub lines_split : (frame : Frame) (later : List Frame) → filter_map line_in (completed frame ++ later) ≡ option_to_list (line_in frame) ++ filter_map line_in later
@@ -34,6 +43,13 @@ lines_split More later = refl
 lines_split (Line line) later = refl
 lines_split Cleared later = refl
 lines_split Overlong later = refl
+
+-- what is lent and is no line
+pub no_line : (frame : Lent) → ((line : _) → frame ≡ lent.Line line → ⊥) → line_in (lent_seen frame) ≡ None
+no_line (lent.Line line) never = absurd (never line refl)
+no_line lent.Cleared never = refl
+no_line lent.Overlong never = refl
+no_line lent.More never = refl
 
 pub lines_came-append : (s : Standing) (xs ys : List (List ℕ)) → lines_came s (xs ++ ys) ≡ lines_came (lines_came s xs) ys
 lines_came-append s [] ys = refl
@@ -48,7 +64,7 @@ lines_rest s rest (line ∷ others) = lines_rest (line_came s line) rest others
 pub record Hearing (text : Record → List ℕ) (start taken : Option (List ℕ)) (station : Station) (s : Standing) (piece left : List ℕ) : Type 0 where
   pub now : Standing
   pub stands : Stands station now
-  pub wrote : Appends start taken (texts_of text now.records)
+  pub wrote : Took text start taken now
   pub grown : Grew s.records now.records
   pub goes : piece_came left now ≡ piece_came piece s
 
@@ -71,7 +87,7 @@ frame_first s left later rest frame seen rests =
 -- one more frame
 pub hearing_on : (text : Record → List ℕ) (start taken taken' : Option (List ℕ)) (station station' : Station) (s : Standing) (piece left : List ℕ) (used : ℕ) (frame : Frame) (kept : Kept)
     → (h : Hearing text start taken station s piece left) → (t : Takes h.now.rest left used frame kept)
-    → (Stands station' (lines_came (with_rest t.now h.now) (option_to_list (line_in frame))) × Appends start taken' (texts_of text (lines_came (with_rest t.now h.now) (option_to_list (line_in frame))).records))
+    → (Stands station' (lines_came (with_rest t.now h.now) (option_to_list (line_in frame))) × Took text start taken' (lines_came (with_rest t.now h.now) (option_to_list (line_in frame))))
     → Hearing text start taken' station' s piece (drop used left)
 hearing_on text start taken taken' station station' s piece left used frame kept h t more = record {
   now = lines_came (with_rest t.now h.now) (option_to_list (line_in frame));
@@ -84,24 +100,25 @@ hearing_on text start taken taken' station station' s piece left used frame kept
 -- the book failed at a frame's line
 pub hearing_part : (text : Record → List ℕ) (start taken taken' : Option (List ℕ)) (station : Station) (s : Standing) (piece left : List ℕ) (used : ℕ) (frame : Frame) (kept : Kept)
     → (h : Hearing text start taken station s piece left) → (t : Takes h.now.rest left used frame kept)
-    → WritesPart text h.now.records (lines_came (with_rest t.now h.now) (option_to_list (line_in frame))).records start taken'
-    → WritesPart text s.records (piece_came piece s).records start taken'
-hearing_part text start taken taken' station s piece left used frame kept h t part =
+    → TookPart text h.now.records start taken' (lines_came (with_rest t.now h.now) (option_to_list (line_in frame)))
+    → TookPart text s.records start taken' (piece_came piece s)
+hearing_part text start taken taken' station s piece left used frame kept h t part are =
     let mid = lines_came (with_rest t.now h.now) (option_to_list (line_in frame)) in
     let later = drop used left in
     let whole : piece_came later mid ≡ piece_came piece s = sym (frame_first h.now left later t.now frame t.seen t.rests) ∙ h.goes in
     let more = lines_records (with_rest (rest_behind mid.rest later) mid) (lines_behind mid.rest later) in
-    let all = part_grows text h.now.records mid.records (piece_came later mid).records start taken' more part in
+    let same : mid.reads ≡ (piece_came piece s).reads = sym (lines_reads (with_rest (rest_behind mid.rest later) mid) (lines_behind mid.rest later)) ∙ ap (λ (x : Standing). x.reads) whole in
+    let all = part_grows text h.now.records mid.records (piece_came later mid).records start taken' more (part (are_same mid.reads (piece_came piece s).reads same are)) in
     part_grew text s.records h.now.records (piece_came piece s).records start taken' h.grown
     (subst (λ (x : Standing). WritesPart text h.now.records x.records start taken') whole all)
 
 -- nothing is left of the piece
 pub hearing_end : (text : Record → List ℕ) (start taken : Option (List ℕ)) (station : Station) (s : Standing) (piece : List ℕ)
     → Hearing text start taken station s piece []
-    → Stands station (piece_came piece s) × Appends start taken (texts_of text (piece_came piece s).records)
+    → Stands station (piece_came piece s) × Took text start taken (piece_came piece s)
 hearing_end text start taken station s piece h = (
   subst (λ (x : Standing). Stands station x) h.goes h.stands,
-  subst (λ (x : Standing). Appends start taken (texts_of text x.records)) h.goes h.wrote,
+  subst (λ (x : Standing). Took text start taken x) h.goes h.wrote,
 )
 
 -- the rest of a station's line begins anew where it is taken up
@@ -114,6 +131,7 @@ with_kept station kept rest s stands is = record {
   paired = stands.paired;
   assembles = is;
   tally = stands.tally;
+  well = stands.well;
 }
 
 -- How many are settled, and how many marks go: as many.
@@ -153,23 +171,32 @@ pub record Between (old mid : Station) (ids : ById) : Type 0 where
   pub assembler : mid.assembler ≡ old.assembler
   pub progress : mid.progress ≡ old.progress
   pub tally : mid.tally ≡ old.tally
+  pub well : mid.well ≡ old.well
 
 -- what is written down there
 records_same : (old mid : Station) (s : Standing) (ids : ById) (xs ys : List Settlement) → Stands old s → Between old mid ids → xs ≡ ys
-    → records_of mid.progress.moment.utc mid.marks.items xs ≡ records_of s.progress.moment.utc s.marks ys
+    → records_of s.reads mid.progress.moment.utc mid.marks.items xs ≡ records_of s.reads s.progress.moment.utc s.marks ys
 records_same old mid s ids xs ys stands between e =
-    ap (λ (p : Progress). records_of p.moment.utc mid.marks.items xs) (between.progress ∙ stands.progress)
-    ∙ ap (λ (ms : List (Option Mark)). records_of s.progress.moment.utc ms xs) (ap (λ ms. ms.items) between.marks ∙ stands.marks)
-    ∙ ap (records_of s.progress.moment.utc s.marks) e
+    ap (λ (p : Progress). records_of s.reads p.moment.utc mid.marks.items xs) (between.progress ∙ stands.progress)
+    ∙ ap (λ (ms : List (Option Mark)). records_of s.reads s.progress.moment.utc ms xs) (ap (λ ms. ms.items) between.marks ∙ stands.marks)
+    ∙ ap (records_of s.reads s.progress.moment.utc s.marks) e
+
+-- how a station counts these settlements, and how the last of their commands ended
+abbrev pub Counts : Station → Station → List Settlement → Type 0
+Counts mid new xs = (reads : Call → List ℕ → Reading) → AreReadings reads → new.tally ≡ tallied mid.tally (records_of reads mid.progress.moment.utc mid.marks.items xs)
+
+abbrev pub Minds : Station → Station → List Settlement → Type 0
+Minds mid new xs = (reads : Call → List ℕ → Reading) → AreReadings reads → new.well ≡ last_well reads mid.well (records_of reads mid.progress.moment.utc mid.marks.items xs)
 
 -- settlements were written down, and the station went on with these ids
 pub settles_ok : (text : Record → List ℕ) (old mid new : Station) (s : Standing) (x : Settled ById) (xs : List Settlement) (n : ℕ) (start taken' : Option (List ℕ))
     → Stands old s → Between old mid x.client → xs ≡ x.settlements → n ≡ length x.settlements → StayPaired s.marks x
-    → Appends start taken' (texts_of text (s.records ++ records_of mid.progress.moment.utc mid.marks.items xs))
-    → new ≡ record mid { marks = record { items = drop n mid.marks.items }; tally = tallied mid.tally (records_of mid.progress.moment.utc mid.marks.items xs) }
-    → Stands new (settles x s) × Appends start taken' (texts_of text (settles x s).records)
-settles_ok text old mid new s x xs n start taken' stands between e many paired wrote is =
-    let added : List Record = records_of mid.progress.moment.utc mid.marks.items xs in
+    → (AreReadings s.reads → Appends start taken' (texts_of text (s.records ++ records_of s.reads mid.progress.moment.utc mid.marks.items xs)))
+    → new ≡ record mid { marks = record { items = drop n mid.marks.items }; tally = new.tally; well = new.well }
+    → Counts mid new xs → Minds mid new xs
+    → Stands new (settles x s) × Took text start taken' (settles x s)
+settles_ok text old mid new s x xs n start taken' stands between e many paired wrote is counts minds =
+    let added : List Record = records_of s.reads mid.progress.moment.utc mid.marks.items xs in
     let records = records_same old mid s x.client xs x.settlements stands between e in (
       record {
         progress = ap (λ (n : Station). n.progress) is ∙ between.progress ∙ stands.progress;
@@ -178,27 +205,29 @@ settles_ok text old mid new s x xs n start taken' stands between e many paired w
         marks = ap (λ (n : Station). n.marks.items) is ∙ ap (λ k. drop k mid.marks.items) many ∙ ap (λ ms. drop (length x.settlements) ms) (ap (λ ms. ms.items) between.marks ∙ stands.marks);
         paired = paired;
         assembles = subst (λ (k : Kept). StandsFor k s.rest) (sym (ap (λ (n : Station). n.assembler) is ∙ between.assembler)) stands.assembles;
-        tally = ap (λ (n : Station). n.tally) is ∙ ap (λ t. tallied t added) (between.tally ∙ stands.tally) ∙ sym (tallied-append none_yet s.records added) ∙ ap (λ rs. tallied none_yet (s.records ++ rs)) records;
+        tally = λ are. counts s.reads are ∙ ap (λ t. tallied t added) (between.tally ∙ stands.tally are) ∙ sym (tallied-append none_yet s.records added) ∙ ap (λ rs. tallied none_yet (s.records ++ rs)) records;
+        well = λ are. minds s.reads are ∙ ap (λ b. last_well s.reads b added) (between.well ∙ stands.well are) ∙ sym (last-append s.reads false s.records added) ∙ ap (λ rs. last_well s.reads false (s.records ++ rs)) records;
       },
-      subst (λ (rs : List Record). Appends start taken' (texts_of text (s.records ++ rs))) records wrote,
+      λ are. subst (λ (rs : List Record). Appends start taken' (texts_of text (s.records ++ rs))) records (wrote are),
     )
 
 -- the book failed at them
 pub settles_part : (text : Record → List ℕ) (old mid : Station) (s : Standing) (x : Settled ById) (xs : List Settlement) (start taken' : Option (List ℕ))
     → Stands old s → Between old mid x.client → xs ≡ x.settlements
-    → WritesPart text s.records (s.records ++ records_of mid.progress.moment.utc mid.marks.items xs) start taken'
-    → WritesPart text s.records (settles x s).records start taken'
-settles_part text old mid s x xs start taken' stands between e wrote =
-    subst (λ (rs : List Record). WritesPart text s.records (s.records ++ rs) start taken') (records_same old mid s x.client xs x.settlements stands between e) wrote
+    → (AreReadings s.reads → WritesPart text s.records (s.records ++ records_of s.reads mid.progress.moment.utc mid.marks.items xs) start taken')
+    → TookPart text s.records start taken' (settles x s)
+settles_part text old mid s x xs start taken' stands between e wrote are =
+    subst (λ (rs : List Record). WritesPart text s.records (s.records ++ rs) start taken') (records_same old mid s x.client xs x.settlements stands between e) (wrote are)
 
 -- they were written down, or the book failed
 pub settles_either : {X E : Type 0} (text : Record → List ℕ) (old mid new : Station) (s : Standing) (x : Settled ById) (xs : List Settlement) (n : ℕ) (start taken' : Option (List ℕ)) (result : Result X E)
     → Stands old s → Between old mid x.client → xs ≡ x.settlements → n ≡ length x.settlements → StayPaired s.marks x
-    → WritesAll text s.records (s.records ++ records_of mid.progress.moment.utc mid.marks.items xs) start taken' result
-    → OnOk result (new ≡ record mid { marks = record { items = drop n mid.marks.items }; tally = tallied mid.tally (records_of mid.progress.moment.utc mid.marks.items xs) })
+    → (AreReadings s.reads → WritesAll text s.records (s.records ++ records_of s.reads mid.progress.moment.utc mid.marks.items xs) start taken' result)
+    → OnOk result (new ≡ record mid { marks = record { items = drop n mid.marks.items }; tally = new.tally; well = new.well })
+    → OnOk result (Counts mid new xs) → OnOk result (Minds mid new xs)
     → Follows text s.records new start taken' (settles x s) result
-settles_either text old mid new s x xs n start taken' (Ok r) stands between e many paired wrote is = settles_ok text old mid new s x xs n start taken' stands between e many paired wrote is
-settles_either text old mid new s x xs n start taken' (Err r) stands between e many paired wrote is = settles_part text old mid s x xs start taken' stands between e wrote
+settles_either text old mid new s x xs n start taken' (Ok r) stands between e many paired wrote is counts minds = settles_ok text old mid new s x xs n start taken' stands between e many paired wrote is counts minds
+settles_either text old mid new s x xs n start taken' (Err r) stands between e many paired wrote is counts minds = settles_part text old mid s x xs start taken' stands between e wrote
 
 -- acts, and then more
 pub tells_more : (a b c : Option (List Act)) (xs ys : List Act) → Tells a b xs → Tells b c ys → Tells a c (xs ++ ys)
@@ -217,6 +246,7 @@ with_noted mid p b b' s stands e is = record {
   paired = stands.paired;
   assembles = stands.assembles;
   tally = stands.tally;
+  well = stands.well;
 }
 
 -- requests were given up at a moment
@@ -230,18 +260,46 @@ stands_expired station p q client m s stands e is = record {
   paired = stands.paired ∙ sym (length-map s.client.waiting (expired m.elapsed));
   assembles = stands.assembles;
   tally = stands.tally;
+  well = stands.well;
 }
 
--- how many wait
-pub waiting_same : (station : Station) (s : Standing) → Stands station s → waiting_in station ≡ waiting_of s
-waiting_same station s stands =
-    ap (λ (c : ById). waiting_with c.waiting station.marks.items) stands.ids ∙ ap (waiting_with s.client.waiting) stands.marks where
-      waiting_with : List Pending → List (Option Mark) → Waiting
-      waiting_with waiting marks = record { all = length waiting; current = length (deadlines waiting); commands = commands_in marks }
+-- how many wait, and how the command ended that was written down last
+pub waiting_same : (station : Station) (s : Standing) → Stands station s → AreReadings s.reads → waiting_in station ≡ waiting_of s
+waiting_same station s stands are =
+    ap (λ (c : ById). waiting_with c.waiting station.marks.items station.well) stands.ids ∙ ap (λ ms. waiting_with s.client.waiting ms station.well) stands.marks
+    ∙ ap (waiting_with s.client.waiting s.marks) (stands.well are) where
+      waiting_with : List Pending → List (Option Mark) → Bool → Waiting
+      waiting_with waiting marks well = record { all = length waiting; current = length (deadlines waiting); commands = commands_in marks; well = well }
+
+-- that many wait, whatever replies say
+pub all_same : (station : Station) (s : Standing) → Stands station s → (waiting_in station).all ≡ (waiting_of s).all
+all_same station s stands = ap (λ (c : ById). length c.waiting) stands.ids
+
+pub commands_same : (station : Station) (s : Standing) → Stands station s → (waiting_in station).commands ≡ (waiting_of s).commands
+commands_same station s stands = ap commands_in stands.marks
 
 -- how far a station is once it heard a piece
-pub reckoned_same : (plan : Plan) (rested : Bool) (b b' : ℕ) (w w' : Waiting) (p p' : Progress) → b ≡ b' → w ≡ w' → p ≡ p'
+pub reckoned_same : (plan : Plan) (rested : Bool) (b b' : ℕ) (w w' : Waiting) (p p' : Progress) → b ≡ b' → w.all ≡ w'.all → w.commands ≡ w'.commands → p ≡ p'
     → reckoned_early plan w.commands (gave plan rested b w p) ≡ reckoned_early plan w'.commands (gave plan rested b' w' p')
-reckoned_same plan rested b b' w w' p p' eb ew ep =
-    ap (λ x. reckoned_early plan w.commands (gave plan rested x w p)) eb ∙ ap (λ (x : Waiting). reckoned_early plan x.commands (gave plan rested b' x p)) ew
-    ∙ ap (λ x. reckoned_early plan w'.commands (gave plan rested b' w' x)) ep
+reckoned_same plan rested b b' w w' p p' eb ea ec ep =
+    ap (λ x. early x w.all w.commands p) eb ∙ ap (λ x. early b' x w.commands p) ea ∙ ap (λ x. early b' w'.all x p) ec ∙ ap (λ x. early b' w'.all w'.commands x) ep where
+      early : ℕ → ℕ → ℕ → Progress → Progress
+      early before all commands p = reckoned_early plan commands (gave plan rested before (record { all = all; current = 0; commands = commands; well = false }) p)
+
+-- and once its connection was closed
+pub closed_same : (plan : Plan) (w w' : Waiting) (why : Cause) (p p' : Progress) → w.all ≡ w'.all → w.commands ≡ w'.commands → p ≡ p' → closed plan w why p ≡ closed plan w' why p'
+closed_same plan w w' why p p' ea ec ep = kept why ∙ ap (closed plan w' why) ep where
+  anew_kept : (why : Cause) (b : Bool) → closed_again plan w why b p ≡ closed_again plan w' why b p
+  anew_kept why true = ap (λ n. again plan 0 why (beginning_anew n p)) ea
+  anew_kept why false = ap (λ n. again plan n why p) ec
+
+  kept : (why : Cause) → closed plan w why p ≡ closed plan w' why p
+  kept cause.Done = refl
+  kept cause.Clock = refl
+  kept cause.Turns = refl
+  kept cause.Silence = anew_kept cause.Silence (begins_anew cause.Silence p)
+  kept cause.Dead = anew_kept cause.Dead (begins_anew cause.Dead p)
+  kept cause.Read = anew_kept cause.Read (begins_anew cause.Read p)
+  kept cause.End = anew_kept cause.End (begins_anew cause.End p)
+  kept (cause.Write n m) = anew_kept (cause.Write n m) (begins_anew (cause.Write n m) p)
+  kept cause.Open = anew_kept cause.Open (begins_anew cause.Open p)

@@ -3,6 +3,7 @@ mod Answers
 pub mod Beginning
 mod Beginnings
 pub mod Booking
+mod Chaining
 mod Closings
 mod Counts
 mod Drained
@@ -20,8 +21,9 @@ pub mod Hearing
 mod Lists
 pub mod Lone
 mod Losing
+mod Making
 pub mod Meant
-mod Meets
+pub mod Meets
 pub mod Midway
 mod Mute
 mod Opens
@@ -30,9 +32,11 @@ pub mod Parting
 mod Pieces
 pub mod Probing
 mod Quiets
+pub mod Readings
 mod Records
 mod Silences
 mod Tries
 mod Turns
 mod Used
 mod Waiting
+mod LogLines

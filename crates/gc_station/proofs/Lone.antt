@@ -3,7 +3,7 @@ use Rattle.std.proofs.Common.{◌≡◌, ◌⊎◌, inl, inr, ℕ, zero, suc, �
 use Rattle.std.specs.Prelude.{slice_get}
 use Rattle.std.specs.List.{AllByRecursion}
 use Rattle.gc_client.specs.OneForOne.{Step}
-use Rattle.gc_texts.specs.declared.commands.Command.{Command}
+use Rattle.gc_texts.specs.declared.tasks.Task.{Task}
 use Rattle.gc_station.specs.declared.mark.Mark.{Mark}
 use Rattle.gc_station.specs.declared.plan.Plan.{Plan}
 use Rattle.gc_station.specs.declared.progress.Progress.{Progress}
@@ -83,7 +83,7 @@ or_true : (a b : Bool) → (a || b) ≡ true → (a ≡ true) ⊎ (b ≡ true)
 or_true true b e = inl refl
 or_true false b e = inr e
 
-module _ (plan : Plan) (commands : List Command) where
+module _ (plan : Plan) (commands : List Task) where
   -- where it is over, nothing follows
   over_head : (u : Standing) (acts : List Act) → is_over u.progress ≡ true → Runs plan commands u acts → Head IsLone (parts_of plan commands u acts)
   over_head u [] over runs = (tt, tt)

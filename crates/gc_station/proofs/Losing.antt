@@ -3,11 +3,13 @@ use Rattle.std.proofs.Common.{◌≡◌, ◌⊎◌, inl, inr, ℕ, zero, suc, �
 use Rattle.std.specs.List.{AllByRecursion}
 use Rattle.std.proofs.lemmas.List.{nil_from_length}
 use Rattle.gc_lines.specs.Frames.{rest_behind}
+use Rattle.gc_catalogue.specs.declared.answer.Reading.{Reading}
 use Rattle.gc_catalogue.specs.declared.call.Call.{Call}
 use Rattle.gc_client.specs.declared.pending.Pending.{Pending}
 use Rattle.gc_client.specs.Ids.{id_at}
 use Rattle.gc_client.specs.Rule.{ById, Settlement, Answered, Late, Lost, lost}
 use Rattle.gc_texts.specs.declared.commands.Command.{Command}
+use Rattle.gc_texts.specs.declared.tasks.Task.{Task}
 use Rattle.gc_station.specs.declared.cause.Cause.{Cause}
 use Rattle.gc_station.specs.declared.cause.Cause.TheVariants as cause
 use Rattle.gc_station.specs.declared.link.Moment.{Moment}
@@ -23,20 +25,21 @@ use Rattle.gc_station.specs.Acts.{Act, Told, Cut, Gave, Silent, Ended, Broke, Cl
 use Rattle.gc_station.specs.Deciding.{is_up, is_past, drain_of, order_of, order_in, order_up}
 use Rattle.gc_station.specs.Ends.{IsWrittenAt, BeginsAnew, IsLast, IsLostIn}
 use Rattle.gc_station.specs.Marks.{commands_in, records_of}
-use Rattle.gc_station.specs.Progressing.{turned, told, begun, cleared, asking, probed, sent, failing, reckoned_early, closed_again, closed, quieted, drained, waited, is_over, is_over_in, loses_all, beginning_anew, is_finished, is_spared}
+use Rattle.gc_station.specs.Progressing.{turned, told, begun, skipped, cleared, asking, probed, sent, failing, reckoned_early, closed_again, closed, quieted, drained, waited, is_over, is_over_in, loses_all, beginning_anew, is_finished, is_spared}
 use Rattle.gc_station.specs.Reasons.{IsFor}
 use Rattle.gc_station.specs.Records.{Record}
 use Rattle.gc_station.specs.Runs.{stood}
-use Rattle.gc_station.specs.Standing.{Standing, opening, order_at, waiting_of, place_next, mark_next, request_text, Puts, Obeys, is_heard, with_progress, with_moment, with_rest, line_came, lines_came, lines_behind, came, asks_null, asks_first, asks_next, after_tell, after_put, after_open, after_read, moved, losing, ended, after}
+use Rattle.gc_station.specs.Standing.{Standing, opening, order_at, waiting_of, place_next, mark_next, request_text, Puts, Obeys, is_heard, with_progress, with_moment, with_rest, line_came, lines_came, lines_behind, came, asks_null, asks_first, asks_next, bound_next, skips, with_records, after_tell, after_put, after_open, after_read, moved, losing, ended, after}
 use Rattle.gc_station.proofs.Counts.{ended_progress}
 use Rattle.gc_station.proofs.Facts.{order_for}
 use Rattle.gc_station.proofs.Fine.{Fine}
 use Rattle.gc_station.proofs.Going.{after_all-append}
 use Rattle.gc_station.proofs.Growing.{moved_grew}
 use Rattle.gc_station.proofs.Lists.{all_append, all_split, Cut as CutOf, AtEnd, Before, cut_at, rows_all}
-use Rattle.gc_station.proofs.Meets.{records_all}
+use Rattle.gc_station.proofs.Meets.{IsRecordOf, records_all, was_answered, was_late}
 use Rattle.gc_station.proofs.Midway.{clash}
 use Rattle.gc_station.proofs.Waiting.{Asked, Stayed, Waits, IsTrue, IsHonest}
+use Rattle.gc_station.specs.Scopes.{Scope}
 
 -- A station begins anew behind a close for silence, or no command waits.
 
@@ -89,32 +92,32 @@ put_marks : (requests : ℕ) (f : Standing → Standing) (s : Standing) (act : A
 put_marks requests f s (Cut bytes n) = refl
 put_marks requests f s act = refl
 
-sent_anew : (plan : Plan) (mark : Mark) (left : List Command) (s : Standing) → (with_progress sent (asks_first plan mark left s)).progress.anew ≡ s.progress.anew
-sent_anew plan mark [] s = refl
-sent_anew plan mark (command ∷ others) s = refl
+sent_anew : (bound : Bool) (mark : Mark) (left : List Task) (s : Standing) → (with_progress (sent bound) (asks_first mark left s)).progress.anew ≡ s.progress.anew
+sent_anew bound mark [] s = refl
+sent_anew bound mark (task ∷ others) s = refl
 
 -- no record is written of those with these marks
 abbrev Unwritten : List (Option Mark) → Type 0
-Unwritten marks = (utc : ℕ) (settlements : List Settlement) → records_of utc marks settlements ≡ []
+Unwritten marks = (reads : Call → List ℕ → Reading) (utc : ℕ) (settlements : List Settlement) → records_of reads utc marks settlements ≡ []
 
 unwritten_none : (marks : List (Option Mark)) → marks ≡ [] → Unwritten marks
-unwritten_none marks is utc settlements = ap (λ (ms : List (Option Mark)). records_of utc ms settlements) is
+unwritten_none marks is reads utc settlements = ap (λ (ms : List (Option Mark)). records_of reads utc ms settlements) is
 
 unwritten_null : (marks : List (Option Mark)) → marks ≡ None ∷ [] → Unwritten marks
-unwritten_null marks is utc settlements = ap (λ (ms : List (Option Mark)). records_of utc ms settlements) is ∙ of_null settlements where
-  of_null : (settlements : List Settlement) → records_of utc (None ∷ []) settlements ≡ []
+unwritten_null marks is reads utc settlements = ap (λ (ms : List (Option Mark)). records_of reads utc ms settlements) is ∙ of_null settlements where
+  of_null : (settlements : List Settlement) → records_of reads utc (None ∷ []) settlements ≡ []
   of_null [] = refl
   of_null (x ∷ xs) = refl
 
 -- none waits where it begins anew already
-none_waits : (plan : Plan) (commands : List Command) (s : Standing) → Fine plan commands s → s.progress.anew ≡ true → s.marks ≡ []
+none_waits : (plan : Plan) (commands : List Task) (s : Standing) → Fine plan commands s → s.progress.anew ≡ true → s.marks ≡ []
 none_waits plan commands s fine e = nil_from_length s.marks (fine.paired ∙ ap (λ (c : ById). length c.waiting) (fine.anew e).0)
 
-unwritten_left : (plan : Plan) (commands : List Command) (s : Standing) (anew : Bool) (marks : List (Option Mark)) → Fine plan commands s → anew ≡ s.progress.anew → (s.marks ≡ [] → marks ≡ []) → anew ≡ true → Unwritten marks
+unwritten_left : (plan : Plan) (commands : List Task) (s : Standing) (anew : Bool) (marks : List (Option Mark)) → Fine plan commands s → anew ≡ s.progress.anew → (s.marks ≡ [] → marks ≡ []) → anew ≡ true → Unwritten marks
 unwritten_left plan commands s anew marks fine same left e = unwritten_none marks (left (none_waits plan commands s fine (sym same ∙ e)))
 
 -- a close for a cause
-again_unwritten : (plan : Plan) (commands : List Command) (s : Standing) (w : Waiting) (why : Cause) (b : Bool) → Fine plan commands s → is_up s.progress.phase ≡ true → (s.progress.alone || s.progress.anew) ≡ b
+again_unwritten : (plan : Plan) (commands : List Task) (s : Standing) (w : Waiting) (why : Cause) (b : Bool) → Fine plan commands s → is_up s.progress.phase ≡ true → (s.progress.alone || s.progress.anew) ≡ b
     → (closed_again plan w why b (turned s.progress)).anew ≡ true → Unwritten s.marks
 again_unwritten plan commands s w why true fine up is e = one_of s.progress.alone refl is where
   one_of : (b : Bool) → s.progress.alone ≡ b → (b || s.progress.anew) ≡ true → Unwritten s.marks
@@ -126,7 +129,7 @@ again_unwritten plan commands s w why false fine up is e = unwritten_none s.mark
 abbrev SilenceOr : Order → Act → List (Option Mark) → Type 0
 SilenceOr order act marks = Unwritten marks ⊎ ((order ≡ orders.Close cause.Silence) × (act ≡ Closed))
 
-close_why : (plan : Plan) (commands : List Command) (s : Standing) (w : Waiting) (why : Cause) (act : Act) → Fine plan commands s → is_up s.progress.phase ≡ true → act ≡ Closed → (closed plan w why (turned s.progress)).anew ≡ true
+close_why : (plan : Plan) (commands : List Task) (s : Standing) (w : Waiting) (why : Cause) (act : Act) → Fine plan commands s → is_up s.progress.phase ≡ true → act ≡ Closed → (closed plan w why (turned s.progress)).anew ≡ true
     → SilenceOr (orders.Close why) act s.marks
 close_why plan commands s w cause.Done act fine up is e = inl (unwritten_none s.marks (none_waits plan commands s fine e))
 close_why plan commands s w cause.Clock act fine up is e = inl (unwritten_none s.marks (none_waits plan commands s fine e))
@@ -138,7 +141,7 @@ close_why plan commands s w cause.End act fine up is e = inl (again_unwritten pl
 close_why plan commands s w (cause.Write n m) act fine up is e = inl (again_unwritten plan commands s w (cause.Write n m) (s.progress.alone || s.progress.anew) fine up refl e)
 close_why plan commands s w cause.Open act fine up is e = inl (again_unwritten plan commands s w cause.Open (s.progress.alone || s.progress.anew) fine up refl e)
 
-anew_why : (plan : Plan) (commands : List Command) (s : Standing) (order : Order) (act : Act) → Fine plan commands s → IsFor plan s.progress (waiting_of s) order → Obeys commands s order act
+anew_why : (plan : Plan) (commands : List Task) (s : Standing) (order : Order) (act : Act) → Fine plan commands s → IsFor plan s.progress (waiting_of s) order → Obeys commands s order act
     → (moved plan commands order (with_progress turned s) act).progress.anew ≡ true → SilenceOr order act (moved plan commands order (with_progress turned s) act).marks
 anew_why plan commands s orders.Tell act fine needs o e =
     let l = tell_leaves (λ m p. reckoned_early plan (commands_in s.marks) (told m p)) (with_progress turned s) act (λ m. refl) in inl (unwritten_left plan commands s _ _ fine l.0 l.1 e)
@@ -151,8 +154,12 @@ anew_why plan commands s orders.Clear act fine needs o e =
 anew_why plan commands s orders.Probe act fine needs o e = absurd (clash _ e (put_anew _ (λ (x : Standing). with_progress probed (asks_null plan x)) (with_progress turned s) act))
 anew_why plan commands s orders.Send act fine needs o e =
     let t = with_progress turned s in
-    absurd (clash _ e (put_anew _ (λ (x : Standing). with_progress sent (asks_next plan commands x)) t act
-    ∙ sent_anew plan (mark_next plan commands s.progress) (drop (place_next commands s.progress) commands) t ∙ fine.ready needs.0))
+    absurd (clash _ e (put_anew _ (λ (x : Standing). with_progress (sent (bound_next commands x.progress)) (asks_next plan commands x)) t act
+    ∙ sent_anew (bound_next commands t.progress) (mark_next plan commands s.progress) (drop (place_next commands s.progress) commands) t ∙ fine.ready needs.0))
+anew_why plan commands s orders.Skip act fine needs o e =
+    let t = with_progress turned s in
+    let u = with_records (skips plan commands t.progress act) t in
+    let l = tell_leaves (λ m p. reckoned_early plan (commands_in t.marks) (skipped (bound_next commands t.progress) m p)) u act (λ m. refl) in inl (unwritten_left plan commands s _ _ fine l.0 l.1 e)
 anew_why plan commands s orders.Flush act fine needs o e = absurd (clash _ e (put_anew _ (λ (x : Standing). with_progress asking (asks_null plan x)) (with_progress turned s) act ∙ fine.ready needs.0))
 anew_why plan commands s orders.Read act fine needs o e = let l = read_leaves plan false (with_progress turned s) act in inl (unwritten_left plan commands s _ _ fine l.0 l.1 e)
 anew_why plan commands s orders.Rest act fine needs o e = let l = read_leaves plan true (with_progress turned s) act in inl (unwritten_left plan commands s _ _ fine l.0 l.1 e)
@@ -191,22 +198,22 @@ only_first true e = refl
 only_first false e = cc
 
 -- where all that wait are lost, and a record is written of one
-loses_why : (plan : Plan) (commands : List Command) (turns : ℕ) (acts : List Act) (act : Act) → Fine plan commands (stood plan commands turns acts)
-    → Obeys commands (stood plan commands turns acts) (order_at plan (stood plan commands turns acts)) act
-    → loses_all (moved plan commands (order_at plan (stood plan commands turns acts)) (with_progress turned (stood plan commands turns acts)) act).progress ≡ true
-    → Unwritten (moved plan commands (order_at plan (stood plan commands turns acts)) (with_progress turned (stood plan commands turns acts)) act).marks
-    ⊎ (BeginsAnew plan commands turns acts act ⊎ IsLast plan commands turns acts act [])
-loses_why plan commands turns acts act fine obeys loses = by_test (is_over t.progress) refl loses where
+loses_why : (plan : Plan) (commands : List Task) (scope : Scope) (acts : List Act) (act : Act) → Fine plan commands (stood plan commands scope acts)
+    → Obeys commands (stood plan commands scope acts) (order_at plan (stood plan commands scope acts)) act
+    → loses_all (moved plan commands (order_at plan (stood plan commands scope acts)) (with_progress turned (stood plan commands scope acts)) act).progress ≡ true
+    → Unwritten (moved plan commands (order_at plan (stood plan commands scope acts)) (with_progress turned (stood plan commands scope acts)) act).marks
+    ⊎ (BeginsAnew plan commands scope acts act ⊎ IsLast plan commands scope acts act [])
+loses_why plan commands scope acts act fine obeys loses = by_test (is_over t.progress) refl loses where
   s : Standing
-  s = stood plan commands turns acts
+  s = stood plan commands scope acts
 
   t : Standing
   t = moved plan commands (order_at plan s) (with_progress turned s) act
 
-  next : stood plan commands turns (acts ++ act ∷ []) ≡ ended t
-  next = after_all-append plan commands (opening plan turns) acts (act ∷ [])
+  next : stood plan commands scope (acts ++ act ∷ []) ≡ ended t
+  next = after_all-append plan commands (opening plan scope) acts (act ∷ [])
 
-  far : (stood plan commands turns (acts ++ act ∷ [])).progress ≡ t.progress
+  far : (stood plan commands scope (acts ++ act ∷ [])).progress ≡ t.progress
   far = ap (λ (x : Standing). x.progress) next ∙ ended_progress t
 
   rests : order_at plan s ≡ orders.Close cause.Silence → is_over t.progress ≡ false → t.progress.phase ≡ Resting
@@ -215,11 +222,11 @@ loses_why plan commands turns acts act fine obeys loses = by_test (is_over t.pro
       let there : t.progress ≡ closed plan w cause.Silence (turned s.progress) = ap (λ (o : Order). (moved plan commands o (with_progress turned s) act).progress) is in
       ap (λ (p : Progress). p.phase) there ∙ silence_rests plan w (turned s.progress) (sym (ap is_over there) ∙ on)
 
-  begins : t.progress.anew ≡ true → is_over t.progress ≡ false → SilenceOr (order_at plan s) act t.marks → Unwritten t.marks ⊎ (BeginsAnew plan commands turns acts act ⊎ IsLast plan commands turns acts act [])
+  begins : t.progress.anew ≡ true → is_over t.progress ≡ false → SilenceOr (order_at plan s) act t.marks → Unwritten t.marks ⊎ (BeginsAnew plan commands scope acts act ⊎ IsLast plan commands scope acts act [])
   begins anew on (inl none) = inl none
   begins anew on (inr both) = inr (inl (record { closes = both.0; closed = both.1; rests = ap (λ (p : Progress). p.phase) far ∙ rests both.0 on; anew = ap (λ (p : Progress). p.anew) far ∙ anew }))
 
-  by_test : (b : Bool) → is_over t.progress ≡ b → (t.progress.anew || b) ≡ true → Unwritten t.marks ⊎ (BeginsAnew plan commands turns acts act ⊎ IsLast plan commands turns acts act [])
+  by_test : (b : Bool) → is_over t.progress ≡ b → (t.progress.anew || b) ≡ true → Unwritten t.marks ⊎ (BeginsAnew plan commands scope acts act ⊎ IsLast plan commands scope acts act [])
   by_test true over e =
       let stops = over_stops plan (ended t).progress (waiting_of (ended t)) (ap is_over (ended_progress t) ∙ over) in
       inr (inr (record { none = refl; why = stops.0; stops = ap (λ (x : Standing). order_at plan x) next ∙ stops.1 }))
@@ -238,53 +245,54 @@ put_goes : (requests : ℕ) (f : Standing → Standing) (s : Standing) (act : Ac
 put_goes requests f s (Cut bytes n) is = failing_goes (cause.Write requests n) (f s).progress is
 put_goes requests f s act is = going_on (f s).progress is
 
-sent_phase : (plan : Plan) (mark : Mark) (left : List Command) (s : Standing) → (with_progress sent (asks_first plan mark left s)).progress.phase ≡ s.progress.phase
-sent_phase plan mark [] s = refl
-sent_phase plan mark (command ∷ others) s = refl
+sent_phase : (bound : Bool) (mark : Mark) (left : List Task) (s : Standing) → (with_progress (sent bound) (asks_first mark left s)).progress.phase ≡ s.progress.phase
+sent_phase bound mark [] s = refl
+sent_phase bound mark (task ∷ others) s = refl
 
 neither : (a b : Bool) → a ≡ false → b ≡ false → (a || b) ≡ false
 neither true b x y = cc
 neither false b x y = y
 
-send_loses_none : (plan : Plan) (commands : List Command) (s : Standing) (act : Act) → Fine plan commands s → IsFor plan s.progress (waiting_of s) orders.Send → loses_all (moved plan commands orders.Send (with_progress turned s) act).progress ≡ false
+send_loses_none : (plan : Plan) (commands : List Task) (s : Standing) (act : Act) → Fine plan commands s → IsFor plan s.progress (waiting_of s) orders.Send → loses_all (moved plan commands orders.Send (with_progress turned s) act).progress ≡ false
 send_loses_none plan commands s act fine needs =
     let t = with_progress turned s in
-    let f = λ (x : Standing). with_progress sent (asks_next plan commands x) in
+    let f = λ (x : Standing). with_progress (sent (bound_next commands x.progress)) (asks_next plan commands x) in
+    let bound = bound_next commands t.progress in
     let mark = mark_next plan commands s.progress in
     let left = drop (place_next commands s.progress) commands in
-    neither (moved plan commands orders.Send t act).progress.anew _ (put_anew _ f t act ∙ sent_anew plan mark left t ∙ fine.ready needs.0) (put_goes _ f t act (sent_phase plan mark left t ∙ needs.0))
+    neither (moved plan commands orders.Send t act).progress.anew _ (put_anew _ f t act ∙ sent_anew bound mark left t ∙ fine.ready needs.0) (put_goes _ f t act (sent_phase bound mark left t ∙ needs.0))
 
 -- The records of those that are lost.
 
 -- a settlement is that of a request that is lost
-pub record LostOf (plan : Plan) (commands : List Command) (turns : ℕ) (acts : List Act) (x : Settlement) (mark : Option Mark) : Type 0 where
+pub record LostOf (plan : Plan) (commands : List Task) (scope : Scope) (acts : List Act) (x : Settlement) (mark : Option Mark) : Type 0 where
   pub number : ℕ
   pub at : ℕ
   pub id : ℕ
   pub pending : Pending
   pub is : x ≡ lost pending
-  pub asked : Asked plan commands turns acts Stayed number at id pending mark
+  pub asked : Asked plan commands scope acts Stayed number at id pending mark
 
-abbrev IsLostRecord : Plan → List Command → ℕ → List Act → Record → Type 0
-IsLostRecord plan commands turns acts r = (mark : Mark) × (r.cycle ≡ mark.cycle) × (r.place ≡ mark.place) × LostOf plan commands turns acts r.settlement (Some mark)
+abbrev IsLostRecord : Plan → List Task → Scope → List Act → Record → Type 0
+IsLostRecord plan commands scope acts r = (mark : Mark) × (y : Settlement) × (r.cycle ≡ mark.cycle) × (r.place ≡ mark.place) × IsRecordOf r y × LostOf plan commands scope acts y (Some mark)
 
-lost_true : (plan : Plan) (commands : List Command) (turns : ℕ) (acts : List Act) (act : Act) (r : Record) (news earlier later : List Record) → Fine plan commands (stood plan commands turns acts)
-    → loses_all (moved plan commands (order_at plan (stood plan commands turns acts)) (with_progress turned (stood plan commands turns acts)) act).progress ≡ true
-    → BeginsAnew plan commands turns acts act ⊎ IsLast plan commands turns acts act []
-    → (stood plan commands turns (acts ++ act ∷ [])).records ≡ ((stood plan commands turns acts).records ++ news) ++ (earlier ++ r ∷ later)
-    → IsLostRecord plan commands turns (acts ++ act ∷ []) r → IsTrue plan commands turns (acts ++ act ∷ []) r
-lost_true plan commands turns acts act r news earlier later fine loses why ends it = record {
-  answered = λ line e. absurd (not_answered line (sym outcome ∙ e));
-  late = λ e. absurd (not_late (sym outcome ∙ e));
+lost_true : (plan : Plan) (commands : List Task) (scope : Scope) (acts : List Act) (act : Act) (r : Record) (news earlier later : List Record) → Fine plan commands (stood plan commands scope acts)
+    → loses_all (moved plan commands (order_at plan (stood plan commands scope acts)) (with_progress turned (stood plan commands scope acts)) act).progress ≡ true
+    → BeginsAnew plan commands scope acts act ⊎ IsLast plan commands scope acts act []
+    → (stood plan commands scope (acts ++ act ∷ [])).records ≡ ((stood plan commands scope acts).records ++ news) ++ (earlier ++ r ∷ later)
+    → IsLostRecord plan commands scope (acts ++ act ∷ []) r → IsTrue plan commands scope (acts ++ act ∷ []) r
+lost_true plan commands scope acts act r news earlier later fine loses why ends it = record {
+  answered = λ line e. absurd (not_answered line (sym outcome ∙ was_answered r it.1 it.4 line e));
+  late = λ e. absurd (not_late (sym outcome ∙ was_late r it.1 it.4 e));
   lost = λ e. on (cut_at acts a.before a.between act a.request a.order);
 } where
-  x : LostOf plan commands turns (acts ++ act ∷ []) r.settlement (Some it.0)
-  x = it.3
+  x : LostOf plan commands scope (acts ++ act ∷ []) it.1 (Some it.0)
+  x = it.5
 
-  a : Asked plan commands turns (acts ++ act ∷ []) Stayed x.number x.at x.id x.pending (Some it.0)
+  a : Asked plan commands scope (acts ++ act ∷ []) Stayed x.number x.at x.id x.pending (Some it.0)
   a = x.asked
 
-  outcome : r.settlement.outcome ≡ Lost
+  outcome : it.1.outcome ≡ Lost
   outcome = ap (λ (y : Settlement). y.outcome) x.is
 
   not_answered : (line : List ℕ) → Lost ≡ Answered line → ⊥
@@ -293,17 +301,17 @@ lost_true plan commands turns acts act r news earlier later fine loses why ends 
   not_late : Lost ≡ Late → ⊥
   not_late e = cc
 
-  here : IsWrittenAt plan commands turns acts act r
+  here : IsWrittenAt plan commands scope acts act r
   here = record {
     earlier = news ++ earlier;
     later = later;
-    written = let rs = (stood plan commands turns acts).records in ends ∙ append_assoc rs news (earlier ++ r ∷ later) ∙ ap (λ xs. rs ++ xs) (sym (append_assoc news earlier (r ∷ later)));
+    written = let rs = (stood plan commands scope acts).records in ends ∙ append_assoc rs news (earlier ++ r ∷ later) ∙ ap (λ xs. rs ++ xs) (sym (append_assoc news earlier (r ∷ later)));
   }
 
-  on : CutOf acts act a.before a.between a.request → IsLostIn plan commands turns (acts ++ act ∷ []) r
+  on : CutOf acts act a.before a.between a.request → IsLostIn plan commands scope (acts ++ act ∷ []) r
   on (AtEnd same) =
-      let s = stood plan commands turns acts in
-      let sends : order_at plan s ≡ orders.Send = ap (λ (xs : List Act). order_at plan (stood plan commands turns xs)) same ∙ (a.its it.0 refl).sends in
+      let s = stood plan commands scope acts in
+      let sends : order_at plan s ≡ orders.Send = ap (λ (xs : List Act). order_at plan (stood plan commands scope xs)) same ∙ (a.its it.0 refl).sends in
       let needs = subst (λ (o : Order). IsFor plan s.progress (waiting_of s) o) sends (order_for plan s.progress (waiting_of s)) in
       absurd (clash _ loses (ap (λ (o : Order). loses_all (moved plan commands o (with_progress turned s) act).progress) sends ∙ send_loses_none plan commands s act fine needs))
   on (Before between at rest) =
@@ -317,50 +325,51 @@ lost_true plan commands turns acts act r news earlier later fine loses why ends 
         order = a.order ∙ ap (λ xs. a.before ++ a.request ∷ xs) rest;
         own = record {
           sends = its.sends;
-          cycle = it.1 ∙ its.cycle;
-          place = it.2 ∙ its.place;
-          put = subst (λ (y : Call). Puts (request_text (stood plan commands turns a.before).client y) a.request) (sym (ap (λ (y : Settlement). y.call) x.is)) a.put;
+          cycle = it.2 ∙ its.cycle;
+          place = it.3 ∙ its.place;
+          put = subst (λ (y : Call). Puts (request_text (stood plan commands scope a.before).client y) a.request) (sym (ap (λ (y : Command). y.call) it.4.command ∙ ap (λ (y : Settlement). y.call) x.is)) a.put;
         };
-        written = subst (λ (xs : List Act). IsWrittenAt plan commands turns xs act r) at here;
-        shown = inr (subst (λ (xs : List Act). BeginsAnew plan commands turns xs act ⊎ IsLast plan commands turns xs act []) at why);
+        written = subst (λ (xs : List Act). IsWrittenAt plan commands scope xs act r) at here;
+        shown = inr (subst (λ (xs : List Act). BeginsAnew plan commands scope xs act ⊎ IsLast plan commands scope xs act []) at why);
       }
 
 -- what every run keeps, also where all that wait are lost
-pub losing_honest : (plan : Plan) (commands : List Command) (turns : ℕ) (acts : List Act) (act : Act) → Fine plan commands (stood plan commands turns acts)
-    → Obeys commands (stood plan commands turns acts) (order_at plan (stood plan commands turns acts)) act
-    → IsHonest plan commands turns (acts ++ act ∷ []) (acts ++ act ∷ []) (moved plan commands (order_at plan (stood plan commands turns acts)) (with_progress turned (stood plan commands turns acts)) act)
-    → IsHonest plan commands turns (acts ++ act ∷ []) (acts ++ act ∷ []) (after plan commands (stood plan commands turns acts) act)
-losing_honest plan commands turns acts act fine obeys h = by_test (loses_all t.progress) refl where
+pub losing_honest : (plan : Plan) (commands : List Task) (scope : Scope) (acts : List Act) (act : Act) → Fine plan commands (stood plan commands scope acts)
+    → Obeys commands (stood plan commands scope acts) (order_at plan (stood plan commands scope acts)) act
+    → IsHonest plan commands scope (acts ++ act ∷ []) (acts ++ act ∷ []) (moved plan commands (order_at plan (stood plan commands scope acts)) (with_progress turned (stood plan commands scope acts)) act)
+    → IsHonest plan commands scope (acts ++ act ∷ []) (acts ++ act ∷ []) (after plan commands (stood plan commands scope acts) act)
+losing_honest plan commands scope acts act fine obeys h = by_test (loses_all t.progress) refl where
   all : List Act
   all = acts ++ act ∷ []
 
   s : Standing
-  s = stood plan commands turns acts
+  s = stood plan commands scope acts
 
   t : Standing
   t = moved plan commands (order_at plan s) (with_progress turned s) act
 
   written : List Record
-  written = records_of t.progress.moment.utc t.marks (map lost t.client.waiting)
+  written = records_of t.reads t.progress.moment.utc t.marks (map lost t.client.waiting)
 
-  ends : loses_all t.progress ≡ true → (more : List Record) → t.records ≡ s.records ++ more → (stood plan commands turns all).records ≡ (s.records ++ more) ++ written
+  ends : loses_all t.progress ≡ true → (more : List Record) → t.records ≡ s.records ++ more → (stood plan commands scope all).records ≡ (s.records ++ more) ++ written
   ends loses more grew =
-      ap (λ (x : Standing). x.records) (after_all-append plan commands (opening plan turns) acts (act ∷ [])) ∙ ap (λ (b : Bool). (losing b t).records) loses ∙ ap (λ xs. xs ++ written) grew
+      ap (λ (x : Standing). x.records) (after_all-append plan commands (opening plan scope) acts (act ∷ [])) ∙ ap (λ (b : Bool). (losing b t).records) loses ∙ ap (λ xs. xs ++ written) grew
 
-  of_lost : AllByRecursion (IsLostRecord plan commands turns all) written
+  of_lost : AllByRecursion (IsLostRecord plan commands scope all) written
   of_lost =
-      records_all (λ (k : ℕ). LostOf plan commands turns all) (IsLostRecord plan commands turns all) t.progress.moment.utc 0 (map lost t.client.waiting) t.marks (λ i x mark is. (mark, refl, refl, is))
-      (rows_all (Waits plan commands turns all t.client.next (length t.client.waiting)) (λ (k : ℕ). LostOf plan commands turns all) lost 0 0 t.client.waiting t.marks
+      records_all (λ (k : ℕ). LostOf plan commands scope all) (IsLostRecord plan commands scope all) t.reads t.progress.moment.utc 0 (map lost t.client.waiting) t.marks
+      (λ i x mark is. (mark, x, refl, refl, record { reads = t.reads; command = refl; ended = refl }, is))
+      (rows_all (Waits plan commands scope all t.client.next (length t.client.waiting)) (λ (k : ℕ). LostOf plan commands scope all) lost 0 0 t.client.waiting t.marks
       (λ n j p mark w. record { number = n; at = j; id = id_at t.client.next (length t.client.waiting) j; pending = p; is = refl; asked = w }) h.waiting)
 
-  all_lost : loses_all t.progress ≡ true → Unwritten t.marks ⊎ (BeginsAnew plan commands turns acts act ⊎ IsLast plan commands turns acts act []) → AllByRecursion (IsTrue plan commands turns all) written
-  all_lost loses (inl none) = subst (λ (rs : List Record). AllByRecursion (IsTrue plan commands turns all) rs) (sym (none t.progress.moment.utc (map lost t.client.waiting))) tt
+  all_lost : loses_all t.progress ≡ true → Unwritten t.marks ⊎ (BeginsAnew plan commands scope acts act ⊎ IsLast plan commands scope acts act []) → AllByRecursion (IsTrue plan commands scope all) written
+  all_lost loses (inl none) = subst (λ (rs : List Record). AllByRecursion (IsTrue plan commands scope all) rs) (sym (none t.reads t.progress.moment.utc (map lost t.client.waiting))) tt
   all_lost loses (inr why) =
       let grew = moved_grew plan commands (order_at plan s) (with_progress turned s) act in
-      all_split (IsLostRecord plan commands turns all) (IsTrue plan commands turns all) [] written written refl
+      all_split (IsLostRecord plan commands scope all) (IsTrue plan commands scope all) [] written written refl
       (λ (earlier : List Record) (r : Record) (later : List Record) at is.
-      lost_true plan commands turns acts act r grew.0 earlier later fine loses why (ends loses grew.0 grew.1 ∙ ap (λ xs. (s.records ++ grew.0) ++ xs) (sym at)) is) of_lost
+      lost_true plan commands scope acts act r grew.0 earlier later fine loses why (ends loses grew.0 grew.1 ∙ ap (λ xs. (s.records ++ grew.0) ++ xs) (sym at)) is) of_lost
 
-  by_test : (b : Bool) → loses_all t.progress ≡ b → IsHonest plan commands turns all all (losing b t)
-  by_test true loses = record { waiting = tt; written = all_append (IsTrue plan commands turns all) t.records written h.written (all_lost loses (loses_why plan commands turns acts act fine obeys loses)) }
+  by_test : (b : Bool) → loses_all t.progress ≡ b → IsHonest plan commands scope all all (losing b t)
+  by_test true loses = record { waiting = tt; written = all_append (IsTrue plan commands scope all) t.records written h.written (all_lost loses (loses_why plan commands scope acts act fine obeys loses)) }
   by_test false loses = h

@@ -3,7 +3,7 @@ use Rattle.std.proofs.Common.{◌≡◌, ◌⊎◌, inl, inr, ℕ, ◌-◌, ◌<
 use Rattle.gc_lines.specs.Frames.{rest_behind}
 use Rattle.gc_catalogue.specs.declared.call.Call.{Call}
 use Rattle.gc_catalogue.specs.declared.call.Call.TheVariants.{NullProc}
-use Rattle.gc_texts.specs.declared.commands.Command.{Command}
+use Rattle.gc_texts.specs.declared.tasks.Task.{Task}
 use Rattle.gc_station.specs.declared.link.Moment.{Moment}
 use Rattle.gc_station.specs.declared.mark.Mark.{Mark}
 use Rattle.gc_station.specs.declared.plan.Plan.{Plan}
@@ -14,9 +14,9 @@ use Rattle.gc_station.specs.Acts.{Act, Told, Untold, Put, Cut, Gave, Silent, End
 use Rattle.gc_station.specs.Deciding.{later}
 use Rattle.gc_station.specs.Marks.{commands_in}
 use Rattle.gc_station.specs.Parts.{Part, nothing, asking, asking_first, putting}
-use Rattle.gc_station.specs.Progressing.{told, turned, begun, cleared, probed, asking as went, sent, reckoned_early, loses_all}
+use Rattle.gc_station.specs.Progressing.{told, turned, begun, skipped, cleared, probed, asking as went, sent, reckoned_early, loses_all}
 use Rattle.gc_station.specs.Reasons.{IsFor}
-use Rattle.gc_station.specs.Standing.{Standing, order_at, waiting_of, place_next, mark_next, request_text, first_text, Puts, IsTelling, IsOpening, IsReading, Obeys, with_progress, with_moment, with_rest, asks_null, asks_first, asks_next, requests_out, line_came, lines_came, lines_behind, is_heard, came, after_read, after_tell, after_put, after_open, moved, losing, after}
+use Rattle.gc_station.specs.Standing.{Standing, order_at, waiting_of, place_next, mark_next, request_text, first_text, Puts, IsTelling, IsOpening, IsReading, Obeys, with_progress, with_moment, with_rest, asks_null, asks_first, asks_next, bound_next, with_records, skips, requests_out, line_came, lines_came, lines_behind, is_heard, came, after_read, after_tell, after_put, after_open, moved, losing, after}
 use Rattle.gc_station.proofs.Facts.{order_for}
 use Rattle.gc_station.proofs.Fine.{Fine}
 
@@ -46,7 +46,7 @@ left_of true rest (Gave piece m) = rest_behind rest piece
 left_of heard rest Closed = []
 left_of heard rest _ = rest
 
-module _ (plan : Plan) (commands : List Command) where
+module _ (plan : Plan) (commands : List Task) where
   puts_same : (want bytes : List ℕ) (act : Act) → put_by act ≡ Some bytes → Puts want act → bytes ≡ want
   puts_same want bytes (Put out) e puts = some_same out bytes e puts where
     some_same : (out bytes : List ℕ) → Some out ≡ Some bytes → out ≡ want → bytes ≡ want
@@ -77,13 +77,13 @@ module _ (plan : Plan) (commands : List Command) where
   never_puts Opened bytes e h = cc
   never_puts Unopened bytes e h = cc
 
-  first_put : (s : Standing) (left : List Command) (bytes : List ℕ) → 0 < length left → length s.client.waiting < 7 → bytes ≡ first_text s.client left
-      → IsSent s bytes (asking_first (later s.progress.moment.elapsed plan.deadline) (mark_next plan commands s.progress) left)
+  first_put : (s : Standing) (left : List Task) (bytes : List ℕ) → 0 < length left → length s.client.waiting < 7 → bytes ≡ first_text s.client left
+      → IsSent s bytes (asking_first s.progress.moment.elapsed (mark_next plan commands s.progress) left)
   first_put s [] bytes some room e = absurd (omega (arith, some))
-  first_put s (command ∷ others) bytes some room e = record {
-    target = command.target;
-    call = command.call;
-    deadline = later s.progress.moment.elapsed plan.deadline;
+  first_put s (task ∷ others) bytes some room e = record {
+    target = task.command.target;
+    call = task.command.call;
+    deadline = later s.progress.moment.elapsed task.deadline;
     mark = Some (mark_next plan commands s.progress);
     part = refl;
     text = e;
@@ -102,6 +102,7 @@ module _ (plan : Plan) (commands : List Command) where
       let many : length left ≡ length commands - place_next commands s.progress = length-drop (place_next commands s.progress) commands in
       inr (first_put s left bytes (omega (arith, many, is.2, fine.unsent)) is.3.1 (puts_same (first_text s.client left) bytes act e obeys))
   put_order s order.Tell act bytes fine is obeys e = absurd (never_puts act bytes e (inl obeys))
+  put_order s order.Skip act bytes fine is obeys e = absurd (never_puts act bytes e (inl obeys))
   put_order s order.Begin act bytes fine is obeys e = absurd (never_puts act bytes e (inl obeys))
   put_order s order.Open act bytes fine is obeys e = absurd (never_puts act bytes e (inr (inl obeys)))
   put_order s order.Read act bytes fine is obeys e = absurd (never_puts act bytes e (inr (inr (inl obeys))))
@@ -217,19 +218,20 @@ module _ (plan : Plan) (commands : List Command) where
   put_rest s requests f Opened bytes puts e = absurd puts
   put_rest s requests f Unopened bytes puts e = absurd puts
 
-  first_rest : (s : Standing) (mark : Mark) (left : List Command) → (asks_first plan mark left s).rest ≡ s.rest
+  first_rest : (s : Standing) (mark : Mark) (left : List Task) → (asks_first mark left s).rest ≡ s.rest
   first_rest s mark [] = refl
-  first_rest s mark (command ∷ others) = refl
+  first_rest s mark (task ∷ others) = refl
 
   order_rest : (s : Standing) (o : Order) (act : Act) → Obeys commands s o act → (moved plan commands o (with_progress turned s) act).rest ≡ left_of (is_heard s.progress.phase) s.rest act
   order_rest s order.Tell act obeys = tell_rest s (λ m p. reckoned_early plan (commands_in s.marks) (told m p)) act obeys
+  order_rest s order.Skip act obeys = tell_rest (with_records (skips plan commands s.progress act) s) (λ m p. reckoned_early plan (commands_in s.marks) (skipped (bound_next commands s.progress) m p)) act obeys
   order_rest s order.Begin act obeys = tell_rest s (begun plan (length commands)) act obeys
   order_rest s order.Open act obeys = open_rest s act obeys
   order_rest s order.Clear act obeys = put_rest s (requests_out plan commands s.progress) (with_progress cleared) act (10 ∷ []) obeys refl
   order_rest s order.Probe act obeys = put_rest s (requests_out plan commands s.progress) (λ (x : Standing). with_progress probed (asks_null plan x)) act (request_text s.client NullProc) obeys refl
   order_rest s order.Flush act obeys = put_rest s (requests_out plan commands s.progress) (λ (x : Standing). with_progress went (asks_null plan x)) act (request_text s.client NullProc) obeys refl
   order_rest s order.Send act obeys =
-      put_rest s (requests_out plan commands s.progress) (λ (x : Standing). with_progress sent (asks_next plan commands x)) act (first_text s.client (drop (place_next commands s.progress) commands)) obeys
+      put_rest s (requests_out plan commands s.progress) (λ (x : Standing). with_progress (sent (bound_next commands x.progress)) (asks_next plan commands x)) act (first_text s.client (drop (place_next commands s.progress) commands)) obeys
       (first_rest (with_progress turned s) (mark_next plan commands s.progress) (drop (place_next commands s.progress) commands))
   order_rest s order.Read act obeys = read_rest s false act obeys
   order_rest s order.Rest act obeys = read_rest s true act obeys

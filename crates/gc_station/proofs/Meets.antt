@@ -3,19 +3,25 @@ use Rattle.std.proofs.Common.{◌≡◌, ℕ, zero, suc, ◌+◌, ◌-◌, ◌<�
 use Rattle.std.specs.List.{AllByRecursion}
 use Rattle.std.proofs.lemmas.Bool.{ltb-true}
 use Rattle.std.proofs.lemmas.List.{length-drop}
+use Rattle.gc_catalogue.specs.declared.answer.Reading.{Reading}
+use Rattle.gc_catalogue.specs.declared.answer.Reading.TheVariants as reading
+use Rattle.gc_catalogue.specs.declared.call.Call.{Call}
 use Rattle.gc_client.specs.declared.pending.Pending.{Pending}
 use Rattle.gc_client.specs.Ids
 use Rattle.gc_client.specs.Ids.{id_at, IsWindow}
-use Rattle.gc_client.specs.Rule.{ById, Settlement, Settled, Answered, Late, Lost, place_in, met, settle, hears, id_settled}
+use Rattle.gc_client.specs.Rule.{ById, Outcome, Settlement, Settled, Answered, Late, Lost, place_in, met, settle, hears, id_settled}
 use Rattle.gc_client.proofs.Digits.{settling}
-use Rattle.gc_texts.specs.declared.commands.Command.{Command}
+use Rattle.gc_texts.specs.declared.tasks.Task.{Task}
+use Rattle.gc_texts.specs.Endings as ends
 use Rattle.gc_station.specs.declared.mark.Mark.{Mark}
 use Rattle.gc_station.specs.declared.plan.Plan.{Plan}
 use Rattle.gc_station.specs.Acts.{Act}
-use Rattle.gc_station.specs.Marks.{record_of, records_of}
+use Rattle.gc_station.specs.Answers.{answer_of}
+use Rattle.gc_station.specs.Marks.{answer_as, end_of, command_of, record_of, records_of}
 use Rattle.gc_station.specs.Records.{Record}
 use Rattle.gc_station.proofs.Lists.{AllAt, Rows, RowAt, rows_on, rows_drop, row_at}
 use Rattle.gc_station.proofs.Waiting.{StayedAt, WaitsAt, asked_as}
+use Rattle.gc_station.specs.Scopes.{Scope}
 
 -- the id that was heard has this place
 pub record HasPlace (c : ById) (o : Option ℕ) (at : ℕ) : Type 0 where
@@ -124,29 +130,78 @@ left_count c x l = ap length l.waiting ∙ length-drop l.count c.waiting
 pub left_window : (c : ById) (x : Settled ById) → Left c x → IsWindow c → IsWindow x.client
 left_window c x l w = let many = left_count c x l in record { digit = subst (λ (n : ℕ). n < 8) (sym l.next) w.digit; few = omega (arith, many, w.few) }
 
-pub left_waits : (plan : Plan) (commands : List Command) (turns : ℕ) (acts : List Act) (first : ById) (now : ℕ) (c : ById) (x : Settled ById) (marks : List (Option Mark)) → Left c x → IsWindow c
-    → Rows (WaitsAt plan commands turns acts first now c.next (length c.waiting)) 0 0 c.waiting marks
-    → Rows (WaitsAt plan commands turns acts first now x.client.next (length x.client.waiting)) 0 0 x.client.waiting (drop (length x.settlements) marks)
-left_waits plan commands turns acts first now c x marks l w all =
+pub left_waits : (plan : Plan) (commands : List Task) (scope : Scope) (acts : List Act) (first : ById) (now : ℕ) (c : ById) (x : Settled ById) (marks : List (Option Mark)) → Left c x → IsWindow c
+    → Rows (WaitsAt plan commands scope acts first now c.next (length c.waiting)) 0 0 c.waiting marks
+    → Rows (WaitsAt plan commands scope acts first now x.client.next (length x.client.waiting)) 0 0 x.client.waiting (drop (length x.settlements) marks)
+left_waits plan commands scope acts first now c x marks l w all =
     let n = l.count in
     let d = x.client in
-    let W = WaitsAt plan commands turns acts first now c.next (length c.waiting) in
+    let W = WaitsAt plan commands scope acts first now c.next (length c.waiting) in
     let dropped = rows_drop W n 0 0 c.waiting marks all in
     let there = subst (λ (ps : List Pending). Rows W 0 (n + 0) ps (drop n marks)) (sym l.waiting) dropped in
     let marked = subst (λ (k : ℕ). Rows W 0 (n + 0) d.waiting (drop k marks)) (sym l.settled) there in
-    rows_on W (WaitsAt plan commands turns acts first now d.next (length d.waiting)) n 0 0 d.waiting (drop (length x.settlements) marks)
+    rows_on W (WaitsAt plan commands scope acts first now d.next (length d.waiting)) n 0 0 d.waiting (drop (length x.settlements) marks)
     (λ number j p mark low wait.
     let many = left_count c x l in
     let enough = l.enough in
     let below : n + j < length c.waiting = omega (arith, low, many) in
     let ids : id_at d.next (length d.waiting) j ≡ id_at c.next (length c.waiting) (n + j) =
     ap (λ (y : ℕ). id_at y (length d.waiting) j) l.next ∙ ap (λ (y : ℕ). id_at c.next y j) many ∙ settling c.next (length c.waiting) w.few n j below in
-    (asked_as plan commands turns acts (StayedAt now) number (n + j) j _ _ p mark (λ above. omega (arith, above)) ids wait.0, subst (λ (i : ℕ). Ids.Waits first i) (sym ids) wait.1)) marked
+    (asked_as plan commands scope acts (StayedAt now) number (n + j) j _ _ p mark (λ above. omega (arith, above)) ids wait.0, subst (λ (i : ℕ). Ids.Waits first i) (sym ids) wait.1)) marked
+
+-- a record is that of a settlement
+pub record IsRecordOf (r : Record) (x : Settlement) : Type 0 where
+  pub reads : Call → List ℕ → Reading
+  pub command : r.command ≡ command_of x
+  pub ended : r.end ≡ end_of reads x.call x.outcome
+
+answer_line : (x : Reading) (line : List ℕ) → answer_of (answer_as x line) ≡ Some line
+answer_line (reading.Value answer) line = refl
+answer_line (reading.Refused code) line = refl
+answer_line (reading.ComFault code) line = refl
+answer_line (reading.Unreadable fault) line = refl
+
+never_late : (x : Reading) (line : List ℕ) → answer_as x line ≡ ends.Late → ⊥
+never_late (reading.Value answer) line e = cc
+never_late (reading.Refused code) line e = cc
+never_late (reading.ComFault code) line e = cc
+never_late (reading.Unreadable fault) line e = cc
+
+never_lost : (x : Reading) (line : List ℕ) → answer_as x line ≡ ends.Lost → ⊥
+never_lost (reading.Value answer) line e = cc
+never_lost (reading.Refused code) line e = cc
+never_lost (reading.ComFault code) line e = cc
+never_lost (reading.Unreadable fault) line e = cc
+
+-- how its request ended
+answered_so : (reads : Call → List ℕ → Reading) (call : Call) (o : Outcome) (l : List ℕ) → answer_of (end_of reads call o) ≡ Some l → o ≡ Answered l
+answered_so reads call (Answered line) l e = let same : Some line ≡ Some l = sym (answer_line (reads call line) line) ∙ e in cc
+answered_so reads call Late l e = cc
+answered_so reads call Lost l e = cc
+
+late_so : (reads : Call → List ℕ → Reading) (call : Call) (o : Outcome) → end_of reads call o ≡ ends.Late → o ≡ Late
+late_so reads call (Answered line) e = absurd (never_late (reads call line) line e)
+late_so reads call Late e = refl
+late_so reads call Lost e = cc
+
+lost_so : (reads : Call → List ℕ → Reading) (call : Call) (o : Outcome) → end_of reads call o ≡ ends.Lost → o ≡ Lost
+lost_so reads call (Answered line) e = absurd (never_lost (reads call line) line e)
+lost_so reads call Late e = cc
+lost_so reads call Lost e = refl
+
+pub was_answered : (r : Record) (x : Settlement) → IsRecordOf r x → (l : List ℕ) → answer_of r.end ≡ Some l → x.outcome ≡ Answered l
+was_answered r x is l e = answered_so is.reads x.call x.outcome l (ap answer_of (sym is.ended) ∙ e)
+
+pub was_late : (r : Record) (x : Settlement) → IsRecordOf r x → r.end ≡ ends.Late → x.outcome ≡ Late
+was_late r x is e = late_so is.reads x.call x.outcome (sym is.ended ∙ e)
+
+pub was_lost : (r : Record) (x : Settlement) → IsRecordOf r x → r.end ≡ ends.Lost → x.outcome ≡ Lost
+was_lost r x is e = lost_so is.reads x.call x.outcome (sym is.ended ∙ e)
 
 -- the records of settlements
-pub records_all : (Q : ℕ → Settlement → Option Mark → Type 0) (R : Record → Type 0) (utc j : ℕ) (xs : List Settlement) (marks : List (Option Mark))
-    → ((i : ℕ) (x : Settlement) (m : Mark) → Q i x (Some m) → R (record_of utc m x)) → AllAt Q j xs marks → AllByRecursion R (records_of utc marks xs)
-records_all Q R utc j xs [] step all = tt
-records_all Q R utc j [] (mark ∷ marks) step all = tt
-records_all Q R utc j (x ∷ xs) (None ∷ marks) step all = records_all Q R utc (suc j) xs marks step all.1
-records_all Q R utc j (x ∷ xs) (Some m ∷ marks) step all = (step j x m all.0, records_all Q R utc (suc j) xs marks step all.1)
+pub records_all : (Q : ℕ → Settlement → Option Mark → Type 0) (R : Record → Type 0) (reads : Call → List ℕ → Reading) (utc j : ℕ) (xs : List Settlement) (marks : List (Option Mark))
+    → ((i : ℕ) (x : Settlement) (m : Mark) → Q i x (Some m) → R (record_of reads utc m x)) → AllAt Q j xs marks → AllByRecursion R (records_of reads utc marks xs)
+records_all Q R reads utc j xs [] step all = tt
+records_all Q R reads utc j [] (mark ∷ marks) step all = tt
+records_all Q R reads utc j (x ∷ xs) (None ∷ marks) step all = records_all Q R reads utc (suc j) xs marks step all.1
+records_all Q R reads utc j (x ∷ xs) (Some m ∷ marks) step all = (step j x m all.0, records_all Q R reads utc (suc j) xs marks step all.1)

@@ -4,13 +4,15 @@ use Rattle.std.proofs.Common.{◌≡◌, ℕ, ◌+◌, ◌-◌, ◌%◌, ◌<◌
 use Rattle.std.proofs.Math.Nat.{mod-lt}
 use Rattle.std.proofs.lemmas.Bool.Decides.{nat_tests}
 use Rattle.std.proofs.lemmas.List.{length-map, length-drop, nil_from_length}
+use Rattle.gc_catalogue.specs.declared.answer.Reading.{Reading}
 use Rattle.gc_catalogue.specs.declared.call.Call.{Call}
 use Rattle.gc_client.specs.declared.window.TheConstants.{WINDOW, IDS}
 use Rattle.gc_client.specs.declared.pending.Pending.{Pending}
 use Rattle.gc_client.specs.Rule.{ById, Settlement, expires, expired, fresh, lost, pending_of, id_send, sends}
 use Rattle.gc_client.specs.OneForOne.{of_settled, of_pending}
 use Rattle.gc_client.proofs.OneForOne.{lost_parts}
-use Rattle.gc_texts.specs.declared.commands.Command.{Command}
+use Rattle.gc_texts.specs.declared.tasks.Task.{Task}
+use Rattle.gc_texts.specs.Endings.{End}
 use Rattle.gc_station.specs.declared.mark.Mark.{Mark}
 use Rattle.gc_station.specs.declared.plan.Plan.{Plan}
 use Rattle.gc_station.specs.declared.progress.Phase.{Phase}
@@ -22,11 +24,11 @@ use Rattle.gc_station.specs.Marks.{commands_in, records_of}
 use Rattle.gc_station.specs.Progressing.{is_over_in, is_over, loses_all}
 use Rattle.gc_station.specs.Records.{Record}
 use Rattle.gc_station.specs.Standing.{Standing, client_sent, losing, ended}
-use Rattle.gc_station.proofs.Each.{EachIs, each_moment, each_settles, each_null, each_sent, each_begun}
+use Rattle.gc_station.proofs.Each.{EachIs, each_moment, each_settles, each_null, each_sent, each_skipped, each_begun}
 use Rattle.gc_station.proofs.Fine.{Fine, is_bare, says_done}
 
 -- the counts, the client and the records
-pub record Sound (plan : Plan) (commands : List Command) (left unsent : ℕ) (client : ById) (marks : List (Option Mark)) (records : List Record) : Type 0 where
+pub record Sound (plan : Plan) (commands : List Task) (left unsent : ℕ) (client : ById) (marks : List (Option Mark)) (records : List Record) : Type 0 where
   pub unsents : unsent ≤ length commands
   pub lefts : left ≤ plan.cycles
   pub begun : 0 < unsent → left < plan.cycles
@@ -45,17 +47,17 @@ pub record Placed (phase : Phase) (anew alone : Bool) (left unsent : ℕ) (rest 
   pub empty : is_bare phase ≡ true → rest ≡ []
   pub finished : says_done phase ≡ true → (left ≡ 0) × (unsent ≡ 0) × ((is_over_in phase ≡ true) ⊎ (commands_in marks ≡ 0))
 
-abbrev pub SoundAt : Plan → List Command → Progress → ById → List (Option Mark) → List Record → Type 0
+abbrev pub SoundAt : Plan → List Task → Progress → ById → List (Option Mark) → List Record → Type 0
 SoundAt plan commands p client marks records = Sound plan commands p.left p.unsent client marks records
 
 abbrev pub PlacedAt : Progress → List ℕ → ℕ → List (Option Mark) → Type 0
 PlacedAt p rest next marks = Placed p.phase p.anew p.alone p.left p.unsent rest next marks
 
 -- both, of a standing
-abbrev pub Mid : Plan → List Command → Standing → Type 0
+abbrev pub Mid : Plan → List Task → Standing → Type 0
 Mid plan commands s = SoundAt plan commands s.progress s.client s.marks s.records × PlacedAt s.progress s.rest s.client.next s.marks
 
-pub mid_of : (plan : Plan) (commands : List Command) (s : Standing) → Fine plan commands s → Mid plan commands s
+pub mid_of : (plan : Plan) (commands : List Task) (s : Standing) → Fine plan commands s → Mid plan commands s
 mid_of plan commands s fine = (
   record {
     unsents = fine.unsent;
@@ -83,7 +85,7 @@ clash b e g = cc
 -- What holds of the counts and the records.
 
 -- a moment
-pub sound_moment : (plan : Plan) (commands : List Command) (left unsent : ℕ) (client : ById) (marks : List (Option Mark)) (records : List Record) (m : ℕ) → Sound plan commands left unsent client marks records
+pub sound_moment : (plan : Plan) (commands : List Task) (left unsent : ℕ) (client : ById) (marks : List (Option Mark)) (records : List Record) (m : ℕ) → Sound plan commands left unsent client marks records
     → Sound plan commands left unsent (expires client m) marks records
 sound_moment plan commands left unsent client marks records m sound =
     let same : length (map (expired m) client.waiting) ≡ length client.waiting = length-map client.waiting (expired m) in
@@ -98,10 +100,10 @@ sound_moment plan commands left unsent client marks records m sound =
     }
 
 -- some are settled
-pub sound_settles : (plan : Plan) (commands : List Command) (left unsent : ℕ) (client next : ById) (marks : List (Option Mark)) (records : List Record) (utc : ℕ) (ss : List Settlement)
+pub sound_settles : (reads : Call → List ℕ → Reading) (plan : Plan) (commands : List Task) (left unsent : ℕ) (client next : ById) (marks : List (Option Mark)) (records : List Record) (utc : ℕ) (ss : List Settlement)
     → map of_settled ss ++ map of_pending next.waiting ≡ map of_pending client.waiting → next.next < 8 → Sound plan commands left unsent client marks records
-    → Sound plan commands left unsent next (drop (length ss) marks) (records ++ records_of utc marks ss)
-sound_settles plan commands left unsent client next marks records utc ss parts low sound =
+    → Sound plan commands left unsent next (drop (length ss) marks) (records ++ records_of reads utc marks ss)
+sound_settles reads plan commands left unsent client next marks records utc ss parts low sound =
     let ended = map of_settled ss in
     let waits = map of_pending next.waiting in
     let ends : length ended ≡ length ss = length-map ss of_settled in
@@ -115,7 +117,7 @@ sound_settles plan commands left unsent client next marks records utc ss parts l
       paired = omega (arith, ends, behind, count, fewer, sound.paired);
       window = omega (arith, ends, behind, count, sound.window);
       digit = low;
-      each = each_settles utc marks client.waiting next.waiting ss records (sent_by commands (plan.cycles - left) (length commands - unsent)) parts sound.each;
+      each = each_settles reads utc marks client.waiting next.waiting ss records (sent_by commands (plan.cycles - left) (length commands - unsent)) parts sound.each;
     }
 
 -- a send goes where there is room
@@ -130,7 +132,7 @@ one_more : (marks : List (Option Mark)) (ws : List Pending) (m : Option Mark) (p
 one_more marks ws m p paired = length-append marks (m ∷ []) ∙ ap (λ n. n + 1) paired ∙ sym (length-append ws (p ∷ []))
 
 -- a null procedure is sent
-pub sound_null : (plan : Plan) (commands : List Command) (left unsent : ℕ) (client : ById) (marks : List (Option Mark)) (records : List Record) (target : ℕ) (call : Call) (deadline : ℕ)
+pub sound_null : (plan : Plan) (commands : List Task) (left unsent : ℕ) (client : ById) (marks : List (Option Mark)) (records : List Record) (target : ℕ) (call : Call) (deadline : ℕ)
     → length client.waiting < 7 → Sound plan commands left unsent client marks records
     → Sound plan commands left unsent (client_sent client (sends WINDOW client target call deadline)) (marks ++ None ∷ []) records
 sound_null plan commands left unsent client marks records target call deadline room sound =
@@ -147,11 +149,11 @@ sound_null plan commands left unsent client marks records target call deadline r
     })
 
 -- a command is sent
-pub sound_sent : (plan : Plan) (commands : List Command) (left unsent : ℕ) (client : ById) (marks : List (Option Mark)) (records : List Record) (deadline : ℕ) (command : Command) (others : List Command)
-    → length client.waiting < 7 → 0 < unsent → drop (length commands - unsent) commands ≡ command ∷ others → Sound plan commands left unsent client marks records
-    → Sound plan commands left (unsent - 1) (client_sent client (sends WINDOW client command.target command.call deadline)) (marks ++ Some (record { cycle = plan.cycles - left; place = length commands - unsent }) ∷ []) records
-sound_sent plan commands left unsent client marks records deadline command others room some at sound =
-    let p = pending_of command.target command.call deadline in
+pub sound_sent : (plan : Plan) (commands : List Task) (left unsent : ℕ) (client : ById) (marks : List (Option Mark)) (records : List Record) (deadline : ℕ) (task : Task) (others : List Task)
+    → length client.waiting < 7 → 0 < unsent → drop (length commands - unsent) commands ≡ task ∷ others → Sound plan commands left unsent client marks records
+    → Sound plan commands left (unsent - 1) (client_sent client (sends WINDOW client task.command.target task.command.call deadline)) (marks ++ Some (record { cycle = plan.cycles - left; place = length commands - unsent }) ∷ []) records
+sound_sent plan commands left unsent client marks records deadline task others room some at sound =
+    let p = pending_of task.command.target task.command.call deadline in
     let begun = plan.cycles - left in
     let place = length commands - unsent in
     let mark : Mark = record { cycle = begun; place = place } in
@@ -159,8 +161,8 @@ sound_sent plan commands left unsent client marks records deadline command other
     let below = sound.begun some in
     let many : 0 < begun = omega (arith, below) in
     let place_is : length commands - (unsent - 1) ≡ place + 1 = omega (arith, some, sound.unsents) in
-    let each = each_sent commands begun place marks client.waiting p records command others sound.paired at refl many sound.each in
-    subst (λ (c : ById). Sound plan commands left (unsent - 1) c (marks ++ Some mark ∷ []) records) (sym (client_behind client command.target command.call deadline room)) (record {
+    let each = each_sent commands begun place marks client.waiting p records task others sound.paired at refl many sound.each in
+    subst (λ (c : ById). Sound plan commands left (unsent - 1) c (marks ++ Some mark ∷ []) records) (sym (client_behind client task.command.target task.command.call deadline room)) (record {
       unsents = omega (arith, sound.unsents);
       lefts = sound.lefts;
       begun = λ e. below;
@@ -170,8 +172,29 @@ sound_sent plan commands left unsent client marks records deadline command other
       each = subst (λ (n : ℕ). EachIs (marks ++ Some mark ∷ []) (client.waiting ++ p ∷ []) records (sent_by commands begun n)) (sym place_is) each;
     })
 
+-- a command isn't sent
+pub sound_skipped : (plan : Plan) (commands : List Task) (left unsent : ℕ) (client : ById) (marks : List (Option Mark)) (records : List Record) (utc : ℕ) (end : End) (task : Task) (others : List Task)
+    → commands_in marks ≡ 0 → 0 < unsent → drop (length commands - unsent) commands ≡ task ∷ others → Sound plan commands left unsent client marks records
+    → Sound plan commands left (unsent - 1) client marks (records ++ record { utc = utc; cycle = plan.cycles - left; place = length commands - unsent; command = task.command; end = end } ∷ [])
+sound_skipped plan commands left unsent client marks records utc end task others none some at sound =
+    let begun = plan.cycles - left in
+    let place = length commands - unsent in
+    let r : Record = record { utc = utc; cycle = begun; place = place; command = task.command; end = end } in
+    let below = sound.begun some in
+    let many : 0 < begun = omega (arith, below) in
+    let place_is : length commands - (unsent - 1) ≡ place + 1 = omega (arith, some, sound.unsents) in
+    record {
+      unsents = omega (arith, sound.unsents);
+      lefts = sound.lefts;
+      begun = λ e. below;
+      paired = sound.paired;
+      window = sound.window;
+      digit = sound.digit;
+      each = subst (λ (n : ℕ). EachIs marks client.waiting (records ++ r ∷ []) (sent_by commands begun n)) (sym place_is) (each_skipped commands begun place marks client.waiting records r task others none at refl many sound.each);
+    }
+
 -- a cycle begins
-pub sound_begun : (plan : Plan) (commands : List Command) (left unsent : ℕ) (client : ById) (marks : List (Option Mark)) (records : List Record)
+pub sound_begun : (plan : Plan) (commands : List Task) (left unsent : ℕ) (client : ById) (marks : List (Option Mark)) (records : List Record)
     → unsent ≡ 0 → commands_in marks ≡ 0 → 0 < left → Sound plan commands left unsent client marks records → Sound plan commands (left - 1) (length commands) client marks records
 sound_begun plan commands left unsent client marks records none settled some sound =
     let lefts = sound.lefts in
@@ -221,11 +244,11 @@ still_finished : (p : Progress) (marks : List (Option Mark)) → is_over p ≡ f
 still_finished p marks not_over (left, unsent, inl over) = absurd (clash (is_over p) (ap (λ b. b || (not (is_up p.phase) && nat_eq p.turns 0)) over) not_over)
 still_finished p marks not_over (left, unsent, inr none) = (left, unsent, none)
 
-fine_losing : (plan : Plan) (commands : List Command) (s : Standing) (b : Bool) → loses_all s.progress ≡ b → Mid plan commands s → Fine plan commands (losing b s)
+fine_losing : (plan : Plan) (commands : List Task) (s : Standing) (b : Bool) → loses_all s.progress ≡ b → Mid plan commands s → Fine plan commands (losing b s)
 fine_losing plan commands s true is (sound, placed) =
     let p = s.progress in
     let ss = map lost s.client.waiting in
-    let x = sound_settles plan commands p.left p.unsent s.client fresh s.marks s.records p.moment.utc ss (append_none (map of_settled ss) ∙ lost_parts s.client.waiting) (omega arith) sound in
+    let x = sound_settles s.reads plan commands p.left p.unsent s.client fresh s.marks s.records p.moment.utc ss (append_none (map of_settled ss) ∙ lost_parts s.client.waiting) (omega arith) sound in
     let nothing : drop (length ss) s.marks ≡ [] = nil_from_length (drop (length ss) s.marks) x.paired in
     record {
       unsent = x.unsents;
@@ -268,5 +291,5 @@ fine_losing plan commands s false is (sound, placed) =
       each = sound.each;
     }
 
-pub fine_ended : (plan : Plan) (commands : List Command) (s : Standing) → Mid plan commands s → Fine plan commands (ended s)
+pub fine_ended : (plan : Plan) (commands : List Task) (s : Standing) → Mid plan commands s → Fine plan commands (ended s)
 fine_ended plan commands s mid = fine_losing plan commands s (loses_all s.progress) refl mid

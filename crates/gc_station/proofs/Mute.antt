@@ -5,7 +5,7 @@ use Rattle.std.proofs.Math.Nat.{min-eq_left, min-eq_right}
 use Rattle.std.proofs.lemmas.Bool.{leb-true, leb-false, ltb-true}
 use Rattle.gc_lines.specs.Frames.{rest_behind}
 use Rattle.gc_client.specs.Rule.{ById, expiring}
-use Rattle.gc_texts.specs.declared.commands.Command.{Command}
+use Rattle.gc_texts.specs.declared.tasks.Task.{Task}
 use Rattle.gc_station.specs.declared.link.Moment.{Moment}
 use Rattle.gc_station.specs.declared.mark.Mark.{Mark}
 use Rattle.gc_station.specs.declared.plan.Plan.{Plan}
@@ -19,12 +19,12 @@ use Rattle.gc_station.specs.declared.progress.Progress.{Progress}
 use Rattle.gc_station.specs.Acts.{Act, Told, Untold, Put, Cut, Gave, Silent, Ended, Broke, Opened, Unopened}
 use Rattle.gc_station.specs.Deciding.{is_up, is_past, drain_of, patience_of}
 use Rattle.gc_station.specs.Marks.{commands_in}
-use Rattle.gc_station.specs.Progressing.{turned, told, begun, reckoned_early, cleared, probed, sent, asking, waited, waiting_on, quieted, is_resting, drained}
+use Rattle.gc_station.specs.Progressing.{turned, told, begun, skipped, reckoned_early, cleared, probed, sent, asking, waited, waiting_on, quieted, is_resting, drained}
 use Rattle.gc_station.specs.Quiet.{TellsMoment, IsListening, IsSilent, StaysConnected}
 use Rattle.gc_station.specs.Reasons.{IsFor}
 use Rattle.gc_station.specs.Runs.{stood}
 use Rattle.gc_station.specs.Silences.{latest, IsNoReply, BringsNoReply, IsMute, WentBack, IsMuteFor}
-use Rattle.gc_station.specs.Standing.{Standing, opening, order_at, waiting_of, with_progress, with_moment, with_rest, line_came, lines_came, lines_behind, came, is_heard, is_nil, is_reply, asks_null, asks_first, asks_next, mark_next, place_next, after_tell, after_put, after_open, after_read, IsTelling, IsOpening, IsReading, Puts, Obeys, moved, after, after_all, Runs}
+use Rattle.gc_station.specs.Standing.{Standing, opening, order_at, waiting_of, with_progress, with_moment, with_rest, line_came, lines_came, lines_behind, came, is_heard, is_nil, is_reply, asks_null, asks_first, asks_next, with_records, skips, mark_next, place_next, bound_next, after_tell, after_put, after_open, after_read, IsTelling, IsOpening, IsReading, Puts, Obeys, moved, after, after_all, Runs}
 use Rattle.gc_station.proofs.Closings.{runs_split}
 use Rattle.gc_station.proofs.Drains.{along, progress_behind}
 use Rattle.gc_station.proofs.EachRun.{fine_stood}
@@ -33,6 +33,7 @@ use Rattle.gc_station.proofs.Going.{after_all-append}
 use Rattle.gc_station.proofs.Lists.{all_append}
 use Rattle.gc_station.proofs.Silences.{Awake, Wakes, in_wakes, IsHushed, latest_more, hush_stood, awake_hushed, not_closing, end_here, awake_here}
 use Rattle.gc_station.proofs.Turns.{again_down, closed_down}
+use Rattle.gc_station.specs.Scopes.{Scope}
 
 -- The act that told the last moment.
 
@@ -46,8 +47,8 @@ silent_last front start since now (Silent m ∷ silence) tells silent is =
     (on.0, on.1, sym (append_assoc front (start ∷ []) (Silent m ∷ silence)) ∙ on.2, on.3)
 silent_last front start since now (act ∷ silence) tells silent is = absurd silent.0
 
-hushed_last : (plan : Plan) (commands : List Command) (turns since now : ℕ) (acts : List Act) → IsHushed plan commands turns since now acts → LastTells now acts
-hushed_last plan commands turns since now acts h = subst (LastTells now) (sym h.order) (silent_last h.before h.start since now h.silence h.starts h.silent h.last)
+hushed_last : (plan : Plan) (commands : List Task) (scope : Scope) (since now : ℕ) (acts : List Act) → IsHushed plan commands scope since now acts → LastTells now acts
+hushed_last plan commands scope since now acts h = subst (LastTells now) (sym h.order) (silent_last h.before h.start since now h.silence h.starts h.silent h.last)
 
 -- The lines of a piece: none reads as a reply, or the line was alive at that moment.
 
@@ -90,7 +91,7 @@ since_any : (asked : Bool) (from : ℕ) (before behind : List Act) → Since ask
 since_any false from before behind since = inl since
 since_any true from before behind since = inr since
 
-module _ (plan : Plan) (commands : List Command) (turns : ℕ) where
+module _ (plan : Plan) (commands : List Task) (scope : Scope) where
   -- behind an act that told a moment no reply line came on the same connection; this moment was told last
   record IsMuted (asked : Bool) (alive now : ℕ) (acts : List Act) : Type 0 where
     before : List Act
@@ -99,7 +100,7 @@ module _ (plan : Plan) (commands : List Command) (turns : ℕ) where
     order : acts ≡ before ++ start ∷ behind
     starts : TellsMoment alive start
     stays : AllByRecursion StaysConnected behind
-    mute : IsMute plan commands (stood plan commands turns (before ++ start ∷ [])) behind
+    mute : IsMute plan commands (stood plan commands scope (before ++ start ∷ [])) behind
     since : Since asked alive before behind
     last : latest alive behind ≡ now
     least : alive ≤ now
@@ -127,11 +128,11 @@ module _ (plan : Plan) (commands : List Command) (turns : ℕ) where
   muted_now now acts act tells = muted_from false now acts act tells tt
 
   -- it goes on
-  muted_on : (asked : Bool) (alive now : ℕ) (acts : List Act) (act : Act) → StaysConnected act → BringsNoReply (stood plan commands turns acts).rest act → (q : IsMuted asked alive now acts) → Since asked alive q.before (q.behind ++ act ∷ []) → alive ≤ latest now (act ∷ [])
+  muted_on : (asked : Bool) (alive now : ℕ) (acts : List Act) (act : Act) → StaysConnected act → BringsNoReply (stood plan commands scope acts).rest act → (q : IsMuted asked alive now acts) → Since asked alive q.before (q.behind ++ act ∷ []) → alive ≤ latest now (act ∷ [])
       → IsMuted asked alive (latest now (act ∷ [])) (acts ++ act ∷ [])
   muted_on asked alive now acts act stays none q since least =
-      let there : stood plan commands turns acts ≡ after_all plan commands (stood plan commands turns (q.before ++ q.start ∷ [])) q.behind =
-      ap (stood plan commands turns) (q.order ∙ sym (append_assoc q.before (q.start ∷ []) q.behind)) ∙ after_all-append plan commands (opening plan turns) (q.before ++ q.start ∷ []) q.behind in
+      let there : stood plan commands scope acts ≡ after_all plan commands (stood plan commands scope (q.before ++ q.start ∷ [])) q.behind =
+      ap (stood plan commands scope) (q.order ∙ sym (append_assoc q.before (q.start ∷ []) q.behind)) ∙ after_all-append plan commands (opening plan scope) (q.before ++ q.start ∷ []) q.behind in
       record {
         before = q.before;
         start = q.start;
@@ -139,7 +140,7 @@ module _ (plan : Plan) (commands : List Command) (turns : ℕ) where
         order = ap (λ xs. xs ++ act ∷ []) q.order ∙ append_assoc q.before (q.start ∷ q.behind) (act ∷ []);
         starts = q.starts;
         stays = all_append StaysConnected q.behind (act ∷ []) q.stays (stays, tt);
-        mute = mute_more (stood plan commands turns (q.before ++ q.start ∷ [])) q.behind act q.mute (subst (λ (x : Standing). BringsNoReply x.rest act) there none);
+        mute = mute_more (stood plan commands scope (q.before ++ q.start ∷ [])) q.behind act q.mute (subst (λ (x : Standing). BringsNoReply x.rest act) there none);
         since = since;
         last = latest_more alive q.behind act ∙ ap (λ n. latest n (act ∷ [])) q.last;
         least = least;
@@ -178,7 +179,7 @@ module _ (plan : Plan) (commands : List Command) (turns : ℕ) where
       })
 
   muted_clock : (asked : Bool) (alive now : ℕ) (m : Moment) (acts : List Act) (act : Act) (b : Bool) → nat_le alive m.elapsed ≡ b → TellsMoment m.elapsed act → latest now (act ∷ []) ≡ m.elapsed → StaysConnected act → IsListening act
-      → BringsNoReply (stood plan commands turns acts).rest act → IsMuted asked alive now acts → IsMuted asked (min alive m.elapsed) m.elapsed (acts ++ act ∷ [])
+      → BringsNoReply (stood plan commands scope acts).rest act → IsMuted asked alive now acts → IsMuted asked (min alive m.elapsed) m.elapsed (acts ++ act ∷ [])
   muted_clock asked alive now m acts act true e tells is stays listens none q =
       let low = leb-true alive m.elapsed e in
       let least : alive ≤ latest now (act ∷ []) = omega (arith, is, low) in
@@ -212,7 +213,7 @@ module _ (plan : Plan) (commands : List Command) (turns : ℕ) where
   mute_down asked alive now at acts down = tt
 
   -- a moment is told, and no reply line came with it
-  mute_told : (asked : Bool) (alive now : ℕ) (m : Moment) (at : Phase) (acts : List Act) (act : Act) → TellsMoment m.elapsed act → latest now (act ∷ []) ≡ m.elapsed → StaysConnected act → IsListening act → (at ≡ phase.Ready → BringsNoReply (stood plan commands turns acts).rest act)
+  mute_told : (asked : Bool) (alive now : ℕ) (m : Moment) (at : Phase) (acts : List Act) (act : Act) → TellsMoment m.elapsed act → latest now (act ∷ []) ≡ m.elapsed → StaysConnected act → IsListening act → (at ≡ phase.Ready → BringsNoReply (stood plan commands scope acts).rest act)
       → Mute asked alive now at acts → Mute asked (min alive m.elapsed) m.elapsed at (acts ++ act ∷ [])
   mute_told asked alive now m phase.Probing acts act tells is stays listens none q = q
   mute_told asked alive now m phase.Ready acts act tells is stays listens none q = muted_clock asked alive now m acts act (nat_le alive m.elapsed) refl tells is stays listens (none refl) q
@@ -240,7 +241,7 @@ module _ (plan : Plan) (commands : List Command) (turns : ℕ) where
 
   -- a piece was heard: with a reply line the line was alive at this moment
   heard_mute : (s : Standing) (bytes : List ℕ) (m : Moment) (acts : List Act) (lines : List (List ℕ)) (mid : Standing) → mid.progress.alive ≡ min s.progress.alive m.elapsed → mid.progress.asked ≡ s.progress.asked → mid.progress.moment ≡ m
-      → (stood plan commands turns acts).rest ≡ s.rest → lines ≡ lines_behind s.rest bytes → IsMuted s.progress.asked s.progress.alive s.progress.moment.elapsed acts
+      → (stood plan commands scope acts).rest ≡ s.rest → lines ≡ lines_behind s.rest bytes → IsMuted s.progress.asked s.progress.alive s.progress.moment.elapsed acts
       → IsMuted (lines_came mid lines).progress.asked (lines_came mid lines).progress.alive (lines_came mid lines).progress.moment.elapsed (acts ++ Gave bytes m ∷ [])
   heard_mute s bytes m acts lines mid alive asked moment rest are q = by_alive (lines_alive mid lines) where
     now : (lines_came mid lines).progress.moment.elapsed ≡ m.elapsed
@@ -264,7 +265,7 @@ module _ (plan : Plan) (commands : List Command) (turns : ℕ) where
   lines_phase s [] = refl
   lines_phase s (line ∷ others) = lines_phase (line_came s line) others
 
-  gave_mute : (s : Standing) (bytes : List ℕ) (m : Moment) (at : Phase) (acts : List Act) → s.progress.phase ≡ at → (stood plan commands turns acts).rest ≡ s.rest → Mute s.progress.asked s.progress.alive s.progress.moment.elapsed at acts
+  gave_mute : (s : Standing) (bytes : List ℕ) (m : Moment) (at : Phase) (acts : List Act) → s.progress.phase ≡ at → (stood plan commands scope acts).rest ≡ s.rest → Mute s.progress.asked s.progress.alive s.progress.moment.elapsed at acts
       → MuteAt (came (is_heard at) bytes (with_moment m (with_progress (told m) s))).progress (acts ++ Gave bytes m ∷ [])
   gave_mute s bytes m phase.Ready acts is rest q =
       let mid = with_rest (rest_behind s.rest bytes) (with_moment m (with_progress (told m) s)) in
@@ -274,7 +275,7 @@ module _ (plan : Plan) (commands : List Command) (turns : ℕ) where
   gave_mute s bytes m phase.Probing acts is rest q = subst (λ (x : Phase). Mute s.progress.asked (min s.progress.alive m.elapsed) m.elapsed x (acts ++ Gave bytes m ∷ [])) (sym is) q
   gave_mute s bytes m at acts is rest q = subst (λ (x : Phase). Mute s.progress.asked (min s.progress.alive m.elapsed) m.elapsed x (acts ++ Gave bytes m ∷ [])) (sym is) tt
 
-  read_mute : (rested : Bool) (s : Standing) (act : Act) (acts : List Act) → IsReading act → (stood plan commands turns acts).rest ≡ s.rest → MuteAt s.progress acts → MuteAt (after_read plan rested s act).progress (acts ++ act ∷ [])
+  read_mute : (rested : Bool) (s : Standing) (act : Act) (acts : List Act) → IsReading act → (stood plan commands scope acts).rest ≡ s.rest → MuteAt s.progress acts → MuteAt (after_read plan rested s act).progress (acts ++ act ∷ [])
   read_mute rested s (Gave bytes m) acts o rest q = gave_mute s bytes m s.progress.phase acts refl rest q
   read_mute rested s (Silent m) acts o rest q = silent_mute rested (not (is_nil (expiring m.elapsed s.client.waiting))) m s.progress s.progress.phase acts refl q
   read_mute rested s Untold acts o rest q = let p = s.progress in mute_failed p.asked p.alive p.moment.elapsed (is_up p.phase) cause.Clock (acts ++ Untold ∷ [])
@@ -303,7 +304,7 @@ module _ (plan : Plan) (commands : List Command) (turns : ℕ) where
   muted_asks true alive now acts out tells q = let it = q refl in muted_on true alive now acts (Put out) tt tt it (since_asked alive it.before it.behind (Put out) it.since) it.least
   muted_asks false alive now acts out tells q = muted_asking now acts out tells
 
-  first_progress : (mark : Mark) (left : List Command) (s : Standing) → (asks_first plan mark left s).progress ≡ s.progress
+  first_progress : (mark : Mark) (left : List Task) (s : Standing) → (asks_first mark left s).progress ≡ s.progress
   first_progress mark [] s = refl
   first_progress mark (command ∷ others) s = refl
 
@@ -325,7 +326,7 @@ module _ (plan : Plan) (commands : List Command) (turns : ℕ) where
       subst (λ (x : Phase). Mute true (if p.asked then p.alive else p.moment.elapsed) p.moment.elapsed x (acts ++ Put out ∷ [])) (sym is)
       (muted_asks p.asked p.alive p.moment.elapsed acts out tells (λ e. subst (λ b. IsMuted b p.alive p.moment.elapsed acts) e (in_phase p phase.Ready acts is q)))
 
-  mute_moved : (next : Order) (s : Standing) (act : Act) (acts : List Act) → Obeys commands s next act → IsFor plan s.progress (waiting_of s) next → Tells s.progress acts next → (stood plan commands turns acts).rest ≡ s.rest
+  mute_moved : (next : Order) (s : Standing) (act : Act) (acts : List Act) → Obeys commands s next act → IsFor plan s.progress (waiting_of s) next → Tells s.progress acts next → (stood plan commands scope acts).rest ≡ s.rest
       → MuteAt s.progress acts → MuteAt (moved plan commands next (with_progress turned s) act).progress (acts ++ act ∷ [])
   mute_moved orders.Tell s act acts o needs tells rest q = tell_mute (λ (m : Moment) (p : Progress). reckoned_early plan (commands_in s.marks) (told m p)) (with_progress turned s) act acts o (λ m. told_mute s.progress m acts q)
   mute_moved orders.Begin s act acts o needs tells rest q = tell_mute (begun plan (length commands)) (with_progress turned s) act acts o (λ m. told_mute s.progress m acts q)
@@ -336,9 +337,12 @@ module _ (plan : Plan) (commands : List Command) (turns : ℕ) where
       (λ out. muted_asks s.progress.asked s.progress.alive s.progress.moment.elapsed acts out tells
       (λ e. let none = in_phase s.progress phase.Probing acts needs.0 q in let both : true ≡ false = sym e ∙ none in cc))
   mute_moved orders.Send s act acts o needs tells rest q =
-      put_mute _ _ (λ (x : Standing). with_progress sent (asks_next plan commands x)) (with_progress turned s) act acts o
-      (λ out. subst (λ (p : Progress). MuteAt (sent p) (acts ++ Put out ∷ [])) (sym (first_progress (mark_next plan commands s.progress) (drop (place_next commands s.progress) commands) (with_progress turned s)))
+      put_mute _ _ (λ (x : Standing). with_progress (sent (bound_next commands x.progress)) (asks_next plan commands x)) (with_progress turned s) act acts o
+      (λ out. subst (λ (p : Progress). MuteAt (sent (bound_next commands s.progress) p) (acts ++ Put out ∷ [])) (sym (first_progress (mark_next plan commands s.progress) (drop (place_next commands s.progress) commands) (with_progress turned s)))
       (asks_mute s.progress acts out needs.0 tells q))
+  mute_moved orders.Skip s act acts o needs tells rest q =
+      tell_mute (λ (m : Moment) (p : Progress). reckoned_early plan (commands_in s.marks) (skipped (bound_next commands s.progress) m p))
+      (with_records (skips plan commands (turned s.progress) act) (with_progress turned s)) act acts o (λ m. told_mute s.progress m acts q)
   mute_moved orders.Flush s act acts o needs tells rest q =
       put_mute _ _ (λ (x : Standing). with_progress asking (asks_null plan x)) (with_progress turned s) act acts o (λ out. asks_mute s.progress acts out needs.0 tells q)
   mute_moved orders.Read s act acts o needs tells rest q = read_mute false (with_progress turned s) act acts o rest q
@@ -355,24 +359,24 @@ module _ (plan : Plan) (commands : List Command) (turns : ℕ) where
   tells_in p acts orders.Flush awake last = last awake
   tells_in p acts next awake last = tt
 
-  mute_stood : (acts : List Act) → Runs plan commands (opening plan turns) acts → MuteAt (stood plan commands turns acts).progress acts
-  mute_stood acts runs = along plan commands (opening plan turns) (λ (xs : List Act). MuteAt (stood plan commands turns xs).progress xs) step [] acts runs tt where
-    step : (done later : List Act) (act : Act) → Runs plan commands (opening plan turns) (done ++ act ∷ later) → MuteAt (stood plan commands turns done).progress done → MuteAt (stood plan commands turns (done ++ act ∷ [])).progress (done ++ act ∷ [])
+  mute_stood : (acts : List Act) → Runs plan commands (opening plan scope) acts → MuteAt (stood plan commands scope acts).progress acts
+  mute_stood acts runs = along plan commands (opening plan scope) (λ (xs : List Act). MuteAt (stood plan commands scope xs).progress xs) step [] acts runs tt where
+    step : (done later : List Act) (act : Act) → Runs plan commands (opening plan scope) (done ++ act ∷ later) → MuteAt (stood plan commands scope done).progress done → MuteAt (stood plan commands scope (done ++ act ∷ [])).progress (done ++ act ∷ [])
     step done later act runs q =
-        let s = stood plan commands turns done in
-        let split = runs_split plan commands (opening plan turns) done later act runs in
-        let hush = hush_stood plan commands turns done split.0 in
-        let tells = tells_in s.progress done (order_at plan s) (in_wakes plan s.progress.phase s.progress (waiting_of s) refl) (λ awake. hushed_last plan commands turns s.progress.since s.progress.moment.elapsed done (awake_hushed plan commands turns s.progress done awake hush)) in
-        subst (λ (p : Progress). MuteAt p (done ++ act ∷ [])) (sym (progress_behind plan commands turns done act))
+        let s = stood plan commands scope done in
+        let split = runs_split plan commands (opening plan scope) done later act runs in
+        let hush = hush_stood plan commands scope done split.0 in
+        let tells = tells_in s.progress done (order_at plan s) (in_wakes plan s.progress.phase s.progress (waiting_of s) refl) (λ awake. hushed_last plan commands scope s.progress.since s.progress.moment.elapsed done (awake_hushed plan commands scope s.progress done awake hush)) in
+        subst (λ (p : Progress). MuteAt p (done ++ act ∷ [])) (sym (progress_behind plan commands scope done act))
         (mute_moved (order_at plan s) s act done split.1 (order_for plan s.progress (waiting_of s)) tells refl q)
 
-  pub mute_close : (acts : List Act) → Runs plan commands (opening plan turns) acts → order_at plan (stood plan commands turns acts) ≡ orders.Close cause.Dead → IsMuteFor (patience_of plan) plan commands turns acts
+  pub mute_close : (acts : List Act) → Runs plan commands (opening plan scope) acts → order_at plan (stood plan commands scope acts) ≡ orders.Close cause.Dead → IsMuteFor (patience_of plan) plan commands scope acts
   mute_close acts runs is = by_phase awake.1 where
     s : Standing
-    s = stood plan commands turns acts
+    s = stood plan commands scope acts
 
     never : s.progress.phase ≡ phase.Closing cause.Dead → ⊥
-    never = not_closing plan commands turns acts cause.Dead runs (λ act shows. shows)
+    never = not_closing plan commands scope acts cause.Dead runs (λ act shows. shows)
 
     awake : Awake s.progress
     awake = awake_here s.progress cause.Dead (subst (λ (next : Order). Wakes s.progress next) is (in_wakes plan s.progress.phase s.progress (waiting_of s) refl)) never
@@ -380,9 +384,9 @@ module _ (plan : Plan) (commands : List Command) (turns : ℕ) where
     dead : (nat_lt 0 (length s.client.waiting) ≡ true) × (nat_le (patience_of plan) (s.progress.moment.elapsed - s.progress.alive) ≡ true)
     dead = both_true (nat_lt 0 (length s.client.waiting)) (nat_le (patience_of plan) (s.progress.moment.elapsed - s.progress.alive)) (end_here plan s cause.Dead is never).1
 
-    by_phase : (s.progress.phase ≡ phase.Probing) ⊎ (s.progress.phase ≡ phase.Ready) → IsMuteFor (patience_of plan) plan commands turns acts
+    by_phase : (s.progress.phase ≡ phase.Probing) ⊎ (s.progress.phase ≡ phase.Ready) → IsMuteFor (patience_of plan) plan commands scope acts
     by_phase (inl probing) =
-        let fine = fine_stood plan commands turns acts in
+        let fine = fine_stood plan commands scope acts in
         let none : length s.client.waiting ≡ 0 = ap (λ (c : ById). length c.waiting) (fine.anew (fine.probing probing)).0 in
         let some = ltb-true 0 (length s.client.waiting) dead.0 in
         absurd (omega (arith, none, some))

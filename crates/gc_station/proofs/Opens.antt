@@ -1,6 +1,6 @@
 -- Each connection that ends was asked for, and so was each that couldn't be made.
 use Rattle.std.proofs.Common.{◌≡◌, ℕ, ◌+◌, ◌&&◌, Bool, true, false, not, List, [], ◌∷◌, length, drop, if◌then◌else◌, refl, sym, ap, ◌∙◌, subst, arith}
-use Rattle.gc_texts.specs.declared.commands.Command.{Command}
+use Rattle.gc_texts.specs.declared.tasks.Task.{Task}
 use Rattle.gc_station.specs.declared.link.Moment.{Moment}
 use Rattle.gc_station.specs.declared.mark.Mark.{Mark}
 use Rattle.gc_station.specs.declared.plan.Plan.{Plan}
@@ -14,9 +14,9 @@ use Rattle.gc_station.specs.declared.progress.Progress.{Progress}
 use Rattle.gc_station.specs.Acts.{Act, Told, Untold, Put, Cut, Gave, Silent, Ended, Broke, Closed, Opened, Unopened}
 use Rattle.gc_station.specs.Deciding.{is_up, is_past, drain_of}
 use Rattle.gc_station.specs.Marks.{commands_in}
-use Rattle.gc_station.specs.Progressing.{turned, told, begun, reckoned_early, cleared, probed, sent, asking, waited, quieted, drained, is_resting, closed}
+use Rattle.gc_station.specs.Progressing.{turned, told, begun, skipped, reckoned_early, cleared, probed, sent, asking, waited, quieted, drained, is_resting, closed}
 use Rattle.gc_station.specs.Reasons.{IsFor}
-use Rattle.gc_station.specs.Standing.{Standing, waiting_of, place_next, mark_next, with_progress, with_moment, is_heard, asks_null, asks_first, asks_next, after_tell, after_put, after_open, after_read, IsTelling, IsOpening, IsReading, Puts, Obeys, moved}
+use Rattle.gc_station.specs.Standing.{Standing, waiting_of, place_next, bound_next, mark_next, with_progress, with_moment, is_heard, asks_null, asks_first, asks_next, with_records, skips, after_tell, after_put, after_open, after_read, IsTelling, IsOpening, IsReading, Puts, Obeys, moved}
 use Rattle.gc_station.specs.Tries.{ends_in, opens_in}
 use Rattle.gc_station.proofs.Closings.{came_phase}
 use Rattle.gc_station.proofs.Silences.{quieted_up}
@@ -52,9 +52,9 @@ put_counted requests bytes f s (Cut out n) o same =
     let up = is_up (f s).progress.phase in calm (is_up s.progress.phase) (is_up (if up then phase.Closing (cause.Write requests n) else phase.Over (cause.Write requests n))) (fails up (cause.Write requests n) ∙ same)
 put_counted requests bytes f s act o same = absurd o
 
-first_phase : (plan : Plan) (mark : Mark) (left : List Command) (s : Standing) → (asks_first plan mark left s).progress.phase ≡ s.progress.phase
-first_phase plan mark [] s = refl
-first_phase plan mark (command ∷ others) s = refl
+first_phase : (mark : Mark) (left : List Task) (s : Standing) → (asks_first mark left s).progress.phase ≡ s.progress.phase
+first_phase mark [] s = refl
+first_phase mark (command ∷ others) s = refl
 
 read_counted : (plan : Plan) (rested : Bool) (s : Standing) (act : Act) → IsReading act → Counted (is_up s.progress.phase) act (is_up (after_read plan rested s act).progress.phase)
 read_counted plan rested s (Gave bytes m) o =
@@ -69,7 +69,7 @@ read_counted plan rested s act o = absurd o
 close_counted : (before behind : Bool) → before ≡ true → behind ≡ false → Counted before Closed behind
 close_counted before behind up down = let a : up_count before ≡ 1 = ap up_count up in let b : up_count behind ≡ 0 = ap up_count down in omega (arith, a, b)
 
-pub counted_moved : (plan : Plan) (commands : List Command) (next : Order) (s : Standing) (act : Act) → Obeys commands s next act → IsFor plan s.progress (waiting_of s) next
+pub counted_moved : (plan : Plan) (commands : List Task) (next : Order) (s : Standing) (act : Act) → Obeys commands s next act → IsFor plan s.progress (waiting_of s) next
     → Counted (is_up s.progress.phase) act (is_up (moved plan commands next (with_progress turned s) act).progress.phase)
 counted_moved plan commands orders.Tell s act o needs = tell_counted (λ (m : Moment) (p : Progress). reckoned_early plan (commands_in s.marks) (told m p)) (with_progress turned s) act o (λ m. refl)
 counted_moved plan commands orders.Begin s act o needs = tell_counted (begun plan (length commands)) (with_progress turned s) act o (λ m. refl)
@@ -77,8 +77,10 @@ counted_moved plan commands orders.Open s act o needs = open_counted plan (with_
 counted_moved plan commands orders.Clear s act o needs = put_counted _ _ (with_progress cleared) (with_progress turned s) act o (sym (ap is_up needs))
 counted_moved plan commands orders.Probe s act o needs = put_counted _ _ (λ (x : Standing). with_progress probed (asks_null plan x)) (with_progress turned s) act o (sym (ap is_up needs.0))
 counted_moved plan commands orders.Send s act o needs =
-    put_counted _ _ (λ (x : Standing). with_progress sent (asks_next plan commands x)) (with_progress turned s) act o
-    (ap is_up (first_phase plan (mark_next plan commands s.progress) (drop (place_next commands s.progress) commands) (with_progress turned s)))
+    put_counted _ _ (λ (x : Standing). with_progress (sent (bound_next commands x.progress)) (asks_next plan commands x)) (with_progress turned s) act o
+    (ap is_up (first_phase (mark_next plan commands s.progress) (drop (place_next commands s.progress) commands) (with_progress turned s)))
+counted_moved plan commands orders.Skip s act o needs =
+    tell_counted (λ (m : Moment) (p : Progress). reckoned_early plan (commands_in s.marks) (skipped (bound_next commands s.progress) m p)) (with_records (skips plan commands (turned s.progress) act) (with_progress turned s)) act o (λ m. refl)
 counted_moved plan commands orders.Flush s act o needs = put_counted _ _ (λ (x : Standing). with_progress asking (asks_null plan x)) (with_progress turned s) act o refl
 counted_moved plan commands orders.Read s act o needs = read_counted plan false (with_progress turned s) act o
 counted_moved plan commands orders.Rest s act o needs = read_counted plan true (with_progress turned s) act o

@@ -1,6 +1,7 @@
 -- What has to hold where a request is next.
-use Rattle.std.proofs.Common.{◌≡◌, ◌<◌, ◌&&◌, Bool, true, false, if◌then◌else◌, nat_lt, nat_eq, refl}
+use Rattle.std.proofs.Common.{◌≡◌, ◌<◌, ◌&&◌, Bool, true, false, not, if◌then◌else◌, nat_lt, nat_eq, refl, arith}
 use Rattle.std.proofs.lemmas.Bool.{ltb-true}
+use Rattle.std.proofs.lemmas.Bool.Decides.{nat_tests}
 use Rattle.gc_client.specs.declared.window.TheConstants.{WINDOW}
 use Rattle.gc_station.specs.declared.plan.Plan.{Plan}
 use Rattle.gc_station.specs.declared.cause.Cause.TheVariants as cause
@@ -10,7 +11,7 @@ use Rattle.gc_station.specs.declared.progress.Order.{Order}
 use Rattle.gc_station.specs.declared.progress.Order.TheVariants as order
 use Rattle.gc_station.specs.declared.progress.Progress.{Progress}
 use Rattle.gc_station.specs.declared.progress.Waiting.{Waiting}
-use Rattle.gc_station.specs.Deciding.{width_of, is_up, is_quiet, is_dead, is_due, has_room, order_of, order_in, order_on, order_told, order_ready, order_room, order_sent, order_done, order_waiting, order_up}
+use Rattle.gc_station.specs.Deciding.{width_of, is_up, is_quiet, is_dead, is_due, has_room, order_of, order_in, order_on, order_told, may_go, order_ready, order_room, order_sent, order_settled, order_done, order_waiting, order_up}
 use Rattle.gc_station.specs.Stations.{IsFitting}
 
 -- what holds of both holds of the one that a test takes
@@ -21,6 +22,10 @@ either P x y false p q = q refl
 right_true : (a b : Bool) → (a && b) ≡ true → b ≡ true
 right_true true b e = e
 right_true false b e = cc
+
+left_true : (a b : Bool) → (a && b) ≡ true → a ≡ true
+left_true true b e = refl
+left_true false b e = cc
 
 -- with so many requests waiting
 module _ (plan : Plan) (p : Progress) (w : Waiting) where
@@ -37,15 +42,22 @@ module _ (plan : Plan) (p : Progress) (w : Waiting) where
       either (IsFitting p w.all) (order.Close cause.Done) (if is_due plan p then order.Begin else order.Rest) (nat_eq p.left 0) (λ e. tt)
       (λ e. either (IsFitting p w.all) order.Begin order.Rest (is_due plan p) (λ e. tt) (λ e. tt))
 
+  settled : IsFitting p w.all (order_settled plan p w)
+  settled =
+      either (IsFitting p w.all) _ _ (nat_eq p.unsent 0) (λ e. done)
+      (λ e. let some : 0 < p.unsent = grind (arith, nat_tests, e) in
+      either (IsFitting p w.all) _ order.Skip (may_go p w) (λ well. room order.Send (λ few. (some, few))) (λ broken. some))
+
   all_sent : IsFitting p w.all (order_sent plan p w)
   all_sent =
-      either (IsFitting p w.all) _ _ (nat_eq w.commands 0) (λ e. done)
+      either (IsFitting p w.all) _ _ (nat_eq w.commands 0) (λ e. settled)
       (λ e. either (IsFitting p w.all) _ _ (nat_eq w.current 0) (λ e. room order.Flush (λ few. few)) (λ e. waits))
 
   ready : IsFitting p w.all (order_ready plan p w)
   ready =
       either (IsFitting p w.all) _ _ p.alone (λ e. waits)
-      (λ e. either (IsFitting p w.all) _ _ (nat_lt 0 p.unsent) (λ some. room order.Send (λ few. (ltb-true 0 p.unsent some, few))) (λ e. all_sent))
+      (λ e. either (IsFitting p w.all) _ _ (nat_lt 0 p.unsent && not p.bound)
+      (λ some. room order.Send (λ few. (ltb-true 0 p.unsent (left_true (nat_lt 0 p.unsent) (not p.bound) some), few))) (λ e. all_sent))
 
   told_fits : (phase : Phase) → IsFitting p w.all (order_told plan phase p w)
   told_fits Down = tt

@@ -2,12 +2,14 @@
 use Rattle.std.proofs.Common.{◌≡◌, inl, inr, ℕ, ◌<◌, ◌≤◌, Bool, true, false, List, [], ◌∷◌, ◌++◌, length, Option, Some, IfSome, refl, sym, ap, ◌∙◌, subst, arith, append_assoc, append-nil}
 use Rattle.std.specs.List.{AllByRecursion}
 use Rattle.gc_lines.specs.Frames.{rest_behind}
+use Rattle.gc_catalogue.specs.declared.answer.Reading.{Reading}
 use Rattle.gc_catalogue.specs.declared.call.Call.{Call}
 use Rattle.gc_client.specs.declared.pending.Pending.{Pending}
 use Rattle.gc_client.specs.Ids.{Waits, id_at, IsWindow}
-use Rattle.gc_client.specs.Rule.{ById, place as place_behind, heard, hears}
+use Rattle.gc_client.specs.Rule.{ById, Settlement, place as place_behind, heard, hears}
 use Rattle.gc_client.proofs.Digits.{heard_by_grammar}
 use Rattle.gc_texts.specs.declared.commands.Command.{Command}
+use Rattle.gc_texts.specs.declared.tasks.Task.{Task}
 use Rattle.gc_station.specs.declared.mark.Mark.{Mark}
 use Rattle.gc_station.specs.declared.plan.Plan.{Plan}
 use Rattle.gc_station.specs.declared.link.Moment.{Moment}
@@ -22,8 +24,9 @@ use Rattle.gc_station.specs.Runs.{stood}
 use Rattle.gc_station.specs.Standing.{Standing, order_at, request_text, with_progress, with_moment, with_rest, line_came, lines_came, lines_behind, came, Puts}
 use Rattle.gc_station.proofs.Growing.{lines_records}
 use Rattle.gc_station.proofs.Lists.{all_append, all_split, cuts_on, Rows}
-use Rattle.gc_station.proofs.Meets.{HasPlace, EndedBy, heard_ended, heard_left, left_window, left_waits, records_all}
+use Rattle.gc_station.proofs.Meets.{HasPlace, EndedBy, heard_ended, heard_left, left_window, left_waits, records_all, IsRecordOf, was_answered, was_late, was_lost}
 use Rattle.gc_station.proofs.Waiting.{Asked, StayedAt, WaitsAt, IsTrue, IsHonest, past_more, past_here, expired_waits, expired_window, behind_moment, moment_told}
+use Rattle.gc_station.specs.Scopes.{Scope}
 
 -- the id at the place of an id
 pub id_back : (next count id : ℕ) → next < 8 → count ≤ 7 → id < 8 → id_at next count (place_behind next count id) ≡ id
@@ -38,25 +41,25 @@ regroup start news front r back more =
     ∙ append_assoc start news (front ++ r ∷ (back ++ more)) ∙ ap (λ xs. start ++ xs) (sym (append_assoc news front (r ∷ (back ++ more))))
 
 -- a piece is heard, so far
-pub record Hears (plan : Plan) (commands : List Command) (turns : ℕ) (acts : List Act) (piece : List ℕ) (m : Moment) (x : Standing) : Type 0 where
+pub record Hears (plan : Plan) (commands : List Task) (scope : Scope) (acts : List Act) (piece : List ℕ) (m : Moment) (x : Standing) : Type 0 where
   pub window : IsWindow x.client
-  pub waiting : Rows (WaitsAt plan commands turns acts (stood plan commands turns acts).client m.elapsed x.client.next (length x.client.waiting)) 0 0 x.client.waiting x.marks
-  pub written : AllByRecursion (IsTrue plan commands turns (acts ++ Gave piece m ∷ [])) x.records
+  pub waiting : Rows (WaitsAt plan commands scope acts (stood plan commands scope acts).client m.elapsed x.client.next (length x.client.waiting)) 0 0 x.client.waiting x.marks
+  pub written : AllByRecursion (IsTrue plan commands scope (acts ++ Gave piece m ∷ [])) x.records
   pub news : List Record
-  pub grew : x.records ≡ (stood plan commands turns acts).records ++ news
+  pub grew : x.records ≡ (stood plan commands scope acts).records ++ news
 
 -- the request with this mark was put among these acts, and behind it the piece came at which its record was written
-pub record WrittenDown (plan : Plan) (commands : List Command) (turns : ℕ) (acts : List Act) (piece : List ℕ) (m : Moment) (before : List Act) (request : Act) (between : List Act) (r : Record) : Type 0 where
+pub record WrittenDown (plan : Plan) (commands : List Task) (scope : Scope) (acts : List Act) (piece : List ℕ) (m : Moment) (before : List Act) (request : Act) (between : List Act) (r : Record) : Type 0 where
   pub order : acts ++ Gave piece m ∷ [] ≡ before ++ request ∷ (between ++ Gave piece m ∷ [])
-  pub own : IsOwnRequest plan commands turns before request r
-  pub written : IsWrittenAt plan commands turns (before ++ request ∷ between) (Gave piece m) r
+  pub own : IsOwnRequest plan commands scope before request r
+  pub written : IsWrittenAt plan commands scope (before ++ request ∷ between) (Gave piece m) r
 
-written_down : (plan : Plan) (commands : List Command) (turns : ℕ) (acts : List Act) (piece : List ℕ) (m : Moment) (number at id : ℕ) (p : Pending) (mark : Mark) (r : Record) (news earlier later more : List Record)
-    → r.cycle ≡ mark.cycle → r.place ≡ mark.place → p.call ≡ r.settlement.call
-    → (s : Asked plan commands turns acts (StayedAt m.elapsed) number at id p (Some mark))
-    → (stood plan commands turns (acts ++ Gave piece m ∷ [])).records ≡ (((stood plan commands turns acts).records ++ news) ++ (earlier ++ r ∷ later)) ++ more
-    → WrittenDown plan commands turns acts piece m s.before s.request s.between r
-written_down plan commands turns acts piece m number at id p mark r news earlier later more cycle place asks s ends =
+written_down : (plan : Plan) (commands : List Task) (scope : Scope) (acts : List Act) (piece : List ℕ) (m : Moment) (number at id : ℕ) (p : Pending) (mark : Mark) (r : Record) (news earlier later more : List Record)
+    → r.cycle ≡ mark.cycle → r.place ≡ mark.place → p.call ≡ r.command.call
+    → (s : Asked plan commands scope acts (StayedAt m.elapsed) number at id p (Some mark))
+    → (stood plan commands scope (acts ++ Gave piece m ∷ [])).records ≡ (((stood plan commands scope acts).records ++ news) ++ (earlier ++ r ∷ later)) ++ more
+    → WrittenDown plan commands scope acts piece m s.before s.request s.between r
+written_down plan commands scope acts piece m number at id p mark r news earlier later more cycle place asks s ends =
     let its = s.its mark refl in
     record {
       order = ap (λ xs. xs ++ Gave piece m ∷ []) s.order ∙ append_assoc s.before (s.request ∷ s.between) (Gave piece m ∷ []);
@@ -64,13 +67,13 @@ written_down plan commands turns acts piece m number at id p mark r news earlier
         sends = its.sends;
         cycle = cycle ∙ its.cycle;
         place = place ∙ its.place;
-        put = subst (λ (y : Call). Puts (request_text (stood plan commands turns s.before).client y) s.request) asks s.put;
+        put = subst (λ (y : Call). Puts (request_text (stood plan commands scope s.before).client y) s.request) asks s.put;
       };
       written = record {
         earlier = news ++ earlier;
         later = later ++ more;
-        written = ap (λ (xs : List Act). (stood plan commands turns (xs ++ Gave piece m ∷ [])).records) (sym s.order) ∙ ends ∙ regroup (stood plan commands turns acts).records news earlier r later more
-            ∙ ap (λ (xs : List Act). (stood plan commands turns xs).records ++ ((news ++ earlier) ++ r ∷ (later ++ more))) s.order;
+        written = ap (λ (xs : List Act). (stood plan commands scope (xs ++ Gave piece m ∷ [])).records) (sym s.order) ∙ ends ∙ regroup (stood plan commands scope acts).records news earlier r later more
+            ∙ ap (λ (xs : List Act). (stood plan commands scope xs).records ++ ((news ++ earlier) ++ r ∷ (later ++ more))) s.order;
       };
     }
 
@@ -81,14 +84,14 @@ id_heard c line at next w has is =
     has.has ∙ ap Some (sym back ∙ ap (λ (k : ℕ). id_at c.next (length c.waiting) k) (sym has.is) ∙ is)
 
 -- a line of the piece comes with the id of the request at its place
-brings : (plan : Plan) (commands : List Command) (turns : ℕ) (acts : List Act) (piece : List ℕ) (c : ById) (front others : List (List ℕ)) (line : List ℕ) (at next : ℕ) (before : List Act) (request : Act) (between : List Act)
-    → front ++ line ∷ others ≡ lines_behind (stood plan commands turns acts).rest piece → acts ≡ before ++ request ∷ between → IsWindow c → HasPlace c (heard line) at → id_at c.next (length c.waiting) at ≡ next
-    → Brings plan commands turns (before ++ request ∷ between) piece next
-brings plan commands turns acts piece c front others line at next before request between split order w has is = record {
+brings : (plan : Plan) (commands : List Task) (scope : Scope) (acts : List Act) (piece : List ℕ) (c : ById) (front others : List (List ℕ)) (line : List ℕ) (at next : ℕ) (before : List Act) (request : Act) (between : List Act)
+    → front ++ line ∷ others ≡ lines_behind (stood plan commands scope acts).rest piece → acts ≡ before ++ request ∷ between → IsWindow c → HasPlace c (heard line) at → id_at c.next (length c.waiting) at ≡ next
+    → Brings plan commands scope (before ++ request ∷ between) piece next
+brings plan commands scope acts piece c front others line at next before request between split order w has is = record {
   front = front;
   line = line;
   others = others;
-  came = sym (ap (λ (xs : List Act). lines_behind (stood plan commands turns xs).rest piece) order) ∙ sym split;
+  came = sym (ap (λ (xs : List Act). lines_behind (stood plan commands scope xs).rest piece) order) ∙ sym split;
   has = id_heard c line at next w has is;
 }
 
@@ -103,13 +106,13 @@ too_late now d true acts act is past (inr reached) = past_here d acts act (past 
 too_late now d false acts act is past both = cc
 
 -- the answer that a line is, of the request with this mark
-answered : (plan : Plan) (commands : List Command) (turns : ℕ) (acts : List Act) (piece : List ℕ) (m : Moment) (c : ById) (front others : List (List ℕ)) (line l : List ℕ) (number at : ℕ) (p : Pending) (mark : Mark) (r : Record)
-    → front ++ line ∷ others ≡ lines_behind (stood plan commands turns acts).rest piece → IsWindow c
-    → (s : Asked plan commands turns acts (StayedAt m.elapsed) number at (id_at c.next (length c.waiting) at) p (Some mark))
-    → WrittenDown plan commands turns acts piece m s.before s.request s.between r
+answered : (plan : Plan) (commands : List Task) (scope : Scope) (acts : List Act) (piece : List ℕ) (m : Moment) (c : ById) (front others : List (List ℕ)) (line l : List ℕ) (number at : ℕ) (p : Pending) (mark : Mark) (r : Record)
+    → front ++ line ∷ others ≡ lines_behind (stood plan commands scope acts).rest piece → IsWindow c
+    → (s : Asked plan commands scope acts (StayedAt m.elapsed) number at (id_at c.next (length c.waiting) at) p (Some mark))
+    → WrittenDown plan commands scope acts piece m s.before s.request s.between r
     → l ≡ line → p.given_up ≡ false → HasPlace c (heard line) at
-    → IsAnsweredIn plan commands turns (acts ++ Gave piece m ∷ []) r l
-answered plan commands turns acts piece m c front others line l number at p mark r split w s down same given has =
+    → IsAnsweredIn plan commands scope (acts ++ Gave piece m ∷ []) r l
+answered plan commands scope acts piece m c front others line l number at p mark r split w s down same given has =
     let both = in_time m.elapsed p.deadline p.given_up s.between given s.stays in
     record {
       before = s.before;
@@ -123,25 +126,25 @@ answered plan commands turns acts piece m c front others line l number at p mark
       cycle = down.own.cycle;
       place = down.own.place;
       put = down.own.put;
-      waits = subst (λ (d : ℕ). AllByRecursion (IsBefore d) s.between) s.deadline both.0;
-      in_time = subst (λ (d : ℕ). m.elapsed < d) s.deadline both.1;
+      waits = subst (λ (d : ℕ). AllByRecursion (IsBefore d) s.between) (s.deadline mark refl) both.0;
+      in_time = subst (λ (d : ℕ). m.elapsed < d) (s.deadline mark refl) both.1;
       front = front;
       others = others;
-      came = sym (ap (λ (xs : List Act). lines_behind (stood plan commands turns xs).rest piece) s.order) ∙ sym split ∙ ap (λ y. front ++ y ∷ others) (sym same);
+      came = sym (ap (λ (xs : List Act). lines_behind (stood plan commands scope xs).rest piece) s.order) ∙ sym split ∙ ap (λ y. front ++ y ∷ others) (sym same);
       id = ap heard same ∙ id_heard c line at _ w has s.id;
       earlier = down.written.earlier;
       later = down.written.later;
-      written = ap (λ (xs : List Act). (stood plan commands turns xs).records) (sym (append_assoc s.before (s.request ∷ s.between) (Gave piece m ∷ []))) ∙ down.written.written;
+      written = ap (λ (xs : List Act). (stood plan commands scope xs).records) (sym (append_assoc s.before (s.request ∷ s.between) (Gave piece m ∷ []))) ∙ down.written.written;
     }
 
 -- the late reply that a line is
-late : (plan : Plan) (commands : List Command) (turns : ℕ) (acts : List Act) (piece : List ℕ) (m : Moment) (c : ById) (front others : List (List ℕ)) (line : List ℕ) (number at : ℕ) (p : Pending) (mark : Mark) (r : Record)
-    → front ++ line ∷ others ≡ lines_behind (stood plan commands turns acts).rest piece → IsWindow c
-    → (s : Asked plan commands turns acts (StayedAt m.elapsed) number at (id_at c.next (length c.waiting) at) p (Some mark))
-    → WrittenDown plan commands turns acts piece m s.before s.request s.between r
+late : (plan : Plan) (commands : List Task) (scope : Scope) (acts : List Act) (piece : List ℕ) (m : Moment) (c : ById) (front others : List (List ℕ)) (line : List ℕ) (number at : ℕ) (p : Pending) (mark : Mark) (r : Record)
+    → front ++ line ∷ others ≡ lines_behind (stood plan commands scope acts).rest piece → IsWindow c
+    → (s : Asked plan commands scope acts (StayedAt m.elapsed) number at (id_at c.next (length c.waiting) at) p (Some mark))
+    → WrittenDown plan commands scope acts piece m s.before s.request s.between r
     → p.given_up ≡ true → HasPlace c (heard line) at
-    → IsLateIn plan commands turns (acts ++ Gave piece m ∷ []) r
-late plan commands turns acts piece m c front others line number at p mark r split w s down given has = record {
+    → IsLateIn plan commands scope (acts ++ Gave piece m ∷ []) r
+late plan commands scope acts piece m c front others line number at p mark r split w s down given has = record {
   before = s.before;
   request = s.request;
   between = s.between;
@@ -150,19 +153,19 @@ late plan commands turns acts piece m c front others line number at p mark r spl
   behind = [];
   order = down.order;
   own = down.own;
-  too_late = subst (λ (d : ℕ). TellsPast d (s.between ++ Gave piece m ∷ [])) s.deadline (too_late m.elapsed p.deadline p.given_up s.between (Gave piece m) given (λ reached. reached) s.stays);
-  came = brings plan commands turns acts piece c front others line at _ s.before s.request s.between split s.order w has s.id;
+  too_late = subst (λ (d : ℕ). TellsPast d (s.between ++ Gave piece m ∷ [])) (s.deadline mark refl) (too_late m.elapsed p.deadline p.given_up s.between (Gave piece m) given (λ reached. reached) s.stays);
+  came = brings plan commands scope acts piece c front others line at _ s.before s.request s.between split s.order w has s.id;
   written = down.written;
 }
 
 -- the one behind it whose reply came
-overtaken : (plan : Plan) (commands : List Command) (turns : ℕ) (acts : List Act) (piece : List ℕ) (m : Moment) (c : ById) (front others : List (List ℕ)) (line : List ℕ) (number at there : ℕ) (p q : Pending) (mark mark' : Option Mark) (number' : ℕ)
-    → front ++ line ∷ others ≡ lines_behind (stood plan commands turns acts).rest piece → IsWindow c
-    → (s : Asked plan commands turns acts (StayedAt m.elapsed) number at (id_at c.next (length c.waiting) at) p mark)
-    → WaitsAt plan commands turns acts (stood plan commands turns acts).client m.elapsed c.next (length c.waiting) number' there q mark'
+overtaken : (plan : Plan) (commands : List Task) (scope : Scope) (acts : List Act) (piece : List ℕ) (m : Moment) (c : ById) (front others : List (List ℕ)) (line : List ℕ) (number at there : ℕ) (p q : Pending) (mark mark' : Option Mark) (number' : ℕ)
+    → front ++ line ∷ others ≡ lines_behind (stood plan commands scope acts).rest piece → IsWindow c
+    → (s : Asked plan commands scope acts (StayedAt m.elapsed) number at (id_at c.next (length c.waiting) at) p mark)
+    → WaitsAt plan commands scope acts (stood plan commands scope acts).client m.elapsed c.next (length c.waiting) number' there q mark'
     → number < number' → at < there → HasPlace c (heard line) there
-    → IsOvertaken plan commands turns s.before s.request s.between (Gave piece m)
-overtaken plan commands turns acts piece m c front others line number at there p q mark mark' number' split w s waits low above has =
+    → IsOvertaken plan commands scope s.before s.request s.between (Gave piece m)
+overtaken plan commands scope acts piece m c front others line number at there p q mark mark' number' split w s waits low above has =
     let t = waits.0 in
     let longer : length s.before < length t.before = omega (arith, s.many, t.many, low) in
     let cut = cuts_on s.before t.before s.between t.between s.request t.request (sym s.order ∙ t.order) longer in
@@ -173,48 +176,49 @@ overtaken plan commands turns acts piece m c front others line number at there p
       other = t.request;
       next = t.between;
       order = cut.splits;
-      asks = subst (λ (xs : List Act). IsAsking (order_at plan (stood plan commands turns xs))) on (t.asks above_none);
+      asks = subst (λ (xs : List Act). IsAsking (order_at plan (stood plan commands scope xs))) on (t.asks above_none);
       call = q.call;
-      put = subst (λ (xs : List Act). Puts (request_text (stood plan commands turns xs).client q.call) t.request) on t.put;
-      waits = subst (λ (xs : List Act). Waits (stood plan commands turns (s.before ++ s.request ∷ s.between)).client (stood plan commands turns xs).client.next) on
-          (subst (λ (i : ℕ). Waits (stood plan commands turns (s.before ++ s.request ∷ s.between)).client i) t.id
-          (subst (λ (xs : List Act). Waits (stood plan commands turns xs).client (id_at c.next (length c.waiting) there)) s.order waits.1));
+      put = subst (λ (xs : List Act). Puts (request_text (stood plan commands scope xs).client q.call) t.request) on t.put;
+      waits = subst (λ (xs : List Act). Waits (stood plan commands scope (s.before ++ s.request ∷ s.between)).client (stood plan commands scope xs).client.next) on
+          (subst (λ (i : ℕ). Waits (stood plan commands scope (s.before ++ s.request ∷ s.between)).client i) t.id
+          (subst (λ (xs : List Act). Waits (stood plan commands scope xs).client (id_at c.next (length c.waiting) there)) s.order waits.1));
       piece = piece;
       moment = m;
       reads = refl;
-      came = brings plan commands turns acts piece c front others line there _ s.before s.request s.between split s.order w has (t.id ∙ ap (λ (xs : List Act). (stood plan commands turns xs).client.next) on);
+      came = brings plan commands scope acts piece c front others line there _ s.before s.request s.between split s.order w has (t.id ∙ ap (λ (xs : List Act). (stood plan commands scope xs).client.next) on);
     }
 
 -- what a record of a line says
-abbrev pub IsRecorded : Plan → List Command → ℕ → List Act → ℕ → ById → List ℕ → Record → Type 0
-IsRecorded plan commands turns acts now c line r =
-    (at : ℕ) × (mark : Mark) × (r.cycle ≡ mark.cycle) × (r.place ≡ mark.place)
-    × EndedBy (WaitsAt plan commands turns acts (stood plan commands turns acts).client now c.next (length c.waiting)) c (heard line) line at r.settlement (Some mark)
+abbrev pub IsRecorded : Plan → List Task → Scope → List Act → ℕ → ById → List ℕ → Record → Type 0
+IsRecorded plan commands scope acts now c line r =
+    (at : ℕ) × (mark : Mark) × (x : Settlement) × (r.cycle ≡ mark.cycle) × (r.place ≡ mark.place) × IsRecordOf r x
+    × EndedBy (WaitsAt plan commands scope acts (stood plan commands scope acts).client now c.next (length c.waiting)) c (heard line) line at x (Some mark)
 
-pub line_written : (plan : Plan) (commands : List Command) (turns : ℕ) (acts : List Act) (now utc : ℕ) (c : ById) (marks : List (Option Mark)) (line : List ℕ)
-    → Rows (WaitsAt plan commands turns acts (stood plan commands turns acts).client now c.next (length c.waiting)) 0 0 c.waiting marks
-    → AllByRecursion (IsRecorded plan commands turns acts now c line) (records_of utc marks (hears c line (heard line)).settlements)
-line_written plan commands turns acts now utc c marks line waits =
-    let W = WaitsAt plan commands turns acts (stood plan commands turns acts).client now c.next (length c.waiting) in
-    records_all (EndedBy W c (heard line) line) (IsRecorded plan commands turns acts now c line) utc 0 (hears c line (heard line)).settlements marks
-    (λ i y mark ended. (i, mark, refl, refl, ended)) (heard_ended W c marks line (heard line) waits)
+pub line_written : (plan : Plan) (commands : List Task) (scope : Scope) (acts : List Act) (reads : Call → List ℕ → Reading) (now utc : ℕ) (c : ById) (marks : List (Option Mark)) (line : List ℕ)
+    → Rows (WaitsAt plan commands scope acts (stood plan commands scope acts).client now c.next (length c.waiting)) 0 0 c.waiting marks
+    → AllByRecursion (IsRecorded plan commands scope acts now c line) (records_of reads utc marks (hears c line (heard line)).settlements)
+line_written plan commands scope acts reads now utc c marks line waits =
+    let W = WaitsAt plan commands scope acts (stood plan commands scope acts).client now c.next (length c.waiting) in
+    records_all (EndedBy W c (heard line) line) (IsRecorded plan commands scope acts now c line) reads utc 0 (hears c line (heard line)).settlements marks
+    (λ i y mark ended. (i, mark, y, refl, refl, record { reads = reads; command = refl; ended = refl }, ended)) (heard_ended W c marks line (heard line) waits)
 
 -- it is true
-line_true : (plan : Plan) (commands : List Command) (turns : ℕ) (acts : List Act) (piece : List ℕ) (m : Moment) (c : ById) (front others : List (List ℕ)) (line : List ℕ) (r : Record) (news earlier later more : List Record)
-    → front ++ line ∷ others ≡ lines_behind (stood plan commands turns acts).rest piece → IsWindow c
-    → (stood plan commands turns (acts ++ Gave piece m ∷ [])).records ≡ (((stood plan commands turns acts).records ++ news) ++ (earlier ++ r ∷ later)) ++ more
-    → IsRecorded plan commands turns acts m.elapsed c line r → IsTrue plan commands turns (acts ++ Gave piece m ∷ []) r
-line_true plan commands turns acts piece m c front others line r news earlier later more split w ends it =
+line_true : (plan : Plan) (commands : List Task) (scope : Scope) (acts : List Act) (piece : List ℕ) (m : Moment) (c : ById) (front others : List (List ℕ)) (line : List ℕ) (r : Record) (news earlier later more : List Record)
+    → front ++ line ∷ others ≡ lines_behind (stood plan commands scope acts).rest piece → IsWindow c
+    → (stood plan commands scope (acts ++ Gave piece m ∷ [])).records ≡ (((stood plan commands scope acts).records ++ news) ++ (earlier ++ r ∷ later)) ++ more
+    → IsRecorded plan commands scope acts m.elapsed c line r → IsTrue plan commands scope (acts ++ Gave piece m ∷ []) r
+line_true plan commands scope acts piece m c front others line r news earlier later more split w ends it =
     let at = it.0 in
     let mark = it.1 in
-    let x = it.4 in
+    let of_it = it.5 in
+    let x = it.6 in
     let s = x.holds.0 in
-    let down = written_down plan commands turns acts piece m x.number at _ x.pending mark r news earlier later more it.2 it.3 x.asks s ends in
+    let down = written_down plan commands scope acts piece m x.number at _ x.pending mark r news earlier later more it.3 it.4 (x.asks ∙ sym (ap (λ (y : Command). y.call) of_it.command)) s ends in
     record {
-      answered = λ l e. let a = x.answered l e in answered plan commands turns acts piece m c front others line l x.number at x.pending mark r split w s down a.0 a.1 a.2;
-      late = λ e. let a = x.late e in late plan commands turns acts piece m c front others line x.number at x.pending mark r split w s down a.0 a.1;
+      answered = λ l e. let a = x.answered l (was_answered r it.2 of_it l e) in answered plan commands scope acts piece m c front others line l x.number at x.pending mark r split w s down a.0 a.1 a.2;
+      late = λ e. let a = x.late (was_late r it.2 of_it e) in late plan commands scope acts piece m c front others line x.number at x.pending mark r split w s down a.0 a.1;
       lost = λ e.
-          let a = x.lost e in
+          let a = x.lost (was_lost r it.2 of_it e) in
           let f = a.found in
           let above : x.number < f.number = f.least in
           record {
@@ -226,64 +230,64 @@ line_true plan commands turns acts piece m c front others line r news earlier la
             order = down.order;
             own = down.own;
             written = down.written;
-            shown = inl (overtaken plan commands turns acts piece m c front others line x.number at a.place x.pending f.one (Some mark) f.beside f.number split w s f.holds above a.above a.heard);
+            shown = inl (overtaken plan commands scope acts piece m c front others line x.number at a.place x.pending f.one (Some mark) f.beside f.number split w s f.holds above a.above a.heard);
           };
     }
 
-pub hear_all : (plan : Plan) (commands : List Command) (turns : ℕ) (acts : List Act) (piece : List ℕ) (m : Moment) (front lines : List (List ℕ)) (x : Standing) (tail : List Record)
-    → front ++ lines ≡ lines_behind (stood plan commands turns acts).rest piece
-    → (stood plan commands turns (acts ++ Gave piece m ∷ [])).records ≡ (lines_came x lines).records ++ tail
-    → Hears plan commands turns acts piece m x → Hears plan commands turns acts piece m (lines_came x lines)
-hear_all plan commands turns acts piece m front [] x tail split ends h = h
-hear_all plan commands turns acts piece m front (line ∷ others) x tail split ends h =
-    let R = IsTrue plan commands turns (acts ++ Gave piece m ∷ []) in
+pub hear_all : (plan : Plan) (commands : List Task) (scope : Scope) (acts : List Act) (piece : List ℕ) (m : Moment) (front lines : List (List ℕ)) (x : Standing) (tail : List Record)
+    → front ++ lines ≡ lines_behind (stood plan commands scope acts).rest piece
+    → (stood plan commands scope (acts ++ Gave piece m ∷ [])).records ≡ (lines_came x lines).records ++ tail
+    → Hears plan commands scope acts piece m x → Hears plan commands scope acts piece m (lines_came x lines)
+hear_all plan commands scope acts piece m front [] x tail split ends h = h
+hear_all plan commands scope acts piece m front (line ∷ others) x tail split ends h =
+    let R = IsTrue plan commands scope (acts ++ Gave piece m ∷ []) in
     let c = x.client in
     let done = hears c line (heard line) in
-    let written : List Record = records_of x.progress.moment.utc x.marks done.settlements in
+    let written : List Record = records_of x.reads x.progress.moment.utc x.marks done.settlements in
     let left = heard_left c line (heard line) in
     let more = lines_records (line_came x line) others in
-    let all_written = line_written plan commands turns acts m.elapsed x.progress.moment.utc c x.marks line h.waiting in
-    let true_written = all_split (IsRecorded plan commands turns acts m.elapsed c line) R [] written written refl
+    let all_written = line_written plan commands scope acts x.reads m.elapsed x.progress.moment.utc c x.marks line h.waiting in
+    let true_written = all_split (IsRecorded plan commands scope acts m.elapsed c line) R [] written written refl
     (λ (earlier : List Record) (r : Record) (later : List Record) at said.
-    line_true plan commands turns acts piece m c front others line r h.news earlier later (more.0 ++ tail) split h.window
+    line_true plan commands scope acts piece m c front others line r h.news earlier later (more.0 ++ tail) split h.window
     (ends ∙ ap (λ xs. xs ++ tail) more.1 ∙ append_assoc (x.records ++ written) more.0 tail ∙ ap (λ xs. (xs ++ written) ++ (more.0 ++ tail)) h.grew
-    ∙ ap (λ xs. (((stood plan commands turns acts).records ++ h.news) ++ xs) ++ (more.0 ++ tail)) (sym at))
+    ∙ ap (λ xs. (((stood plan commands scope acts).records ++ h.news) ++ xs) ++ (more.0 ++ tail)) (sym at))
     said)
     all_written in
-    hear_all plan commands turns acts piece m (front ++ line ∷ []) others (line_came x line) tail (append_assoc front (line ∷ []) others ∙ split) ends
+    hear_all plan commands scope acts piece m (front ++ line ∷ []) others (line_came x line) tail (append_assoc front (line ∷ []) others ∙ split) ends
     (record {
       window = left_window c done left h.window;
-      waiting = left_waits plan commands turns acts (stood plan commands turns acts).client m.elapsed c done x.marks left h.window h.waiting;
+      waiting = left_waits plan commands scope acts (stood plan commands scope acts).client m.elapsed c done x.marks left h.window h.waiting;
       written = all_append R x.records written h.written true_written;
       news = h.news ++ written;
-      grew = ap (λ xs. xs ++ written) h.grew ∙ append_assoc (stood plan commands turns acts).records h.news written;
+      grew = ap (λ xs. xs ++ written) h.grew ∙ append_assoc (stood plan commands scope acts).records h.news written;
     })
 
 -- and then they wait behind that act
-pub behind_piece : (plan : Plan) (commands : List Command) (turns : ℕ) (acts : List Act) (piece : List ℕ) (m : Moment) (x : Standing) → Hears plan commands turns acts piece m x → IsHonest plan commands turns (acts ++ Gave piece m ∷ []) (acts ++ Gave piece m ∷ []) x
-behind_piece plan commands turns acts piece m x h = record {
-  waiting = behind_moment plan commands turns acts (Gave piece m) (stood plan commands turns acts).client m.elapsed _ _ x.client.waiting x.marks (λ d low. low) (λ d past. past) h.waiting;
+pub behind_piece : (plan : Plan) (commands : List Task) (scope : Scope) (acts : List Act) (piece : List ℕ) (m : Moment) (x : Standing) → Hears plan commands scope acts piece m x → IsHonest plan commands scope (acts ++ Gave piece m ∷ []) (acts ++ Gave piece m ∷ []) x
+behind_piece plan commands scope acts piece m x h = record {
+  waiting = behind_moment plan commands scope acts (Gave piece m) (stood plan commands scope acts).client m.elapsed _ _ x.client.waiting x.marks (λ d low. low) (λ d past. past) h.waiting;
   written = h.written;
 }
 
 abbrev pub piece_before : Moment → Standing → Standing
 piece_before m s = with_moment m (with_progress (told m) (with_progress turned s))
 
-pub piece_honest : (plan : Plan) (commands : List Command) (turns : ℕ) (acts : List Act) (piece : List ℕ) (m : Moment) (b : Bool) (tail : List Record)
-    → (stood plan commands turns (acts ++ Gave piece m ∷ [])).records ≡ (came b piece (piece_before m (stood plan commands turns acts))).records ++ tail
-    → IsWindow (stood plan commands turns acts).client
-    → IsHonest plan commands turns acts (acts ++ Gave piece m ∷ []) (stood plan commands turns acts)
-    → IsHonest plan commands turns (acts ++ Gave piece m ∷ []) (acts ++ Gave piece m ∷ []) (came b piece (piece_before m (stood plan commands turns acts)))
-piece_honest plan commands turns acts piece m false tail ends window h =
-    let s = stood plan commands turns acts in
-    moment_told plan commands turns acts (Gave piece m) m.elapsed s.client s.marks s.records (λ d low. low) (λ d past. past) h
-piece_honest plan commands turns acts piece m true tail ends window h =
-    let s = stood plan commands turns acts in
-    behind_piece plan commands turns acts piece m _
-    (hear_all plan commands turns acts piece m [] (lines_behind s.rest piece) (with_rest (rest_behind s.rest piece) (piece_before m s)) tail refl ends
+pub piece_honest : (plan : Plan) (commands : List Task) (scope : Scope) (acts : List Act) (piece : List ℕ) (m : Moment) (b : Bool) (tail : List Record)
+    → (stood plan commands scope (acts ++ Gave piece m ∷ [])).records ≡ (came b piece (piece_before m (stood plan commands scope acts))).records ++ tail
+    → IsWindow (stood plan commands scope acts).client
+    → IsHonest plan commands scope acts (acts ++ Gave piece m ∷ []) (stood plan commands scope acts)
+    → IsHonest plan commands scope (acts ++ Gave piece m ∷ []) (acts ++ Gave piece m ∷ []) (came b piece (piece_before m (stood plan commands scope acts)))
+piece_honest plan commands scope acts piece m false tail ends window h =
+    let s = stood plan commands scope acts in
+    moment_told plan commands scope acts (Gave piece m) m.elapsed s.client s.marks s.records (λ d low. low) (λ d past. past) h
+piece_honest plan commands scope acts piece m true tail ends window h =
+    let s = stood plan commands scope acts in
+    behind_piece plan commands scope acts piece m _
+    (hear_all plan commands scope acts piece m [] (lines_behind s.rest piece) (with_rest (rest_behind s.rest piece) (piece_before m s)) tail refl ends
     (record {
       window = expired_window s.client m.elapsed window;
-      waiting = expired_waits plan commands turns acts m.elapsed s.client s.marks h.waiting;
+      waiting = expired_waits plan commands scope acts m.elapsed s.client s.marks h.waiting;
       written = h.written;
       news = [];
       grew = sym (append-nil s.records);

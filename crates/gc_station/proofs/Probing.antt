@@ -5,7 +5,7 @@ use Rattle.std.proofs.lemmas.Bool.{ltb-true}
 use Rattle.std.proofs.lemmas.List.{length-map}
 use Rattle.gc_lines.specs.Frames.{rest_behind}
 use Rattle.gc_client.specs.Rule.{ById, place, place_in, expired, expires, heard, hears, id_settled}
-use Rattle.gc_texts.specs.declared.commands.Command.{Command}
+use Rattle.gc_texts.specs.declared.tasks.Task.{Task}
 use Rattle.gc_station.specs.declared.plan.Plan.{Plan}
 use Rattle.gc_station.specs.declared.cause.Cause.{Cause}
 use Rattle.gc_station.specs.declared.link.Moment.{Moment}
@@ -18,15 +18,16 @@ use Rattle.gc_station.specs.Acts.{Act, Told, Untold, Put, Cut, Gave, Silent, End
 use Rattle.gc_station.specs.Deciding.{is_up, drain_of, is_past, order_in}
 use Rattle.gc_station.specs.Marks.{commands_in}
 use Rattle.gc_station.specs.Probing.{KeepsOpen, IsAsking, IsAnsweredWithin}
-use Rattle.gc_station.specs.Progressing.{turned, told, begun, reckoned_early, cleared, probed, sent, asking, waited, quieted, loses_all}
+use Rattle.gc_station.specs.Progressing.{turned, told, begun, skipped, reckoned_early, cleared, probed, sent, asking, waited, quieted, loses_all}
 use Rattle.gc_station.specs.Reasons.{IsFor}
 use Rattle.gc_station.specs.Runs.{stood}
-use Rattle.gc_station.specs.Standing.{Standing, opening, order_at, waiting_of, with_progress, with_rest, line_came, lines_came, lines_behind, came, is_heard, asks_null, asks_first, asks_next, mark_next, place_next, after_tell, after_put, after_open, after_read, Obeys, moved, losing, after, after_all, Runs}
+use Rattle.gc_station.specs.Standing.{Standing, opening, order_at, waiting_of, with_progress, with_rest, line_came, lines_came, lines_behind, came, is_heard, asks_null, asks_first, asks_next, with_records, skips, mark_next, place_next, bound_next, after_tell, after_put, after_open, after_read, Obeys, moved, losing, after, after_all, Runs}
 use Rattle.gc_station.proofs.Going.{after_all-append}
 use Rattle.gc_station.proofs.Pieces.{id_digit, piece_before}
 use Rattle.gc_station.proofs.EachRun.{fine_stood}
 use Rattle.gc_station.proofs.Facts.{order_for}
 use Rattle.gc_station.proofs.Fine.{Fine, is_bare}
+use Rattle.gc_station.specs.Scopes.{Scope}
 
 -- one request waits, with id 0
 abbrev pub WaitsAlone : ById → Type 0
@@ -130,7 +131,7 @@ alone_put requests f s Closed w = w
 alone_put requests f s Opened w = w
 alone_put requests f s Unopened w = w
 
-alone_sent : (plan : Plan) (commands left : List Command) (s t : Standing) → t.progress.alone ≡ true → (asks_first plan (mark_next plan commands s.progress) left t).progress.alone ≡ true
+alone_sent : (plan : Plan) (commands left : List Task) (s t : Standing) → t.progress.alone ≡ true → (asks_first (mark_next plan commands s.progress) left t).progress.alone ≡ true
 alone_sent plan commands [] s t w = w
 alone_sent plan commands (command ∷ others) s t w = w
 
@@ -168,14 +169,16 @@ alone_read plan rested s Unopened w = inr w.0
 not_closed : (act : Act) → act ≡ Closed → KeepsOpen act → ⊥
 not_closed act is open_ = subst KeepsOpen is open_
 
-pub alone_moved : (plan : Plan) (commands : List Command) (s : Standing) (order : Order) (act : Act) → Obeys commands s order act → KeepsOpen act → Alone s → Goes s act (moved plan commands order (with_progress turned s) act)
+pub alone_moved : (plan : Plan) (commands : List Task) (s : Standing) (order : Order) (act : Act) → Obeys commands s order act → KeepsOpen act → Alone s → Goes s act (moved plan commands order (with_progress turned s) act)
 alone_moved plan commands s orders.Tell act o open_ w = inr (alone_tell (λ m p. reckoned_early plan (commands_in s.marks) (told m p)) (with_progress turned s) act (λ m. refl) w.0)
 alone_moved plan commands s orders.Begin act o open_ w = inr (alone_tell (begun plan (length commands)) (with_progress turned s) act (λ m. refl) w.0)
 alone_moved plan commands s orders.Open act o open_ w = inr (alone_open plan (with_progress turned s) act w.0)
 alone_moved plan commands s orders.Clear act o open_ w = inr (alone_put _ (with_progress cleared) (with_progress turned s) act w.0)
 alone_moved plan commands s orders.Probe act o open_ w = inr (alone_put _ (λ (x : Standing). with_progress probed (asks_null plan x)) (with_progress turned s) act refl)
 alone_moved plan commands s orders.Send act o open_ w =
-    inr (alone_put _ (λ (x : Standing). with_progress sent (asks_next plan commands x)) (with_progress turned s) act (alone_sent plan commands (drop (place_next commands s.progress) commands) (with_progress turned s) (with_progress turned s) w.0))
+    inr (alone_put _ (λ (x : Standing). with_progress (sent (bound_next commands x.progress)) (asks_next plan commands x)) (with_progress turned s) act (alone_sent plan commands (drop (place_next commands s.progress) commands) (with_progress turned s) (with_progress turned s) w.0))
+alone_moved plan commands s orders.Skip act o open_ w =
+    inr (alone_tell (λ (m : Moment) (p : Progress). reckoned_early plan (commands_in s.marks) (skipped (bound_next commands s.progress) m p)) (with_records (skips plan commands (turned s.progress) act) (with_progress turned s)) act (λ m. refl) w.0)
 alone_moved plan commands s orders.Flush act o open_ w = inr (alone_put _ (λ (x : Standing). with_progress asking (asks_null plan x)) (with_progress turned s) act w.0)
 alone_moved plan commands s orders.Read act o open_ w = alone_read plan false s act w
 alone_moved plan commands s orders.Rest act o open_ w = alone_read plan true s act w
@@ -191,6 +194,7 @@ alone_ended false s t act g = g
 no_asking : (plan : Plan) (s : Standing) (order : Order) → IsFor plan s.progress (waiting_of s) order → s.progress.alone ≡ true → IsAsking order → ⊥
 no_asking plan s orders.Send needs w asks = clash s.progress.alone w needs.1
 no_asking plan s orders.Flush needs w asks = clash s.progress.alone w needs.1
+no_asking plan s orders.Skip needs w asks = asks
 no_asking plan s orders.Tell needs w asks = asks
 no_asking plan s orders.Begin needs w asks = asks
 no_asking plan s orders.Open needs w asks = asks
@@ -212,45 +216,45 @@ still_up phase.Ready alone bare is on = refl
 still_up (phase.Closing why) alone bare is on = refl
 still_up (phase.Over why) alone bare is on = absurd (on why refl)
 
-pub over_stops : (plan : Plan) (commands : List Command) (s : Standing) (act : Act) → Obeys commands s (order_at plan s) act → (why : Cause) → s.progress.phase ≡ phase.Over why → ⊥
+pub over_stops : (plan : Plan) (commands : List Task) (s : Standing) (act : Act) → Obeys commands s (order_at plan s) act → (why : Cause) → s.progress.phase ≡ phase.Over why → ⊥
 over_stops plan commands s act o why is = subst (λ (at : Phase). Obeys commands s (order_in at plan s.progress (waiting_of s)) act) is o
 
 -- it waits, where it isn't answered
-pub alone_fine : (plan : Plan) (commands : List Command) (s : Standing) (act : Act) → Fine plan commands s → Obeys commands s (order_at plan s) act → s.progress.alone ≡ true → Alone s
+pub alone_fine : (plan : Plan) (commands : List Task) (s : Standing) (act : Act) → Fine plan commands s → Obeys commands s (order_at plan s) act → s.progress.alone ≡ true → Alone s
 alone_fine plan commands s act fine o is =
     let up = still_up s.progress.phase s.progress.alone fine.bare is (over_stops plan commands s act o) in
     let it = fine.alone is up in
     (is, (it.1, sym fine.paired ∙ ap length it.0))
 
 -- along the acts behind it
-alone_along : (plan : Plan) (commands : List Command) (turns : ℕ) (before done left : List Act)
-    → (stood plan commands turns (before ++ done)).progress.alone ≡ true
-    → Runs plan commands (stood plan commands turns (before ++ done)) left → AllByRecursion KeepsOpen left → IsAsking (order_at plan (stood plan commands turns ((before ++ done) ++ left)))
-    → IsAnsweredWithin plan commands turns before (done ++ left)
-alone_along plan commands turns before done [] w runs keeps asks =
-    let s = stood plan commands turns (before ++ done) in
-    let here = subst (λ (xs : List Act). IsAsking (order_at plan (stood plan commands turns xs))) (append-nil (before ++ done)) asks in
+alone_along : (plan : Plan) (commands : List Task) (scope : Scope) (before done left : List Act)
+    → (stood plan commands scope (before ++ done)).progress.alone ≡ true
+    → Runs plan commands (stood plan commands scope (before ++ done)) left → AllByRecursion KeepsOpen left → IsAsking (order_at plan (stood plan commands scope ((before ++ done) ++ left)))
+    → IsAnsweredWithin plan commands scope before (done ++ left)
+alone_along plan commands scope before done [] w runs keeps asks =
+    let s = stood plan commands scope (before ++ done) in
+    let here = subst (λ (xs : List Act). IsAsking (order_at plan (stood plan commands scope xs))) (append-nil (before ++ done)) asks in
     absurd (no_asking plan s (order_at plan s) (order_for plan s.progress (waiting_of s)) w here)
-alone_along plan commands turns before done (act ∷ left) w runs keeps asks =
-    let s = stood plan commands turns (before ++ done) in
+alone_along plan commands scope before done (act ∷ left) w runs keeps asks =
+    let s = stood plan commands scope (before ++ done) in
     let t = moved plan commands (order_at plan s) (with_progress turned s) act in
-    on (alone_ended (loses_all t.progress) s t act (alone_moved plan commands s (order_at plan s) act runs.0 keeps.0 (alone_fine plan commands s act (fine_stood plan commands turns (before ++ done)) runs.0 w)))
-    (λ alone on asks_there. alone_along plan commands turns before (done ++ act ∷ []) left alone on keeps.1 asks_there) where
-      next : stood plan commands turns ((before ++ done) ++ act ∷ []) ≡ after plan commands (stood plan commands turns (before ++ done)) act
-      next = after_all-append plan commands (opening plan turns) (before ++ done) (act ∷ [])
+    on (alone_ended (loses_all t.progress) s t act (alone_moved plan commands s (order_at plan s) act runs.0 keeps.0 (alone_fine plan commands s act (fine_stood plan commands scope (before ++ done)) runs.0 w)))
+    (λ alone on asks_there. alone_along plan commands scope before (done ++ act ∷ []) left alone on keeps.1 asks_there) where
+      next : stood plan commands scope ((before ++ done) ++ act ∷ []) ≡ after plan commands (stood plan commands scope (before ++ done)) act
+      next = after_all-append plan commands (opening plan scope) (before ++ done) (act ∷ [])
 
-      there : stood plan commands turns (before ++ (done ++ act ∷ [])) ≡ after plan commands (stood plan commands turns (before ++ done)) act
-      there = ap (λ (xs : List Act). stood plan commands turns xs) (sym (append_assoc before done (act ∷ []))) ∙ next
+      there : stood plan commands scope (before ++ (done ++ act ∷ [])) ≡ after plan commands (stood plan commands scope (before ++ done)) act
+      there = ap (λ (xs : List Act). stood plan commands scope xs) (sym (append_assoc before done (act ∷ []))) ∙ next
 
       whole : (before ++ done) ++ act ∷ left ≡ (before ++ (done ++ act ∷ [])) ++ left
       whole = sym (append_assoc (before ++ done) (act ∷ []) left) ∙ ap (λ (xs : List Act). xs ++ left) (append_assoc before done (act ∷ []))
 
-      on : Goes (stood plan commands turns (before ++ done)) act (after plan commands (stood plan commands turns (before ++ done)) act)
-          → ((stood plan commands turns (before ++ (done ++ act ∷ []))).progress.alone ≡ true
-          → Runs plan commands (stood plan commands turns (before ++ (done ++ act ∷ []))) left
-          → IsAsking (order_at plan (stood plan commands turns ((before ++ (done ++ act ∷ [])) ++ left)))
-          → IsAnsweredWithin plan commands turns before ((done ++ act ∷ []) ++ left))
-          → IsAnsweredWithin plan commands turns before (done ++ act ∷ left)
+      on : Goes (stood plan commands scope (before ++ done)) act (after plan commands (stood plan commands scope (before ++ done)) act)
+          → ((stood plan commands scope (before ++ (done ++ act ∷ []))).progress.alone ≡ true
+          → Runs plan commands (stood plan commands scope (before ++ (done ++ act ∷ []))) left
+          → IsAsking (order_at plan (stood plan commands scope ((before ++ (done ++ act ∷ [])) ++ left)))
+          → IsAnsweredWithin plan commands scope before ((done ++ act ∷ []) ++ left))
+          → IsAnsweredWithin plan commands scope before (done ++ act ∷ left)
       on (inl (piece, m, is, c)) again = record {
         first = done;
         piece = piece;
@@ -264,13 +268,13 @@ alone_along plan commands turns before done (act ∷ left) w runs keeps asks =
         id = c.id;
       }
       on (inr w) again =
-          subst (λ (xs : List Act). IsAnsweredWithin plan commands turns before xs) (append_assoc done (act ∷ []) left)
+          subst (λ (xs : List Act). IsAnsweredWithin plan commands scope before xs) (append_assoc done (act ∷ []) left)
           (again
           (ap (λ (x : Standing). x.progress.alone) there ∙ w)
           (subst (λ (x : Standing). Runs plan commands x left) (sym there) runs.1)
-          (subst (λ (xs : List Act). IsAsking (order_at plan (stood plan commands turns xs))) whole asks))
+          (subst (λ (xs : List Act). IsAsking (order_at plan (stood plan commands scope xs))) whole asks))
 
-runs_behind : (plan : Plan) (commands : List Command) (s : Standing) (xs ys : List Act) → Runs plan commands s (xs ++ ys) → Runs plan commands (after_all plan commands s xs) ys
+runs_behind : (plan : Plan) (commands : List Task) (s : Standing) (xs ys : List Act) → Runs plan commands s (xs ++ ys) → Runs plan commands (after_all plan commands s xs) ys
 runs_behind plan commands s [] ys runs = runs
 runs_behind plan commands s (x ∷ xs) ys runs = runs_behind plan commands (after plan commands s x) xs ys runs.1
 
@@ -278,20 +282,20 @@ pub losing_progress : (b : Bool) (s : Standing) → (losing b s).progress ≡ s.
 losing_progress true s = refl
 losing_progress false s = refl
 
-pub answered_first : (plan : Plan) (commands : List Command) (turns : ℕ) (earlier between : List Act) (act : Act) → Runs plan commands (opening plan turns) ((earlier ++ act ∷ []) ++ between)
-    → order_at plan (stood plan commands turns earlier) ≡ orders.Probe → AllByRecursion KeepsOpen between → IsAsking (order_at plan (stood plan commands turns ((earlier ++ act ∷ []) ++ between)))
-    → IsAnsweredWithin plan commands turns (earlier ++ act ∷ []) between
-answered_first plan commands turns earlier between act runs is keeps asks =
-    let s = stood plan commands turns earlier in
+pub answered_first : (plan : Plan) (commands : List Task) (scope : Scope) (earlier between : List Act) (act : Act) → Runs plan commands (opening plan scope) ((earlier ++ act ∷ []) ++ between)
+    → order_at plan (stood plan commands scope earlier) ≡ orders.Probe → AllByRecursion KeepsOpen between → IsAsking (order_at plan (stood plan commands scope ((earlier ++ act ∷ []) ++ between)))
+    → IsAnsweredWithin plan commands scope (earlier ++ act ∷ []) between
+answered_first plan commands scope earlier between act runs is keeps asks =
+    let s = stood plan commands scope earlier in
     let before = earlier ++ act ∷ [] in
     let f = λ (o : Order). moved plan commands o (with_progress turned s) act in
     let put : (f orders.Probe).progress.alone ≡ true = alone_put _ (λ (x : Standing). with_progress probed (asks_null plan x)) (with_progress turned s) act refl in
-    let next = after_all-append plan commands (opening plan turns) earlier (act ∷ []) in
+    let next = after_all-append plan commands (opening plan scope) earlier (act ∷ []) in
     let t = f (order_at plan s) in
-    let here : (stood plan commands turns before).progress.alone ≡ true =
+    let here : (stood plan commands scope before).progress.alone ≡ true =
     ap (λ (x : Standing). x.progress.alone) next ∙ ap (λ (p : Progress). p.alone) (losing_progress (loses_all t.progress) t) ∙ ap (λ (o : Order). (f o).progress.alone) is ∙ put in
     let none = append-nil before in
-    alone_along plan commands turns before [] between
-    (subst (λ (xs : List Act). (stood plan commands turns xs).progress.alone ≡ true) (sym none) here)
-    (subst (λ (xs : List Act). Runs plan commands (stood plan commands turns xs) between) (sym none) (runs_behind plan commands (opening plan turns) before between runs))
-    keeps (subst (λ (xs : List Act). IsAsking (order_at plan (stood plan commands turns (xs ++ between)))) (sym none) asks)
+    alone_along plan commands scope before [] between
+    (subst (λ (xs : List Act). (stood plan commands scope xs).progress.alone ≡ true) (sym none) here)
+    (subst (λ (xs : List Act). Runs plan commands (stood plan commands scope xs) between) (sym none) (runs_behind plan commands (opening plan scope) before between runs))
+    keeps (subst (λ (xs : List Act). IsAsking (order_at plan (stood plan commands scope (xs ++ between)))) (sym none) asks)

@@ -5,7 +5,7 @@ use Rattle.std.proofs.Math.Nat.{le-min, mul-le-mul_right, min-eq_left, min-eq_ri
 use Rattle.std.proofs.lemmas.Bool.{leb-true, leb-false}
 use Rattle.gc_lines.specs.Frames.{rest_behind}
 use Rattle.gc_client.specs.Rule.{expiring}
-use Rattle.gc_texts.specs.declared.commands.Command.{Command}
+use Rattle.gc_texts.specs.declared.tasks.Task.{Task}
 use Rattle.gc_station.specs.declared.link.Moment.{Moment}
 use Rattle.gc_station.specs.declared.mark.Mark.{Mark}
 use Rattle.gc_station.specs.declared.plan.Plan.{Plan}
@@ -18,20 +18,21 @@ use Rattle.gc_station.specs.declared.progress.Order.TheVariants as orders
 use Rattle.gc_station.specs.declared.progress.Progress.{Progress}
 use Rattle.gc_station.specs.declared.progress.Waiting.{Waiting}
 use Rattle.gc_station.specs.Acts.{Act, Told, Untold, Put, Cut, Gave, Silent, Ended, Broke, Closed, Opened, Unopened}
-use Rattle.gc_station.specs.Deciding.{is_up, is_past, is_quiet, is_dead, is_due, drain_of, has_room, order_in, order_on, order_told, order_ready, order_sent, order_done, order_room, order_waiting, order_up}
+use Rattle.gc_station.specs.Deciding.{is_up, is_past, is_quiet, is_dead, is_due, drain_of, has_room, order_in, order_on, order_told, may_go, order_ready, order_sent, order_settled, order_done, order_room, order_waiting, order_up}
 use Rattle.gc_station.specs.Marks.{commands_in}
-use Rattle.gc_station.specs.Progressing.{turned, told, begun, reckoned_early, cleared, probed, sent, asking, waited, waiting_on, quieted, is_resting, drained}
+use Rattle.gc_station.specs.Progressing.{turned, told, begun, skipped, reckoned_early, cleared, probed, sent, asking, waited, waiting_on, quieted, is_resting, drained}
 use Rattle.gc_station.specs.Beginnings.{IsUnasked}
 use Rattle.gc_station.specs.Quiet.{IsRequest, AsksNothing, TellsMoment, IsListening, IsSilent, StaysConnected, IsClearedAndQuiet}
 use Rattle.gc_station.specs.Reasons.{IsFor}
 use Rattle.gc_station.specs.Runs.{stood}
-use Rattle.gc_station.specs.Standing.{Standing, opening, order_at, waiting_of, with_progress, with_moment, with_rest, line_came, lines_came, lines_behind, came, is_heard, is_nil, asks_null, asks_first, asks_next, mark_next, place_next, after_tell, after_put, after_open, after_read, IsTelling, IsOpening, IsReading, Puts, Obeys, moved, Runs}
+use Rattle.gc_station.specs.Standing.{Standing, opening, order_at, waiting_of, with_progress, with_moment, with_rest, line_came, lines_came, lines_behind, came, is_heard, is_nil, asks_null, asks_first, asks_next, with_records, skips, mark_next, place_next, bound_next, after_tell, after_put, after_open, after_read, IsTelling, IsOpening, IsReading, Puts, Obeys, moved, Runs}
 use Rattle.gc_station.proofs.Closings.{runs_split}
 use Rattle.gc_station.proofs.Drains.{along, progress_behind, drains_once}
 use Rattle.gc_station.proofs.Facts.{either, order_for}
 use Rattle.gc_station.proofs.Lists.{all_append, all_on}
 use Rattle.gc_station.proofs.Midway.{clash}
 use Rattle.gc_station.proofs.Turns.{again_down, closed_down}
+use Rattle.gc_station.specs.Scopes.{Scope}
 
 -- A moment is told behind each act that makes it out of date; nothing is read before a new connection was cleared.
 
@@ -56,15 +57,20 @@ room_timely plan p w o r x = either (Timely p) o _ (has_room plan w) (λ e. x) (
 done_timely : (plan : Plan) (p : Progress) → Reads p → Timely p (order_done plan p)
 done_timely plan p r = either (Timely p) (orders.Close cause.Done) _ (nat_eq p.left 0) (λ e. tt) (λ e. either (Timely p) orders.Begin orders.Rest (is_due plan p) (λ d. tt) (λ d. r))
 
+settled_timely : (plan : Plan) (p : Progress) (w : Waiting) → Reads p → Timely p (order_settled plan p w)
+settled_timely plan p w r =
+    either (Timely p) _ _ (nat_eq p.unsent 0) (λ e. done_timely plan p r)
+    (λ e. either (Timely p) _ orders.Skip (may_go p w) (λ well. room_timely plan p w orders.Send r tt) (λ broken. tt))
+
 sent_timely : (plan : Plan) (p : Progress) (w : Waiting) → Reads p → Timely p (order_sent plan p w)
 sent_timely plan p w r =
-    either (Timely p) _ _ (nat_eq w.commands 0) (λ e. done_timely plan p r)
+    either (Timely p) _ _ (nat_eq w.commands 0) (λ e. settled_timely plan p w r)
     (λ e. either (Timely p) _ _ (nat_eq w.current 0) (λ g. room_timely plan p w orders.Flush r tt) (λ g. waiting_timely plan p w r))
 
 ready_timely : (plan : Plan) (p : Progress) (w : Waiting) → Reads p → Timely p (order_ready plan p w)
 ready_timely plan p w r =
     either (Timely p) _ _ p.alone (λ e. waiting_timely plan p w r)
-    (λ e. either (Timely p) _ _ (nat_lt 0 p.unsent) (λ some. room_timely plan p w orders.Send r tt) (λ none. sent_timely plan p w r))
+    (λ e. either (Timely p) _ _ (nat_lt 0 p.unsent && not p.bound) (λ some. room_timely plan p w orders.Send r tt) (λ none. sent_timely plan p w r))
 
 told_timely : (plan : Plan) (at : Phase) (p : Progress) (w : Waiting) → p.phase ≡ at → p.stale ≡ false → Timely p (order_told plan at p w)
 told_timely plan phase.Down p w is now = now
@@ -370,15 +376,15 @@ put_stage plan requests bytes f s (Put out) acts o is c =
 put_stage plan requests bytes f s (Cut out n) acts o is c = stage_failed plan.quiet (f s).progress.stale (f s).progress.since (is_up (f s).progress.phase) (cause.Write requests n) (acts ++ Cut out n ∷ [])
 put_stage plan requests bytes f s act acts o is c = absurd o
 
-first_phase : (plan : Plan) (mark : Mark) (left : List Command) (s : Standing) → (asks_first plan mark left s).progress.phase ≡ s.progress.phase
-first_phase plan mark [] s = refl
-first_phase plan mark (command ∷ others) s = refl
+first_phase : (mark : Mark) (left : List Task) (s : Standing) → (asks_first mark left s).progress.phase ≡ s.progress.phase
+first_phase mark [] s = refl
+first_phase mark (command ∷ others) s = refl
 
 -- what is said where it is in this phase
 pub stage_in : (quiet : ℕ) (p : Progress) (at : Phase) (acts : List Act) → p.phase ≡ at → StageAt quiet p acts → Stage quiet p.stale p.since at acts
 stage_in quiet p at acts is st = subst (λ (x : Phase). Stage quiet p.stale p.since x acts) is st
 
-stage_moved : (plan : Plan) (commands : List Command) (next : Order) (s : Standing) (act : Act) (acts : List Act) → plan.quiet ≤ 18446744073709551615 → 1 ≤ s.progress.drain
+stage_moved : (plan : Plan) (commands : List Task) (next : Order) (s : Standing) (act : Act) (acts : List Act) → plan.quiet ≤ 18446744073709551615 → 1 ≤ s.progress.drain
     → Obeys commands s next act → IsFor plan s.progress (waiting_of s) next → Timely s.progress next → StageAt plan.quiet s.progress acts
     → StageAt plan.quiet (moved plan commands next (with_progress turned s) act).progress (acts ++ act ∷ [])
 stage_moved plan commands orders.Tell s act acts small once o needs time st =
@@ -392,8 +398,12 @@ stage_moved plan commands orders.Clear s act acts small once o needs time st = c
 stage_moved plan commands orders.Probe s act acts small once o needs time st =
     put_stage plan _ _ (λ (x : Standing). with_progress probed (asks_null plan x)) (with_progress turned s) act acts o refl (stage_in plan.quiet s.progress phase.Probing acts needs.0 st).0
 stage_moved plan commands orders.Send s act acts small once o needs time st =
-    put_stage plan _ _ (λ (x : Standing). with_progress sent (asks_next plan commands x)) (with_progress turned s) act acts o
-    (first_phase plan (mark_next plan commands s.progress) (drop (place_next commands s.progress) commands) (with_progress turned s) ∙ needs.0) (stage_in plan.quiet s.progress phase.Ready acts needs.0 st)
+    put_stage plan _ _ (λ (x : Standing). with_progress (sent (bound_next commands x.progress)) (asks_next plan commands x)) (with_progress turned s) act acts o
+    (first_phase (mark_next plan commands s.progress) (drop (place_next commands s.progress) commands) (with_progress turned s) ∙ needs.0) (stage_in plan.quiet s.progress phase.Ready acts needs.0 st)
+stage_moved plan commands orders.Skip s act acts small once o needs time st =
+    tell_stage plan (λ (m : Moment) (p : Progress). reckoned_early plan (commands_in s.marks) (skipped (bound_next commands s.progress) m p))
+    (with_records (skips plan commands (turned s.progress) act) (with_progress turned s)) act acts o
+    (λ m. subst (λ (at : Phase). Stage plan.quiet false m.elapsed at (acts ++ Told m ∷ [])) (sym needs.0) (more plan.quiet acts (Told m) tt (stage_in plan.quiet s.progress phase.Ready acts needs.0 st)))
 stage_moved plan commands orders.Flush s act acts small once o needs time st =
     put_stage plan _ _ (λ (x : Standing). with_progress asking (asks_null plan x)) (with_progress turned s) act acts o needs.0 (stage_in plan.quiet s.progress phase.Ready acts needs.0 st)
 stage_moved plan commands orders.Read s act acts small once o needs time st = read_stage plan false (with_progress turned s) act acts o small once time st
@@ -405,17 +415,17 @@ stage_moved plan commands (orders.Stop why) s act acts small once o needs time s
 
 -- Whole runs.
 
-runs_before : (plan : Plan) (commands : List Command) (s : Standing) (done later : List Act) (act : Act) → Runs plan commands s (done ++ act ∷ later) → Runs plan commands s done
+runs_before : (plan : Plan) (commands : List Task) (s : Standing) (done later : List Act) (act : Act) → Runs plan commands s (done ++ act ∷ later) → Runs plan commands s done
 runs_before plan commands s done later act runs = (runs_split plan commands s done later act runs).0
 
-pub stage_stood : (plan : Plan) (commands : List Command) (turns : ℕ) (acts : List Act) → plan.quiet ≤ 18446744073709551615 → Runs plan commands (opening plan turns) acts → StageAt plan.quiet (stood plan commands turns acts).progress acts
-stage_stood plan commands turns acts small runs = along plan commands (opening plan turns) (λ (xs : List Act). StageAt plan.quiet (stood plan commands turns xs).progress xs) step [] acts runs tt where
-  step : (done later : List Act) (act : Act) → Runs plan commands (opening plan turns) (done ++ act ∷ later) → StageAt plan.quiet (stood plan commands turns done).progress done → StageAt plan.quiet (stood plan commands turns (done ++ act ∷ [])).progress (done ++ act ∷ [])
+pub stage_stood : (plan : Plan) (commands : List Task) (scope : Scope) (acts : List Act) → plan.quiet ≤ 18446744073709551615 → Runs plan commands (opening plan scope) acts → StageAt plan.quiet (stood plan commands scope acts).progress acts
+stage_stood plan commands scope acts small runs = along plan commands (opening plan scope) (λ (xs : List Act). StageAt plan.quiet (stood plan commands scope xs).progress xs) step [] acts runs tt where
+  step : (done later : List Act) (act : Act) → Runs plan commands (opening plan scope) (done ++ act ∷ later) → StageAt plan.quiet (stood plan commands scope done).progress done → StageAt plan.quiet (stood plan commands scope (done ++ act ∷ [])).progress (done ++ act ∷ [])
   step done later act runs st =
-      let s = stood plan commands turns done in
-      let split = runs_split plan commands (opening plan turns) done later act runs in
-      subst (λ (p : Progress). StageAt plan.quiet p (done ++ act ∷ [])) (sym (progress_behind plan commands turns done act))
-      (stage_moved plan commands (order_at plan s) s act done small (drains_once plan commands turns done split.0) split.1 (order_for plan s.progress (waiting_of s)) (in_timely plan s.progress.phase s.progress (waiting_of s)) st)
+      let s = stood plan commands scope done in
+      let split = runs_split plan commands (opening plan scope) done later act runs in
+      subst (λ (p : Progress). StageAt plan.quiet p (done ++ act ∷ [])) (sym (progress_behind plan commands scope done act))
+      (stage_moved plan commands (order_at plan s) s act done small (drains_once plan commands scope done split.0) split.1 (order_for plan s.progress (waiting_of s)) (in_timely plan s.progress.phase s.progress (waiting_of s)) st)
 
 -- A request goes out where requests may.
 
@@ -449,22 +459,23 @@ not_clearing act o asks = o
 pub not_closing : (act : Act) → act ≡ Closed → IsRequest act → ⊥
 not_closing act o asks = subst IsRequest o asks
 
-pub asks_there : (plan : Plan) (commands : List Command) (next : Order) (s : Standing) (act : Act) → Obeys commands s next act → IsRequest act → IsFor plan s.progress (waiting_of s) next → Asks s.progress.phase
+pub asks_there : (plan : Plan) (commands : List Task) (next : Order) (s : Standing) (act : Act) → Obeys commands s next act → IsRequest act → IsFor plan s.progress (waiting_of s) next → Asks s.progress.phase
 asks_there plan commands orders.Tell s act o asks needs = absurd (not_telling act o asks)
 asks_there plan commands orders.Begin s act o asks needs = absurd (not_telling act o asks)
 asks_there plan commands orders.Open s act o asks needs = absurd (not_opening act o asks)
 asks_there plan commands orders.Clear s act o asks needs = absurd (not_clearing act o asks)
 asks_there plan commands orders.Probe s act o asks needs = inl needs.0
 asks_there plan commands orders.Send s act o asks needs = inr needs.0
+asks_there plan commands orders.Skip s act o asks needs = absurd (not_telling act o asks)
 asks_there plan commands orders.Flush s act o asks needs = inr needs.0
 asks_there plan commands orders.Read s act o asks needs = absurd (not_reading act o asks)
 asks_there plan commands orders.Rest s act o asks needs = absurd (not_reading act o asks)
 asks_there plan commands (orders.Close why) s act o asks needs = absurd (not_closing act o asks)
 asks_there plan commands (orders.Stop why) s act o asks needs = absurd o
 
-pub cleared_and_quiet : (plan : Plan) (commands : List Command) (turns : ℕ) (earlier later : List Act) (act : Act) → plan.quiet ≤ 18446744073709551615 → Runs plan commands (opening plan turns) (earlier ++ act ∷ later) → IsRequest act
+pub cleared_and_quiet : (plan : Plan) (commands : List Task) (scope : Scope) (earlier later : List Act) (act : Act) → plan.quiet ≤ 18446744073709551615 → Runs plan commands (opening plan scope) (earlier ++ act ∷ later) → IsRequest act
     → IsClearedAndQuiet plan.quiet earlier
-cleared_and_quiet plan commands turns earlier later act small runs asks =
-    let s = stood plan commands turns earlier in
-    let split = runs_split plan commands (opening plan turns) earlier later act runs in
-    asks_in plan.quiet s.progress earlier (asks_there plan commands (order_at plan s) s act split.1 asks (order_for plan s.progress (waiting_of s))) (stage_stood plan commands turns earlier small split.0)
+cleared_and_quiet plan commands scope earlier later act small runs asks =
+    let s = stood plan commands scope earlier in
+    let split = runs_split plan commands (opening plan scope) earlier later act runs in
+    asks_in plan.quiet s.progress earlier (asks_there plan commands (order_at plan s) s act split.1 asks (order_for plan s.progress (waiting_of s))) (stage_stood plan commands scope earlier small split.0)

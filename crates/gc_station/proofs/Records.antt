@@ -4,11 +4,14 @@ use Rattle.std.specs.Prelude.{slice_get}
 use Rattle.std.proofs.lemmas.List.{length-map, length-take, map-append, map_more, take_more, take-append-drop}
 use Rattle.std.specs.Io.KnownBytes.{Appends}
 use Rattle.gc_lines.proofs.Known.{Appends-append}
+use Rattle.gc_catalogue.specs.declared.answer.Reading.{Reading}
+use Rattle.gc_catalogue.specs.declared.call.Call.{Call}
 use Rattle.gc_client.specs.declared.settlement.Settlement.{Settlement}
 use Rattle.gc_client.specs.Rule
 use Rattle.gc_client.specs.Settlements.{settlement_seen}
 use Rattle.gc_station.specs.declared.mark.Mark.{Mark}
-use Rattle.gc_station.specs.Marks.{commands_in, record_of, records_of}
+use Rattle.gc_texts.specs.Endings.{End}
+use Rattle.gc_station.specs.Marks.{commands_in, command_of, end_of, record_of, records_of, is_well, last_well}
 use Rattle.gc_station.specs.Records.{Record, texts_of, WritesPart}
 use Rattle.gc_station.specs.Tallies.{counted, tallied}
 use Rattle.gc_station.specs.declared.tally.Tally.{Tally}
@@ -35,46 +38,46 @@ commands_more marks i b below e =
 
 -- Records.
 
-pub records-none : (utc : ℕ) (marks : List (Option Mark)) → records_of utc marks [] ≡ []
-records-none utc [] = refl
-records-none utc (mark ∷ marks) = refl
+pub records-none : (reads : Call → List ℕ → Reading) (utc : ℕ) (marks : List (Option Mark)) → records_of reads utc marks [] ≡ []
+records-none reads utc [] = refl
+records-none reads utc (mark ∷ marks) = refl
 
 -- the oldest request's mark is that of its record
-mark_here : (utc : ℕ) (mark : Option Mark) (marks : List (Option Mark)) (x : Rule.Settlement) → records_of utc (mark ∷ marks) (x ∷ []) ≡ records_of utc (mark ∷ []) (x ∷ [])
-mark_here utc None marks x = records-none utc marks
-mark_here utc (Some mark) marks x = ap (λ rs. record_of utc mark x ∷ rs) (records-none utc marks)
+mark_here : (reads : Call → List ℕ → Reading) (utc : ℕ) (mark : Option Mark) (marks : List (Option Mark)) (x : Rule.Settlement) → records_of reads utc (mark ∷ marks) (x ∷ []) ≡ records_of reads utc (mark ∷ []) (x ∷ [])
+mark_here reads utc None marks x = records-none reads utc marks
+mark_here reads utc (Some mark) marks x = ap (λ rs. record_of reads utc mark x ∷ rs) (records-none reads utc marks)
 
-pub mark_first : (utc : ℕ) (marks : List (Option Mark)) (mark : Option Mark) (x : Rule.Settlement) → Some mark ≡ slice_get marks 0 → records_of utc marks (x ∷ []) ≡ records_of utc (mark ∷ []) (x ∷ [])
-mark_first utc [] mark x e = cc
-mark_first utc (m ∷ marks) mark x e = let same : m ≡ mark = cc in mark_here utc m marks x ∙ ap (λ k. records_of utc (k ∷ []) (x ∷ [])) same
+pub mark_first : (reads : Call → List ℕ → Reading) (utc : ℕ) (marks : List (Option Mark)) (mark : Option Mark) (x : Rule.Settlement) → Some mark ≡ slice_get marks 0 → records_of reads utc marks (x ∷ []) ≡ records_of reads utc (mark ∷ []) (x ∷ [])
+mark_first reads utc [] mark x e = cc
+mark_first reads utc (m ∷ marks) mark x e = let same : m ≡ mark = cc in mark_here reads utc m marks x ∙ ap (λ k. records_of reads utc (k ∷ []) (x ∷ [])) same
 
 -- the records of some settlements, and of those behind them
-pub records-append : (utc : ℕ) (marks : List (Option Mark)) (xs ys : List Rule.Settlement) → records_of utc marks (xs ++ ys) ≡ records_of utc marks xs ++ records_of utc (drop (length xs) marks) ys
-records-append utc [] [] ys = refl
-records-append utc [] (x ∷ xs) ys = refl
-records-append utc (mark ∷ marks) [] ys = refl
-records-append utc (None ∷ marks) (x ∷ xs) ys = records-append utc marks xs ys
-records-append utc (Some mark ∷ marks) (x ∷ xs) ys = ap (λ rs. record_of utc mark x ∷ rs) (records-append utc marks xs ys)
+pub records-append : (reads : Call → List ℕ → Reading) (utc : ℕ) (marks : List (Option Mark)) (xs ys : List Rule.Settlement) → records_of reads utc marks (xs ++ ys) ≡ records_of reads utc marks xs ++ records_of reads utc (drop (length xs) marks) ys
+records-append reads utc [] [] ys = refl
+records-append reads utc [] (x ∷ xs) ys = refl
+records-append reads utc (mark ∷ marks) [] ys = refl
+records-append reads utc (None ∷ marks) (x ∷ xs) ys = records-append reads utc marks xs ys
+records-append reads utc (Some mark ∷ marks) (x ∷ xs) ys = ap (λ rs. record_of reads utc mark x ∷ rs) (records-append reads utc marks xs ys)
 
 -- the settlements in front of place i, and the one at it, which has this mark
-pub front_more : (utc : ℕ) (marks : List (Option Mark)) (ss : List Settlement) (i : ℕ) (s : Settlement) (mark : Option Mark) → i < length ss → s ≡ get_or ss i s
-    → records_of utc (drop i marks) (settlement_seen s ∷ []) ≡ records_of utc (mark ∷ []) (settlement_seen s ∷ [])
-    → records_of utc marks (map settlement_seen (take (i + 1) ss)) ≡ records_of utc marks (map settlement_seen (take i ss)) ++ records_of utc (mark ∷ []) (settlement_seen s ∷ [])
-front_more utc marks ss i s mark below is here =
+pub front_more : (reads : Call → List ℕ → Reading) (utc : ℕ) (marks : List (Option Mark)) (ss : List Settlement) (i : ℕ) (s : Settlement) (mark : Option Mark) → i < length ss → s ≡ get_or ss i s
+    → records_of reads utc (drop i marks) (settlement_seen s ∷ []) ≡ records_of reads utc (mark ∷ []) (settlement_seen s ∷ [])
+    → records_of reads utc marks (map settlement_seen (take (i + 1) ss)) ≡ records_of reads utc marks (map settlement_seen (take i ss)) ++ records_of reads utc (mark ∷ []) (settlement_seen s ∷ [])
+front_more reads utc marks ss i s mark below is here =
     let front = map settlement_seen (take i ss) in
     let len : length front ≡ i = length-map (take i ss) settlement_seen ∙ omega (arith, length-take i ss, below) in
-    ap (records_of utc marks) (map_more settlement_seen ss i s below ∙ ap (λ x. front ++ settlement_seen x ∷ []) (sym is))
-    ∙ records-append utc marks front (settlement_seen s ∷ [])
-    ∙ ap (λ n. records_of utc marks front ++ records_of utc (drop n marks) (settlement_seen s ∷ [])) len
-    ∙ ap (λ rs. records_of utc marks front ++ rs) here
+    ap (records_of reads utc marks) (map_more settlement_seen ss i s below ∙ ap (λ x. front ++ settlement_seen x ∷ []) (sym is))
+    ∙ records-append reads utc marks front (settlement_seen s ∷ [])
+    ∙ ap (λ n. records_of reads utc marks front ++ records_of reads utc (drop n marks) (settlement_seen s ∷ [])) len
+    ∙ ap (λ rs. records_of reads utc marks front ++ rs) here
 
 -- those in front of place i, and the others
-pub front_rest : (utc : ℕ) (marks : List (Option Mark)) (ss : List Settlement) (i : ℕ)
-    → records_of utc marks (map settlement_seen ss) ≡ records_of utc marks (map settlement_seen (take i ss)) ++ records_of utc (drop (length (map settlement_seen (take i ss))) marks) (map settlement_seen (drop i ss))
-front_rest utc marks ss i =
-    ap (λ xs. records_of utc marks (map settlement_seen xs)) (sym (take-append-drop i ss))
-    ∙ ap (records_of utc marks) (map-append settlement_seen (take i ss) (drop i ss))
-    ∙ records-append utc marks (map settlement_seen (take i ss)) (map settlement_seen (drop i ss))
+pub front_rest : (reads : Call → List ℕ → Reading) (utc : ℕ) (marks : List (Option Mark)) (ss : List Settlement) (i : ℕ)
+    → records_of reads utc marks (map settlement_seen ss) ≡ records_of reads utc marks (map settlement_seen (take i ss)) ++ records_of reads utc (drop (length (map settlement_seen (take i ss))) marks) (map settlement_seen (drop i ss))
+front_rest reads utc marks ss i =
+    ap (λ xs. records_of reads utc marks (map settlement_seen xs)) (sym (take-append-drop i ss))
+    ∙ ap (records_of reads utc marks) (map-append settlement_seen (take i ss) (drop i ss))
+    ∙ records-append reads utc marks (map settlement_seen (take i ss)) (map settlement_seen (drop i ss))
 
 -- Texts.
 
@@ -148,7 +151,22 @@ part_behind text before front next more all later start new is whole w =
 -- counting goes on
 pub tallied-append : (t : Tally) (xs ys : List Record) → tallied t (xs ++ ys) ≡ tallied (tallied t xs) ys
 tallied-append t [] ys = refl
-tallied-append t (x ∷ xs) ys = tallied-append (counted x.settlement.outcome t) xs ys
+tallied-append t (x ∷ xs) ys = tallied-append (counted x.end t) xs ys
 
 pub tallied_more : (t u v : Tally) (front one next : List Record) → u ≡ tallied t front → v ≡ tallied u one → next ≡ front ++ one → v ≡ tallied t next
 tallied_more t u v front one next so more is = more ∙ ap (λ (x : Tally). tallied x one) so ∙ sym (tallied-append t front one) ∙ sym (ap (tallied t) is)
+
+-- and so does how the last one ended
+pub last-append : (reads : Call → List ℕ → Reading) (b : Bool) (xs ys : List Record) → last_well reads b (xs ++ ys) ≡ last_well reads (last_well reads b xs) ys
+last-append reads b [] ys = refl
+last-append reads b (x ∷ xs) ys = last-append reads (is_well reads x.command.call x.end) xs ys
+
+pub last_more : (reads : Call → List ℕ → Reading) (a b c : Bool) (front one next : List Record) → b ≡ last_well reads a front → c ≡ last_well reads b one → next ≡ front ++ one → c ≡ last_well reads a next
+last_more reads a b c front one next so more is = more ∙ ap (λ x. last_well reads x one) so ∙ sym (last-append reads a front one) ∙ sym (ap (last_well reads a) is)
+
+-- a record by how its command ended
+abbrev pub record_as : ℕ → Mark → Rule.Settlement → End → Record
+record_as utc mark settlement end = record { utc = utc; cycle = mark.cycle; place = mark.place; command = command_of settlement; end = end }
+
+pub record_same : (reads : Call → List ℕ → Reading) (utc : ℕ) (mark : Mark) (x : Rule.Settlement) (end : End) → end ≡ end_of reads x.call x.outcome → record_as utc mark x end ≡ record_of reads utc mark x
+record_same reads utc mark x end is = ap (record_as utc mark x) is

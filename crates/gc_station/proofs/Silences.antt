@@ -7,7 +7,7 @@ use Rattle.std.proofs.lemmas.List.{nil_from_length}
 use Rattle.gc_lines.specs.Frames.{rest_behind}
 use Rattle.gc_client.specs.declared.pending.Pending.{Pending}
 use Rattle.gc_client.specs.Rule.{ById, expired, is_expiring, expiring, deadlines}
-use Rattle.gc_texts.specs.declared.commands.Command.{Command}
+use Rattle.gc_texts.specs.declared.tasks.Task.{Task}
 use Rattle.gc_station.specs.declared.link.Moment.{Moment}
 use Rattle.gc_station.specs.declared.plan.Plan.{Plan}
 use Rattle.gc_station.specs.declared.cause.Cause.{Cause}
@@ -20,14 +20,14 @@ use Rattle.gc_station.specs.declared.progress.Progress.{Progress}
 use Rattle.gc_station.specs.declared.progress.Waiting.{Waiting}
 use Rattle.gc_station.specs.Acts.{Act, Told, Untold, Put, Cut, Gave, Silent, Ended, Broke, Opened, Unopened}
 use Rattle.gc_station.specs.Closing.{Shows}
-use Rattle.gc_station.specs.Deciding.{is_up, is_past, is_quiet, is_dead, is_due, drain_of, has_room, order_in, order_on, order_told, order_ready, order_sent, order_done, order_room, order_waiting, order_up}
+use Rattle.gc_station.specs.Deciding.{is_up, is_past, is_quiet, is_dead, is_due, drain_of, has_room, order_in, order_on, order_told, may_go, order_ready, order_sent, order_settled, order_done, order_room, order_waiting, order_up}
 use Rattle.gc_station.specs.Marks.{commands_in}
-use Rattle.gc_station.specs.Progressing.{turned, told, begun, reckoned_early, cleared, probed, sent, asking, waited, waiting_on, quieted, is_resting, drained, is_over, is_over_in, loses_all}
+use Rattle.gc_station.specs.Progressing.{turned, told, begun, skipped, reckoned_early, cleared, probed, sent, asking, waited, waiting_on, quieted, is_resting, drained, is_over, is_over_in, loses_all}
 use Rattle.gc_station.specs.Quiet.{TellsMoment, IsSilent}
 use Rattle.gc_station.specs.Reasons.{IsAtItsEnd}
 use Rattle.gc_station.specs.Runs.{stood}
 use Rattle.gc_station.specs.Silences.{latest, IsSilentFor}
-use Rattle.gc_station.specs.Standing.{Standing, opening, order_at, waiting_of, with_progress, with_moment, with_rest, line_came, lines_came, lines_behind, came, is_heard, is_nil, asks_null, asks_next, after_tell, after_put, after_open, after_read, IsTelling, IsOpening, IsReading, Puts, Obeys, moved, losing, ended, after, Runs}
+use Rattle.gc_station.specs.Standing.{Standing, opening, order_at, waiting_of, with_progress, with_moment, with_rest, line_came, lines_came, lines_behind, came, is_heard, is_nil, asks_null, asks_next, with_records, skips, after_tell, after_put, after_open, after_read, IsTelling, IsOpening, IsReading, Puts, Obeys, moved, losing, ended, after, Runs, bound_next}
 use Rattle.gc_station.proofs.Closings.{runs_split, closing_shown, needs_of}
 use Rattle.gc_station.proofs.Drains.{along, progress_behind}
 use Rattle.gc_station.proofs.EachRun.{fine_stood}
@@ -38,6 +38,7 @@ use Rattle.gc_station.proofs.Lists.{all_append}
 use Rattle.gc_station.proofs.Losing.{quieted_anew}
 use Rattle.gc_station.proofs.Quiets.{Timely, in_timely}
 use Rattle.gc_station.proofs.Turns.{again_down, closed_down}
+use Rattle.gc_station.specs.Scopes.{Scope}
 
 -- Requests go out, and a connection is closed for silence or for a dead line, only where requests may go, behind a moment that was told.
 
@@ -63,15 +64,20 @@ room_wakes plan p w o a x = either (Wakes p) o _ (has_room plan w) (λ e. x) (λ
 done_wakes : (plan : Plan) (p : Progress) → Wakes p (order_done plan p)
 done_wakes plan p = either (Wakes p) (orders.Close cause.Done) _ (nat_eq p.left 0) (λ e. tt) (λ e. either (Wakes p) orders.Begin orders.Rest (is_due plan p) (λ d. tt) (λ d. tt))
 
+settled_wakes : (plan : Plan) (p : Progress) (w : Waiting) → Awake p → Wakes p (order_settled plan p w)
+settled_wakes plan p w a =
+    either (Wakes p) _ _ (nat_eq p.unsent 0) (λ e. done_wakes plan p)
+    (λ e. either (Wakes p) _ orders.Skip (may_go p w) (λ well. room_wakes plan p w orders.Send a a) (λ broken. tt))
+
 sent_wakes : (plan : Plan) (p : Progress) (w : Waiting) → Awake p → Wakes p (order_sent plan p w)
 sent_wakes plan p w a =
-    either (Wakes p) _ _ (nat_eq w.commands 0) (λ e. done_wakes plan p)
+    either (Wakes p) _ _ (nat_eq w.commands 0) (λ e. settled_wakes plan p w a)
     (λ e. either (Wakes p) _ _ (nat_eq w.current 0) (λ g. room_wakes plan p w orders.Flush a a) (λ g. waiting_wakes plan p w a))
 
 ready_wakes : (plan : Plan) (p : Progress) (w : Waiting) → Awake p → Wakes p (order_ready plan p w)
 ready_wakes plan p w a =
     either (Wakes p) _ _ p.alone (λ e. waiting_wakes plan p w a)
-    (λ e. either (Wakes p) _ _ (nat_lt 0 p.unsent) (λ some. room_wakes plan p w orders.Send a a) (λ none. sent_wakes plan p w a))
+    (λ e. either (Wakes p) _ _ (nat_lt 0 p.unsent && not p.bound) (λ some. room_wakes plan p w orders.Send a a) (λ none. sent_wakes plan p w a))
 
 closing_wakes : (p : Progress) (why : Cause) → p.phase ≡ phase.Closing why → Wakes p (orders.Close why)
 closing_wakes p cause.Silence is = inl is
@@ -164,7 +170,7 @@ quieted_up plan phase.Draining p is = drained_up (is_past (drain_of plan p) p) p
 quieted_up plan at p is = ap is_up is
 
 -- a read gives nothing, on a connection, and gives nothing up
-silent_keeps : (plan : Plan) (commands : List Command) (rested : Bool) (s : Standing) (m : Moment) → Fine plan commands s → is_up s.progress.phase ≡ true → not (is_nil (expiring m.elapsed s.client.waiting)) ≡ false
+silent_keeps : (plan : Plan) (commands : List Task) (rested : Bool) (s : Standing) (m : Moment) → Fine plan commands s → is_up s.progress.phase ≡ true → not (is_nil (expiring m.elapsed s.client.waiting)) ≡ false
     → deadlines (ended (after_read plan rested (with_progress turned s) (Silent m))).client.waiting ≡ deadlines s.client.waiting
 silent_keeps plan commands rested s m fine up none = lost_deadlines t (loses_all t.progress) (deadlines s.client.waiting) (λ e. same_deadlines m.elapsed s.client.waiting (nil_is (is_nil (expiring m.elapsed s.client.waiting)) none)) fresh where
   t : Standing
@@ -185,7 +191,7 @@ silent_keeps plan commands rested s m fine up none = lost_deadlines t (loses_all
       let anew = left_true t.progress.anew (is_over t.progress) all goes in
       ap (λ (c : ById). deadlines c.waiting) (fine.anew (sym (quieted_anew plan s.progress.phase (waited rested m (turned s.progress))) ∙ anew)).0
 
-module _ (plan : Plan) (commands : List Command) (turns : ℕ) where
+module _ (plan : Plan) (commands : List Task) (scope : Scope) where
   -- behind an act that told a moment all reads gave nothing, and no request was given up; this moment was told last
   pub record IsHushed (since now : ℕ) (acts : List Act) : Type 0 where
     pub before : List Act
@@ -195,7 +201,7 @@ module _ (plan : Plan) (commands : List Command) (turns : ℕ) where
     pub starts : TellsMoment since start
     pub silent : AllByRecursion IsSilent silence
     pub last : latest since silence ≡ now
-    pub kept : deadlines (stood plan commands turns acts).client.waiting ≡ deadlines (stood plan commands turns (before ++ start ∷ [])).client.waiting
+    pub kept : deadlines (stood plan commands scope acts).client.waiting ≡ deadlines (stood plan commands scope (before ++ start ∷ [])).client.waiting
 
   -- it begins
   hushed_now : (now : ℕ) (acts : List Act) (act : Act) → TellsMoment now act → IsHushed now now (acts ++ act ∷ [])
@@ -212,7 +218,7 @@ module _ (plan : Plan) (commands : List Command) (turns : ℕ) where
 
   -- a read that gave nothing leaves what is under way
   abbrev Keeps : List Act → Moment → Type 0
-  Keeps acts m = deadlines (stood plan commands turns (acts ++ Silent m ∷ [])).client.waiting ≡ deadlines (stood plan commands turns acts).client.waiting
+  Keeps acts m = deadlines (stood plan commands scope (acts ++ Silent m ∷ [])).client.waiting ≡ deadlines (stood plan commands scope acts).client.waiting
 
   -- it goes on
   hushed_on : (since now : ℕ) (acts : List Act) (m : Moment) → Keeps acts m → IsHushed since now acts → IsHushed since m.elapsed (acts ++ Silent m ∷ [])
@@ -350,18 +356,18 @@ module _ (plan : Plan) (commands : List Command) (turns : ℕ) where
   keeps_turned s (Silent m) acts keeps = keeps
   keeps_turned s act acts keeps = tt
 
-  keeps_stood : (done : List Act) (act : Act) → Obeys commands (stood plan commands turns done) (order_at plan (stood plan commands turns done)) act → KeepsAt (stood plan commands turns done) act done
+  keeps_stood : (done : List Act) (act : Act) → Obeys commands (stood plan commands scope done) (order_at plan (stood plan commands scope done)) act → KeepsAt (stood plan commands scope done) act done
   keeps_stood done (Silent m) o = keeps where
     s : Standing
-    s = stood plan commands turns done
+    s = stood plan commands scope done
 
-    there : stood plan commands turns (done ++ Silent m ∷ []) ≡ after plan commands s (Silent m)
-    there = after_all-append plan commands (opening plan turns) done (Silent m ∷ [])
+    there : stood plan commands scope (done ++ Silent m ∷ []) ≡ after plan commands s (Silent m)
+    there = after_all-append plan commands (opening plan scope) done (Silent m ∷ [])
 
-    keeps : is_up (stood plan commands turns done).progress.phase ≡ true → not (is_nil (expiring m.elapsed (stood plan commands turns done).client.waiting)) ≡ false → Keeps done m
+    keeps : is_up (stood plan commands scope done).progress.phase ≡ true → not (is_nil (expiring m.elapsed (stood plan commands scope done).client.waiting)) ≡ false → Keeps done m
     keeps up none = by_order (order_at plan s) refl o where
       read : (rested : Bool) → after plan commands s (Silent m) ≡ ended (after_read plan rested (with_progress turned s) (Silent m)) → Keeps done m
-      read rested is = ap (λ (x : Standing). deadlines x.client.waiting) (there ∙ is) ∙ silent_keeps plan commands rested s m (fine_stood plan commands turns done) up none
+      read rested is = ap (λ (x : Standing). deadlines x.client.waiting) (there ∙ is) ∙ silent_keeps plan commands rested s m (fine_stood plan commands scope done) up none
 
       by_order : (next : Order) → order_at plan s ≡ next → Obeys commands s next (Silent m) → Keeps done m
       by_order orders.Read is o = read false (ap (λ (next : Order). ended (moved plan commands next (with_progress turned s) (Silent m))) is)
@@ -379,7 +385,10 @@ module _ (plan : Plan) (commands : List Command) (turns : ℕ) where
   hush_moved orders.Open s act acts o time keeps h = open_hush (with_progress turned s) act acts o
   hush_moved orders.Clear s act acts o time keeps h = put_hush _ _ (with_progress cleared) (with_progress turned s) act acts o refl
   hush_moved orders.Probe s act acts o time keeps h = put_hush _ _ (λ (x : Standing). with_progress probed (asks_null plan x)) (with_progress turned s) act acts o refl
-  hush_moved orders.Send s act acts o time keeps h = put_hush _ _ (λ (x : Standing). with_progress sent (asks_next plan commands x)) (with_progress turned s) act acts o refl
+  hush_moved orders.Send s act acts o time keeps h = put_hush _ _ (λ (x : Standing). with_progress (sent (bound_next commands x.progress)) (asks_next plan commands x)) (with_progress turned s) act acts o refl
+  hush_moved orders.Skip s act acts o time keeps h =
+      tell_hush (λ (m : Moment) (p : Progress). reckoned_early plan (commands_in s.marks) (skipped (bound_next commands s.progress) m p))
+      (with_records (skips plan commands (turned s.progress) act) (with_progress turned s)) act acts o (λ m now. hush_there m.elapsed m.elapsed s.progress.phase (acts ++ Told m ∷ []) now)
   hush_moved orders.Flush s act acts o time keeps h = put_hush _ _ (λ (x : Standing). with_progress asking (asks_null plan x)) (with_progress turned s) act acts o refl
   hush_moved orders.Read s act acts o time keeps h = read_hush false (with_progress turned s) act acts o time.0 (keeps_turned s act acts keeps) h
   hush_moved orders.Rest s act acts o time keeps h = read_hush true (with_progress turned s) act acts o time.0 (keeps_turned s act acts keeps) h
@@ -389,13 +398,13 @@ module _ (plan : Plan) (commands : List Command) (turns : ℕ) where
 
   -- Whole runs.
 
-  pub hush_stood : (acts : List Act) → Runs plan commands (opening plan turns) acts → HushAt (stood plan commands turns acts).progress acts
-  hush_stood acts runs = along plan commands (opening plan turns) (λ (xs : List Act). HushAt (stood plan commands turns xs).progress xs) step [] acts runs tt where
-    step : (done later : List Act) (act : Act) → Runs plan commands (opening plan turns) (done ++ act ∷ later) → HushAt (stood plan commands turns done).progress done → HushAt (stood plan commands turns (done ++ act ∷ [])).progress (done ++ act ∷ [])
+  pub hush_stood : (acts : List Act) → Runs plan commands (opening plan scope) acts → HushAt (stood plan commands scope acts).progress acts
+  hush_stood acts runs = along plan commands (opening plan scope) (λ (xs : List Act). HushAt (stood plan commands scope xs).progress xs) step [] acts runs tt where
+    step : (done later : List Act) (act : Act) → Runs plan commands (opening plan scope) (done ++ act ∷ later) → HushAt (stood plan commands scope done).progress done → HushAt (stood plan commands scope (done ++ act ∷ [])).progress (done ++ act ∷ [])
     step done later act runs h =
-        let s = stood plan commands turns done in
-        let split = runs_split plan commands (opening plan turns) done later act runs in
-        subst (λ (p : Progress). HushAt p (done ++ act ∷ [])) (sym (progress_behind plan commands turns done act))
+        let s = stood plan commands scope done in
+        let split = runs_split plan commands (opening plan scope) done later act runs in
+        subst (λ (p : Progress). HushAt p (done ++ act ∷ [])) (sym (progress_behind plan commands scope done act))
         (hush_moved (order_at plan s) s act done split.1 (in_timely plan s.progress.phase s.progress (waiting_of s)) (keeps_stood done act split.1) h)
 
   -- where requests may go out, behind a moment that was told
@@ -405,8 +414,8 @@ module _ (plan : Plan) (commands : List Command) (turns : ℕ) where
 
 -- A close that no act shows is decided where it is made.
 
-pub not_closing : (plan : Plan) (commands : List Command) (turns : ℕ) (acts : List Act) (why : Cause) → Runs plan commands (opening plan turns) acts → ((act : Act) → Shows why act → ⊥) → (stood plan commands turns acts).progress.phase ≡ phase.Closing why → ⊥
-not_closing plan commands turns acts why runs none is = let shown = closing_shown plan commands turns acts why runs is in none shown.1 shown.3
+pub not_closing : (plan : Plan) (commands : List Task) (scope : Scope) (acts : List Act) (why : Cause) → Runs plan commands (opening plan scope) acts → ((act : Act) → Shows why act → ⊥) → (stood plan commands scope acts).progress.phase ≡ phase.Closing why → ⊥
+not_closing plan commands scope acts why runs none is = let shown = closing_shown plan commands scope acts why runs is in none shown.1 shown.3
 
 pub end_here : (plan : Plan) (s : Standing) (why : Cause) → order_at plan s ≡ orders.Close why → (s.progress.phase ≡ phase.Closing why → ⊥) → IsAtItsEnd plan s.progress (waiting_of s) why
 end_here plan s why is never = by_needs (needs_of plan s (orders.Close why) is).1 where
@@ -418,14 +427,14 @@ pub awake_here : (p : Progress) (why : Cause) → (p.phase ≡ phase.Closing why
 awake_here p why (inl closing) never = absurd (never closing)
 awake_here p why (inr a) never = a
 
-pub silent_close : (plan : Plan) (commands : List Command) (turns : ℕ) (acts : List Act) → Runs plan commands (opening plan turns) acts → order_at plan (stood plan commands turns acts) ≡ orders.Close cause.Silence → IsSilentFor plan.quiet plan commands turns acts
-silent_close plan commands turns acts runs is =
-    let s = stood plan commands turns acts in
+pub silent_close : (plan : Plan) (commands : List Task) (scope : Scope) (acts : List Act) → Runs plan commands (opening plan scope) acts → order_at plan (stood plan commands scope acts) ≡ orders.Close cause.Silence → IsSilentFor plan.quiet plan commands scope acts
+silent_close plan commands scope acts runs is =
+    let s = stood plan commands scope acts in
     let p = s.progress in
-    let never = not_closing plan commands turns acts cause.Silence runs (λ act shows. shows) in
+    let never = not_closing plan commands scope acts cause.Silence runs (λ act shows. shows) in
     let end = end_here plan s cause.Silence is never in
     let wakes = subst (λ (next : Order). Wakes p next) is (in_wakes plan p.phase p (waiting_of s) refl) in
-    let h = awake_hushed plan commands turns p acts (awake_here p cause.Silence wakes never) (hush_stood plan commands turns acts runs) in
+    let h = awake_hushed plan commands scope p acts (awake_here p cause.Silence wakes never) (hush_stood plan commands scope acts runs) in
     let long : plan.quiet ≤ p.moment.elapsed - p.since = leb-true plan.quiet (p.moment.elapsed - p.since) end.2 in
     record {
       before = h.before;

@@ -5,7 +5,7 @@ use Rattle.std.proofs.lemmas.List.{length-map, length-append, nil_from_length}
 use Rattle.gc_lines.specs.Frames.{rest_behind}
 use Rattle.gc_client.specs.declared.pending.Pending.{Pending}
 use Rattle.gc_client.specs.Rule.{ById}
-use Rattle.gc_texts.specs.declared.commands.Command.{Command}
+use Rattle.gc_texts.specs.declared.tasks.Task.{Task}
 use Rattle.gc_station.specs.declared.link.Moment.{Moment}
 use Rattle.gc_station.specs.declared.mark.Mark.{Mark}
 use Rattle.gc_station.specs.declared.plan.Plan.{Plan}
@@ -22,10 +22,10 @@ use Rattle.gc_station.specs.Closing.{Shows, EndsDone, EndsBehind, commands_behin
 use Rattle.gc_station.specs.Deciding.{is_up, is_past, drain_of}
 use Rattle.gc_station.specs.EachOnce.{still_waiting, of_record, sent_by}
 use Rattle.gc_station.specs.Marks.{commands_in}
-use Rattle.gc_station.specs.Progressing.{turned, told, begun, reckoned_early, cleared, probed, sent, asking, waited, quieted, drained, is_resting, begins_anew, closed_again, closed, is_over, loses_all}
+use Rattle.gc_station.specs.Progressing.{turned, told, begun, skipped, reckoned_early, cleared, probed, sent, asking, waited, quieted, drained, is_resting, begins_anew, closed_again, closed, is_over, loses_all}
 use Rattle.gc_station.specs.Records.{Record}
 use Rattle.gc_station.specs.Runs.{stood}
-use Rattle.gc_station.specs.Standing.{Standing, opening, order_at, waiting_of, place_next, mark_next, with_progress, with_moment, with_rest, line_came, lines_came, lines_behind, came, is_heard, asks_null, asks_first, asks_next, after_tell, after_put, after_open, after_read, piece_at, IsTelling, IsOpening, IsReading, Puts, Obeys, moved, losing, after, after_all, Runs}
+use Rattle.gc_station.specs.Standing.{Standing, opening, order_at, waiting_of, place_next, bound_next, mark_next, with_progress, with_moment, with_rest, line_came, lines_came, lines_behind, came, is_heard, asks_null, asks_first, asks_next, with_records, skips, after_tell, after_put, after_open, after_read, piece_at, IsTelling, IsOpening, IsReading, Puts, Obeys, moved, losing, after, after_all, Runs}
 use Rattle.gc_station.specs.Tries.{IsTried, IsEnding, ends_in, opens_in, SettlesNone, NoneSettled, EndsSettled, AllTried}
 use Rattle.gc_station.proofs.Beginning.{over_stays}
 use Rattle.gc_station.proofs.Closings.{runs_split, needs_of, end_of, Decided, after_decided, done_sent}
@@ -40,6 +40,7 @@ use Rattle.gc_station.proofs.Losing.{came_leaves}
 use Rattle.gc_station.proofs.Opens.{Counted, counted_moved}
 use Rattle.gc_station.proofs.Records.{Grew}
 use Rattle.gc_station.proofs.Turns.{up_count}
+use Rattle.gc_station.specs.Scopes.{Scope}
 
 -- Each end of a connection takes a try at most, and only a read gives tries back.
 
@@ -59,6 +60,13 @@ tell_took plan f s (Told m) o same = let e = same m in omega (arith, e)
 tell_took plan f s Untold o same = omega arith
 tell_took plan f s act o same = absurd o
 
+-- what is written down takes none, either
+skip_took : (plan : Plan) (f : Moment → Progress → Progress) (records : List Record) (s : Standing) (act : Act) → IsTelling act → ((m : Moment) → (f m s.progress).tries ≡ s.progress.tries)
+    → Took plan s act (after_tell f (with_records records s) act)
+skip_took plan f records s (Told m) o same = let e = same m in omega (arith, e)
+skip_took plan f records s Untold o same = omega arith
+skip_took plan f records s act o same = absurd o
+
 open_took : (plan : Plan) (s : Standing) (act : Act) → IsOpening act → Took plan s act (after_open plan s act)
 open_took plan s Opened o = omega arith
 open_took plan s Unopened o = omega arith
@@ -69,9 +77,9 @@ put_took plan requests bytes f s (Put out) o same = omega (arith, same)
 put_took plan requests bytes f s (Cut out n) o same = omega (arith, same)
 put_took plan requests bytes f s act o same = absurd o
 
-first_tries : (plan : Plan) (mark : Mark) (left : List Command) (s : Standing) → (asks_first plan mark left s).progress.tries ≡ s.progress.tries
-first_tries plan mark [] s = refl
-first_tries plan mark (command ∷ others) s = refl
+first_tries : (mark : Mark) (left : List Task) (s : Standing) → (asks_first mark left s).progress.tries ≡ s.progress.tries
+first_tries mark [] s = refl
+first_tries mark (command ∷ others) s = refl
 
 lines_tries : (s : Standing) (lines : List (List ℕ)) → (lines_came s lines).progress.tries ≡ s.progress.tries
 lines_tries s [] = refl
@@ -131,15 +139,18 @@ close_took plan w cause.Clock p = omega arith
 close_took plan w cause.Turns p = omega arith
 close_took plan w why p = again_took plan w why (begins_anew why p) p
 
-took_moved : (plan : Plan) (commands : List Command) (next : Order) (s : Standing) (act : Act) → Obeys commands s next act → Took plan (with_progress turned s) act (moved plan commands next (with_progress turned s) act)
+took_moved : (plan : Plan) (commands : List Task) (next : Order) (s : Standing) (act : Act) → Obeys commands s next act → Took plan (with_progress turned s) act (moved plan commands next (with_progress turned s) act)
 took_moved plan commands orders.Tell s act o = tell_took plan (λ (m : Moment) (p : Progress). reckoned_early plan (commands_in s.marks) (told m p)) (with_progress turned s) act o (λ m. refl)
 took_moved plan commands orders.Begin s act o = tell_took plan (begun plan (length commands)) (with_progress turned s) act o (λ m. refl)
 took_moved plan commands orders.Open s act o = open_took plan (with_progress turned s) act o
 took_moved plan commands orders.Clear s act o = put_took plan _ _ (with_progress cleared) (with_progress turned s) act o refl
 took_moved plan commands orders.Probe s act o = put_took plan _ _ (λ (x : Standing). with_progress probed (asks_null plan x)) (with_progress turned s) act o refl
 took_moved plan commands orders.Send s act o =
-    put_took plan _ _ (λ (x : Standing). with_progress sent (asks_next plan commands x)) (with_progress turned s) act o
-    (first_tries plan (mark_next plan commands s.progress) (drop (place_next commands s.progress) commands) (with_progress turned s))
+    put_took plan _ _ (λ (x : Standing). with_progress (sent (bound_next commands x.progress)) (asks_next plan commands x)) (with_progress turned s) act o
+    (first_tries (mark_next plan commands s.progress) (drop (place_next commands s.progress) commands) (with_progress turned s))
+took_moved plan commands orders.Skip s act o =
+    skip_took plan (λ (m : Moment) (p : Progress). reckoned_early plan (commands_in s.marks) (skipped (bound_next commands s.progress) m p)) (skips plan commands (turned s.progress) act)
+    (with_progress turned s) act o (λ m. refl)
 took_moved plan commands orders.Flush s act o = put_took plan _ _ (λ (x : Standing). with_progress asking (asks_null plan x)) (with_progress turned s) act o refl
 took_moved plan commands orders.Read s act o = read_took plan false (with_progress turned s) act o
 took_moved plan commands orders.Rest s act o = read_took plan true (with_progress turned s) act o
@@ -162,7 +173,7 @@ waiting_count (None ∷ marks) (w ∷ waits) e = waiting_count marks waits (omeg
 waiting_count (Some mark ∷ marks) (w ∷ waits) e = ap suc (waiting_count marks waits (omega (arith, e)))
 
 -- how many commands were sent
-counted_out : (plan : Plan) (commands : List Command) (s : Standing) → Fine plan commands s → length s.records + commands_in s.marks ≡ length (sent_by commands (plan.cycles - s.progress.left) (place_next commands s.progress))
+counted_out : (plan : Plan) (commands : List Task) (s : Standing) → Fine plan commands s → length s.records + commands_in s.marks ≡ length (sent_by commands (plan.cycles - s.progress.left) (place_next commands s.progress))
 counted_out plan commands s fine =
     let a = length-append (map of_record s.records) (still_waiting s.marks s.client.waiting) in
     let b = length-map s.records of_record in
@@ -170,7 +181,7 @@ counted_out plan commands s fine =
     let d = ap length fine.each in
     omega (arith, a, b, c, d)
 
-same_out : (plan : Plan) (commands : List Command) (s t : Standing) → Fine plan commands s → Fine plan commands t → t.progress.left ≡ s.progress.left → t.progress.unsent ≡ s.progress.unsent
+same_out : (plan : Plan) (commands : List Task) (s t : Standing) → Fine plan commands s → Fine plan commands t → t.progress.left ≡ s.progress.left → t.progress.unsent ≡ s.progress.unsent
     → length t.records + commands_in t.marks ≡ length s.records + commands_in s.marks
 same_out plan commands s t fine fine' left unsent =
     counted_out plan commands t fine'
@@ -202,7 +213,7 @@ settling_by plan s t mid old grew same kept (inr more) = inr (grew_none s.record
   by_kept (inr none) = omega (arith, none, same)
 
 -- what waits is lost only where the run is over, or it begins anew, and then nothing waits
-kept_marks : (plan : Plan) (commands : List Command) (s t : Standing) (b : Bool) → loses_all t.progress ≡ b → is_over t.progress ≡ false → t.progress.anew ≡ s.progress.anew → Fine plan commands s
+kept_marks : (plan : Plan) (commands : List Task) (s t : Standing) (b : Bool) → loses_all t.progress ≡ b → is_over t.progress ≡ false → t.progress.anew ≡ s.progress.anew → Fine plan commands s
     → (commands_in (losing b t).marks ≡ commands_in t.marks) ⊎ (commands_in s.marks ≡ 0)
 kept_marks plan commands s t false e goes anew fine = inl refl
 kept_marks plan commands s t true e goes anew fine =
@@ -213,7 +224,7 @@ kept_marks plan commands s t true e goes anew fine =
       left_true true b e no_ = refl
       left_true false b e no_ = cc
 
-gave_settles : (plan : Plan) (commands : List Command) (s t u : Standing) → Fine plan commands s → Fine plan commands u → Hears plan s t → Grew s.records u.records → u.progress ≡ t.progress
+gave_settles : (plan : Plan) (commands : List Task) (s t u : Standing) → Fine plan commands s → Fine plan commands u → Hears plan s t → Grew s.records u.records → u.progress ≡ t.progress
     → (commands_in u.marks ≡ commands_in t.marks) ⊎ (commands_in s.marks ≡ 0) → Settling plan s u
 gave_settles plan commands s t u fine fine' h grew same kept =
     settling_by plan s u (commands_in t.marks) (commands_in s.marks) grew
@@ -234,31 +245,31 @@ opens_more (Opened ∷ xs) act = let e = opens_more xs act in omega (arith, e)
 opens_more (Unopened ∷ xs) act = let e = opens_more xs act in omega (arith, e)
 opens_more (x ∷ xs) act = opens_more xs act
 
-none_more : (plan : Plan) (commands : List Command) (s : Standing) (xs : List Act) (act : Act) → NoneSettled plan commands s xs → SettlesNone (after_all plan commands s xs) act (after plan commands (after_all plan commands s xs) act)
+none_more : (plan : Plan) (commands : List Task) (s : Standing) (xs : List Act) (act : Act) → NoneSettled plan commands s xs → SettlesNone (after_all plan commands s xs) act (after plan commands (after_all plan commands s xs) act)
     → NoneSettled plan commands s (xs ++ act ∷ [])
 none_more plan commands s [] act none here = (here, tt)
 none_more plan commands s (x ∷ xs) act none here = (none.0, none_more plan commands (after plan commands s x) xs act none.1 here)
 
-record Trying (plan : Plan) (commands : List Command) (turns tries : ℕ) (up : Bool) (acts : List Act) : Type 0 where
+record Trying (plan : Plan) (commands : List Task) (scope : Scope) (tries : ℕ) (up : Bool) (acts : List Act) : Type 0 where
   before : List Act
   behind : List Act
   held : ℕ
   order : acts ≡ before ++ behind
-  since : (before ≡ []) ⊎ EndsSettled plan commands turns before
-  none : NoneSettled plan commands (stood plan commands turns before) behind
+  since : (before ≡ []) ⊎ EndsSettled plan commands scope before
+  none : NoneSettled plan commands (stood plan commands scope before) behind
   left : plan.retries ≤ tries + ends_in behind
   most : held ≤ 1
   first : before ≡ [] → held ≡ 0
   opens : opens_in behind + held ≡ ends_in behind + up_count up
 
 -- an act at which no command was settled
-abbrev trying_on : (plan : Plan) (commands : List Command) (turns tries tries' : ℕ) (up up' : Bool) (acts : List Act) (act : Act) → tries ≤ tries' + ends_in (act ∷ []) → Counted up act up'
-    → SettlesNone (stood plan commands turns acts) act (after plan commands (stood plan commands turns acts) act)
-    → Trying plan commands turns tries up acts → Trying plan commands turns tries' up' (acts ++ act ∷ [])
-trying_on plan commands turns tries tries' up up' acts act took counted settles t =
+abbrev trying_on : (plan : Plan) (commands : List Task) (scope : Scope) (tries tries' : ℕ) (up up' : Bool) (acts : List Act) (act : Act) → tries ≤ tries' + ends_in (act ∷ []) → Counted up act up'
+    → SettlesNone (stood plan commands scope acts) act (after plan commands (stood plan commands scope acts) act)
+    → Trying plan commands scope tries up acts → Trying plan commands scope tries' up' (acts ++ act ∷ [])
+trying_on plan commands scope tries tries' up up' acts act took counted settles t =
     let ends = ends_more t.behind act in
     let opens = opens_more t.behind act in
-    let there : stood plan commands turns acts ≡ after_all plan commands (stood plan commands turns t.before) t.behind = ap (stood plan commands turns) t.order ∙ after_all-append plan commands (opening plan turns) t.before t.behind in
+    let there : stood plan commands scope acts ≡ after_all plan commands (stood plan commands scope t.before) t.behind = ap (stood plan commands scope) t.order ∙ after_all-append plan commands (opening plan scope) t.before t.behind in
     let enough = t.left in
     let even = t.opens in
     let least : plan.retries ≤ tries' + ends_in (t.behind ++ act ∷ []) = omega (arith, ends, took, enough) in
@@ -269,7 +280,7 @@ trying_on plan commands turns tries tries' up up' acts act took counted settles 
       held = t.held;
       order = ap (λ xs. xs ++ act ∷ []) t.order ∙ append_assoc t.before t.behind (act ∷ []);
       since = t.since;
-      none = none_more plan commands (stood plan commands turns t.before) t.behind act t.none (subst (λ (x : Standing). SettlesNone x act (after plan commands x act)) there settles);
+      none = none_more plan commands (stood plan commands scope t.before) t.behind act t.none (subst (λ (x : Standing). SettlesNone x act (after plan commands x act)) there settles);
       left = least;
       most = t.most;
       first = t.first;
@@ -277,9 +288,9 @@ trying_on plan commands turns tries tries' up up' acts act took counted settles 
     }
 
 -- a read that settled one
-trying_anew : (plan : Plan) (commands : List Command) (turns tries : ℕ) (up : Bool) (acts : List Act) (bytes : List ℕ) (m : Moment) → tries ≡ plan.retries
-    → (stood plan commands turns (acts ++ Gave bytes m ∷ [])).records ≢ (stood plan commands turns acts).records → Trying plan commands turns tries up (acts ++ Gave bytes m ∷ [])
-trying_anew plan commands turns tries up acts bytes m all settled = record {
+trying_anew : (plan : Plan) (commands : List Task) (scope : Scope) (tries : ℕ) (up : Bool) (acts : List Act) (bytes : List ℕ) (m : Moment) → tries ≡ plan.retries
+    → (stood plan commands scope (acts ++ Gave bytes m ∷ [])).records ≢ (stood plan commands scope acts).records → Trying plan commands scope tries up (acts ++ Gave bytes m ∷ [])
+trying_anew plan commands scope tries up acts bytes m all settled = record {
   before = acts ++ Gave bytes m ∷ [];
   behind = [];
   held = up_count up;
@@ -299,15 +310,15 @@ trying_anew plan commands turns tries up acts bytes m all settled = record {
   some [] e = cc
   some (x ∷ xs) e = cc
 
-abbrev Try : Plan → List Command → ℕ → List Act → Type 0
-Try plan commands turns acts =
-    is_over (stood plan commands turns acts).progress ≡ false → Trying plan commands turns (stood plan commands turns acts).progress.tries (is_up (stood plan commands turns acts).progress.phase) acts
+abbrev Try : Plan → List Task → Scope → List Act → Type 0
+Try plan commands scope acts =
+    is_over (stood plan commands scope acts).progress ≡ false → Trying plan commands scope (stood plan commands scope acts).progress.tries (is_up (stood plan commands scope acts).progress.phase) acts
 
 goes_on : (b : Bool) → (b ≡ true → ⊥) → b ≡ false
 goes_on true never = absurd (never refl)
 goes_on false never = refl
 
-after_grew : (plan : Plan) (commands : List Command) (s : Standing) (act : Act) → Grew s.records (after plan commands s act).records
+after_grew : (plan : Plan) (commands : List Task) (s : Standing) (act : Act) → Grew s.records (after plan commands s act).records
 after_grew plan commands s act =
     let t = moved plan commands (order_at plan s) (with_progress turned s) act in
     let a = moved_grew plan commands (order_at plan s) (with_progress turned s) act in
@@ -315,50 +326,50 @@ after_grew plan commands s act =
     (a.0 ++ b.0, b.1 ∙ ap (λ xs. xs ++ b.0) a.1 ∙ append_assoc s.records a.0 b.0)
 
 -- one act more
-try_step : (plan : Plan) (commands : List Command) (turns : ℕ) (acts : List Act) (act : Act) (s u : Standing) (t : Standing) → stood plan commands turns acts ≡ s → stood plan commands turns (acts ++ act ∷ []) ≡ u → u ≡ after plan commands s act
+try_step : (plan : Plan) (commands : List Task) (scope : Scope) (acts : List Act) (act : Act) (s u : Standing) (t : Standing) → stood plan commands scope acts ≡ s → stood plan commands scope (acts ++ act ∷ []) ≡ u → u ≡ after plan commands s act
     → u.progress ≡ t.progress → Took plan s act t → Counted (is_up s.progress.phase) act (is_up t.progress.phase) → (((bytes : List ℕ) × (m : Moment) × (act ≡ Gave bytes m)) → Hears plan s t → Settling plan s u)
-    → Trying plan commands turns s.progress.tries (is_up s.progress.phase) acts → Trying plan commands turns u.progress.tries (is_up u.progress.phase) (acts ++ act ∷ [])
-try_step plan commands turns acts (Gave bytes m) s u t before behind does same took counted settling trying = by_settling (settling (bytes, m, refl) took) where
+    → Trying plan commands scope s.progress.tries (is_up s.progress.phase) acts → Trying plan commands scope u.progress.tries (is_up u.progress.phase) (acts ++ act ∷ [])
+try_step plan commands scope acts (Gave bytes m) s u t before behind does same took counted settling trying = by_settling (settling (bytes, m, refl) took) where
   up_same : Counted (is_up s.progress.phase) (Gave bytes m) (is_up u.progress.phase)
   up_same = subst (λ (p : Progress). Counted (is_up s.progress.phase) (Gave bytes m) (is_up p.phase)) (sym same) counted
 
-  by_settling : Settling plan s u → Trying plan commands turns u.progress.tries (is_up u.progress.phase) (acts ++ Gave bytes m ∷ [])
-  by_settling (inl some) = trying_anew plan commands turns u.progress.tries (is_up u.progress.phase) acts bytes m some.1 (λ e. some.0 (sym (ap (λ (x : Standing). x.records) behind) ∙ e ∙ ap (λ (x : Standing). x.records) before))
+  by_settling : Settling plan s u → Trying plan commands scope u.progress.tries (is_up u.progress.phase) (acts ++ Gave bytes m ∷ [])
+  by_settling (inl some) = trying_anew plan commands scope u.progress.tries (is_up u.progress.phase) acts bytes m some.1 (λ e. some.0 (sym (ap (λ (x : Standing). x.records) behind) ∙ e ∙ ap (λ (x : Standing). x.records) before))
   by_settling (inr none) =
       let kept = none.1 in
       let tries : s.progress.tries ≤ u.progress.tries + 0 = omega (arith, kept) in
-      trying_on plan commands turns s.progress.tries u.progress.tries (is_up s.progress.phase) (is_up u.progress.phase) acts (Gave bytes m) tries up_same
+      trying_on plan commands scope s.progress.tries u.progress.tries (is_up s.progress.phase) (is_up u.progress.phase) acts (Gave bytes m) tries up_same
       (subst (λ (x : Standing). (after plan commands x (Gave bytes m)).records ≡ x.records) (sym before) (sym (ap (λ (x : Standing). x.records) does) ∙ none.0)) trying
-try_step plan commands turns acts act s u t before behind does same took counted settling trying =
-    trying_on plan commands turns s.progress.tries u.progress.tries (is_up s.progress.phase) (is_up u.progress.phase) acts act
+try_step plan commands scope acts act s u t before behind does same took counted settling trying =
+    trying_on plan commands scope s.progress.tries u.progress.tries (is_up s.progress.phase) (is_up u.progress.phase) acts act
     (subst (λ (p : Progress). s.progress.tries ≤ p.tries + ends_in (act ∷ [])) (sym same) took)
     (subst (λ (p : Progress). Counted (is_up s.progress.phase) act (is_up p.phase)) (sym same) counted) tt trying
 
-behind_one : (plan : Plan) (commands : List Command) (turns : ℕ) (done : List Act) (act : Act) → stood plan commands turns (done ++ act ∷ []) ≡ after plan commands (stood plan commands turns done) act
-behind_one plan commands turns done act = after_all-append plan commands (opening plan turns) done (act ∷ [])
+behind_one : (plan : Plan) (commands : List Task) (scope : Scope) (done : List Act) (act : Act) → stood plan commands scope (done ++ act ∷ []) ≡ after plan commands (stood plan commands scope done) act
+behind_one plan commands scope done act = after_all-append plan commands (opening plan scope) done (act ∷ [])
 
-try_after : (plan : Plan) (commands : List Command) (turns : ℕ) (done later : List Act) (act : Act) → Runs plan commands (opening plan turns) (done ++ act ∷ later) → Try plan commands turns done → Try plan commands turns (done ++ act ∷ [])
-try_after plan commands turns done later act runs trying not_over =
-    let s = stood plan commands turns done in
-    let u = stood plan commands turns (done ++ act ∷ []) in
+try_after : (plan : Plan) (commands : List Task) (scope : Scope) (done later : List Act) (act : Act) → Runs plan commands (opening plan scope) (done ++ act ∷ later) → Try plan commands scope done → Try plan commands scope (done ++ act ∷ [])
+try_after plan commands scope done later act runs trying not_over =
+    let s = stood plan commands scope done in
+    let u = stood plan commands scope (done ++ act ∷ []) in
     let t = moved plan commands (order_at plan s) (with_progress turned s) act in
-    let split = runs_split plan commands (opening plan turns) done later act runs in
-    let same = progress_behind plan commands turns done act in
+    let split = runs_split plan commands (opening plan scope) done later act runs in
+    let same = progress_behind plan commands scope done act in
     let goes = goes_on (is_over s.progress) (λ over. over_stays plan commands s act over split.1) in
-    let fine = fine_stood plan commands turns done in
-    let fine' = fine_stood plan commands turns (done ++ act ∷ []) in
-    let there = behind_one plan commands turns done act in
+    let fine = fine_stood plan commands scope done in
+    let fine' = fine_stood plan commands scope (done ++ act ∷ []) in
+    let there = behind_one plan commands scope done act in
     let not_over_mid : is_over t.progress ≡ false = sym (ap is_over same) ∙ not_over in
-    try_step plan commands turns done act s u t refl refl there same (untook plan s t act (took_moved plan commands (order_at plan s) s act split.1))
+    try_step plan commands scope done act s u t refl refl there same (untook plan s t act (took_moved plan commands (order_at plan s) s act split.1))
     (counted_moved plan commands (order_at plan s) s act split.1 (order_for plan s.progress (waiting_of s)))
     (λ gave h. gave_settles plan commands s t u fine fine' h
     (subst (λ (x : Standing). Grew s.records x.records) (sym there) (after_grew plan commands s act)) same
     (subst (λ (x : Standing). (commands_in x.marks ≡ commands_in t.marks) ⊎ (commands_in s.marks ≡ 0)) (sym there) (kept_marks plan commands s t (loses_all t.progress) refl not_over_mid h.anew fine)))
     (trying goes)
 
-try_stood : (plan : Plan) (commands : List Command) (turns : ℕ) (acts : List Act) → Runs plan commands (opening plan turns) acts → Try plan commands turns acts
-try_stood plan commands turns acts runs =
-    along plan commands (opening plan turns) (Try plan commands turns) (λ done later act. try_after plan commands turns done later act) [] acts runs
+try_stood : (plan : Plan) (commands : List Task) (scope : Scope) (acts : List Act) → Runs plan commands (opening plan scope) acts → Try plan commands scope acts
+try_stood plan commands scope acts runs =
+    along plan commands (opening plan scope) (Try plan commands scope) (λ done later act. try_after plan commands scope done later act) [] acts runs
     (λ not_over. record {
       before = [];
       behind = [];
@@ -408,13 +419,13 @@ one_end Unopened o = refl
 one_end act o = absurd o
 
 -- from a count of the tries to the claim
-all_tried : (plan : Plan) (commands : List Command) (turns : ℕ) (acts : List Act) (last : Act) → IsEnding last → Counted (is_up (stood plan commands turns acts).progress.phase) last false
-    → Trying plan commands turns 0 (is_up (stood plan commands turns acts).progress.phase) acts → AllTried plan commands turns (acts ++ last ∷ [])
-all_tried plan commands turns acts last ending counted t =
-    let s = stood plan commands turns acts in
+all_tried : (plan : Plan) (commands : List Task) (scope : Scope) (acts : List Act) (last : Act) → IsEnding last → Counted (is_up (stood plan commands scope acts).progress.phase) last false
+    → Trying plan commands scope 0 (is_up (stood plan commands scope acts).progress.phase) acts → AllTried plan commands scope (acts ++ last ∷ [])
+all_tried plan commands scope acts last ending counted t =
+    let s = stood plan commands scope acts in
     let one = one_end last ending in
     let more : 0 ≤ 0 + ends_in (last ∷ []) = omega arith in
-    let u = trying_on plan commands turns 0 0 (is_up s.progress.phase) false acts last more counted (settles_none s (after plan commands s last) last ending) t in
+    let u = trying_on plan commands scope 0 0 (is_up s.progress.phase) false acts last more counted (settles_none s (after plan commands s last) last ending) t in
     let ends = ends_more t.behind last in
     let left : plan.retries ≤ 0 + ends_in t.behind = t.left in
     let over : plan.retries < ends_in (t.behind ++ last ∷ []) = omega (arith, ends, one, left) in
@@ -432,30 +443,30 @@ all_tried plan commands turns acts last ending counted t =
       first = λ e. let start : t.held ≡ 0 = t.first e in let all : plan.retries < opens_in (t.behind ++ last ∷ []) = omega (arith, over, even, start) in all;
     }
 
-pub stop_tried : (plan : Plan) (commands : List Command) (turns : ℕ) (acts : List Act) (last : Act) (why : Cause) → Runs plan commands (opening plan turns) (acts ++ last ∷ [])
-    → order_at plan (stood plan commands turns (acts ++ last ∷ [])) ≡ orders.Stop why → IsTried why → IsEnding last → AllTried plan commands turns (acts ++ last ∷ [])
-stop_tried plan commands turns acts last why runs stop tried ending = by_decided decided where
+pub stop_tried : (plan : Plan) (commands : List Task) (scope : Scope) (acts : List Act) (last : Act) (why : Cause) → Runs plan commands (opening plan scope) (acts ++ last ∷ [])
+    → order_at plan (stood plan commands scope (acts ++ last ∷ [])) ≡ orders.Stop why → IsTried why → IsEnding last → AllTried plan commands scope (acts ++ last ∷ [])
+stop_tried plan commands scope acts last why runs stop tried ending = by_decided decided where
   s : Standing
-  s = stood plan commands turns acts
+  s = stood plan commands scope acts
 
   t : Standing
   t = moved plan commands (order_at plan s) (with_progress turned s) last
 
-  split : Runs plan commands (opening plan turns) acts × Obeys commands s (order_at plan s) last
-  split = runs_split plan commands (opening plan turns) acts [] last runs
+  split : Runs plan commands (opening plan scope) acts × Obeys commands s (order_at plan s) last
+  split = runs_split plan commands (opening plan scope) acts [] last runs
 
-  over : (stood plan commands turns (acts ++ last ∷ [])).progress.phase ≡ phase.Over why
-  over = by_needs (needs_of plan (stood plan commands turns (acts ++ last ∷ [])) (orders.Stop why) stop).1 where
-    by_needs : ((stood plan commands turns (acts ++ last ∷ [])).progress.phase ≡ phase.Over why) ⊎ ((why ≡ cause.Turns) × ((stood plan commands turns (acts ++ last ∷ [])).progress.turns ≡ 0))
-        → (stood plan commands turns (acts ++ last ∷ [])).progress.phase ≡ phase.Over why
+  over : (stood plan commands scope (acts ++ last ∷ [])).progress.phase ≡ phase.Over why
+  over = by_needs (needs_of plan (stood plan commands scope (acts ++ last ∷ [])) (orders.Stop why) stop).1 where
+    by_needs : ((stood plan commands scope (acts ++ last ∷ [])).progress.phase ≡ phase.Over why) ⊎ ((why ≡ cause.Turns) × ((stood plan commands scope (acts ++ last ∷ [])).progress.turns ≡ 0))
+        → (stood plan commands scope (acts ++ last ∷ [])).progress.phase ≡ phase.Over why
     by_needs (inl is) = is
     by_needs (inr turns) = absurd (subst IsTried turns.0 tried)
 
   there : (after plan commands s last).progress.phase ≡ phase.Over why
-  there = sym (ap (λ (x : Standing). x.progress.phase) (behind_one plan commands turns acts last)) ∙ over
+  there = sym (ap (λ (x : Standing). x.progress.phase) (behind_one plan commands scope acts last)) ∙ over
 
   decided : Decided plan s (after plan commands s last).progress.phase why last
-  decided = after_decided plan commands s last why split.1 (done_sent plan commands turns acts) (ap end_of there)
+  decided = after_decided plan commands s last why split.1 (done_sent plan commands scope acts) (ap end_of there)
 
   down : is_up t.progress.phase ≡ false
   down = sym (ap (λ (p : Progress). is_up p.phase) (ended_progress t)) ∙ ap is_up there
@@ -466,10 +477,10 @@ stop_tried plan commands turns acts last why runs stop tried ending = by_decided
   counted : Counted (is_up s.progress.phase) last false
   counted = subst (λ (b : Bool). Counted (is_up s.progress.phase) last b) down (counted_moved plan commands (order_at plan s) s last split.1 (order_for plan s.progress (waiting_of s)))
 
-  used : s.progress.tries ≡ 0 → AllTried plan commands turns (acts ++ last ∷ [])
-  used none = all_tried plan commands turns acts last ending counted (subst (λ n. Trying plan commands turns n (is_up s.progress.phase) acts) none (try_stood plan commands turns acts split.0 goes))
+  used : s.progress.tries ≡ 0 → AllTried plan commands scope (acts ++ last ∷ [])
+  used none = all_tried plan commands scope acts last ending counted (subst (λ n. Trying plan commands scope n (is_up s.progress.phase) acts) none (try_stood plan commands scope acts split.0 goes))
 
-  by_decided : Decided plan s (after plan commands s last).progress.phase why last → AllTried plan commands turns (acts ++ last ∷ [])
+  by_decided : Decided plan s (after plan commands s last).progress.phase why last → AllTried plan commands scope (acts ++ last ∷ [])
   by_decided (inl failed) = absurd (ending_shows why last ending failed.1)
   by_decided (inr (down, inl (other, closes, next, ends))) = used (no_try plan s.progress (commands_behind (waiting_of s) other s.progress) other why tried ends)
   by_decided (inr (down, inr (unopened, ends))) = used (no_try plan s.progress (commands_in s.marks) cause.Open why tried ends)

@@ -1,6 +1,6 @@
 -- Each act takes a turn, so a run ends.
 use Rattle.std.proofs.Common.{◌≡◌, ℕ, zero, suc, ◌+◌, ◌*◌, ◌-◌, ◌<◌, ◌≤◌, ◌||◌, Bool, true, false, List, if◌then◌else◌, nat_lt, nat_eq, refl, sym, ap, ◌∙◌, arith}
-use Rattle.gc_texts.specs.declared.commands.Command.{Command}
+use Rattle.gc_texts.specs.declared.tasks.Task.{Task}
 use Rattle.gc_station.specs.declared.plan.Plan.{Plan}
 use Rattle.gc_station.specs.declared.cause.Cause.{Cause}
 use Rattle.gc_station.specs.declared.cause.Cause.TheVariants as cause
@@ -10,9 +10,10 @@ use Rattle.gc_station.specs.declared.progress.Order.{Order}
 use Rattle.gc_station.specs.declared.progress.Progress.{Progress}
 use Rattle.gc_station.specs.declared.progress.Waiting.{Waiting}
 use Rattle.gc_station.specs.Acts.{Act}
-use Rattle.gc_station.specs.Deciding.{is_up, order_in, order_up}
+use Rattle.gc_station.specs.Deciding.{is_up, order_in, order_of, order_up}
 use Rattle.gc_station.specs.Progressing.{turned, is_finished, is_spared, again, begins_anew, beginning_anew, closed_again, closed}
 use Rattle.gc_station.specs.Standing.{Standing, waiting_of, order_at, Obeys, moved, after, with_progress}
+use Rattle.gc_station.specs.Stations.{stepped}
 use Rattle.gc_station.proofs.Counts.{turns_kept, ended_progress}
 
 -- what is left to be done: the turns, and a connection that is to be closed
@@ -52,18 +53,18 @@ closed_down plan w (cause.Write n m) p = closed_again_down plan w (cause.Write n
 closed_down plan w cause.Open p = closed_again_down plan w cause.Open (begins_anew cause.Open p) p
 
 -- once all turns are used up, an act closes the connection
-up_closes : (plan : Plan) (commands : List Command) (s t : Standing) (up : Bool) (act : Act) → Obeys commands t (order_up up) act
+up_closes : (plan : Plan) (commands : List Task) (s t : Standing) (up : Bool) (act : Act) → Obeys commands t (order_up up) act
     → (up ≡ true) × (is_up (moved plan commands (order_up up) s act).progress.phase ≡ false)
 up_closes plan commands s t true act obeys = (refl, refl)
 up_closes plan commands s t false act obeys = absurd obeys
 
-on_closes : (plan : Plan) (commands : List Command) (s t : Standing) (p : Progress) (z : Bool) (act : Act) (other : Order) → z ≡ true
+on_closes : (plan : Plan) (commands : List Task) (s t : Standing) (p : Progress) (z : Bool) (act : Act) (other : Order) → z ≡ true
     → Obeys commands t (if z then order_up (is_up p.phase) else other) act
     → (is_up p.phase ≡ true) × (is_up (moved plan commands (if z then order_up (is_up p.phase) else other) s act).progress.phase ≡ false)
 on_closes plan commands s t p true act other e obeys = up_closes plan commands s t (is_up p.phase) act obeys
 on_closes plan commands s t p false act other e obeys = cc
 
-phase_closes : (plan : Plan) (commands : List Command) (s t : Standing) (p : Progress) (phase : Phase) (w : Waiting) (act : Act) → nat_eq p.turns 0 ≡ true → p.phase ≡ phase
+phase_closes : (plan : Plan) (commands : List Task) (s t : Standing) (p : Progress) (phase : Phase) (w : Waiting) (act : Act) → nat_eq p.turns 0 ≡ true → p.phase ≡ phase
     → Obeys commands t (order_in phase plan p w) act → (is_up phase ≡ true) × (is_up (moved plan commands (order_in phase plan p w) s act).progress.phase ≡ false)
 phase_closes plan commands s t p phase.Down w act none is obeys = let c = on_closes plan commands s t p (nat_eq p.turns 0) act _ none obeys in (ap is_up (sym is) ∙ c.0, c.1)
 phase_closes plan commands s t p phase.Resting w act none is obeys = let c = on_closes plan commands s t p (nat_eq p.turns 0) act _ none obeys in (ap is_up (sym is) ∙ c.0, c.1)
@@ -82,14 +83,19 @@ less zero t' u u' e closes =
     omega (arith, a, b, e)
 less (suc t) t' u u' e closes = omega (arith, e, up_least u', up_least u)
 
--- each act leaves less to be done
-pub less_to_do : (plan : Plan) (commands : List Command) (s : Standing) (act : Act) → Obeys commands s (order_at plan s) act → left_to_do (after plan commands s act).progress < left_to_do s.progress
-less_to_do plan commands s act obeys =
-    let mid = moved plan commands (order_at plan s) (with_progress turned s) act in
+-- each act leaves less to be done, whatever waits
+pub less_stepped : (plan : Plan) (commands : List Task) (s : Standing) (w : Waiting) (act : Act) → Obeys commands s (order_of plan s.progress w) act
+    → left_to_do (stepped plan commands (order_of plan s.progress w) s act).progress < left_to_do s.progress
+less_stepped plan commands s w act obeys =
+    let order = order_of plan s.progress w in
+    let mid = moved plan commands order (with_progress turned s) act in
     let same = ended_progress mid in
     let fewer : left_to_do mid.progress < left_to_do s.progress =
     less s.progress.turns mid.progress.turns (is_up s.progress.phase) (is_up mid.progress.phase)
-    (turns_kept plan commands (order_at plan s) (with_progress turned s) act)
-    (λ none. phase_closes plan commands (with_progress turned s) s s.progress s.progress.phase (waiting_of s) act none refl obeys) in
-    let e : left_to_do (after plan commands s act).progress ≡ left_to_do mid.progress = ap left_to_do same in
+    (turns_kept plan commands order (with_progress turned s) act)
+    (λ none. phase_closes plan commands (with_progress turned s) s s.progress s.progress.phase w act none refl obeys) in
+    let e : left_to_do (stepped plan commands order s act).progress ≡ left_to_do mid.progress = ap left_to_do same in
     omega (arith, e, fewer)
+
+pub less_to_do : (plan : Plan) (commands : List Task) (s : Standing) (act : Act) → Obeys commands s (order_at plan s) act → left_to_do (after plan commands s act).progress < left_to_do s.progress
+less_to_do plan commands s act obeys = less_stepped plan commands s (waiting_of s) act obeys

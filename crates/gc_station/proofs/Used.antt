@@ -1,7 +1,7 @@
 -- A connection is closed, and a run stops, for its turns only behind as many acts.
 use Rattle.std.proofs.Common.{◌≡◌, ℕ, ◌-◌, ◌≤◌, ◌⊎◌, inl, inr, List, [], ◌∷◌, ◌++◌, length, refl, sym, ap, ◌∙◌, subst, arith}
 use Rattle.std.proofs.lemmas.List.{length-append}
-use Rattle.gc_texts.specs.declared.commands.Command.{Command}
+use Rattle.gc_texts.specs.declared.tasks.Task.{Task}
 use Rattle.gc_station.specs.declared.plan.Plan.{Plan}
 use Rattle.gc_station.specs.declared.cause.Cause.{Cause}
 use Rattle.gc_station.specs.declared.cause.Cause.TheVariants as cause
@@ -15,9 +15,10 @@ use Rattle.gc_station.specs.Standing.{Standing, opening, order_at, waiting_of, w
 use Rattle.gc_station.proofs.Closings.{runs_split, stopped_for}
 use Rattle.gc_station.proofs.Counts.{turns_kept, ended_progress}
 use Rattle.gc_station.proofs.Silences.{not_closing, end_here}
+use Rattle.gc_station.specs.Scopes.{Scope}
 
 -- each act takes a turn
-turns_behind : (plan : Plan) (commands : List Command) (s : Standing) (acts : List Act) → (after_all plan commands s acts).progress.turns ≡ s.progress.turns - length acts
+turns_behind : (plan : Plan) (commands : List Task) (s : Standing) (acts : List Act) → (after_all plan commands s acts).progress.turns ≡ s.progress.turns - length acts
 turns_behind plan commands s [] = omega arith
 turns_behind plan commands s (act ∷ acts) =
     let on = turns_behind plan commands (after plan commands s act) acts in
@@ -25,12 +26,12 @@ turns_behind plan commands s (act ∷ acts) =
     ap (λ (p : Progress). p.turns) (ended_progress (moved plan commands (order_at plan s) (with_progress turned s) act)) ∙ turns_kept plan commands (order_at plan s) (with_progress turned s) act in
     omega (arith, on, one)
 
-used_up : (plan : Plan) (commands : List Command) (turns : ℕ) (acts : List Act) → (stood plan commands turns acts).progress.turns ≡ 0 → turns ≤ length acts
-used_up plan commands turns acts none = let left : (stood plan commands turns acts).progress.turns ≡ turns - length acts = turns_behind plan commands (opening plan turns) acts in omega (arith, none, left)
+used_up : (plan : Plan) (commands : List Task) (scope : Scope) (acts : List Act) → (stood plan commands scope acts).progress.turns ≡ 0 → scope.turns ≤ length acts
+used_up plan commands scope acts none = let left : (stood plan commands scope acts).progress.turns ≡ scope.turns - length acts = turns_behind plan commands (opening plan scope) acts in omega (arith, none, left)
 
-close_used : (plan : Plan) (commands : List Command) (turns : ℕ) (acts : List Act) → Runs plan commands (opening plan turns) acts → order_at plan (stood plan commands turns acts) ≡ orders.Close cause.Turns → turns ≤ length acts
-close_used plan commands turns acts runs is =
-    used_up plan commands turns acts (end_here plan (stood plan commands turns acts) cause.Turns is (not_closing plan commands turns acts cause.Turns runs (λ act shows. shows)))
+close_used : (plan : Plan) (commands : List Task) (scope : Scope) (acts : List Act) → Runs plan commands (opening plan scope) acts → order_at plan (stood plan commands scope acts) ≡ orders.Close cause.Turns → scope.turns ≤ length acts
+close_used plan commands scope acts runs is =
+    used_up plan commands scope acts (end_here plan (stood plan commands scope acts) cause.Turns is (not_closing plan commands scope acts cause.Turns runs (λ act shows. shows)))
 
 -- a run ends for its turns only where it was closed for them
 turns_only : (plan : Plan) (p : Progress) (n : ℕ) (other : Cause) → EndsBehind plan p n other cause.Turns → other ≡ cause.Turns
@@ -40,30 +41,30 @@ turns_only plan p n cause.Turns ends = refl
 turns_only plan p n other (inl done) = let is = done.0 in cc
 turns_only plan p n other (inr used) = sym used.0
 
-stop_used : (plan : Plan) (commands : List Command) (turns : ℕ) (acts : List Act) → Runs plan commands (opening plan turns) acts → order_at plan (stood plan commands turns acts) ≡ orders.Stop cause.Turns → turns ≤ length acts
-stop_used plan commands turns acts runs is = by_shown (stopped_for plan commands turns acts cause.Turns runs is).shown where
-  before : (earlier : List Act) (last : Act) → acts ≡ earlier ++ last ∷ [] → order_at plan (stood plan commands turns earlier) ≡ orders.Close cause.Turns → turns ≤ length acts
+stop_used : (plan : Plan) (commands : List Task) (scope : Scope) (acts : List Act) → Runs plan commands (opening plan scope) acts → order_at plan (stood plan commands scope acts) ≡ orders.Stop cause.Turns → scope.turns ≤ length acts
+stop_used plan commands scope acts runs is = by_shown (stopped_for plan commands scope acts cause.Turns runs is).shown where
+  before : (earlier : List Act) (last : Act) → acts ≡ earlier ++ last ∷ [] → order_at plan (stood plan commands scope earlier) ≡ orders.Close cause.Turns → scope.turns ≤ length acts
   before earlier last order closes =
-      let front = (runs_split plan commands (opening plan turns) earlier [] last (subst (λ (xs : List Act). Runs plan commands (opening plan turns) xs) order runs)).0 in
-      let fewer = close_used plan commands turns earlier front closes in
+      let front = (runs_split plan commands (opening plan scope) earlier [] last (subst (λ (xs : List Act). Runs plan commands (opening plan scope) xs) order runs)).0 in
+      let fewer = close_used plan commands scope earlier front closes in
       let long = ap length order in
       let more = length-append earlier (last ∷ []) in
       omega (arith, fewer, long, more)
 
-  by_end : (earlier : List Act) (last : Act) → acts ≡ earlier ++ last ∷ [] → Ends plan (stood plan commands turns earlier) cause.Turns last → turns ≤ length acts
+  by_end : (earlier : List Act) (last : Act) → acts ≡ earlier ++ last ∷ [] → Ends plan (stood plan commands scope earlier) cause.Turns last → scope.turns ≤ length acts
   by_end earlier last order (inl failed) = absurd failed.1
   by_end earlier last order (inr (inl (other, closed, next, ends))) =
-      let s = stood plan commands turns earlier in
+      let s = stood plan commands scope earlier in
       before earlier last order (next ∙ ap orders.Close (turns_only plan s.progress (commands_behind (waiting_of s) other s.progress) other ends))
   by_end earlier last order (inr (inr (unopened, ends))) =
-      let s = stood plan commands turns earlier in
+      let s = stood plan commands scope earlier in
       let both = turns_only plan s.progress (waiting_of s).commands cause.Open ends in cc
 
-  by_shown : ((cause.Turns ≡ cause.Turns) × ((stood plan commands turns acts).progress.turns ≡ 0)) ⊎ ((earlier : List Act) × (last : Act) × (acts ≡ earlier ++ last ∷ []) × Ends plan (stood plan commands turns earlier) cause.Turns last) → turns ≤ length acts
-  by_shown (inl none) = used_up plan commands turns acts none.1
+  by_shown : ((cause.Turns ≡ cause.Turns) × ((stood plan commands scope acts).progress.turns ≡ 0)) ⊎ ((earlier : List Act) × (last : Act) × (acts ≡ earlier ++ last ∷ []) × Ends plan (stood plan commands scope earlier) cause.Turns last) → scope.turns ≤ length acts
+  by_shown (inl none) = used_up plan commands scope acts none.1
   by_shown (inr (earlier, last, order, ends)) = by_end earlier last order ends
 
-pub turns_used : (plan : Plan) (commands : List Command) (turns : ℕ) (acts : List Act) → Runs plan commands (opening plan turns) acts
-    → (order_at plan (stood plan commands turns acts) ≡ orders.Close cause.Turns) ⊎ (order_at plan (stood plan commands turns acts) ≡ orders.Stop cause.Turns) → turns ≤ length acts
-turns_used plan commands turns acts runs (inl is) = close_used plan commands turns acts runs is
-turns_used plan commands turns acts runs (inr is) = stop_used plan commands turns acts runs is
+pub turns_used : (plan : Plan) (commands : List Task) (scope : Scope) (acts : List Act) → Runs plan commands (opening plan scope) acts
+    → (order_at plan (stood plan commands scope acts) ≡ orders.Close cause.Turns) ⊎ (order_at plan (stood plan commands scope acts) ≡ orders.Stop cause.Turns) → scope.turns ≤ length acts
+turns_used plan commands scope acts runs (inl is) = close_used plan commands scope acts runs is
+turns_used plan commands scope acts runs (inr is) = stop_used plan commands scope acts runs is

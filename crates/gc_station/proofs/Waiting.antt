@@ -7,7 +7,7 @@ use Rattle.gc_client.specs.declared.pending.Pending.{Pending}
 use Rattle.gc_client.specs.Ids
 use Rattle.gc_client.specs.Ids.{id_at, IsWindow}
 use Rattle.gc_client.specs.Rule.{ById, expired}
-use Rattle.gc_texts.specs.declared.commands.Command.{Command}
+use Rattle.gc_texts.specs.declared.tasks.Task.{Task}
 use Rattle.gc_station.specs.declared.mark.Mark.{Mark}
 use Rattle.gc_station.specs.declared.plan.Plan.{Plan}
 use Rattle.gc_station.specs.declared.progress.Order.{Order}
@@ -20,25 +20,26 @@ use Rattle.gc_station.specs.Records.{Record}
 use Rattle.gc_station.specs.Runs.{stood}
 use Rattle.gc_station.specs.Standing.{Standing, order_at, cycles_begun, place_next, request_text, Puts, Obeys}
 use Rattle.gc_station.proofs.Lists.{all_append, all_on, Rows, rows_same, rows_map}
+use Rattle.gc_station.specs.Scopes.{Scope}
 
 -- behind these acts, the command with this mark goes out
-pub record Marked (plan : Plan) (commands : List Command) (turns : ℕ) (acts : List Act) (mark : Mark) : Type 0 where
-  pub sends : order_at plan (stood plan commands turns acts) ≡ orders.Send
-  pub cycle : mark.cycle ≡ cycles_begun plan (stood plan commands turns acts).progress
-  pub place : mark.place ≡ place_next commands (stood plan commands turns acts).progress
+pub record Marked (plan : Plan) (commands : List Task) (scope : Scope) (acts : List Act) (mark : Mark) : Type 0 where
+  pub sends : order_at plan (stood plan commands scope acts) ≡ orders.Send
+  pub cycle : mark.cycle ≡ cycles_begun plan (stood plan commands scope acts).progress
+  pub place : mark.place ≡ place_next commands (stood plan commands scope acts).progress
 
 -- the request at a place, with this id, was put among these acts, behind so many; of those behind it this holds
-pub record Asked (plan : Plan) (commands : List Command) (turns : ℕ) (acts : List Act) (Stays : Bool → ℕ → List Act → Type 0) (number at with_id : ℕ) (p : Pending) (mark : Option Mark) : Type 0 where
+pub record Asked (plan : Plan) (commands : List Task) (scope : Scope) (acts : List Act) (Stays : Bool → ℕ → List Act → Type 0) (number at with_id : ℕ) (p : Pending) (mark : Option Mark) : Type 0 where
   pub before : List Act
   pub request : Act
   pub between : List Act
   pub order : acts ≡ before ++ request ∷ between
   pub many : length before ≡ number
-  pub asks : 0 < at → IsAsking (order_at plan (stood plan commands turns before))
-  pub its : (m : Mark) → mark ≡ Some m → Marked plan commands turns before m
-  pub id : with_id ≡ (stood plan commands turns before).client.next
-  pub put : Puts (request_text (stood plan commands turns before).client p.call) request
-  pub deadline : p.deadline ≡ deadline_behind plan commands turns before
+  pub asks : 0 < at → IsAsking (order_at plan (stood plan commands scope before))
+  pub its : (m : Mark) → mark ≡ Some m → Marked plan commands scope before m
+  pub id : with_id ≡ (stood plan commands scope before).client.next
+  pub put : Puts (request_text (stood plan commands scope before).client p.call) request
+  pub deadline : (m : Mark) → mark ≡ Some m → p.deadline ≡ deadline_behind plan commands scope before
   pub stays : Stays p.given_up p.deadline between
 
 -- its deadline wasn't told, or it is given up and its deadline was
@@ -52,33 +53,33 @@ StayedAt now true deadline acts = TellsPast deadline acts ⊎ (deadline ≤ now)
 StayedAt now false deadline acts = AllByRecursion (IsBefore deadline) acts × (now < deadline)
 
 -- of each request, with the id that its place has
-abbrev pub Waits : Plan → List Command → ℕ → List Act → (next count : ℕ) → (number at : ℕ) → Pending → Option Mark → Type 0
-Waits plan commands turns acts next count number at p mark = Asked plan commands turns acts Stayed number at (id_at next count at) p mark
+abbrev pub Waits : Plan → List Task → Scope → List Act → (next count : ℕ) → (number at : ℕ) → Pending → Option Mark → Type 0
+Waits plan commands scope acts next count number at p mark = Asked plan commands scope acts Stayed number at (id_at next count at) p mark
 
 -- at this moment, where the client was this before it
-abbrev pub WaitsAt : Plan → List Command → ℕ → List Act → ById → ℕ → (next count : ℕ) → (number at : ℕ) → Pending → Option Mark → Type 0
-WaitsAt plan commands turns acts client now next count number at p mark =
-    Asked plan commands turns acts (StayedAt now) number at (id_at next count at) p mark × Ids.Waits client (id_at next count at)
+abbrev pub WaitsAt : Plan → List Task → Scope → List Act → ById → ℕ → (next count : ℕ) → (number at : ℕ) → Pending → Option Mark → Type 0
+WaitsAt plan commands scope acts client now next count number at p mark =
+    Asked plan commands scope acts (StayedAt now) number at (id_at next count at) p mark × Ids.Waits client (id_at next count at)
 
 -- what a record says is true
-pub record IsTrue (plan : Plan) (commands : List Command) (turns : ℕ) (acts : List Act) (r : Record) : Type 0 where
-  pub answered : IsTrueRecord plan commands turns acts r
-  pub late : IsTrulyLate plan commands turns acts r
-  pub lost : IsTrulyLost plan commands turns acts r
+pub record IsTrue (plan : Plan) (commands : List Task) (scope : Scope) (acts : List Act) (r : Record) : Type 0 where
+  pub answered : IsTrueRecord plan commands scope acts r
+  pub late : IsTrulyLate plan commands scope acts r
+  pub lost : IsTrulyLost plan commands scope acts r
 
 -- what every run keeps, of the standing's parts: of the requests that wait among these acts, and of the records among those
-pub record Honest (plan : Plan) (commands : List Command) (turns : ℕ) (acts all : List Act) (c : ById) (marks : List (Option Mark)) (records : List Record) : Type 0 where
-  pub waiting : Rows (Waits plan commands turns acts c.next (length c.waiting)) 0 0 c.waiting marks
-  pub written : AllByRecursion (IsTrue plan commands turns all) records
+pub record Honest (plan : Plan) (commands : List Task) (scope : Scope) (acts all : List Act) (c : ById) (marks : List (Option Mark)) (records : List Record) : Type 0 where
+  pub waiting : Rows (Waits plan commands scope acts c.next (length c.waiting)) 0 0 c.waiting marks
+  pub written : AllByRecursion (IsTrue plan commands scope all) records
 
-abbrev pub IsHonest : Plan → List Command → ℕ → List Act → List Act → Standing → Type 0
-IsHonest plan commands turns acts all s = Honest plan commands turns acts all s.client s.marks s.records
+abbrev pub IsHonest : Plan → List Task → Scope → List Act → List Act → Standing → Type 0
+IsHonest plan commands scope acts all s = Honest plan commands scope acts all s.client s.marks s.records
 
 -- a request that was put is still among them where there is one act more
-pub asked_more : (plan : Plan) (commands : List Command) (turns : ℕ) (acts : List Act) (act : Act) (S T : Bool → ℕ → List Act → Type 0) (number at id : ℕ) (p : Pending) (mark : Option Mark)
+pub asked_more : (plan : Plan) (commands : List Task) (scope : Scope) (acts : List Act) (act : Act) (S T : Bool → ℕ → List Act → Type 0) (number at id : ℕ) (p : Pending) (mark : Option Mark)
     → ((b : Bool) (d : ℕ) (xs : List Act) → S b d xs → T b d (xs ++ act ∷ []))
-    → Asked plan commands turns acts S number at id p mark → Asked plan commands turns (acts ++ act ∷ []) T number at id p mark
-asked_more plan commands turns acts act S T number at id p mark step s = record {
+    → Asked plan commands scope acts S number at id p mark → Asked plan commands scope (acts ++ act ∷ []) T number at id p mark
+asked_more plan commands scope acts act S T number at id p mark step s = record {
   before = s.before;
   request = s.request;
   between = s.between ++ act ∷ [];
@@ -93,9 +94,9 @@ asked_more plan commands turns acts act S T number at id p mark step s = record 
 }
 
 -- at another place, with the same id
-pub asked_as : (plan : Plan) (commands : List Command) (turns : ℕ) (acts : List Act) (S : Bool → ℕ → List Act → Type 0) (number at at' id id' : ℕ) (p : Pending) (mark : Option Mark) → (0 < at' → 0 < at) → id' ≡ id
-    → Asked plan commands turns acts S number at id p mark → Asked plan commands turns acts S number at' id' p mark
-asked_as plan commands turns acts S number at at' id id' p mark places ids s = record {
+pub asked_as : (plan : Plan) (commands : List Task) (scope : Scope) (acts : List Act) (S : Bool → ℕ → List Act → Type 0) (number at at' id id' : ℕ) (p : Pending) (mark : Option Mark) → (0 < at' → 0 < at) → id' ≡ id
+    → Asked plan commands scope acts S number at id p mark → Asked plan commands scope acts S number at' id' p mark
+asked_as plan commands scope acts S number at at' id id' p mark places ids s = record {
   before = s.before;
   request = s.request;
   between = s.between;
@@ -110,9 +111,9 @@ asked_as plan commands turns acts S number at at' id id' p mark places ids s = r
 }
 
 -- it was put among so many acts
-pub asked_among : (plan : Plan) (commands : List Command) (turns : ℕ) (acts : List Act) (S : Bool → ℕ → List Act → Type 0) (number at id : ℕ) (p : Pending) (mark : Option Mark)
-    → Asked plan commands turns acts S number at id p mark → number < length acts
-asked_among plan commands turns acts S number at id p mark s =
+pub asked_among : (plan : Plan) (commands : List Task) (scope : Scope) (acts : List Act) (S : Bool → ℕ → List Act → Type 0) (number at id : ℕ) (p : Pending) (mark : Option Mark)
+    → Asked plan commands scope acts S number at id p mark → number < length acts
+asked_among plan commands scope acts S number at id p mark s =
     let whole : length acts ≡ length s.before + length (s.request ∷ s.between) = ap length s.order ∙ length-append s.before (s.request ∷ s.between) in
     let many = s.many in
     omega (arith, whole, many)
@@ -125,13 +126,13 @@ pub past_here : (d : ℕ) (xs : List Act) (act : Act) → IsPast d act → Tells
 past_here d xs act on = record { earlier = xs; telling = act; later = []; at = refl; past = on }
 
 -- what is recorded stays true; where a run stopped no act follows
-true_more : (plan : Plan) (commands : List Command) (turns : ℕ) (acts : List Act) (act : Act) (r : Record) → Obeys commands (stood plan commands turns acts) (order_at plan (stood plan commands turns acts)) act
-    → IsTrue plan commands turns acts r → IsTrue plan commands turns (acts ++ act ∷ []) r
-true_more plan commands turns acts act r obeys is = record { answered = answered_more; late = late_more; lost = lost_more } where
+true_more : (plan : Plan) (commands : List Task) (scope : Scope) (acts : List Act) (act : Act) (r : Record) → Obeys commands (stood plan commands scope acts) (order_at plan (stood plan commands scope acts)) act
+    → IsTrue plan commands scope acts r → IsTrue plan commands scope (acts ++ act ∷ []) r
+true_more plan commands scope acts act r obeys is = record { answered = answered_more; late = late_more; lost = lost_more } where
   longer : (before : List Act) (request : Act) (between : List Act) (then : Act) (behind : List Act) → acts ≡ before ++ request ∷ (between ++ then ∷ behind) → acts ++ act ∷ [] ≡ before ++ request ∷ (between ++ then ∷ (behind ++ act ∷ []))
   longer before request between then behind order = ap (λ xs. xs ++ act ∷ []) order ∙ append_assoc before (request ∷ (between ++ then ∷ behind)) (act ∷ []) ∙ ap (λ xs. before ++ request ∷ xs) (append_assoc between (then ∷ behind) (act ∷ []))
 
-  answered_more : IsTrueRecord plan commands turns (acts ++ act ∷ []) r
+  answered_more : IsTrueRecord plan commands scope (acts ++ act ∷ []) r
   answered_more line e =
       let a = is.answered line e in
       record {
@@ -157,7 +158,7 @@ true_more plan commands turns acts act r obeys is = record { answered = answered
         written = a.written;
       }
 
-  late_more : IsTrulyLate plan commands turns (acts ++ act ∷ []) r
+  late_more : IsTrulyLate plan commands scope (acts ++ act ∷ []) r
   late_more e =
       let a = is.late e in
       record {
@@ -174,14 +175,14 @@ true_more plan commands turns acts act r obeys is = record { answered = answered
         written = a.written;
       }
 
-  not_last : (before : List Act) (request : Act) (between : List Act) (then : Act) (behind : List Act) → acts ≡ before ++ request ∷ (between ++ then ∷ behind) → IsLast plan commands turns (before ++ request ∷ between) then behind → ⊥
+  not_last : (before : List Act) (request : Act) (between : List Act) (then : Act) (behind : List Act) → acts ≡ before ++ request ∷ (between ++ then ∷ behind) → IsLast plan commands scope (before ++ request ∷ between) then behind → ⊥
   not_last before request between then behind order last =
       let whole : acts ≡ (before ++ request ∷ between) ++ then ∷ [] =
       order ∙ ap (λ xs. before ++ request ∷ (between ++ then ∷ xs)) last.none ∙ sym (append_assoc before (request ∷ between) (then ∷ [])) in
-      let stopped : order_at plan (stood plan commands turns acts) ≡ orders.Stop last.why = ap (λ xs. order_at plan (stood plan commands turns xs)) whole ∙ last.stops in
-      subst (λ (o : Order). Obeys commands (stood plan commands turns acts) o act) stopped obeys
+      let stopped : order_at plan (stood plan commands scope acts) ≡ orders.Stop last.why = ap (λ xs. order_at plan (stood plan commands scope xs)) whole ∙ last.stops in
+      subst (λ (o : Order). Obeys commands (stood plan commands scope acts) o act) stopped obeys
 
-  lost_more : IsTrulyLost plan commands turns (acts ++ act ∷ []) r
+  lost_more : IsTrulyLost plan commands scope (acts ++ act ∷ []) r
   lost_more e =
       let a = is.lost e in
       record {
@@ -195,17 +196,17 @@ true_more plan commands turns acts act r obeys is = record { answered = answered
         written = a.written;
         shown = on a a.shown;
       } where
-        on : (a : IsLostIn plan commands turns acts r) → IsOvertaken plan commands turns a.before a.request a.between a.act
-            ⊎ (BeginsAnew plan commands turns (a.before ++ a.request ∷ a.between) a.act ⊎ IsLast plan commands turns (a.before ++ a.request ∷ a.between) a.act a.behind)
-            → IsOvertaken plan commands turns a.before a.request a.between a.act
-            ⊎ (BeginsAnew plan commands turns (a.before ++ a.request ∷ a.between) a.act ⊎ IsLast plan commands turns (a.before ++ a.request ∷ a.between) a.act (a.behind ++ act ∷ []))
+        on : (a : IsLostIn plan commands scope acts r) → IsOvertaken plan commands scope a.before a.request a.between a.act
+            ⊎ (BeginsAnew plan commands scope (a.before ++ a.request ∷ a.between) a.act ⊎ IsLast plan commands scope (a.before ++ a.request ∷ a.between) a.act a.behind)
+            → IsOvertaken plan commands scope a.before a.request a.between a.act
+            ⊎ (BeginsAnew plan commands scope (a.before ++ a.request ∷ a.between) a.act ⊎ IsLast plan commands scope (a.before ++ a.request ∷ a.between) a.act (a.behind ++ act ∷ []))
         on a (inl over) = inl over
         on a (inr (inl anew)) = inr (inl anew)
         on a (inr (inr last)) = absurd (not_last a.before a.request a.between a.act a.behind a.order last)
 
-pub more_true : (plan : Plan) (commands : List Command) (turns : ℕ) (acts : List Act) (act : Act) (rs : List Record) → Obeys commands (stood plan commands turns acts) (order_at plan (stood plan commands turns acts)) act
-    → AllByRecursion (IsTrue plan commands turns acts) rs → AllByRecursion (IsTrue plan commands turns (acts ++ act ∷ [])) rs
-more_true plan commands turns acts act rs obeys all = all_on (IsTrue plan commands turns acts) (IsTrue plan commands turns (acts ++ act ∷ [])) rs (λ r is. true_more plan commands turns acts act r obeys is) all
+pub more_true : (plan : Plan) (commands : List Task) (scope : Scope) (acts : List Act) (act : Act) (rs : List Record) → Obeys commands (stood plan commands scope acts) (order_at plan (stood plan commands scope acts)) act
+    → AllByRecursion (IsTrue plan commands scope acts) rs → AllByRecursion (IsTrue plan commands scope (acts ++ act ∷ [])) rs
+more_true plan commands scope acts act rs obeys all = all_on (IsTrue plan commands scope acts) (IsTrue plan commands scope (acts ++ act ∷ [])) rs (λ r is. true_more plan commands scope acts act r obeys is) all
 
 -- an act that tells no moment
 pub stays_still : (act : Act) → ((d : ℕ) → IsBefore d act) → (b : Bool) (d : ℕ) (xs : List Act) → Stayed b d xs → Stayed b d (xs ++ act ∷ [])
@@ -213,11 +214,11 @@ stays_still act on true d xs told = past_more d xs (act ∷ []) told
 stays_still act on false d xs all = all_append (IsBefore d) xs (act ∷ []) all (on d, tt)
 
 -- and changes nothing of the client
-pub still : (plan : Plan) (commands : List Command) (turns : ℕ) (acts : List Act) (act : Act) (c : ById) (marks : List (Option Mark)) (rs : List Record) → ((d : ℕ) → IsBefore d act)
-    → Honest plan commands turns acts (acts ++ act ∷ []) c marks rs → Honest plan commands turns (acts ++ act ∷ []) (acts ++ act ∷ []) c marks rs
-still plan commands turns acts act c marks rs on h = record {
-  waiting = rows_same (Waits plan commands turns acts c.next (length c.waiting)) (Waits plan commands turns (acts ++ act ∷ []) c.next (length c.waiting)) 0 0 c.waiting marks
-      (λ n j p mark w. asked_more plan commands turns acts act Stayed Stayed n j _ p mark (stays_still act on) w) h.waiting;
+pub still : (plan : Plan) (commands : List Task) (scope : Scope) (acts : List Act) (act : Act) (c : ById) (marks : List (Option Mark)) (rs : List Record) → ((d : ℕ) → IsBefore d act)
+    → Honest plan commands scope acts (acts ++ act ∷ []) c marks rs → Honest plan commands scope (acts ++ act ∷ []) (acts ++ act ∷ []) c marks rs
+still plan commands scope acts act c marks rs on h = record {
+  waiting = rows_same (Waits plan commands scope acts c.next (length c.waiting)) (Waits plan commands scope (acts ++ act ∷ []) c.next (length c.waiting)) 0 0 c.waiting marks
+      (λ n j p mark w. asked_more plan commands scope acts act Stayed Stayed n j _ p mark (stays_still act on) w) h.waiting;
   written = h.written;
 }
 
@@ -229,9 +230,9 @@ stays_at now false d xs all = by_test (nat_le d now) refl where
   by_test true e = let past : d ≤ now = grind (arith, nat_tests, e) in inr past
   by_test false e = let low : now < d = grind (arith, nat_tests, e) in (all, low)
 
-pub at_moment : (plan : Plan) (commands : List Command) (turns : ℕ) (acts : List Act) (now number at id : ℕ) (p : Pending) (mark : Option Mark) → Asked plan commands turns acts Stayed number at id p mark
-    → Asked plan commands turns acts (StayedAt now) number at id (expired now p) mark
-at_moment plan commands turns acts now number at id p mark s = record {
+pub at_moment : (plan : Plan) (commands : List Task) (scope : Scope) (acts : List Act) (now number at id : ℕ) (p : Pending) (mark : Option Mark) → Asked plan commands scope acts Stayed number at id p mark
+    → Asked plan commands scope acts (StayedAt now) number at id (expired now p) mark
+at_moment plan commands scope acts now number at id p mark s = record {
   before = s.before;
   request = s.request;
   between = s.between;
@@ -249,12 +250,12 @@ abbrev pub at_expired : ById → ℕ → ById
 at_expired c now = record { next = c.next; waiting = map (expired now) c.waiting }
 
 -- as many wait
-pub expired_waits : (plan : Plan) (commands : List Command) (turns : ℕ) (acts : List Act) (now : ℕ) (c : ById) (marks : List (Option Mark)) → Rows (Waits plan commands turns acts c.next (length c.waiting)) 0 0 c.waiting marks
-    → Rows (WaitsAt plan commands turns acts c now c.next (length (map (expired now) c.waiting))) 0 0 (map (expired now) c.waiting) marks
-expired_waits plan commands turns acts now c marks all =
-    subst (λ (n : ℕ). Rows (WaitsAt plan commands turns acts c now c.next n) 0 0 (map (expired now) c.waiting) marks) (sym (length-map c.waiting (expired now)))
-    (rows_map (Waits plan commands turns acts c.next (length c.waiting)) (WaitsAt plan commands turns acts c now c.next (length c.waiting)) (expired now) 0 0 c.waiting marks
-    (λ n j p mark low w. let below : j < length c.waiting = omega (arith, low) in (at_moment plan commands turns acts now n j _ p mark w, (j, below, refl))) all)
+pub expired_waits : (plan : Plan) (commands : List Task) (scope : Scope) (acts : List Act) (now : ℕ) (c : ById) (marks : List (Option Mark)) → Rows (Waits plan commands scope acts c.next (length c.waiting)) 0 0 c.waiting marks
+    → Rows (WaitsAt plan commands scope acts c now c.next (length (map (expired now) c.waiting))) 0 0 (map (expired now) c.waiting) marks
+expired_waits plan commands scope acts now c marks all =
+    subst (λ (n : ℕ). Rows (WaitsAt plan commands scope acts c now c.next n) 0 0 (map (expired now) c.waiting) marks) (sym (length-map c.waiting (expired now)))
+    (rows_map (Waits plan commands scope acts c.next (length c.waiting)) (WaitsAt plan commands scope acts c now c.next (length c.waiting)) (expired now) 0 0 c.waiting marks
+    (λ n j p mark low w. let below : j < length c.waiting = omega (arith, low) in (at_moment plan commands scope acts now n j _ p mark w, (j, below, refl))) all)
 
 pub expired_window : (c : ById) (now : ℕ) → IsWindow c → IsWindow (at_expired c now)
 expired_window c now w = record { digit = w.digit; few = let n : length (map (expired now) c.waiting) ≡ length c.waiting = length-map c.waiting (expired now) in omega (arith, n, w.few) }
@@ -265,16 +266,16 @@ stays_behind act now on past true d xs (inl told) = past_more d xs (act ∷ []) 
 stays_behind act now on past true d xs (inr reached) = past_here d xs act (past d reached)
 stays_behind act now on past false d xs both = all_append (IsBefore d) xs (act ∷ []) both.0 (on d both.1, tt)
 
-pub behind_moment : (plan : Plan) (commands : List Command) (turns : ℕ) (acts : List Act) (act : Act) (client : ById) (now next count : ℕ) (ps : List Pending) (marks : List (Option Mark))
+pub behind_moment : (plan : Plan) (commands : List Task) (scope : Scope) (acts : List Act) (act : Act) (client : ById) (now next count : ℕ) (ps : List Pending) (marks : List (Option Mark))
     → ((d : ℕ) → now < d → IsBefore d act) → ((d : ℕ) → d ≤ now → IsPast d act)
-    → Rows (WaitsAt plan commands turns acts client now next count) 0 0 ps marks → Rows (Waits plan commands turns (acts ++ act ∷ []) next count) 0 0 ps marks
-behind_moment plan commands turns acts act client now next count ps marks on past all =
-    rows_same (WaitsAt plan commands turns acts client now next count) (Waits plan commands turns (acts ++ act ∷ []) next count) 0 0 ps marks
-    (λ n j p mark w. asked_more plan commands turns acts act (StayedAt now) Stayed n j _ p mark (stays_behind act now on past) w.0) all
+    → Rows (WaitsAt plan commands scope acts client now next count) 0 0 ps marks → Rows (Waits plan commands scope (acts ++ act ∷ []) next count) 0 0 ps marks
+behind_moment plan commands scope acts act client now next count ps marks on past all =
+    rows_same (WaitsAt plan commands scope acts client now next count) (Waits plan commands scope (acts ++ act ∷ []) next count) 0 0 ps marks
+    (λ n j p mark w. asked_more plan commands scope acts act (StayedAt now) Stayed n j _ p mark (stays_behind act now on past) w.0) all
 
-pub moment_told : (plan : Plan) (commands : List Command) (turns : ℕ) (acts : List Act) (act : Act) (now : ℕ) (c : ById) (marks : List (Option Mark)) (rs : List Record) → ((d : ℕ) → now < d → IsBefore d act) → ((d : ℕ) → d ≤ now → IsPast d act)
-    → Honest plan commands turns acts (acts ++ act ∷ []) c marks rs → Honest plan commands turns (acts ++ act ∷ []) (acts ++ act ∷ []) (at_expired c now) marks rs
-moment_told plan commands turns acts act now c marks rs on past h = record {
-  waiting = behind_moment plan commands turns acts act c now _ _ (map (expired now) c.waiting) marks on past (expired_waits plan commands turns acts now c marks h.waiting);
+pub moment_told : (plan : Plan) (commands : List Task) (scope : Scope) (acts : List Act) (act : Act) (now : ℕ) (c : ById) (marks : List (Option Mark)) (rs : List Record) → ((d : ℕ) → now < d → IsBefore d act) → ((d : ℕ) → d ≤ now → IsPast d act)
+    → Honest plan commands scope acts (acts ++ act ∷ []) c marks rs → Honest plan commands scope (acts ++ act ∷ []) (acts ++ act ∷ []) (at_expired c now) marks rs
+moment_told plan commands scope acts act now c marks rs on past h = record {
+  waiting = behind_moment plan commands scope acts act c now _ _ (map (expired now) c.waiting) marks on past (expired_waits plan commands scope acts now c marks h.waiting);
   written = h.written;
 }

@@ -1,9 +1,10 @@
 -- Where an answer comes from, in an operator's words, this project's own: its own request went out, and the line came behind it, with
 -- its id, before a moment at or past its deadline was told.
-use Rattle.std.specs.Prelude.{◌≡◌, ℕ, ◌<◌, List, [], ◌∷◌, ◌++◌, Some}
+use Rattle.std.specs.Prelude.{◌≡◌, ℕ, ◌<◌, List, [], ◌∷◌, ◌++◌, drop, Option, Some, None}
 use Rattle.std.specs.List.{AllByRecursion}
-use Rattle.gc_client.specs.Rule.{Answered, heard}
-use Rattle.gc_texts.specs.declared.commands.Command.{Command}
+use Rattle.gc_client.specs.Rule.{heard}
+use Rattle.gc_texts.specs.Endings.{End, Answered, Unreadable, Late, Lost, Skipped, Missed}
+use Rattle.gc_texts.specs.declared.tasks.Task.{Task}
 use Rattle.gc_station.specs.declared.link.Moment.{Moment}
 use Rattle.gc_station.specs.declared.plan.Plan.{Plan}
 use Rattle.gc_station.specs.declared.progress.Order.TheVariants.{Send}
@@ -12,6 +13,7 @@ use Rattle.gc_station.specs.Deciding.{later}
 use Rattle.gc_station.specs.Records.{Record}
 use Rattle.gc_station.specs.Runs.{stood}
 use Rattle.gc_station.specs.Standing.{Puts, order_at, cycles_begun, place_next, request_text, lines_behind}
+use Rattle.gc_station.specs.Scopes.{Scope}
 
 -- an act tells no moment at or past this one
 abbrev pub IsBefore : ℕ → Act → Type 0
@@ -20,13 +22,20 @@ IsBefore deadline (Gave bytes m) = m.elapsed < deadline
 IsBefore deadline (Silent m) = m.elapsed < deadline
 IsBefore deadline _ = Unit {0}
 
--- the deadline of a request that goes out behind these acts
-abbrev pub deadline_behind : Plan → List Command → ℕ → List Act → ℕ
-deadline_behind plan commands turns acts = later (stood plan commands turns acts).progress.moment.elapsed plan.deadline
+-- how long the first of these commands waits
+abbrev pub first_deadline : List Task → ℕ
+first_deadline [] = 0
+first_deadline (task ∷ others) = task.deadline
+
+-- the deadline of the next command, where its request goes out behind these acts
+abbrev pub deadline_behind : Plan → List Task → Scope → List Act → ℕ
+deadline_behind plan commands scope acts =
+    let p = (stood plan commands scope acts).progress in
+    later p.moment.elapsed (first_deadline (drop (place_next commands p) commands))
 
 -- among these acts the request of a record, of its cycle and place, was put; then none told a moment at or
 -- past its deadline; then a piece came, also before that, and with it this line with the request's id; and this act wrote the record down
-pub record IsAnsweredIn (plan : Plan) (commands : List Command) (turns : ℕ) (acts : List Act) (r : Record) (line : List ℕ) : Type 0 where
+pub record IsAnsweredIn (plan : Plan) (commands : List Task) (scope : Scope) (acts : List Act) (r : Record) (line : List ℕ) : Type 0 where
   pub before : List Act
   pub request : Act
   pub between : List Act
@@ -34,21 +43,30 @@ pub record IsAnsweredIn (plan : Plan) (commands : List Command) (turns : ℕ) (a
   pub moment : Moment
   pub behind : List Act
   pub order : acts ≡ before ++ request ∷ (between ++ Gave piece moment ∷ behind)
-  pub sends : order_at plan (stood plan commands turns before) ≡ Send
-  pub cycle : r.cycle ≡ cycles_begun plan (stood plan commands turns before).progress
-  pub place : r.place ≡ place_next commands (stood plan commands turns before).progress
-  pub put : Puts (request_text (stood plan commands turns before).client r.settlement.call) request
-  pub waits : AllByRecursion (IsBefore (deadline_behind plan commands turns before)) between
-  pub in_time : moment.elapsed < deadline_behind plan commands turns before
+  pub sends : order_at plan (stood plan commands scope before) ≡ Send
+  pub cycle : r.cycle ≡ cycles_begun plan (stood plan commands scope before).progress
+  pub place : r.place ≡ place_next commands (stood plan commands scope before).progress
+  pub put : Puts (request_text (stood plan commands scope before).client r.command.call) request
+  pub waits : AllByRecursion (IsBefore (deadline_behind plan commands scope before)) between
+  pub in_time : moment.elapsed < deadline_behind plan commands scope before
   pub front : List (List ℕ)
   pub others : List (List ℕ)
-  pub came : lines_behind (stood plan commands turns (before ++ request ∷ between)).rest piece ≡ front ++ line ∷ others
-  pub id : heard line ≡ Some (stood plan commands turns before).client.next
+  pub came : lines_behind (stood plan commands scope (before ++ request ∷ between)).rest piece ≡ front ++ line ∷ others
+  pub id : heard line ≡ Some (stood plan commands scope before).client.next
   pub earlier : List Record
   pub later : List Record
-  pub written : (stood plan commands turns (before ++ request ∷ (between ++ Gave piece moment ∷ []))).records
-      ≡ (stood plan commands turns (before ++ request ∷ between)).records ++ (earlier ++ r ∷ later)
+  pub written : (stood plan commands scope (before ++ request ∷ (between ++ Gave piece moment ∷ []))).records
+      ≡ (stood plan commands scope (before ++ request ∷ between)).records ++ (earlier ++ r ∷ later)
+
+-- the line that answered a command, where it ended so; its values read or don't
+abbrev pub answer_of : End → Option (List ℕ)
+answer_of (Answered line) = Some line
+answer_of (Unreadable line fault) = Some line
+answer_of Late = None
+answer_of Lost = None
+answer_of Skipped = None
+answer_of Missed = None
 
 -- a record of an answer is of such a line
-abbrev pub IsTrueRecord : Plan → List Command → ℕ → List Act → Record → Type 0
-IsTrueRecord plan commands turns acts r = (line : List ℕ) → r.settlement.outcome ≡ Answered line → IsAnsweredIn plan commands turns acts r line
+abbrev pub IsTrueRecord : Plan → List Task → Scope → List Act → Record → Type 0
+IsTrueRecord plan commands scope acts r = (line : List ℕ) → answer_of r.end ≡ Some line → IsAnsweredIn plan commands scope acts r line

@@ -5,12 +5,13 @@ use Rattle.std.specs.List.{AllByRecursion}
 use Rattle.gc_lines.specs.Frames.{lines}
 use Rattle.gc_catalogue.specs.declared.call.Call.TheVariants.{NullProc}
 use Rattle.gc_client.specs.Rule.{fresh, heard}
-use Rattle.gc_texts.specs.declared.commands.Command.{Command}
+use Rattle.gc_texts.specs.declared.tasks.Task.{Task}
 use Rattle.gc_station.specs.declared.plan.Plan.{Plan}
 use Rattle.gc_station.specs.Acts.{Act, Put, Gave, Closed}
 use Rattle.gc_station.specs.Quiet.{AsksNothing, StaysConnected, IsClearedAndQuiet}
 use Rattle.gc_station.specs.Runs.{stood}
 use Rattle.gc_station.specs.Standing.{Puts, request_text}
+use Rattle.gc_station.specs.Scopes.{Scope}
 
 -- the null procedure with id 0
 abbrev pub null_text : List ℕ
@@ -47,11 +48,11 @@ pub record IsAnsweredAmong (acts : List Act) : Type 0 where
 
 -- behind these acts a station begins anew, while so many requests wait: at the start, where one does for the drain; or at a close behind
 -- which the next connection begins anew, and before which none was to
-abbrev pub BeginsWith : Plan → List Command → ℕ → List Act → ℕ → Type 0
-BeginsWith plan commands turns acts waiting =
+abbrev pub BeginsWith : Plan → List Task → Scope → List Act → ℕ → Type 0
+BeginsWith plan commands scope acts waiting =
     ((acts ≡ []) × (waiting ≡ 1))
-    ⊎ ((front : List Act) × (acts ≡ front ++ Closed ∷ []) × ((stood plan commands turns front).progress.anew ≡ false) × ((stood plan commands turns acts).progress.anew ≡ true)
-    × (waiting ≡ length (stood plan commands turns front).client.waiting))
+    ⊎ ((front : List Act) × (acts ≡ front ++ Closed ∷ []) × ((stood plan commands scope front).progress.anew ≡ false) × ((stood plan commands scope acts).progress.anew ≡ true)
+    × (waiting ≡ length (stood plan commands scope front).client.waiting))
 
 -- so many quiet times, or as long as there are moments
 abbrev pub quiet_times : Plan → ℕ → ℕ

@@ -1,7 +1,7 @@
 -- Why each act is made, and why a connection is closed: this project's own.
 use Rattle.std.specs.Prelude.{◌≡◌, ◌⊎◌, ℕ, false, List, [], ◌∷◌, ◌++◌, if◌then◌else◌}
 use Rattle.gc_client.specs.Rule.{fresh}
-use Rattle.gc_texts.specs.declared.commands.Command.{Command}
+use Rattle.gc_texts.specs.declared.tasks.Task.{Task}
 use Rattle.gc_station.specs.declared.cause.Cause.{Cause}
 use Rattle.gc_station.specs.declared.cause.Cause.TheVariants as cause
 use Rattle.gc_station.specs.declared.plan.Plan.{Plan}
@@ -15,6 +15,7 @@ use Rattle.gc_station.specs.Progressing.{is_finished, is_spared, begins_anew}
 use Rattle.gc_station.specs.Reasons.{IsFor, IsAtItsEnd}
 use Rattle.gc_station.specs.Runs.{stood}
 use Rattle.gc_station.specs.Standing.{Standing, waiting_of, order_at, Obeys}
+use Rattle.gc_station.specs.Scopes.{Scope}
 
 -- the null procedure with which it begins anew goes out where nothing waits, ids begin anew and no bytes of a line are kept: it has id 0
 abbrev pub IsAlone : Order → Standing → Type 0
@@ -22,7 +23,7 @@ IsAlone Probe s = (s.client ≡ fresh) × (s.rest ≡ [])
 IsAlone _ s = Unit {0}
 
 -- an act is that of the order that is next, and what that order needs is so
-pub record IsReasoned (plan : Plan) (commands : List Command) (s : Standing) (act : Act) : Type 0 where
+pub record IsReasoned (plan : Plan) (commands : List Task) (s : Standing) (act : Act) : Type 0 where
   pub obeys : Obeys commands s (order_at plan s) act
   pub needs : IsFor plan s.progress (waiting_of s) (order_at plan s)
   pub alone : IsAlone (order_at plan s) s
@@ -36,10 +37,10 @@ Shows (cause.Write requests bytes) act = (text : List ℕ) × (act ≡ Cut text 
 Shows _ act = ⊥
 
 -- a connection is closed for a cause: the run's end, a quiet line or a dead one, or what the last act shows
-pub record ClosesForACause (plan : Plan) (commands : List Command) (turns : ℕ) (acts : List Act) : Type 0 where
+pub record ClosesForACause (plan : Plan) (commands : List Task) (scope : Scope) (acts : List Act) : Type 0 where
   pub why : Cause
-  pub closes : order_at plan (stood plan commands turns acts) ≡ Close why
-  pub shown : IsAtItsEnd plan (stood plan commands turns acts).progress (waiting_of (stood plan commands turns acts)) why
+  pub closes : order_at plan (stood plan commands scope acts) ≡ Close why
+  pub shown : IsAtItsEnd plan (stood plan commands scope acts).progress (waiting_of (stood plan commands scope acts)) why
       ⊎ ((earlier : List Act) × (last : Act) × (acts ≡ earlier ++ last ∷ []) × Shows why last)
 
 -- nothing is left to be sent, and no command waits, and so a run is done
@@ -71,7 +72,7 @@ abbrev pub Ends : Plan → Standing → Cause → Act → Type 0
 Ends plan s why act = ((is_up s.progress.phase ≡ false) × Shows why act) ⊎ EndsGone plan s.progress (waiting_of s) (order_at plan s) why act
 
 -- a run stops without a connection, and for a cause: all turns are used up, or what the last act shows
-pub record StopsForACause (plan : Plan) (commands : List Command) (turns : ℕ) (acts : List Act) (why : Cause) : Type 0 where
-  pub down : is_up (stood plan commands turns acts).progress.phase ≡ false
-  pub shown : ((why ≡ cause.Turns) × ((stood plan commands turns acts).progress.turns ≡ 0))
-      ⊎ ((earlier : List Act) × (last : Act) × (acts ≡ earlier ++ last ∷ []) × Ends plan (stood plan commands turns earlier) why last)
+pub record StopsForACause (plan : Plan) (commands : List Task) (scope : Scope) (acts : List Act) (why : Cause) : Type 0 where
+  pub down : is_up (stood plan commands scope acts).progress.phase ≡ false
+  pub shown : ((why ≡ cause.Turns) × ((stood plan commands scope acts).progress.turns ≡ 0))
+      ⊎ ((earlier : List Act) × (last : Act) × (acts ≡ earlier ++ last ∷ []) × Ends plan (stood plan commands scope earlier) why last)

@@ -1,13 +1,13 @@
 -- What a station does next, this project's own. It is a function of how far the station is, and of how many requests wait: in all,
 -- of those that aren't given up, and of commands.
-use Rattle.std.specs.Prelude.{ℕ, ◌+◌, ◌-◌, ◌*◌, ◌&&◌, Bool, true, false, if◌then◌else◌, nat_lt, nat_le, nat_eq, min, max}
+use Rattle.std.specs.Prelude.{ℕ, ◌+◌, ◌-◌, ◌*◌, ◌&&◌, Bool, true, false, not, if◌then◌else◌, nat_lt, nat_le, nat_eq, min, max}
 use Rattle.gc_client.specs.declared.window.TheConstants.{WINDOW}
 use Rattle.gc_station.specs.declared.plan.Plan.{Plan}
 use Rattle.gc_station.specs.declared.cause.Cause.TheVariants.{Done, Silence, Dead, Turns}
 use Rattle.gc_station.specs.declared.progress.Phase.{Phase}
 use Rattle.gc_station.specs.declared.progress.Phase.TheVariants as phase
 use Rattle.gc_station.specs.declared.progress.Order.{Order}
-use Rattle.gc_station.specs.declared.progress.Order.TheVariants.{Tell, Begin, Open, Clear, Probe, Send, Flush, Read, Rest, Close, Stop}
+use Rattle.gc_station.specs.declared.progress.Order.TheVariants.{Tell, Begin, Open, Clear, Probe, Send, Skip, Flush, Read, Rest, Close, Stop}
 use Rattle.gc_station.specs.declared.progress.Progress.{Progress}
 use Rattle.gc_station.specs.declared.progress.Waiting.{Waiting}
 
@@ -70,11 +70,22 @@ has_room plan w = nat_lt w.current (width_of plan) && nat_lt w.all WINDOW
 abbrev pub order_room : Plan → Progress → Waiting → Order → Order
 order_room plan p w order = if has_room plan w then order else order_waiting plan p w
 
--- each command of the cycle was sent: where some wait, and all that wait are given up, a null procedure goes out, whose reply settles
--- them
+-- the next command of a chain goes out where the one before it was answered well, and no connection was closed since that went out
+abbrev pub may_go : Progress → Waiting → Bool
+may_go p w = w.well && p.whole
+
+-- each command that was sent is settled
+abbrev pub order_settled : Plan → Progress → Waiting → Order
+order_settled plan p w =
+    if nat_eq p.unsent 0 then order_done plan p
+    else if may_go p w then order_room plan p w Send
+    else Skip
+
+-- each command of the cycle was sent, or the next one goes out only behind those that were: where some wait, and all that wait are
+-- given up, a null procedure goes out, whose reply settles them
 abbrev pub order_sent : Plan → Progress → Waiting → Order
 order_sent plan p w =
-    if nat_eq w.commands 0 then order_done plan p
+    if nat_eq w.commands 0 then order_settled plan p w
     else if nat_eq w.current 0 then order_room plan p w Flush
     else order_waiting plan p w
 
@@ -82,7 +93,7 @@ order_sent plan p w =
 abbrev pub order_ready : Plan → Progress → Waiting → Order
 order_ready plan p w =
     if p.alone then order_waiting plan p w
-    else if nat_lt 0 p.unsent then order_room plan p w Send
+    else if nat_lt 0 p.unsent && not p.bound then order_room plan p w Send
     else order_sent plan p w
 
 -- with turns left, and a moment that was told after all that was done

@@ -2,8 +2,8 @@
 -- sent, cycle by cycle and in order, each once.
 use Rattle.std.specs.Prelude.{◌≡◌, ◌⊎◌, ◌<◌, ℕ, zero, suc, ◌+◌, List, [], ◌∷◌, ◌++◌, take, map, Option, Some, None}
 use Rattle.gc_client.specs.declared.pending.Pending.{Pending}
-use Rattle.gc_client.specs.OneForOne.{Asked, of_settled, of_pending}
-use Rattle.gc_texts.specs.declared.commands.Command.{Command}
+use Rattle.gc_client.specs.OneForOne.{Asked, of_pending}
+use Rattle.gc_texts.specs.declared.tasks.Task.{Task}
 use Rattle.gc_station.specs.declared.plan.Plan.{Plan}
 use Rattle.gc_station.specs.declared.cause.Cause.{Cause}
 use Rattle.gc_station.specs.declared.cause.Cause.TheVariants.{Done}
@@ -13,6 +13,8 @@ use Rattle.gc_station.specs.Acts.{Act}
 use Rattle.gc_station.specs.Records.{Record}
 use Rattle.gc_station.specs.Runs.{stood}
 use Rattle.gc_station.specs.Standing.{Standing, order_at, cycles_begun, place_next}
+use Rattle.gc_station.specs.Scopes.{Scope}
+use Rattle.gc_texts.specs.declared.commands.Command.{Command}
 
 -- a request of a run: of which cycle and place it is, whom it is for, and what it asks for
 pub record Request : Type 0 where
@@ -25,23 +27,26 @@ abbrev pub requests : ℕ → ℕ → List Asked → List Request
 requests cycle place [] = []
 requests cycle place (a ∷ others) = record { cycle = cycle; place = place; asked = a } ∷ requests cycle (place + 1) others
 
--- what a command asks
+-- what a command asks, and a task
 abbrev pub of_command : Command → Asked
 of_command c = record { target = c.target; call = c.call }
 
--- all commands of so many cycles, which are counted from 1
-abbrev pub all_cycles : List Command → ℕ → List Request
-all_cycles commands zero = []
-all_cycles commands (suc n) = all_cycles commands n ++ requests (suc n) 0 (map of_command commands)
+abbrev pub of_task : Task → Asked
+of_task task = of_command task.command
 
--- so many cycles began, and of the last of them so many commands were sent
-abbrev pub sent_by : List Command → ℕ → ℕ → List Request
+-- all commands of so many cycles, which are counted from 1
+abbrev pub all_cycles : List Task → ℕ → List Request
+all_cycles commands zero = []
+all_cycles commands (suc n) = all_cycles commands n ++ requests (suc n) 0 (map of_task commands)
+
+-- so many cycles began, and of the last of them so many commands were sent, or written down without being sent
+abbrev pub sent_by : List Task → ℕ → ℕ → List Request
 sent_by commands zero place = []
-sent_by commands (suc n) place = all_cycles commands n ++ requests (suc n) 0 (map of_command (take place commands))
+sent_by commands (suc n) place = all_cycles commands n ++ requests (suc n) 0 (map of_task (take place commands))
 
 -- the request that a record is of
 abbrev pub of_record : Record → Request
-of_record r = record { cycle = r.cycle; place = r.place; asked = of_settled r.settlement }
+of_record r = record { cycle = r.cycle; place = r.place; asked = of_command r.command }
 
 -- the request of a command that waits
 abbrev pub of_waiting : Mark → Pending → Request
@@ -55,19 +60,19 @@ still_waiting (None ∷ marks) (p ∷ others) = still_waiting marks others
 still_waiting (Some mark ∷ marks) (p ∷ others) = of_waiting mark p ∷ still_waiting marks others
 
 -- the records, and behind them the commands that wait, are the commands that were sent
-abbrev pub IsEachOnce : Plan → List Command → Standing → Type 0
+abbrev pub IsEachOnce : Plan → List Task → Standing → Type 0
 IsEachOnce plan commands s =
     map of_record s.records ++ still_waiting s.marks s.client.waiting ≡ sent_by commands (cycles_begun plan s.progress) (place_next commands s.progress)
 
 -- after each run, and where it stopped: nothing waits, and where it is done all commands of all cycles were sent
-pub record EachOnce (plan : Plan) (commands : List Command) (turns : ℕ) (acts : List Act) : Type 0 where
-  pub each : IsEachOnce plan commands (stood plan commands turns acts)
-  pub settled : (cause : Cause) → order_at plan (stood plan commands turns acts) ≡ Stop cause
-      → map of_record (stood plan commands turns acts).records ≡ sent_by commands (cycles_begun plan (stood plan commands turns acts).progress) (place_next commands (stood plan commands turns acts).progress)
-  pub done : order_at plan (stood plan commands turns acts) ≡ Stop Done → map of_record (stood plan commands turns acts).records ≡ all_cycles commands plan.cycles
+pub record EachOnce (plan : Plan) (commands : List Task) (scope : Scope) (acts : List Act) : Type 0 where
+  pub each : IsEachOnce plan commands (stood plan commands scope acts)
+  pub settled : (cause : Cause) → order_at plan (stood plan commands scope acts) ≡ Stop cause
+      → map of_record (stood plan commands scope acts).records ≡ sent_by commands (cycles_begun plan (stood plan commands scope acts).progress) (place_next commands (stood plan commands scope acts).progress)
+  pub done : order_at plan (stood plan commands scope acts) ≡ Stop Done → map of_record (stood plan commands scope acts).records ≡ all_cycles commands plan.cycles
 
 -- a station is further than it was: in a later cycle, or at a later place in the same
-abbrev pub IsFurther : Plan → List Command → Standing → Standing → Type 0
+abbrev pub IsFurther : Plan → List Task → Standing → Standing → Type 0
 IsFurther plan commands s t =
     (cycles_begun plan s.progress < cycles_begun plan t.progress)
     ⊎ ((cycles_begun plan s.progress ≡ cycles_begun plan t.progress) × (place_next commands s.progress < place_next commands t.progress))

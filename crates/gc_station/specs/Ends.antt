@@ -5,8 +5,9 @@
 use Rattle.std.specs.Prelude.{◌≡◌, ◌⊎◌, ℕ, ◌≤◌, true, List, [], ◌∷◌, ◌++◌, Some}
 use Rattle.gc_catalogue.specs.declared.call.Call.{Call}
 use Rattle.gc_client.specs.Ids.{Waits}
-use Rattle.gc_client.specs.Rule.{Late, Lost, heard}
-use Rattle.gc_texts.specs.declared.commands.Command.{Command}
+use Rattle.gc_client.specs.Rule.{heard}
+use Rattle.gc_texts.specs.Endings.{Late, Lost}
+use Rattle.gc_texts.specs.declared.tasks.Task.{Task}
 use Rattle.gc_station.specs.declared.cause.Cause.{Cause}
 use Rattle.gc_station.specs.declared.cause.Cause.TheVariants as cause
 use Rattle.gc_station.specs.declared.link.Moment.{Moment}
@@ -19,6 +20,7 @@ use Rattle.gc_station.specs.Probing.{IsAsking}
 use Rattle.gc_station.specs.Records.{Record}
 use Rattle.gc_station.specs.Runs.{stood}
 use Rattle.gc_station.specs.Standing.{Puts, order_at, cycles_begun, place_next, request_text, lines_behind}
+use Rattle.gc_station.specs.Scopes.{Scope}
 
 -- an act tells a moment at or past this one
 abbrev pub IsPast : ℕ → Act → Type 0
@@ -36,29 +38,29 @@ pub record TellsPast (deadline : ℕ) (acts : List Act) : Type 0 where
   pub past : IsPast deadline telling
 
 -- behind these acts, this act puts the very request of a record: of its cycle and place, and for its call
-pub record IsOwnRequest (plan : Plan) (commands : List Command) (turns : ℕ) (acts : List Act) (act : Act) (r : Record) : Type 0 where
-  pub sends : order_at plan (stood plan commands turns acts) ≡ Send
-  pub cycle : r.cycle ≡ cycles_begun plan (stood plan commands turns acts).progress
-  pub place : r.place ≡ place_next commands (stood plan commands turns acts).progress
-  pub put : Puts (request_text (stood plan commands turns acts).client r.settlement.call) act
+pub record IsOwnRequest (plan : Plan) (commands : List Task) (scope : Scope) (acts : List Act) (act : Act) (r : Record) : Type 0 where
+  pub sends : order_at plan (stood plan commands scope acts) ≡ Send
+  pub cycle : r.cycle ≡ cycles_begun plan (stood plan commands scope acts).progress
+  pub place : r.place ≡ place_next commands (stood plan commands scope acts).progress
+  pub put : Puts (request_text (stood plan commands scope acts).client r.command.call) act
 
 -- behind these acts, with this piece a line comes with this id
-pub record Brings (plan : Plan) (commands : List Command) (turns : ℕ) (acts : List Act) (piece : List ℕ) (id : ℕ) : Type 0 where
+pub record Brings (plan : Plan) (commands : List Task) (scope : Scope) (acts : List Act) (piece : List ℕ) (id : ℕ) : Type 0 where
   pub front : List (List ℕ)
   pub line : List ℕ
   pub others : List (List ℕ)
-  pub came : lines_behind (stood plan commands turns acts).rest piece ≡ front ++ line ∷ others
+  pub came : lines_behind (stood plan commands scope acts).rest piece ≡ front ++ line ∷ others
   pub has : heard line ≡ Some id
 
 -- behind these acts, this act writes a record down
-pub record IsWrittenAt (plan : Plan) (commands : List Command) (turns : ℕ) (acts : List Act) (act : Act) (r : Record) : Type 0 where
+pub record IsWrittenAt (plan : Plan) (commands : List Task) (scope : Scope) (acts : List Act) (act : Act) (r : Record) : Type 0 where
   pub earlier : List Record
   pub later : List Record
-  pub written : (stood plan commands turns (acts ++ act ∷ [])).records ≡ (stood plan commands turns acts).records ++ (earlier ++ r ∷ later)
+  pub written : (stood plan commands scope (acts ++ act ∷ [])).records ≡ (stood plan commands scope acts).records ++ (earlier ++ r ∷ later)
 
 -- among these acts the very request of a record was put; then, up to and with the moment of a piece, a moment at or past its deadline was
 -- told; a line with the request's id came with that piece; and this act wrote the record down
-pub record IsLateIn (plan : Plan) (commands : List Command) (turns : ℕ) (acts : List Act) (r : Record) : Type 0 where
+pub record IsLateIn (plan : Plan) (commands : List Task) (scope : Scope) (acts : List Act) (r : Record) : Type 0 where
   pub before : List Act
   pub request : Act
   pub between : List Act
@@ -66,57 +68,57 @@ pub record IsLateIn (plan : Plan) (commands : List Command) (turns : ℕ) (acts 
   pub moment : Moment
   pub behind : List Act
   pub order : acts ≡ before ++ request ∷ (between ++ Gave piece moment ∷ behind)
-  pub own : IsOwnRequest plan commands turns before request r
-  pub too_late : TellsPast (deadline_behind plan commands turns before) (between ++ Gave piece moment ∷ [])
-  pub came : Brings plan commands turns (before ++ request ∷ between) piece (stood plan commands turns before).client.next
-  pub written : IsWrittenAt plan commands turns (before ++ request ∷ between) (Gave piece moment) r
+  pub own : IsOwnRequest plan commands scope before request r
+  pub too_late : TellsPast (deadline_behind plan commands scope before) (between ++ Gave piece moment ∷ [])
+  pub came : Brings plan commands scope (before ++ request ∷ between) piece (stood plan commands scope before).client.next
+  pub written : IsWrittenAt plan commands scope (before ++ request ∷ between) (Gave piece moment) r
 
 -- behind a request, among the acts between, another one was put; it waits; and this act brings a line with the other one's id
-pub record IsOvertaken (plan : Plan) (commands : List Command) (turns : ℕ) (before : List Act) (request : Act) (between : List Act) (act : Act) : Type 0 where
+pub record IsOvertaken (plan : Plan) (commands : List Task) (scope : Scope) (before : List Act) (request : Act) (between : List Act) (act : Act) : Type 0 where
   pub first : List Act
   pub other : Act
   pub next : List Act
   pub order : between ≡ first ++ other ∷ next
-  pub asks : IsAsking (order_at plan (stood plan commands turns (before ++ request ∷ first)))
+  pub asks : IsAsking (order_at plan (stood plan commands scope (before ++ request ∷ first)))
   pub call : Call
-  pub put : Puts (request_text (stood plan commands turns (before ++ request ∷ first)).client call) other
-  pub waits : Waits (stood plan commands turns (before ++ request ∷ between)).client (stood plan commands turns (before ++ request ∷ first)).client.next
+  pub put : Puts (request_text (stood plan commands scope (before ++ request ∷ first)).client call) other
+  pub waits : Waits (stood plan commands scope (before ++ request ∷ between)).client (stood plan commands scope (before ++ request ∷ first)).client.next
   pub piece : List ℕ
   pub moment : Moment
   pub reads : act ≡ Gave piece moment
-  pub came : Brings plan commands turns (before ++ request ∷ between) piece (stood plan commands turns (before ++ request ∷ first)).client.next
+  pub came : Brings plan commands scope (before ++ request ∷ between) piece (stood plan commands scope (before ++ request ∷ first)).client.next
 
 -- behind these acts, this act closes the connection since nothing may go out, all that wait are given up, and the line is quiet; then the
 -- station rests, and its next connection begins anew
-pub record BeginsAnew (plan : Plan) (commands : List Command) (turns : ℕ) (acts : List Act) (act : Act) : Type 0 where
-  pub closes : order_at plan (stood plan commands turns acts) ≡ Close cause.Silence
+pub record BeginsAnew (plan : Plan) (commands : List Task) (scope : Scope) (acts : List Act) (act : Act) : Type 0 where
+  pub closes : order_at plan (stood plan commands scope acts) ≡ Close cause.Silence
   pub closed : act ≡ Closed
-  pub rests : (stood plan commands turns (acts ++ act ∷ [])).progress.phase ≡ phase.Resting
-  pub anew : (stood plan commands turns (acts ++ act ∷ [])).progress.anew ≡ true
+  pub rests : (stood plan commands scope (acts ++ act ∷ [])).progress.phase ≡ phase.Resting
+  pub anew : (stood plan commands scope (acts ++ act ∷ [])).progress.anew ≡ true
 
 -- behind these acts, this act is the last one: none follows, and the run stops
-pub record IsLast (plan : Plan) (commands : List Command) (turns : ℕ) (acts : List Act) (act : Act) (behind : List Act) : Type 0 where
+pub record IsLast (plan : Plan) (commands : List Task) (scope : Scope) (acts : List Act) (act : Act) (behind : List Act) : Type 0 where
   pub none : behind ≡ []
   pub why : Cause
-  pub stops : order_at plan (stood plan commands turns (acts ++ act ∷ [])) ≡ Stop why
+  pub stops : order_at plan (stood plan commands scope (acts ++ act ∷ [])) ≡ Stop why
 
 -- among these acts the very request of a record was put, and behind it an act wrote the record down: it brought a line with the id of a
 -- request that was put behind that one, or behind it the station begins anew, or it is the last act
-pub record IsLostIn (plan : Plan) (commands : List Command) (turns : ℕ) (acts : List Act) (r : Record) : Type 0 where
+pub record IsLostIn (plan : Plan) (commands : List Task) (scope : Scope) (acts : List Act) (r : Record) : Type 0 where
   pub before : List Act
   pub request : Act
   pub between : List Act
   pub act : Act
   pub behind : List Act
   pub order : acts ≡ before ++ request ∷ (between ++ act ∷ behind)
-  pub own : IsOwnRequest plan commands turns before request r
-  pub written : IsWrittenAt plan commands turns (before ++ request ∷ between) act r
-  pub shown : IsOvertaken plan commands turns before request between act
-      ⊎ (BeginsAnew plan commands turns (before ++ request ∷ between) act ⊎ IsLast plan commands turns (before ++ request ∷ between) act behind)
+  pub own : IsOwnRequest plan commands scope before request r
+  pub written : IsWrittenAt plan commands scope (before ++ request ∷ between) act r
+  pub shown : IsOvertaken plan commands scope before request between act
+      ⊎ (BeginsAnew plan commands scope (before ++ request ∷ between) act ⊎ IsLast plan commands scope (before ++ request ∷ between) act behind)
 
 -- a record that is late, or lost, is so
-abbrev pub IsTrulyLate : Plan → List Command → ℕ → List Act → Record → Type 0
-IsTrulyLate plan commands turns acts r = r.settlement.outcome ≡ Late → IsLateIn plan commands turns acts r
+abbrev pub IsTrulyLate : Plan → List Task → Scope → List Act → Record → Type 0
+IsTrulyLate plan commands scope acts r = r.end ≡ Late → IsLateIn plan commands scope acts r
 
-abbrev pub IsTrulyLost : Plan → List Command → ℕ → List Act → Record → Type 0
-IsTrulyLost plan commands turns acts r = r.settlement.outcome ≡ Lost → IsLostIn plan commands turns acts r
+abbrev pub IsTrulyLost : Plan → List Task → Scope → List Act → Record → Type 0
+IsTrulyLost plan commands scope acts r = r.end ≡ Lost → IsLostIn plan commands scope acts r

@@ -1,9 +1,10 @@
 -- What came on a connection, this project's own: the bytes that were given on it while they were heard.
 use Rattle.std.specs.Prelude.{ℕ, Bool, List, [], ◌∷◌, ◌++◌, if◌then◌else◌}
-use Rattle.gc_texts.specs.declared.commands.Command.{Command}
+use Rattle.gc_texts.specs.declared.tasks.Task.{Task}
 use Rattle.gc_station.specs.declared.plan.Plan.{Plan}
 use Rattle.gc_station.specs.Acts.{Act, Gave, Closed}
 use Rattle.gc_station.specs.Standing.{Standing, opening, is_heard, after}
+use Rattle.gc_station.specs.Scopes.{Scope}
 
 -- the bytes on a connection behind one act more: a read gives more, where bytes are heard, and a close ends the connection
 abbrev pub given_with : Bool → Act → List ℕ → List ℕ
@@ -12,10 +13,10 @@ given_with heard Closed bytes = []
 given_with heard act bytes = bytes
 
 -- the bytes behind more acts, from a standing on
-abbrev pub given_behind : Plan → List Command → Standing → List ℕ → List Act → List ℕ
+abbrev pub given_behind : Plan → List Task → Standing → List ℕ → List Act → List ℕ
 given_behind plan commands s bytes [] = bytes
 given_behind plan commands s bytes (act ∷ acts) = given_behind plan commands (after plan commands s act) (given_with (is_heard s.progress.phase) act bytes) acts
 
 -- the bytes that were given on this connection while they were heard
-abbrev pub given : Plan → List Command → ℕ → List Act → List ℕ
-given plan commands turns acts = given_behind plan commands (opening plan turns) [] acts
+abbrev pub given : Plan → List Task → Scope → List Act → List ℕ
+given plan commands scope acts = given_behind plan commands (opening plan scope) [] acts

@@ -1,5 +1,6 @@
 pub mod Acts
 pub mod Causes
+pub mod Scopes
 pub mod Records
 pub mod Marks
 pub mod Deciding
@@ -13,6 +14,7 @@ pub mod Closing
 pub mod Answers
 pub mod Probing
 pub mod Ends
+pub mod Chains
 pub mod Quiet
 pub mod Silences
 pub mod Tries
@@ -21,3 +23,4 @@ pub mod Beginnings
 pub mod Stations
 pub mod Pace
 pub mod Parts
+pub mod Logging

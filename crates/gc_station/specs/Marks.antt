@@ -1,7 +1,13 @@
 -- Marks, this project's own: for each request that waits, which command of which cycle it is; a null procedure of the station's own
 -- has none.
-use Rattle.std.specs.Prelude.{ℕ, suc, List, [], ◌∷◌, Option, Some, None}
-use Rattle.gc_client.specs.Rule.{Settlement}
+use Rattle.std.specs.Prelude.{ℕ, suc, Bool, true, false, List, [], ◌∷◌, Option, Some, None}
+use Rattle.gc_catalogue.specs.declared.answer.Reading.{Reading}
+use Rattle.gc_catalogue.specs.declared.answer.Reading.TheVariants as reading
+use Rattle.gc_catalogue.specs.declared.call.Call.{Call}
+use Rattle.gc_client.specs.Rule.{Settlement, Outcome, Answered, Late, Lost}
+use Rattle.gc_texts.specs.declared.commands.Command.{Command}
+use Rattle.gc_texts.specs.Endings.{End}
+use Rattle.gc_texts.specs.Endings as end
 use Rattle.gc_station.specs.declared.mark.Mark.{Mark}
 use Rattle.gc_station.specs.Records.{Record}
 
@@ -11,13 +17,55 @@ commands_in [] = 0
 commands_in (None ∷ marks) = commands_in marks
 commands_in (Some mark ∷ marks) = suc (commands_in marks)
 
+-- how an answer ends a command of which its line says this: its values don't read, or it is answered
+abbrev pub answer_as : Reading → List ℕ → End
+answer_as (reading.Unreadable fault) line = end.Unreadable line fault
+answer_as _ line = end.Answered line
+
+-- how a command ended whose request ended so
+abbrev pub end_of : (Call → List ℕ → Reading) → Call → Outcome → End
+end_of reads call (Answered line) = answer_as (reads call line) line
+end_of reads call Late = end.Late
+end_of reads call Lost = end.Lost
+
+-- the command that was settled
+abbrev pub command_of : Settlement → Command
+command_of settlement = record { target = settlement.target; call = settlement.call }
+
 -- the record of a command that was settled
-abbrev pub record_of : ℕ → Mark → Settlement → Record
-record_of utc mark settlement = record { utc = utc; cycle = mark.cycle; place = mark.place; settlement = settlement }
+abbrev pub record_of : (Call → List ℕ → Reading) → ℕ → Mark → Settlement → Record
+record_of reads utc mark settlement = record {
+  utc = utc;
+  cycle = mark.cycle;
+  place = mark.place;
+  command = command_of settlement;
+  end = end_of reads settlement.call settlement.outcome;
+}
 
 -- the records of the requests that were settled at a moment, the oldest of those with these marks; a null procedure has none
-abbrev pub records_of : ℕ → List (Option Mark) → List Settlement → List Record
-records_of utc [] settlements = []
-records_of utc (mark ∷ marks) [] = []
-records_of utc (None ∷ marks) (settlement ∷ others) = records_of utc marks others
-records_of utc (Some mark ∷ marks) (settlement ∷ others) = record_of utc mark settlement ∷ records_of utc marks others
+abbrev pub records_of : (Call → List ℕ → Reading) → ℕ → List (Option Mark) → List Settlement → List Record
+records_of reads utc [] settlements = []
+records_of reads utc (mark ∷ marks) [] = []
+records_of reads utc (None ∷ marks) (settlement ∷ others) = records_of reads utc marks others
+records_of reads utc (Some mark ∷ marks) (settlement ∷ others) = record_of reads utc mark settlement ∷ records_of reads utc marks others
+
+-- whether what a reply says is an answer: both codes are 0, and its values read
+abbrev pub is_value : Reading → Bool
+is_value (reading.Value answer) = true
+is_value (reading.Refused code) = false
+is_value (reading.ComFault code) = false
+is_value (reading.Unreadable fault) = false
+
+-- whether a command that ended so was answered well
+abbrev pub is_well : (Call → List ℕ → Reading) → Call → End → Bool
+is_well reads call (end.Answered line) = is_value (reads call line)
+is_well reads call (end.Unreadable line fault) = false
+is_well reads call end.Late = false
+is_well reads call end.Lost = false
+is_well reads call end.Skipped = false
+is_well reads call end.Missed = false
+
+-- whether the last of these records is of a command that was answered well, or where there is none, this
+abbrev pub last_well : (Call → List ℕ → Reading) → Bool → List Record → Bool
+last_well reads well [] = well
+last_well reads well (r ∷ others) = last_well reads (is_well reads r.command.call r.end) others

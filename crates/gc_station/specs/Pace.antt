@@ -45,9 +45,9 @@ patience plan p rested deadline = min (max (ends_at plan p rested deadline - p.m
 abbrev pub cycle_of : Plan → Progress → ℕ
 cycle_of plan p = plan.cycles - p.left
 
--- whether the cycle that began last has overrun: it wasn't done when the next was due, which is still to come
+-- whether the cycle that began last has overrun: it isn't missed, and wasn't done when the next was due, which is still to come
 abbrev pub has_overrun : Plan → Progress → Bool
-has_overrun plan p = not p.early && is_due plan p && nat_lt 0 p.left && nat_lt 0 plan.every
+has_overrun plan p = not p.early && not p.missed && is_due plan p && nat_lt 0 p.left && nat_lt 0 plan.every
 
 -- the cycle that is told to have overrun, where this is the last one that was: the one that began last, once
 abbrev pub overrun : Plan → Progress → ℕ → Option ℕ

@@ -2,7 +2,7 @@
 -- answered.
 use Rattle.std.specs.Prelude.{◌≡◌, ℕ, List, ◌∷◌, ◌++◌, Some}
 use Rattle.gc_client.specs.Rule.{heard}
-use Rattle.gc_texts.specs.declared.commands.Command.{Command}
+use Rattle.gc_texts.specs.declared.tasks.Task.{Task}
 use Rattle.gc_station.specs.declared.link.Moment.{Moment}
 use Rattle.gc_station.specs.declared.plan.Plan.{Plan}
 use Rattle.gc_station.specs.declared.progress.Order.{Order}
@@ -10,6 +10,7 @@ use Rattle.gc_station.specs.declared.progress.Order.TheVariants.{Send, Flush}
 use Rattle.gc_station.specs.Acts.{Act, Gave, Closed}
 use Rattle.gc_station.specs.Runs.{stood}
 use Rattle.gc_station.specs.Standing.{lines_behind}
+use Rattle.gc_station.specs.Scopes.{Scope}
 
 -- an act doesn't close the connection
 abbrev pub KeepsOpen : Act → Type 0
@@ -23,7 +24,7 @@ IsAsking Flush = Unit {0}
 IsAsking _ = ⊥
 
 -- among these acts, which follow others, a line came with the null procedure's id
-pub record IsAnsweredWithin (plan : Plan) (commands : List Command) (turns : ℕ) (before between : List Act) : Type 0 where
+pub record IsAnsweredWithin (plan : Plan) (commands : List Task) (scope : Scope) (before between : List Act) : Type 0 where
   pub first : List Act
   pub piece : List ℕ
   pub moment : Moment
@@ -32,5 +33,5 @@ pub record IsAnsweredWithin (plan : Plan) (commands : List Command) (turns : ℕ
   pub front : List (List ℕ)
   pub line : List ℕ
   pub others : List (List ℕ)
-  pub came : lines_behind (stood plan commands turns (before ++ first)).rest piece ≡ front ++ line ∷ others
+  pub came : lines_behind (stood plan commands scope (before ++ first)).rest piece ≡ front ++ line ∷ others
   pub id : heard line ≡ Some 0

@@ -1,5 +1,5 @@
 -- What each act does to how far a station is, this project's own.
-use Rattle.std.specs.Prelude.{ℕ, ◌-◌, ◌&&◌, ◌||◌, Bool, true, false, not, if◌then◌else◌, nat_lt, nat_eq, min, max}
+use Rattle.std.specs.Prelude.{ℕ, ◌-◌, ◌&&◌, ◌||◌, Bool, true, false, not, if◌then◌else◌, nat_lt, nat_le, nat_eq, min, max}
 use Rattle.gc_station.specs.declared.link.Moment.{Moment}
 use Rattle.gc_station.specs.declared.plan.Plan.{Plan}
 use Rattle.gc_station.specs.declared.cause.Cause.{Cause}
@@ -24,8 +24,12 @@ at_start plan turns = record {
   asked = false;
   began = 0;
   early = false;
+  due = 0;
+  missed = false;
   left = plan.cycles;
   unsent = 0;
+  bound = false;
+  whole = false;
   tries = plan.retries;
   pause = 0;
   turns = turns;
@@ -40,18 +44,41 @@ turned p = record p { turns = p.turns - 1 }
 abbrev pub told : Moment → Progress → Progress
 told m p = record p { moment = m; since = m.elapsed; alive = min p.alive m.elapsed; began = min p.began m.elapsed; stale = false }
 
--- when a cycle begins that begins at this moment: when it was due, where the one before it was done by then and the next after it
--- isn't due yet; and else now
+-- when a cycle begins that begins at this moment: the first one, and each where cycles have no due moment, now; and any other when it
+-- was due, and now at the latest
 abbrev pub beginning : Plan → Moment → Progress → ℕ
-beginning plan m p =
-    let due = later p.began plan.every in
-    if p.early && nat_lt m.elapsed (later due plan.every) then due else m.elapsed
+beginning plan m p = if nat_eq p.left plan.cycles || nat_eq plan.every 0 then m.elapsed else min (later p.began plan.every) m.elapsed
 
--- a cycle of so many commands began
+-- it is missed where the one behind it is due by now
+abbrev pub is_missing : Plan → Moment → Progress → Bool
+is_missing plan m p = nat_lt 0 plan.every && nat_le plan.every (m.elapsed - beginning plan m p)
+
+-- when it was due, by the clock of time stamps
+abbrev pub due_of : Plan → Moment → Progress → ℕ
+due_of plan m p = m.utc - (m.elapsed - beginning plan m p)
+
+-- a cycle of so many commands began; where it is missed, none of them goes out
 abbrev pub begun : Plan → ℕ → Moment → Progress → Progress
 begun plan count m p =
     let q = told m p in
-    record q { began = beginning plan m p; early = false; left = p.left - 1; unsent = count }
+    record q {
+      began = beginning plan m p;
+      due = due_of plan m p;
+      missed = is_missing plan m p;
+      early = false;
+      left = p.left - 1;
+      unsent = count;
+      bound = is_missing plan m p;
+      whole = false;
+    }
+
+-- the moment in the record of a command that isn't sent: that at which its cycle was due, where that is missed, and else this one
+abbrev pub skipped_at : Moment → Progress → ℕ
+skipped_at m p = if p.missed then p.due else m.utc
+
+-- the next command isn't sent; the one behind it goes out only once it was answered well, or doesn't
+abbrev pub skipped : Bool → Moment → Progress → Progress
+skipped bound m p = let q = told m p in record q { unsent = p.unsent - 1; bound = bound; whole = false }
 
 -- it can't go on so: the connection is to be closed, if there is one
 abbrev pub failing : Cause → Progress → Progress
@@ -93,6 +120,7 @@ again plan commands why p = record p {
   stale = true;
   tries = if is_spared plan why p then p.tries else p.tries - 1;
   pause = pause_again plan why p;
+  whole = false;
 }
 
 -- the line feed went out
@@ -107,9 +135,9 @@ asking p = record p { alive = if p.asked then p.alive else p.moment.elapsed; ask
 abbrev pub probed : Progress → Progress
 probed p = let q = asking p in record q { phase = phase.Ready; anew = false; alone = true }
 
--- the next command went out
-abbrev pub sent : Progress → Progress
-sent p = let q = asking p in record q { unsent = p.unsent - 1 }
+-- the next command went out; the one behind it goes out only once it was answered well, or doesn't
+abbrev pub sent : Bool → Progress → Progress
+sent bound p = let q = asking p in record q { unsent = p.unsent - 1; bound = bound; whole = true }
 
 -- a line was heard: a reply line shows that the line is alive
 abbrev pub noted : Bool → Progress → Progress
@@ -178,11 +206,15 @@ abbrev pub closed_again : Plan → Waiting → Cause → Bool → Progress → P
 closed_again plan w cause true p = again plan 0 cause (beginning_anew w.all p)
 closed_again plan w cause false p = again plan w.commands cause p
 
+-- no other connection is made
+abbrev pub ended_for : Cause → Progress → Progress
+ended_for why p = record p { phase = phase.Over why; whole = false }
+
 -- the connection was closed: after these causes for good, and else to be made again
 abbrev pub closed : Plan → Waiting → Cause → Progress → Progress
-closed plan w cause.Done p = record p { phase = phase.Over cause.Done }
-closed plan w cause.Clock p = record p { phase = phase.Over cause.Clock }
-closed plan w cause.Turns p = record p { phase = phase.Over cause.Turns }
+closed plan w cause.Done p = ended_for cause.Done p
+closed plan w cause.Clock p = ended_for cause.Clock p
+closed plan w cause.Turns p = ended_for cause.Turns p
 closed plan w cause p = closed_again plan w cause (begins_anew cause p) p
 
 -- the end is decided

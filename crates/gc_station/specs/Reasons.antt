@@ -9,17 +9,26 @@ use Rattle.gc_station.specs.declared.progress.Order.{Order}
 use Rattle.gc_station.specs.declared.progress.Order.TheVariants as order
 use Rattle.gc_station.specs.declared.progress.Progress.{Progress}
 use Rattle.gc_station.specs.declared.progress.Waiting.{Waiting}
-use Rattle.gc_station.specs.Deciding.{width_of, is_up, is_quiet, is_dead}
+use Rattle.gc_station.specs.Deciding.{width_of, is_up, is_quiet, is_dead, may_go}
 
 -- another request may go out
 abbrev pub HasRoom : Plan → Waiting → Type 0
 HasRoom plan w = (w.current < width_of plan) × (w.all < WINDOW)
 
+-- each command of the cycle was sent, or the next one is of a chain whose last command went out
+abbrev pub IsHeld : Progress → Type 0
+IsHeld p = (p.unsent ≡ 0) ⊎ (p.bound ≡ true)
+
 -- nothing may go out: the null procedure with which it began waits for its answer; there is no room; or each command of the cycle was
--- sent, and some wait, not all of them given up
+-- sent, or the next one waits for the answer of the one before it in its chain, and some wait, not all of them given up
 abbrev pub NothingMayGo : Plan → Progress → Waiting → Type 0
 NothingMayGo plan p w =
-    (p.alone ≡ true) ⊎ ((width_of plan ≤ w.current) ⊎ ((WINDOW ≤ w.all) ⊎ ((p.unsent ≡ 0) × (0 < w.commands) × (0 < w.current))))
+    (p.alone ≡ true) ⊎ ((width_of plan ≤ w.current) ⊎ ((WINDOW ≤ w.all) ⊎ (IsHeld p × (0 < w.commands) × (0 < w.current))))
+
+-- the next command may go out: it is the first of its chain, or all that went out are settled, the one before it was answered well,
+-- and no connection was closed since that went out
+abbrev pub MayGo : Progress → Waiting → Type 0
+MayGo p w = (p.bound ≡ false) ⊎ ((w.commands ≡ 0) × (w.well ≡ true) × (p.whole ≡ true))
 
 -- the connection is to be closed though no call of the link failed: all is done; all turns are used up; all that wait are given up,
 -- nothing may go out, and the line is quiet; or nothing may go out, and the line is dead
@@ -37,8 +46,9 @@ IsFor plan p w order.Begin = (p.phase ≡ phase.Ready) × (p.alone ≡ false) ×
 IsFor plan p w order.Open = p.phase ≡ phase.Down
 IsFor plan p w order.Clear = p.phase ≡ phase.Clearing
 IsFor plan p w order.Probe = (p.phase ≡ phase.Probing) × HasRoom plan w
-IsFor plan p w order.Send = (p.phase ≡ phase.Ready) × (p.alone ≡ false) × (0 < p.unsent) × HasRoom plan w
-IsFor plan p w order.Flush = (p.phase ≡ phase.Ready) × (p.alone ≡ false) × (p.unsent ≡ 0) × (0 < w.commands) × (w.current ≡ 0) × HasRoom plan w
+IsFor plan p w order.Send = (p.phase ≡ phase.Ready) × (p.alone ≡ false) × (0 < p.unsent) × HasRoom plan w × MayGo p w
+IsFor plan p w order.Skip = (p.phase ≡ phase.Ready) × (p.alone ≡ false) × (0 < p.unsent) × (w.commands ≡ 0) × (p.bound ≡ true) × (may_go p w ≡ false)
+IsFor plan p w order.Flush = (p.phase ≡ phase.Ready) × (p.alone ≡ false) × IsHeld p × (0 < w.commands) × (w.current ≡ 0) × HasRoom plan w
 IsFor plan p w order.Read = Unit {0}
 IsFor plan p w order.Rest = Unit {0}
 IsFor plan p w (order.Close cause) = (is_up p.phase ≡ true) × ((p.phase ≡ phase.Closing cause) ⊎ IsAtItsEnd plan p w cause)

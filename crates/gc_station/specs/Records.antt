@@ -1,22 +1,23 @@
--- Records: what a station writes of each request that ended, this project's own.
+-- Records: what a station writes of each command that ended, this project's own.
 use Rattle.std.specs.Prelude.{◌≡◌, ℕ, ◌<◌, List, ◌∷◌, ◌++◌, length, take, Option, Result, Ok, Err}
 use Rattle.std.specs.List.{flat_map}
 use Rattle.std.specs.Io.KnownBytes.{Appends}
-use Rattle.gc_client.specs.Rule
-use Rattle.gc_client.specs.Settlements.{settlement_seen}
-use Rattle.gc_client.specs.declared.settlement.Settlement.{Settlement}
 use Rattle.gc_station.specs.declared.book.Stamp.{Stamp}
+use Rattle.gc_texts.specs.declared.commands.Command.{Command}
+use Rattle.gc_texts.specs.declared.ending.Ending.{Ending}
+use Rattle.gc_texts.specs.Endings.{End, ending_seen}
 
--- the end of a request: when it was told, of which cycle and place it was, and how it ended
+-- the end of a command: when it was told, of which cycle and place it was, what it asked and whom, and how it ended
 pub record Record : Type 0 where
   pub utc : ℕ
   pub cycle : ℕ
   pub place : ℕ
-  pub settlement : Rule.Settlement
+  pub command : Command
+  pub end : End
 
--- a record as the rule speaks of it
-abbrev pub record_seen : Stamp → Settlement → Record
-record_seen stamp settlement = record { utc = stamp.utc; cycle = stamp.cycle; place = stamp.place; settlement = settlement_seen settlement }
+-- a record by its bytes
+abbrev pub record_seen : Stamp → Command → Ending → Record
+record_seen stamp command ending = record { utc = stamp.utc; cycle = stamp.cycle; place = stamp.place; command = command; end = ending_seen ending }
 
 -- a text was written whole, or a first part of it, which isn't all
 abbrev pub Writes : {X E : Type 0} → Option (List ℕ) → Option (List ℕ) → List ℕ → Result X E → Type 0

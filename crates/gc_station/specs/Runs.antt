@@ -2,7 +2,7 @@
 -- down.
 use Rattle.std.specs.Prelude.{◌≡◌, ℕ, Bool, true, List, [], ◌∷◌, ◌++◌, Option, Some, Result, Ok, Err}
 use Rattle.std.specs.Io.KnownBytes.{Appends}
-use Rattle.gc_texts.specs.declared.commands.Command.{Command}
+use Rattle.gc_texts.specs.declared.tasks.Task.{Task}
 use Rattle.gc_texts.specs.declared.fault.RunFault.{RunFault}
 use Rattle.gc_texts.specs.declared.fault.RunFault.TheVariants.{Output}
 use Rattle.gc_station.specs.declared.cause.Cause.TheVariants.{Done}
@@ -15,35 +15,36 @@ use Rattle.gc_station.specs.Acts.{Act, Closed, Tells}
 use Rattle.gc_station.specs.Records.{Record, texts_of, WritesPart}
 use Rattle.gc_station.specs.Standing.{Standing, opening, order_at, after_all, Runs}
 use Rattle.gc_station.specs.Tallies.{none_yet, tallied}
+use Rattle.gc_station.specs.Scopes.{Scope}
 
 -- where a station stands after these acts, from the start on
-abbrev pub stood : Plan → List Command → ℕ → List Act → Standing
-stood plan commands turns acts = after_all plan commands (opening plan turns) acts
+abbrev pub stood : Plan → List Task → Scope → List Act → Standing
+stood plan commands scope acts = after_all plan commands (opening plan scope) acts
 
 -- a link told these acts, each the one that was to be made next; then none was, for this cause; and the book took the records
-pub record RanTo (plan : Plan) (commands : List Command) (turns : ℕ) (text : Record → List ℕ) (told told' : Option (List Act)) (taken taken' : Option (List ℕ)) (cause : Cause) (tally : Tally) : Type 0 where
+pub record RanTo (plan : Plan) (commands : List Task) (scope : Scope) (text : Record → List ℕ) (told told' : Option (List Act)) (taken taken' : Option (List ℕ)) (cause : Cause) (tally : Tally) : Type 0 where
   pub acts : List Act
   pub tells : Tells told told' acts
-  pub runs : Runs plan commands (opening plan turns) acts
-  pub stops : order_at plan (stood plan commands turns acts) ≡ Stop cause
-  pub took : Appends taken taken' (texts_of text (stood plan commands turns acts).records)
-  pub counts : tally ≡ tallied none_yet (stood plan commands turns acts).records
+  pub runs : Runs plan commands (opening plan scope) acts
+  pub stops : order_at plan (stood plan commands scope acts) ≡ Stop cause
+  pub took : Appends taken taken' (texts_of text (stood plan commands scope acts).records)
+  pub counts : tally ≡ tallied none_yet (stood plan commands scope acts).records
 
 -- a link told these acts, each the one that was to be made next, and behind the last one that the connection was closed, and nothing
 -- else; the book took the records of the acts before the last one whole, and of those that this one writes down a part, from the front
-pub record BrokeAt (plan : Plan) (commands : List Command) (turns : ℕ) (text : Record → List ℕ) (told told' : Option (List Act)) (taken taken' : Option (List ℕ)) : Type 0 where
+pub record BrokeAt (plan : Plan) (commands : List Task) (scope : Scope) (text : Record → List ℕ) (told told' : Option (List Act)) (taken taken' : Option (List ℕ)) : Type 0 where
   pub acts : List Act
   pub last : Act
   pub tells : Tells told told' (acts ++ last ∷ (Closed ∷ []))
-  pub runs : Runs plan commands (opening plan turns) (acts ++ last ∷ [])
-  pub took : WritesPart text (stood plan commands turns acts).records (stood plan commands turns (acts ++ last ∷ [])).records taken taken'
+  pub runs : Runs plan commands (opening plan scope) (acts ++ last ∷ [])
+  pub took : WritesPart text (stood plan commands scope acts).records (stood plan commands scope (acts ++ last ∷ [])).records taken taken'
 
 -- a run with this end: it stopped for a cause with this fault, or it is done; or the book failed
-abbrev pub Ran : Plan → List Command → ℕ → (Record → List ℕ) → Option (List Act) → Option (List Act) → Option (List ℕ) → Option (List ℕ) → Result Tally RunFault → Type 0
-Ran plan commands turns text told told' taken taken' (Ok tally) = RanTo plan commands turns text told told' taken taken' Done tally
-Ran plan commands turns text told told' taken taken' (Err Output) = BrokeAt plan commands turns text told told' taken taken'
-Ran plan commands turns text told told' taken taken' (Err fault) =
-    (cause : Cause) × (tally : Tally) × RanTo plan commands turns text told told' taken taken' cause tally × (fault_of cause ≡ Some fault)
+abbrev pub Ran : Plan → List Task → Scope → (Record → List ℕ) → Option (List Act) → Option (List Act) → Option (List ℕ) → Option (List ℕ) → Result Tally RunFault → Type 0
+Ran plan commands scope text told told' taken taken' (Ok tally) = RanTo plan commands scope text told told' taken taken' Done tally
+Ran plan commands scope text told told' taken taken' (Err Output) = BrokeAt plan commands scope text told told' taken taken'
+Ran plan commands scope text told told' taken taken' (Err fault) =
+    (cause : Cause) × (tally : Tally) × RanTo plan commands scope text told told' taken taken' cause tally × (fault_of cause ≡ Some fault)
 
 -- the book failed where that is the fault, and else is as it was
 abbrev pub FailsAtOutput : {X : Type 0} → Bool → Bool → Result X RunFault → Type 0

@@ -2,12 +2,13 @@
 use Rattle.std.specs.Prelude.{◌≡◌, ◌⊎◌, ℕ, ◌-◌, ◌<◌, ◌≤◌, false, List, [], ◌∷◌, ◌++◌}
 use Rattle.std.specs.List.{AllByRecursion}
 use Rattle.gc_client.specs.Rule.{deadlines}
-use Rattle.gc_texts.specs.declared.commands.Command.{Command}
+use Rattle.gc_texts.specs.declared.tasks.Task.{Task}
 use Rattle.gc_station.specs.declared.plan.Plan.{Plan}
 use Rattle.gc_station.specs.Acts.{Act, Told, Put, Gave, Silent}
 use Rattle.gc_station.specs.Quiet.{TellsMoment, IsListening, IsSilent, StaysConnected}
 use Rattle.gc_station.specs.Runs.{stood}
 use Rattle.gc_station.specs.Standing.{Standing, is_reply, lines_behind, after}
+use Rattle.gc_station.specs.Scopes.{Scope}
 
 -- the moment that these acts told last, where this one was told before them
 abbrev pub latest : ℕ → List Act → ℕ
@@ -19,14 +20,14 @@ latest now (act ∷ acts) = latest now acts
 
 -- behind an act that told a moment, and behind which all that waited was given up, reads gave nothing, and nothing else was done, and the
 -- moment that was told last is so much later
-pub record IsSilentFor (wait : ℕ) (plan : Plan) (commands : List Command) (turns : ℕ) (acts : List Act) : Type 0 where
+pub record IsSilentFor (wait : ℕ) (plan : Plan) (commands : List Task) (scope : Scope) (acts : List Act) : Type 0 where
   pub before : List Act
   pub start : Act
   pub from : ℕ
   pub silence : List Act
   pub order : acts ≡ before ++ start ∷ silence
   pub starts : TellsMoment from start
-  pub given_up : deadlines (stood plan commands turns (before ++ start ∷ [])).client.waiting ≡ []
+  pub given_up : deadlines (stood plan commands scope (before ++ start ∷ [])).client.waiting ≡ []
   pub silent : AllByRecursion IsSilent silence
   pub long : wait ≤ latest from silence - from
 
@@ -40,7 +41,7 @@ BringsNoReply rest (Gave piece m) = AllByRecursion IsNoReply (lines_behind rest 
 BringsNoReply rest act = Unit {0}
 
 -- none of these acts does, from where a station stands
-abbrev pub IsMute : Plan → List Command → Standing → List Act → Type 0
+abbrev pub IsMute : Plan → List Task → Standing → List Act → Type 0
 IsMute plan commands s [] = Unit {0}
 IsMute plan commands s (act ∷ acts) = BringsNoReply s.rest act × IsMute plan commands (after plan commands s act) acts
 
@@ -56,7 +57,7 @@ pub record WentBack (from : ℕ) (acts : List Act) : Type 0 where
 
 -- behind an act that told a moment, no line that reads as a reply came on the same connection, and the moment that was told last is so much
 -- later. No request went out behind it, or one did at once, so that it had all that time; or the clock went back at that act
-pub record IsMuteFor (wait : ℕ) (plan : Plan) (commands : List Command) (turns : ℕ) (acts : List Act) : Type 0 where
+pub record IsMuteFor (wait : ℕ) (plan : Plan) (commands : List Task) (scope : Scope) (acts : List Act) : Type 0 where
   pub before : List Act
   pub start : Act
   pub from : ℕ
@@ -64,6 +65,6 @@ pub record IsMuteFor (wait : ℕ) (plan : Plan) (commands : List Command) (turns
   pub order : acts ≡ before ++ start ∷ behind
   pub starts : TellsMoment from start
   pub stays : AllByRecursion StaysConnected behind
-  pub mute : IsMute plan commands (stood plan commands turns (before ++ start ∷ [])) behind
+  pub mute : IsMute plan commands (stood plan commands scope (before ++ start ∷ [])) behind
   pub asked : AllByRecursion IsListening behind ⊎ (((text : List ℕ) × (others : List Act) × (behind ≡ Put text ∷ others)) ⊎ WentBack from before)
   pub long : wait ≤ latest from behind - from

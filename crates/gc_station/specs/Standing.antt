@@ -1,17 +1,18 @@
 -- What a station is after the acts of its link, this project's own: the client's rule over what really happened, and how far
 -- the station is. Each act is the one that the station was to make next.
-use Rattle.std.specs.Prelude.{◌≡◌, ℕ, ◌-◌, ◌<◌, Bool, true, false, List, [], ◌∷◌, ◌++◌, length, drop, Option, Some, None, Result, Ok, Err, if◌then◌else◌, nat_eq, not}
+use Rattle.std.specs.Prelude.{◌≡◌, ℕ, ◌+◌, ◌-◌, ◌<◌, ◌||◌, Bool, true, false, List, [], ◌∷◌, ◌++◌, length, drop, Option, Some, None, Result, Ok, Err, if◌then◌else◌, nat_eq, not}
 use Rattle.std.specs.List.{filter_map}
 use Rattle.gc_lines.specs.Frames.{line_in, rest_behind}
 use Rattle.gc_lines.specs.Lines.{with_end}
 use Rattle.gc_lines.specs.Passing.{frames_behind}
 use Rattle.gc_lines.specs.Readers.{reply_at}
+use Rattle.gc_catalogue.specs.declared.answer.Reading.{Reading}
 use Rattle.gc_catalogue.specs.declared.call.Call.{Call}
 use Rattle.gc_catalogue.specs.declared.call.Call.TheVariants.{NullProc}
 use Rattle.gc_catalogue.specs.Texts.{request_line}
 use Rattle.gc_client.specs.declared.window.TheConstants.{WINDOW}
 use Rattle.gc_client.specs.Rule.{ById, Settlement, Settled, Sending, fresh, sends, hears, heard, expires, expiring, restarts, deadlines}
-use Rattle.gc_texts.specs.declared.commands.Command.{Command}
+use Rattle.gc_texts.specs.declared.tasks.Task.{Task}
 use Rattle.gc_station.specs.declared.link.Moment.{Moment}
 use Rattle.gc_station.specs.declared.plan.Plan.{Plan}
 use Rattle.gc_station.specs.declared.cause.Cause.{Cause}
@@ -19,44 +20,53 @@ use Rattle.gc_station.specs.declared.cause.Cause.TheVariants as cause
 use Rattle.gc_station.specs.declared.progress.Phase.{Phase}
 use Rattle.gc_station.specs.declared.progress.Phase.TheVariants as phase
 use Rattle.gc_station.specs.declared.progress.Order.{Order}
-use Rattle.gc_station.specs.declared.progress.Order.TheVariants.{Tell, Begin, Open, Clear, Probe, Send, Flush, Read, Rest, Close, Stop}
+use Rattle.gc_station.specs.declared.progress.Order.TheVariants.{Tell, Begin, Open, Clear, Probe, Send, Skip, Flush, Read, Rest, Close, Stop}
 use Rattle.gc_station.specs.declared.progress.Progress.{Progress}
 use Rattle.gc_station.specs.declared.progress.Waiting.{Waiting}
 use Rattle.gc_station.specs.declared.mark.Mark.{Mark}
 use Rattle.gc_station.specs.Acts.{Act, Told, Untold, Put, Cut, Gave, Silent, Ended, Broke, Closed, Opened, Unopened}
 use Rattle.gc_station.specs.Deciding.{later, order_of}
-use Rattle.gc_station.specs.Marks.{commands_in, records_of}
-use Rattle.gc_station.specs.Progressing.{at_start, turned, told, begun, failing, opened, again, cleared, asking, probed, sent, noted, gave, silent, waiting_on, reckoned_early, closed, loses_all}
+use Rattle.gc_station.specs.Marks.{commands_in, records_of, last_well}
+use Rattle.gc_station.specs.Progressing.{at_start, turned, told, begun, skipped, skipped_at, failing, opened, again, cleared, asking, probed, sent, noted, gave, silent, waiting_on, reckoned_early, closed, loses_all}
 use Rattle.gc_station.specs.Records.{Record}
+use Rattle.gc_station.specs.Scopes.{Scope}
+use Rattle.gc_texts.specs.Endings.{Skipped, Missed}
 
 -- where a station stands: how far it is, the bytes since the last line feed that it heard on this connection, the client, which command
--- each request that waits is of, and the records so far
+-- each request that waits is of, the records so far, and what replies say
 pub record Standing : Type 0 where
   pub progress : Progress
   pub rest : List ℕ
   pub client : ById
   pub marks : List (Option Mark)
   pub records : List Record
+  pub reads : Call → List ℕ → Reading
 
 -- nothing was done
-abbrev pub opening : Plan → ℕ → Standing
-opening plan turns = record { progress = at_start plan turns; rest = []; client = fresh; marks = []; records = [] }
+abbrev pub opening : Plan → Scope → Standing
+opening plan scope = record { progress = at_start plan scope.turns; rest = []; client = fresh; marks = []; records = []; reads = scope.reads }
 
 -- a list has no element
 abbrev pub is_nil : {A : Type 0} → List A → Bool
 is_nil [] = true
 is_nil (x ∷ xs) = false
 
--- how many requests wait: in all, of those that aren't given up, and of commands
+-- how many requests wait: in all, of those that aren't given up, and of commands; and whether the command that was written down last
+-- was answered well
 abbrev pub waiting_of : Standing → Waiting
-waiting_of s = record { all = length s.client.waiting; current = length (deadlines s.client.waiting); commands = commands_in s.marks }
+waiting_of s = record {
+  all = length s.client.waiting;
+  current = length (deadlines s.client.waiting);
+  commands = commands_in s.marks;
+  well = last_well s.reads false s.records;
+}
 
 -- what is next
 abbrev pub order_at : Plan → Standing → Order
 order_at plan s = order_of plan s.progress (waiting_of s)
 
 -- a command of the cycle, counted from 0
-abbrev pub place_next : List Command → Progress → ℕ
+abbrev pub place_next : List Task → Progress → ℕ
 place_next commands p = length commands - p.unsent
 
 -- how many cycles began
@@ -64,11 +74,11 @@ abbrev pub cycles_begun : Plan → Progress → ℕ
 cycles_begun plan p = plan.cycles - p.left
 
 -- the next command, and the cycle that it is of
-abbrev pub mark_next : Plan → List Command → Progress → Mark
+abbrev pub mark_next : Plan → List Task → Progress → Mark
 mark_next plan commands p = record { cycle = cycles_begun plan p; place = place_next commands p }
 
 -- how many requests of the cycle went out: none before the first cycle
-abbrev pub requests_out : Plan → List Command → Progress → ℕ
+abbrev pub requests_out : Plan → List Task → Progress → ℕ
 requests_out plan commands p = if nat_eq p.left plan.cycles then 0 else place_next commands p
 
 -- a request line with its CR LF
@@ -76,9 +86,18 @@ abbrev pub request_text : ById → Call → List ℕ
 request_text client call = with_end (request_line (Some client.next) call)
 
 -- the request line of the first of these commands
-abbrev pub first_text : ById → List Command → List ℕ
+abbrev pub first_text : ById → List Task → List ℕ
 first_text client [] = []
-first_text client (command ∷ others) = request_text client command.call
+first_text client (task ∷ others) = request_text client task.command.call
+
+-- whether the first of these commands goes out only once the one before it was answered well
+abbrev pub is_chained : List Task → Bool
+is_chained [] = false
+is_chained (task ∷ others) = task.chained
+
+-- whether the command behind the next one goes out only once that was answered well
+abbrev pub bound_next : List Task → Progress → Bool
+bound_next commands p = p.missed || is_chained (drop (place_next commands p + 1) commands)
 
 -- these bytes were put, whole or in part
 abbrev pub Puts : List ℕ → Act → Type 0
@@ -105,13 +124,14 @@ IsReading Untold = Unit {0}
 IsReading _ = ⊥
 
 -- the act is that of this order
-abbrev pub Obeys : List Command → Standing → Order → Act → Type 0
+abbrev pub Obeys : List Task → Standing → Order → Act → Type 0
 Obeys commands s Tell act = IsTelling act
 Obeys commands s Begin act = IsTelling act
 Obeys commands s Open act = IsOpening act
 Obeys commands s Clear act = Puts (10 ∷ []) act
 Obeys commands s Probe act = Puts (request_text s.client NullProc) act
 Obeys commands s Send act = Puts (first_text s.client (drop (place_next commands s.progress) commands)) act
+Obeys commands s Skip act = IsTelling act
 Obeys commands s Flush act = Puts (request_text s.client NullProc) act
 Obeys commands s Read act = IsReading act
 Obeys commands s Rest act = IsReading act
@@ -133,34 +153,49 @@ abbrev pub client_sent : ById → Option (Sending ById) → ById
 client_sent client None = client
 client_sent client (Some x) = x.client
 
--- a request is sent, with its deadline so long after the moment that was told last; it has this mark
-abbrev pub asks : Plan → ℕ → Call → Option Mark → Standing → Standing
-asks plan target call mark s = record s {
-  client = client_sent s.client (sends WINDOW s.client target call (later s.progress.moment.elapsed plan.deadline));
+-- a request is sent, which waits so long behind the moment that was told last; it has this mark
+abbrev pub asks : ℕ → ℕ → Call → Option Mark → Standing → Standing
+asks wait target call mark s = record s {
+  client = client_sent s.client (sends WINDOW s.client target call (later s.progress.moment.elapsed wait));
   marks = s.marks ++ mark ∷ [];
 }
 
 -- a null procedure of the station's own is sent
 abbrev pub asks_null : Plan → Standing → Standing
-asks_null plan s = asks plan 0 NullProc None s
+asks_null plan s = asks plan.deadline 0 NullProc None s
 
 -- the first of these commands is sent, with this mark
-abbrev pub asks_first : Plan → Mark → List Command → Standing → Standing
-asks_first plan mark [] s = s
-asks_first plan mark (command ∷ others) s = asks plan command.target command.call (Some mark) s
+abbrev pub asks_first : Mark → List Task → Standing → Standing
+asks_first mark [] s = s
+asks_first mark (task ∷ others) s = asks task.deadline task.command.target task.command.call (Some mark) s
 
 -- the next command is sent
-abbrev pub asks_next : Plan → List Command → Standing → Standing
-asks_next plan commands s = asks_first plan (mark_next plan commands s.progress) (drop (place_next commands s.progress) commands) s
+abbrev pub asks_next : Plan → List Task → Standing → Standing
+asks_next plan commands s = asks_first (mark_next plan commands s.progress) (drop (place_next commands s.progress) commands) s
 
 -- the client is another
 abbrev pub with_client : ById → Standing → Standing
 with_client client s = record s { client = client }
 
+-- the record of the first of these commands, which isn't sent, at a moment: it is skipped, or its cycle is missed
+abbrev pub skips_first : Progress → Moment → Mark → List Task → List Record
+skips_first p m mark [] = []
+skips_first p m mark (task ∷ others) =
+    record { utc = skipped_at m p; cycle = mark.cycle; place = mark.place; command = task.command; end = if p.missed then Missed else Skipped } ∷ []
+
+-- the record of the next command, where the clock was read
+abbrev pub skips : Plan → List Task → Progress → Act → List Record
+skips plan commands p (Told m) = skips_first p m (mark_next plan commands p) (drop (place_next commands p) commands)
+skips plan commands p _ = []
+
+-- these are written down, too
+abbrev pub with_records : List Record → Standing → Standing
+with_records records s = record s { records = s.records ++ records }
+
 -- settlements of the oldest requests that wait are written down by their marks, which go
 abbrev pub with_settled : List Settlement → Standing → Standing
 with_settled settlements s = record s {
-  records = s.records ++ records_of s.progress.moment.utc s.marks settlements;
+  records = s.records ++ records_of s.reads s.progress.moment.utc s.marks settlements;
   marks = drop (length settlements) s.marks;
 }
 
@@ -248,13 +283,15 @@ abbrev pub after_close : Plan → Cause → Standing → Standing
 after_close plan cause s = with_progress (closed plan (waiting_of s) cause) (with_rest [] s)
 
 -- what an act of this order does, apart from the turn
-abbrev pub moved : Plan → List Command → Order → Standing → Act → Standing
+abbrev pub moved : Plan → List Task → Order → Standing → Act → Standing
 moved plan commands Tell s act = after_tell (λ m p. reckoned_early plan (commands_in s.marks) (told m p)) s act
 moved plan commands Begin s act = after_tell (begun plan (length commands)) s act
 moved plan commands Open s act = after_open plan s act
 moved plan commands Clear s act = after_put (requests_out plan commands s.progress) (with_progress cleared) s act
 moved plan commands Probe s act = after_put (requests_out plan commands s.progress) (λ (s : Standing). with_progress probed (asks_null plan s)) s act
-moved plan commands Send s act = after_put (requests_out plan commands s.progress) (λ (s : Standing). with_progress sent (asks_next plan commands s)) s act
+moved plan commands Send s act = after_put (requests_out plan commands s.progress) (λ (s : Standing). with_progress (sent (bound_next commands s.progress)) (asks_next plan commands s)) s act
+moved plan commands Skip s act =
+    after_tell (λ m p. reckoned_early plan (commands_in s.marks) (skipped (bound_next commands s.progress) m p)) (with_records (skips plan commands s.progress act) s) act
 moved plan commands Flush s act = after_put (requests_out plan commands s.progress) (λ (s : Standing). with_progress asking (asks_null plan s)) s act
 moved plan commands Read s act = after_read plan false s act
 moved plan commands Rest s act = after_read plan true s act
@@ -271,15 +308,15 @@ abbrev pub ended : Standing → Standing
 ended s = losing (loses_all s.progress) s
 
 -- an act takes a turn, and does what it does by the order that it obeys
-abbrev pub after : Plan → List Command → Standing → Act → Standing
+abbrev pub after : Plan → List Task → Standing → Act → Standing
 after plan commands s act = ended (moved plan commands (order_at plan s) (with_progress turned s) act)
 
 -- after all acts, in order
-abbrev pub after_all : Plan → List Command → Standing → List Act → Standing
+abbrev pub after_all : Plan → List Task → Standing → List Act → Standing
 after_all plan commands s [] = s
 after_all plan commands s (act ∷ acts) = after_all plan commands (after plan commands s act) acts
 
 -- each act is the one that was to be made next
-abbrev pub Runs : Plan → List Command → Standing → List Act → Type 0
+abbrev pub Runs : Plan → List Task → Standing → List Act → Type 0
 Runs plan commands s [] = Unit {0}
 Runs plan commands s (act ∷ acts) = Obeys commands s (order_at plan s) act × Runs plan commands (after plan commands s act) acts

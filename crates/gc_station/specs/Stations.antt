@@ -4,16 +4,17 @@ use Rattle.std.specs.Io.KnownBytes.{Appends}
 use Rattle.gc_lines.specs.Assembler.{StandsFor}
 use Rattle.gc_client.specs.Rule.{deadlines}
 use Rattle.gc_client.specs.declared.window.TheConstants.{WINDOW}
-use Rattle.gc_texts.specs.declared.commands.Command.{Command}
+use Rattle.gc_texts.specs.declared.tasks.Task.{Task}
 use Rattle.gc_station.specs.declared.plan.Plan.{Plan}
 use Rattle.gc_station.specs.declared.cause.Cause.TheVariants as cause
 use Rattle.gc_station.specs.declared.progress.Order.{Order}
-use Rattle.gc_station.specs.declared.progress.Order.TheVariants.{Send, Probe, Flush, Read, Rest, Stop}
+use Rattle.gc_station.specs.declared.progress.Order.TheVariants.{Send, Skip, Probe, Flush, Read, Rest, Stop}
 use Rattle.gc_station.specs.declared.progress.Progress.{Progress}
 use Rattle.gc_station.specs.declared.progress.Waiting.{Waiting}
 use Rattle.gc_station.specs.declared.station.Station.{Station}
 use Rattle.gc_station.specs.Acts.{Act, Tells}
-use Rattle.gc_station.specs.Marks.{commands_in}
+use Rattle.gc_station.specs.Marks.{commands_in, last_well}
+use Rattle.gc_station.specs.Scopes.{AreReadings}
 use Rattle.gc_station.specs.Progressing.{turned, failing}
 use Rattle.gc_station.specs.Records.{Record, texts_of, WritesPart}
 use Rattle.gc_station.specs.Standing.{Standing, Obeys, moved, ended, with_progress}
@@ -22,13 +23,18 @@ use Rattle.gc_station.specs.Tallies.{none_yet, tallied}
 -- how many requests wait
 abbrev pub waiting_in : Station → Waiting
 waiting_in station =
-    record { all = length station.client.ids.waiting; current = length (deadlines station.client.ids.waiting); commands = commands_in station.marks.items }
+    record {
+      all = length station.client.ids.waiting;
+      current = length (deadlines station.client.ids.waiting);
+      commands = commands_in station.marks.items;
+      well = station.well;
+    }
 
 -- each request that waits has a mark
 abbrev pub IsPaired : Station → Type 0
 IsPaired station = length station.marks.items ≡ length station.client.ids.waiting
 
--- a station stands there
+-- a station stands there; how it counted, where replies say what the standing has them say
 pub record Stands (station : Station) (s : Standing) : Type 0 where
   pub progress : station.progress ≡ s.progress
   pub ids : station.client.ids ≡ s.client
@@ -36,33 +42,42 @@ pub record Stands (station : Station) (s : Standing) : Type 0 where
   pub marks : station.marks.items ≡ s.marks
   pub paired : length s.marks ≡ length s.client.waiting
   pub assembles : StandsFor station.assembler s.rest
-  pub tally : station.tally ≡ tallied none_yet s.records
+  pub tally : AreReadings s.reads → station.tally ≡ tallied none_yet s.records
+  pub well : AreReadings s.reads → station.well ≡ last_well s.reads false s.records
+
+-- a book took the records, where replies say what the standing has them say; and the same of a part of them, behind those that stood
+-- there before
+abbrev pub Took : (Record → List ℕ) → Option (List ℕ) → Option (List ℕ) → Standing → Type 0
+Took text start taken s = AreReadings s.reads → Appends start taken (texts_of text s.records)
+
+abbrev pub TookPart : (Record → List ℕ) → List Record → Option (List ℕ) → Option (List ℕ) → Standing → Type 0
+TookPart text before start taken s = AreReadings s.reads → WritesPart text before s.records start taken
 
 -- a link told one act of this order, and the station went on as this says; a book took what that writes down
-pub record Makes (commands : List Command) (order : Order) (next : Standing → Act → Standing) (text : Record → List ℕ) (acts acts' : Option (List Act)) (taken taken' : Option (List ℕ)) (station station' : Station) : Type 0 where
+pub record Makes (commands : List Task) (order : Order) (next : Standing → Act → Standing) (text : Record → List ℕ) (acts acts' : Option (List Act)) (taken taken' : Option (List ℕ)) (station station' : Station) : Type 0 where
   pub act : Act
   pub tells : Tells acts acts' (act ∷ [])
-  pub goes : (s : Standing) (start : Option (List ℕ)) → Stands station s → Appends start taken (texts_of text s.records)
-      → Obeys commands s order act × Stands station' (next s act) × Appends start taken' (texts_of text (next s act).records)
+  pub goes : (s : Standing) (start : Option (List ℕ)) → Stands station s → Took text start taken s
+      → Obeys commands s order act × Stands station' (next s act) × Took text start taken' (next s act)
 
 -- a link told one act of this order, and a book failed at a record that this writes down
-pub record Breaks (commands : List Command) (order : Order) (next : Standing → Act → Standing) (text : Record → List ℕ) (acts acts' : Option (List Act)) (taken taken' : Option (List ℕ)) (station : Station) : Type 0 where
+pub record Breaks (commands : List Task) (order : Order) (next : Standing → Act → Standing) (text : Record → List ℕ) (acts acts' : Option (List Act)) (taken taken' : Option (List ℕ)) (station : Station) : Type 0 where
   pub act : Act
   pub tells : Tells acts acts' (act ∷ [])
-  pub goes : (s : Standing) (start : Option (List ℕ)) → Stands station s → Appends start taken (texts_of text s.records)
-      → Obeys commands s order act × WritesPart text s.records (next s act).records start taken'
+  pub goes : (s : Standing) (start : Option (List ℕ)) → Stands station s → Took text start taken s
+      → Obeys commands s order act × TookPart text s.records start taken' (next s act)
 
 -- one or the other
-abbrev pub Made : {X E : Type 0} → List Command → Order → (Standing → Act → Standing) → (Record → List ℕ) → Option (List Act) → Option (List Act) → Option (List ℕ) → Option (List ℕ) → Station → Station → Result X E → Type 0
+abbrev pub Made : {X E : Type 0} → List Task → Order → (Standing → Act → Standing) → (Record → List ℕ) → Option (List Act) → Option (List Act) → Option (List ℕ) → Option (List ℕ) → Station → Station → Result X E → Type 0
 Made commands order next text acts acts' taken taken' station station' (Ok _) = Makes commands order next text acts acts' taken taken' station station'
 Made commands order next text acts acts' taken taken' station station' (Err _) = Breaks commands order next text acts acts' taken taken' station
 
 -- the station did what an act of this order does
-abbrev pub Does : Plan → List Command → Order → (Record → List ℕ) → Option (List Act) → Option (List Act) → Option (List ℕ) → Option (List ℕ) → Station → Station → Type 0
+abbrev pub Does : Plan → List Task → Order → (Record → List ℕ) → Option (List Act) → Option (List Act) → Option (List ℕ) → Option (List ℕ) → Station → Station → Type 0
 Does plan commands order text acts acts' taken taken' station station' = Makes commands order (moved plan commands order) text acts acts' taken taken' station station'
 
 -- a turn with an act of this order
-abbrev pub stepped : Plan → List Command → Order → Standing → Act → Standing
+abbrev pub stepped : Plan → List Task → Order → Standing → Act → Standing
 stepped plan commands order s act = ended (moved plan commands order (with_progress turned s) act)
 
 -- where a write was cut
@@ -73,14 +88,15 @@ cut_progress (Err n) requests p = failing (cause.Write requests n) p
 -- where a request is to be sent, the window has room, and where it is a command's, one is left
 abbrev pub IsFitting : Progress → ℕ → Order → Type 0
 IsFitting p waiting Send = (0 < p.unsent) × (waiting < WINDOW)
+IsFitting p waiting Skip = 0 < p.unsent
 IsFitting p waiting Probe = waiting < WINDOW
 IsFitting p waiting Flush = waiting < WINDOW
 IsFitting p waiting _ = Unit {0}
 
 -- a station stands there, and a book took the records; or the book failed at one that didn't stand there before
 abbrev pub Follows : {X E : Type 0} → (Record → List ℕ) → List Record → Station → Option (List ℕ) → Option (List ℕ) → Standing → Result X E → Type 0
-Follows text before station start taken s (Ok _) = Stands station s × Appends start taken (texts_of text s.records)
-Follows text before station start taken s (Err _) = WritesPart text before s.records start taken
+Follows text before station start taken s (Ok _) = Stands station s × Took text start taken s
+Follows text before station start taken s (Err _) = TookPart text before start taken s
 
 -- of each order but the last
 abbrev pub OnCall : Order → Type 0 → Type 0

@@ -1,24 +1,27 @@
--- How many requests ended how, this project's own.
+-- How many commands ended how, this project's own.
 use Rattle.std.specs.Prelude.{ℕ, List, [], ◌∷◌}
-use Rattle.gc_client.specs.Rule.{Outcome, Answered, Late, Lost}
+use Rattle.gc_texts.specs.Endings.{End, Answered, Unreadable, Late, Lost, Skipped, Missed}
 use Rattle.gc_station.specs.Deciding.{later}
 use Rattle.gc_station.specs.Records.{Record}
 use Rattle.gc_station.specs.declared.tally.Tally.{Tally}
 
 abbrev pub none_yet : Tally
-none_yet = record { answered = 0; late = 0; lost = 0 }
+none_yet = record { answered = 0; late = 0; lost = 0; skipped = 0; unreadable = 0; missed = 0 }
 
 -- one more, unless it is the greatest count
 abbrev pub one_more : ℕ → ℕ
 one_more n = later n 1
 
--- with one more of this outcome
-abbrev pub counted : Outcome → Tally → Tally
+-- with one more that ended so
+abbrev pub counted : End → Tally → Tally
 counted (Answered line) t = record t { answered = one_more t.answered }
 counted Late t = record t { late = one_more t.late }
 counted Lost t = record t { lost = one_more t.lost }
+counted Skipped t = record t { skipped = one_more t.skipped }
+counted (Unreadable line fault) t = record t { unreadable = one_more t.unreadable }
+counted Missed t = record t { missed = one_more t.missed }
 
 -- with these records, in order
 abbrev pub tallied : Tally → List Record → Tally
 tallied t [] = t
-tallied t (r ∷ others) = tallied (counted r.settlement.outcome t) others
+tallied t (r ∷ others) = tallied (counted r.end t) others

@@ -1,6 +1,6 @@
 -- How many connections ended, or couldn't be made, since a command was settled: this project's own.
 use Rattle.std.specs.Prelude.{◌≡◌, ◌≢◌, ◌⊎◌, ℕ, suc, ◌<◌, ◌≤◌, List, [], ◌∷◌, ◌++◌}
-use Rattle.gc_texts.specs.declared.commands.Command.{Command}
+use Rattle.gc_texts.specs.declared.tasks.Task.{Task}
 use Rattle.gc_station.specs.declared.cause.Cause.{Cause}
 use Rattle.gc_station.specs.declared.cause.Cause.TheVariants as cause
 use Rattle.gc_station.specs.declared.link.Moment.{Moment}
@@ -8,6 +8,7 @@ use Rattle.gc_station.specs.declared.plan.Plan.{Plan}
 use Rattle.gc_station.specs.Acts.{Act, Gave, Closed, Opened, Unopened}
 use Rattle.gc_station.specs.Runs.{stood}
 use Rattle.gc_station.specs.Standing.{Standing, after}
+use Rattle.gc_station.specs.Scopes.{Scope}
 
 -- for another cause than these a run stops only without a try left
 abbrev pub IsTried : Cause → Type 0
@@ -42,26 +43,26 @@ SettlesNone s (Gave bytes m) t = t.records ≡ s.records
 SettlesNone s act t = Unit {0}
 
 -- no read among these acts settled a command, from where a station stands
-abbrev pub NoneSettled : Plan → List Command → Standing → List Act → Type 0
+abbrev pub NoneSettled : Plan → List Task → Standing → List Act → Type 0
 NoneSettled plan commands s [] = Unit {0}
 NoneSettled plan commands s (act ∷ acts) = SettlesNone s act (after plan commands s act) × NoneSettled plan commands (after plan commands s act) acts
 
 -- these acts end with a read that settled a command
-pub record EndsSettled (plan : Plan) (commands : List Command) (turns : ℕ) (acts : List Act) : Type 0 where
+pub record EndsSettled (plan : Plan) (commands : List Task) (scope : Scope) (acts : List Act) : Type 0 where
   pub earlier : List Act
   pub piece : List ℕ
   pub moment : Moment
   pub order : acts ≡ earlier ++ Gave piece moment ∷ []
-  pub settled : (stood plan commands turns acts).records ≢ (stood plan commands turns earlier).records
+  pub settled : (stood plan commands scope acts).records ≢ (stood plan commands scope earlier).records
 
 -- since a read settled a command, or from the start where none did, more connections ended, or couldn't be made, than there are tries: so
 -- many were asked for at least, and from the start one more
-pub record AllTried (plan : Plan) (commands : List Command) (turns : ℕ) (acts : List Act) : Type 0 where
+pub record AllTried (plan : Plan) (commands : List Task) (scope : Scope) (acts : List Act) : Type 0 where
   pub before : List Act
   pub behind : List Act
   pub order : acts ≡ before ++ behind
-  pub since : (before ≡ []) ⊎ EndsSettled plan commands turns before
-  pub none : NoneSettled plan commands (stood plan commands turns before) behind
+  pub since : (before ≡ []) ⊎ EndsSettled plan commands scope before
+  pub none : NoneSettled plan commands (stood plan commands scope before) behind
   pub ended : plan.retries < ends_in behind
   pub opened : plan.retries ≤ opens_in behind
   pub first : before ≡ [] → plan.retries < opens_in behind

@@ -1,31 +1,46 @@
-//! A book: where a station writes how its requests ended.
+//! A book: where a station writes how its commands ended.
 
 ghost use Rattle.std.specs.Prelude.{◌≡◌};
 ghost use Rattle.gc_station.specs.Records.{record_seen, Writes};
 ghost use Rattle.gc_lines.specs.Ports.{FailsWith};
 
-use gc_client::Settlement;
+use crate::link::Moment;
 use gc_lines::PortFailed;
+use gc_texts::{Command, Ending};
 
-/// When a request was settled, and which one it was.
+/// When a command's end was told, and which one it was.
 #[derive(Clone, Copy, Debug, PartialEq, Eq)]
 pub struct Stamp {
-    /// The moment that was told last, in milliseconds since 1970-01-01, UTC.
+    /// The moment that was told last, in milliseconds since 1970-01-01, UTC. Of a command of a missed cycle, the one at which that
+    /// cycle was due.
     pub utc: u64,
     /// The cycle, counted from 1.
-    pub cycle: u32,
+    pub cycle: u64,
     /// The command's place among the commands of a cycle, counted from 0.
     pub place: usize,
 }
 
-/// Where records go. One type of book writes all its records in one form.
+/// How things stand before an act, for who watches.
+#[derive(Clone, Copy, Debug, PartialEq, Eq)]
+pub enum Sight {
+    /// Requests go out and are answered, or all that is left is to wait for the next cycle.
+    Fine,
+    /// There is no connection, though one is wanted.
+    Unconnected,
+    /// A connection was made, and isn't quiet yet.
+    Unquiet,
+    /// A request went out, and no reply line came since.
+    Unheard,
+}
+
+/// Where records go. A book writes all its records in one form.
 pub trait Book {
     ghost use Rattle.std.specs.Prelude.{ℕ, List, [], ◌∷◌, Option, None, Bool};
     ghost use Rattle.std.specs.Io.KnownBytes.{Appends};
     ghost use Rattle.gc_station.specs.Records.{Record};
 
-    /// The bytes of a record.
-    ghost text: { Record → List ℕ };
+    /// The bytes of a record, as this book writes them.
+    ghost text: { Self → Record → List ℕ };
 
     /// The bytes that were taken, where they are known.
     ghost taken: { Self → Option (List ℕ) };
@@ -37,14 +52,28 @@ pub trait Book {
     ghost overruns: { Self → Option (List ℕ) } = { λ _. None };
 
     /// Writes a record. `Err`: it took the first bytes of it, which aren't all, and has failed.
-    fn write(&mut self, stamp: Stamp, settlement: &Settlement) -> Result<(), PortFailed>
-        ensures writes { Writes (taken self.old) (taken self.new) (text (record_seen stamp settlement.now)) result }
+    fn write(
+        &mut self,
+        stamp: Stamp,
+        command: &Command,
+        ending: Ending<'_>,
+    ) -> Result<(), PortFailed>
+        ensures writes { Writes (taken self.old) (taken self.new) (text self.old (record_seen stamp command.now ending.entry)) result }
         ensures fails { FailsWith result (failed self.old) (failed self.new) }
-        ensures untold { overruns self.new ≡ overruns self.old };
+        ensures untold { overruns self.new ≡ overruns self.old }
+        ensures form { text self.new ≡ text self.old };
+
+    /// Is told before each act how things stand, and the moment that was told last.
+    fn sees(&mut self, sight: Sight, moment: Moment)
+        ensures quiet { overruns self.new ≡ overruns self.old }
+        ensures same { taken self.new ≡ taken self.old }
+        ensures works { failed self.new ≡ failed self.old }
+        ensures form { text self.new ≡ text self.old };
 
     /// Is told that this cycle was not done when the next was due.
-    fn overran(&mut self, cycle: u32)
+    fn overran(&mut self, cycle: u64)
         ensures told { Appends (overruns self.old) (overruns self.new) (cycle ∷ []) }
         ensures same { taken self.new ≡ taken self.old }
-        ensures works { failed self.new ≡ failed self.old };
+        ensures works { failed self.new ≡ failed self.old }
+        ensures form { text self.new ≡ text self.old };
 }

@@ -7,7 +7,7 @@ ghost use Rattle.gc_station.specs.Marks.{commands_in};
 #[derive(Clone, Copy, Debug, PartialEq, Eq)]
 pub(crate) struct Mark {
     /// The cycle, counted from 1.
-    pub cycle: u32,
+    pub cycle: u64,
     /// The command's place among the commands of a cycle, counted from 0.
     pub place: usize,
 }

@@ -7,7 +7,7 @@ ghost use Rattle.std.specs.Io.KnownBytes.{Appends};
 ghost use Rattle.gc_client.specs.Rule.{IsEarliest, deadlines};
 ghost use Rattle.gc_station.specs.Pace.{quiet_at, dead_at, due_at, rested_at, ends_in, ends_without_deadline, ends_at, patience, cycle_of, overrun, told_then};
 
-use crate::book::Book;
+use crate::book::{Book, Sight};
 use crate::plan::Plan;
 use crate::progress::{Phase, Progress, patience_of};
 use crate::progressing::later;
@@ -87,17 +87,21 @@ impl Progress {
     }
 
     // The cycle that began last.
-    fn cycle(&self, plan: &Plan) -> u32
+    fn cycle(&self, plan: &Plan) -> u64
         ensures { result ≡ cycle_of plan.now self.now }
     {
         plan.cycles.saturating_sub(self.left)
     }
 
     // The cycle to be told that wasn't done when the next was due, where this is the last that was told.
-    fn overrun(&self, plan: &Plan, told: u32) -> Option<u32>
+    fn overrun(&self, plan: &Plan, told: u64) -> Option<u64>
         ensures { result ≡ overrun plan.now self.now told }
     {
-        let late = !self.early && self.is_due(plan) && self.left > 0 && plan.every > 0;
+        let late = !self.early
+            && !self.missed
+            && self.is_due(plan)
+            && self.left > 0
+            && plan.every > 0;
         if late && told < self.cycle(plan) {
             Some(self.cycle(plan))
         } else {
@@ -120,13 +124,27 @@ impl Station {
             .min(60_000)
     }
 
-    // Tells a book that the cycle that began last wasn't done when the next was due, once. The cycle that was told last.
-    pub(crate) fn tell_overrun<B: Book>(&self, book: &mut B, plan: &Plan, told: u32) -> u32
+    // How things stand.
+    fn sight(&self, plan: &Plan) -> Sight {
+        match self.progress.phase {
+            Phase::Down | Phase::Resting if self.progress.is_resting(plan) => Sight::Fine,
+            Phase::Down | Phase::Resting => Sight::Unconnected,
+            Phase::Clearing | Phase::Draining => Sight::Unquiet,
+            _ if self.progress.asked => Sight::Unheard,
+            _ => Sight::Fine,
+        }
+    }
+
+    // Tells a book how things stand, and that the cycle that began last wasn't done when the next was due, once. The cycle that
+    // was told last.
+    pub(crate) fn tell_overrun<B: Book>(&self, book: &mut B, plan: &Plan, told: u64) -> u64
         ensures told { result ≡ told_then told (overrun plan.now self.now.progress told) }
         ensures tells { Appends (B.overruns book.old) (B.overruns book.new) (option_to_list (overrun plan.now self.now.progress told)) }
         ensures taken { B.taken book.new ≡ B.taken book.old }
         ensures failed { B.failed book.new ≡ B.failed book.old }
+        ensures form { B.text book.new ≡ B.text book.old }
     {
+        book.sees(self.sight(plan), self.progress.moment);
         match self.progress.overrun(plan, told) {
             Some(cycle) => {
                 book.overran(cycle);

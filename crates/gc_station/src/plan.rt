@@ -5,13 +5,13 @@
 pub struct Plan {
     /// How many requests may be under way that aren't given up: 1 to 7. Below and above, the nearest of these.
     pub width: u8,
-    /// How long a request waits before it is given up.
+    /// The longest time that a request waits before it is given up. A null procedure waits so long, and a command as its task has it.
     pub deadline: u64,
-    /// How far apart the cycles begin. 0: each begins when the one before it is done. One that waited for a connection, and
-    /// less than a cycle, counts as begun when it was due.
+    /// How far apart the cycles are due, counted from when the first one begins. 0: each begins when the one before it is done.
+    /// One that can't begin before the next is due is missed.
     pub every: u64,
-    /// How many cycles are measured.
-    pub cycles: u32,
+    /// How many cycles are measured or missed.
+    pub cycles: u64,
     /// How long nothing may come or go, and no request be given up, before the line counts as quiet. So long it rests before
     /// it connects again, too; twice as long at each further failure, up to a minute.
     pub quiet: u64,

@@ -1,7 +1,7 @@
 //! Progress: how far a station is, and what it does next. All decisions are made here, by looking at nothing else.
 
 ghost use Rattle.std.specs.Prelude.{◌≡◌};
-ghost use Rattle.gc_station.specs.Deciding.{width_of, is_up, is_past, is_quiet, drain_of, patience_of, is_dead, is_due, has_room, order_of, order_on, order_ready, order_room, order_sent, order_done, order_waiting};
+ghost use Rattle.gc_station.specs.Deciding.{width_of, is_up, is_past, is_quiet, drain_of, patience_of, is_dead, is_due, has_room, may_go, order_of, order_on, order_ready, order_room, order_sent, order_settled, order_done, order_waiting};
 ghost use Rattle.gc_station.specs.Progressing.{at_start};
 ghost use Rattle.gc_station.specs.Standing.{is_heard};
 
@@ -47,6 +47,8 @@ pub(crate) enum Order {
     Probe,
     /// To send the next command.
     Send,
+    /// To read the clock, and to write the next command down without sending it.
+    Skip,
     /// To send a null procedure behind requests that are all given up: its reply settles them.
     Flush,
     /// To read.
@@ -59,7 +61,7 @@ pub(crate) enum Order {
     Stop(Cause),
 }
 
-/// How many requests wait.
+/// How many requests wait, and how the command ended that was written down last.
 #[derive(Clone, Copy)]
 pub(crate) struct Waiting {
     /// In all.
@@ -68,6 +70,8 @@ pub(crate) struct Waiting {
     pub current: usize,
     /// Of these, commands of the cycle. The others are null procedures.
     pub commands: usize,
+    /// Whether the command that was written down last was answered well: with both codes 0 and values that read.
+    pub well: bool,
 }
 
 /// How far a station is.
@@ -95,10 +99,18 @@ pub(crate) struct Progress {
     pub began: u64,
     /// Whether the cycle was done before the next was due.
     pub early: bool,
+    /// When the cycle was due, in milliseconds since 1970-01-01, UTC.
+    pub due: u64,
+    /// Whether the cycle is missed: none of its commands is sent.
+    pub missed: bool,
     /// How many cycles haven't begun.
-    pub left: u32,
-    /// How many commands of the cycle weren't sent.
+    pub left: u64,
+    /// How many commands of the cycle were neither sent nor skipped.
     pub unsent: usize,
+    /// Whether the next of them goes out only once the command before it was answered well.
+    pub bound: bool,
+    /// Whether the command before it went out, and no connection was closed since.
+    pub whole: bool,
     /// How many times more it may connect anew.
     pub tries: u32,
     /// How long it rests, or rested last, before it connects again. 0: a reply settled a command since.
@@ -172,8 +184,12 @@ impl Progress {
             asked: false,
             began: 0,
             early: false,
+            due: 0,
+            missed: false,
             left: plan.cycles,
             unsent: 0,
+            bound: false,
+            whole: false,
             tries: plan.retries,
             pause: 0,
             turns: max_turns,
@@ -265,24 +281,45 @@ impl Progress {
     {
         if self.alone {
             self.order_waiting(plan, waiting)
-        } else if self.unsent > 0 {
+        } else if self.unsent > 0 && !self.bound {
             self.order_room(plan, waiting, Order::Send)
         } else {
             self.order_sent(plan, waiting)
         }
     }
 
-    // Each command of the cycle was sent.
+    // Each command of the cycle was sent, or the next one goes out only behind those that were.
     fn order_sent(&self, plan: &Plan, waiting: Waiting) -> Order
         ensures { result ≡ order_sent plan.now self.now waiting }
     {
         if waiting.commands == 0 {
-            self.order_done(plan)
+            self.order_settled(plan, waiting)
         } else if waiting.current == 0 {
             self.order_room(plan, waiting, Order::Flush)
         } else {
             self.order_waiting(plan, waiting)
         }
+    }
+
+    // Each command that was sent is settled.
+    fn order_settled(&self, plan: &Plan, waiting: Waiting) -> Order
+        ensures { result ≡ order_settled plan.now self.now waiting }
+    {
+        if self.unsent == 0 {
+            self.order_done(plan)
+        } else if self.may_go(waiting) {
+            self.order_room(plan, waiting, Order::Send)
+        } else {
+            Order::Skip
+        }
+    }
+
+    // Whether the next command of a chain goes out: the one before it was answered well, and no connection was closed since it
+    // went out.
+    fn may_go(&self, waiting: Waiting) -> bool
+        ensures { result ≡ may_go self.now waiting }
+    {
+        waiting.well && self.whole
     }
 
     // A request is to be sent, as soon as there is room.

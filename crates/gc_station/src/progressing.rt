@@ -5,7 +5,7 @@ ghost use Rattle.gc_client.specs.Hearing.{HearsInto};
 ghost use Rattle.gc_client.specs.Rule.{ById};
 ghost use Rattle.gc_client.specs.declared.settlement.Settlement.{Settlement};
 ghost use Rattle.gc_station.specs.Deciding.{later};
-ghost use Rattle.gc_station.specs.Progressing.{turned, told, beginning, begun, failing, opened, is_finished, is_resting, is_spared, phase_again, pause_again, again, cleared, asking, probed, sent, noted, gave, rested_down, drained, quieted, waited, silent, waiting_on, reckoned_early, begins_anew, beginning_anew, closed_again, closed, is_over, loses_all};
+ghost use Rattle.gc_station.specs.Progressing.{turned, told, beginning, is_missing, due_of, begun, skipped, skipped_at, failing, opened, is_finished, is_resting, is_spared, phase_again, pause_again, again, cleared, asking, probed, sent, noted, gave, rested_down, drained, quieted, waited, silent, waiting_on, reckoned_early, begins_anew, beginning_anew, closed_again, ended_for, closed, is_over, loses_all};
 ghost use Rattle.gc_station.specs.Standing.{is_reply};
 
 use crate::cause::Cause;
@@ -49,27 +49,65 @@ impl Progress {
         self.stale = false;
     }
 
-    // When a cycle begins that begins at this moment: when it was due, or now.
+    // When a cycle begins that begins at this moment: when it was due, and the first one, or where none is due, now.
     fn beginning(&self, plan: &Plan, moment: Moment) -> u64
         ensures { result ≡ beginning plan.now moment self.now }
     {
-        let due = later(self.began, plan.every);
-        if self.early && moment.elapsed < later(due, plan.every) {
-            due
-        } else {
+        if self.left == plan.cycles || plan.every == 0 {
             moment.elapsed
+        } else {
+            later(self.began, plan.every).min(moment.elapsed)
         }
+    }
+
+    // Whether a cycle is missed that would begin at this moment: the one behind it is due.
+    fn is_missing(&self, plan: &Plan, moment: Moment) -> bool
+        ensures { result ≡ is_missing plan.now moment self.now }
+    {
+        let late = moment.elapsed.saturating_sub(self.beginning(plan, moment));
+        plan.every > 0 && plan.every <= late
+    }
+
+    // When it was due, in milliseconds since 1970-01-01, UTC.
+    fn due_of(&self, plan: &Plan, moment: Moment) -> u64
+        ensures { result ≡ due_of plan.now moment self.now }
+    {
+        let late = moment.elapsed.saturating_sub(self.beginning(plan, moment));
+        moment.utc.saturating_sub(late)
     }
 
     pub(crate) fn begin(&mut self, plan: &Plan, count: usize, moment: Moment)
         ensures { self.new ≡ begun plan.now count moment self.old }
     {
         let began = self.beginning(plan, moment);
+        let missed = self.is_missing(plan, moment);
+        let due = self.due_of(plan, moment);
         self.tell(moment);
         self.began = began;
+        self.due = due;
+        self.missed = missed;
         self.early = false;
         self.left = self.left.saturating_sub(1);
         self.unsent = count;
+        self.bound = missed;
+        self.whole = false;
+    }
+
+    // The moment that stands in the record of a command that isn't sent: that of the cycle, where it is missed, and else this one.
+    pub(crate) fn skipped_at(&self, moment: Moment) -> u64
+        ensures { result ≡ skipped_at moment self.now }
+    {
+        if self.missed { self.due } else { moment.utc }
+    }
+
+    // Where the command behind it goes out only once it was answered well, or doesn't.
+    pub(crate) fn skip(&mut self, bound: bool, moment: Moment)
+        ensures { self.new ≡ skipped bound moment self.old }
+    {
+        self.tell(moment);
+        self.unsent = self.unsent.saturating_sub(1);
+        self.bound = bound;
+        self.whole = false;
     }
 
     pub(crate) fn fail(&mut self, cause: Cause)
@@ -143,6 +181,7 @@ impl Progress {
         self.pause = self.pause_again(plan, cause);
         self.phase = self.phase_again(plan, commands, cause);
         self.stale = true;
+        self.whole = false;
         if !spared {
             self.tries = self.tries.saturating_sub(1);
         }
@@ -174,11 +213,14 @@ impl Progress {
         self.alone = true;
     }
 
-    pub(crate) fn send(&mut self)
-        ensures { self.new ≡ sent self.old }
+    // Where the command behind it goes out only once it was answered well, or doesn't.
+    pub(crate) fn send(&mut self, bound: bool)
+        ensures { self.new ≡ sent bound self.old }
     {
         self.ask();
         self.unsent = self.unsent.saturating_sub(1);
+        self.bound = bound;
+        self.whole = true;
     }
 
     pub(crate) fn note(&mut self, is_reply: bool)
@@ -309,9 +351,17 @@ impl Progress {
         ensures { self.new ≡ closed plan.now waiting cause self.old }
     {
         match cause {
-            Cause::Done | Cause::Clock | Cause::Turns => self.phase = Phase::Over(cause),
+            Cause::Done | Cause::Clock | Cause::Turns => self.end(cause),
             _ => self.close_again(plan, waiting, cause, self.begins_anew(cause)),
         }
+    }
+
+    // No other connection is made.
+    fn end(&mut self, cause: Cause)
+        ensures { self.new ≡ ended_for cause self.old }
+    {
+        self.phase = Phase::Over(cause);
+        self.whole = false;
     }
 
     // Whether no act follows.

@@ -1,8 +1,11 @@
 //! A whole run of a station: what is next is done, until nothing is.
 
-ghost use Rattle.std.specs.Prelude.{IfOk, MatchResult};
+ghost use Rattle.std.specs.Prelude.{◌≡◌, ℕ, List, MatchResult};
+ghost use Rattle.gc_catalogue.specs.declared.answer.Reading.{Reading};
+ghost use Rattle.gc_catalogue.specs.declared.call.Call.{Call};
 ghost use Rattle.gc_lines.specs.Ports.{FailsWith};
 ghost use Rattle.gc_station.specs.Runs.{RanTo, BrokeAt, Ran, FailsAtOutput};
+ghost use Rattle.gc_station.specs.Scopes.{AreReadings};
 
 use crate::book::Book;
 use crate::cause::Cause;
@@ -12,20 +15,21 @@ use crate::progress::Order;
 use crate::station::Station;
 use crate::tally::Tally;
 use gc_lines::PortFailed;
-use gc_texts::{Command, RunFault};
+use gc_texts::{RunFault, Task};
 
 // Runs a station, and says for which cause it stopped. `Err`: the book failed.
 pub(crate) fn run<L: Link, B: Book>(
     link: &mut L,
     book: &mut B,
-    commands: &[Command],
+    commands: &[Task],
     plan: &Plan,
     max_turns: u64,
 ) -> Result<(Cause, Tally), PortFailed>
-    ensures ran { MatchResult result
-        (λ end. RanTo plan.now commands.now max_turns B.text (L.acts link.old) (L.acts link.new) (B.taken book.old) (B.taken book.new) end.0 end.1)
-        (λ _. BrokeAt plan.now commands.now max_turns B.text (L.acts link.old) (L.acts link.new) (B.taken book.old) (B.taken book.new)) }
+    ensures ran { (reads : Call → List ℕ → Reading) → AreReadings reads → MatchResult result
+        (λ end. RanTo plan.now commands.now (record { turns = max_turns; reads = reads }) (B.text book.old) (L.acts link.old) (L.acts link.new) (B.taken book.old) (B.taken book.new) end.0 end.1)
+        (λ _. BrokeAt plan.now commands.now (record { turns = max_turns; reads = reads }) (B.text book.old) (L.acts link.old) (L.acts link.new) (B.taken book.old) (B.taken book.new)) }
     ensures fails { FailsWith result (B.failed book.old) (B.failed book.new) }
+    ensures form { B.text book.new ≡ B.text book.old }
 {
     let mut station = Station::new(plan, max_turns);
     // The last cycle of which it was told that it wasn't done when the next was due.
@@ -71,12 +75,13 @@ pub(crate) fn run<L: Link, B: Book>(
 pub fn run_station<L: Link, B: Book>(
     link: &mut L,
     book: &mut B,
-    commands: &[Command],
+    commands: &[Task],
     plan: &Plan,
     max_turns: u64,
 ) -> Result<Tally, RunFault>
-    // What the link told, what the book took, and why it ended.
-    ensures ran { Ran plan.now commands.now max_turns B.text (L.acts link.old) (L.acts link.new) (B.taken book.old) (B.taken book.new) result }
+    // What the link told, what the book took, and why it ended, for whatever function says what each reply says of its call.
+    ensures ran { (reads : Call → List ℕ → Reading) → AreReadings reads
+        → Ran plan.now commands.now (record { turns = max_turns; reads = reads }) (B.text book.old) (L.acts link.old) (L.acts link.new) (B.taken book.old) (B.taken book.new) result }
 
     // The book failed exactly where that is the fault.
     ensures output { FailsAtOutput (B.failed book.old) (B.failed book.new) result }

@@ -1,24 +1,30 @@
 //! A station's steps: each makes the one call of the link that is next, and does by the client what came of it.
 
-ghost use Rattle.std.specs.Prelude.{◌≡◌, ℕ, ◌<◌, ◌≤◌, ◌++◌, List, [], ◌∷◌, length, drop, map, Option, OnOk};
+ghost use Rattle.std.specs.Prelude.{◌≡◌, ℕ, ◌<◌, ◌≤◌, ◌++◌, List, [], ◌∷◌, length, drop, map, Option, OnOk, All, false};
 ghost use Rattle.std.specs.Option.{option_to_list};
 ghost use Rattle.std.specs.Io.KnownBytes.{Appends};
 ghost use Rattle.gc_lines.specs.Frames.{line_in};
 ghost use Rattle.gc_lines.specs.Lent.{lent_seen, IsLineWithin};
 ghost use Rattle.gc_lines.specs.Ports.{FailsWith};
 ghost use Rattle.gc_client.specs.Rule.{sends};
-ghost use Rattle.gc_client.specs.Settlements.{settlement_seen};
+ghost use Rattle.gc_catalogue.specs.declared.answer.Reading.{Reading};
+ghost use Rattle.gc_catalogue.specs.declared.call.Call.{Call};
+ghost use Rattle.gc_catalogue.specs.declared.call.Call.TheVariants.{NullProc};
+ghost use Rattle.gc_client.specs.Settlements.{settlement_seen, IsWellRead};
 ghost use Rattle.gc_station.specs.Acts.{Tells, put_as, IsPart};
-ghost use Rattle.gc_station.specs.Deciding.{later};
-ghost use Rattle.gc_station.specs.Marks.{commands_in, records_of};
+ghost use Rattle.gc_station.specs.Deciding.{later, order_of};
+ghost use Rattle.gc_station.specs.Acts.{Told};
+ghost use Rattle.gc_station.specs.Marks.{commands_in, records_of, last_well};
+ghost use Rattle.gc_station.specs.Scopes.{AreReadings};
 ghost use Rattle.gc_station.specs.Records.{Record, texts_of, WritesAll};
-ghost use Rattle.gc_station.specs.Standing.{Standing, opening, order_at, place_next, mark_next, requests_out, request_text, client_sent, is_heard, lines_came, piece_came, came, piece_at, moved, ended};
-ghost use Rattle.gc_station.specs.Stations.{waiting_in, IsPaired, Stands, Does, Made, stepped, OnCall, Follows, IsFitting, cut_progress, read_order};
+ghost use Rattle.gc_station.specs.Standing.{Standing, opening, order_at, place_next, mark_next, requests_out, request_text, is_chained, bound_next, skips, client_sent, is_heard, lines_came, piece_came, came, piece_at, moved, ended};
+ghost use Rattle.gc_station.specs.Stations.{waiting_in, IsPaired, Stands, Took, Does, Made, stepped, OnCall, Follows, IsFitting, cut_progress, read_order};
 ghost use Rattle.gc_station.specs.Tallies.{tallied};
-ghost use Rattle.gc_station.specs.declared.progress.Order.TheVariants.{Tell, Begin, Open, Clear, Probe, Send, Flush, Close};
-ghost use Rattle.gc_texts.specs.declared.commands.Command.{Command};
+ghost use Rattle.gc_station.specs.declared.progress.Order.TheVariants.{Tell, Begin, Open, Clear, Probe, Send, Skip, Flush, Close};
+ghost use Rattle.gc_texts.specs.declared.tasks.Task.{Task};
+ghost use Rattle.gc_texts.specs.Endings.{ending_seen};
 
-use crate::book::Book;
+use crate::book::{Book, Stamp};
 use crate::cause::Cause;
 use crate::link::{Came, Link, Moment};
 use crate::mark::{Mark, commands_in};
@@ -31,7 +37,27 @@ use arrayvec::ArrayVec;
 use gc_catalogue::Call;
 use gc_client::{Client, Settlement, Slots, WINDOW};
 use gc_lines::{Assembler, Lent, Line, PortFailed, append};
-use gc_texts::Command;
+use gc_texts::{Command, Ending, Task};
+
+// The null procedure, for no target.
+fn null_command() -> Command
+    ensures { result ≡ record { target = 0; call = NullProc } }
+{
+    Command {
+        target: 0,
+        call: Call::NullProc,
+    }
+}
+
+// Whether a command at this place goes out only once the one before it was answered well.
+fn is_chained(commands: &[Task], place: usize) -> bool
+    ensures { result ≡ is_chained (drop place commands.now) }
+{
+    match commands.get(place) {
+        Some(task) => task.chained,
+        None => false,
+    }
+}
 
 /// What a station keeps from one act to the next.
 #[derive(Drop)]
@@ -42,6 +68,8 @@ pub(crate) struct Station {
     pub(crate) assembler: Assembler,
     pub(crate) progress: Progress,
     pub(crate) tally: Tally,
+    // Whether the command that was written down last was answered well.
+    pub(crate) well: bool,
     // What was settled last.
     pub(crate) settled: ArrayVec<Settlement, WINDOW>,
 }
@@ -49,7 +77,7 @@ pub(crate) struct Station {
 impl Station {
     // A station that has done nothing.
     pub(crate) fn new(plan: &Plan, max_turns: u64) -> Station
-        ensures { Stands result (opening plan.now max_turns) }
+        ensures { (reads : Call → List ℕ → Reading) → Stands result (opening plan.now (record { turns = max_turns; reads = reads })) }
     {
         Station {
             client: Client::new(Slots::new()),
@@ -57,6 +85,7 @@ impl Station {
             assembler: Assembler::new(),
             progress: Progress::at_start(plan, max_turns),
             tally: Tally::new(),
+            well: false,
             settled: ArrayVec::new(),
         }
     }
@@ -69,6 +98,7 @@ impl Station {
             all: self.client.waiting(),
             current: self.client.current(),
             commands: self.commands(),
+            well: self.well,
         }
     }
 
@@ -81,21 +111,22 @@ impl Station {
 
     // What is next.
     pub(crate) fn order(&self, plan: &Plan) -> Order
-        ensures order { (s : Standing) → Stands self.now s → result ≡ order_at plan.now s }
+        ensures order { (s : Standing) → Stands self.now s → AreReadings s.reads → result ≡ order_at plan.now s }
         ensures room { IsFitting self.now.progress (length self.now.client.ids.waiting) result }
+        ensures is { result ≡ order_of plan.now self.now.progress (waiting_in self.now) }
     {
         self.progress.order(plan, self.waiting())
     }
 
     // How many commands of the cycle were sent.
-    fn place(&self, commands: &[Command]) -> usize
+    fn place(&self, commands: &[Task]) -> usize
         ensures { result ≡ place_next commands.now self.now.progress }
     {
         commands.len().saturating_sub(self.progress.unsent)
     }
 
     // The mark of the next command.
-    fn mark(&self, plan: &Plan, commands: &[Command]) -> Mark
+    fn mark(&self, plan: &Plan, commands: &[Task]) -> Mark
         ensures { result ≡ mark_next plan.now commands.now self.now.progress }
     {
         Mark {
@@ -104,8 +135,15 @@ impl Station {
         }
     }
 
+    // Whether the command behind the next one goes out only once that was answered well.
+    fn bound_next(&self, commands: &[Task]) -> bool
+        ensures { result ≡ bound_next commands.now self.now.progress }
+    {
+        self.progress.missed || is_chained(commands, self.place(commands).saturating_add(1))
+    }
+
     // How many requests of the cycle went out: none before the first cycle.
-    fn requests_out(&self, plan: &Plan, commands: &[Command]) -> usize
+    fn requests_out(&self, plan: &Plan, commands: &[Task]) -> usize
         ensures { result ≡ requests_out plan.now commands.now self.now.progress }
     {
         if self.progress.left == plan.cycles {
@@ -116,7 +154,7 @@ impl Station {
 
     // Reads the clock.
     fn tell<L: Link>(&mut self, link: &mut L, plan: &Plan)
-        ensures { (commands : List Command) (text : Record → List ℕ) (known : Option (List ℕ))
+        ensures { (commands : List Task) (text : Record → List ℕ) (known : Option (List ℕ))
             → Does plan.now commands Tell text (L.acts link.old) (L.acts link.new) known known self.old self.new }
     {
         match link.now() {
@@ -131,7 +169,7 @@ impl Station {
     }
 
     // Reads the clock, and begins a cycle.
-    fn begin<L: Link>(&mut self, link: &mut L, plan: &Plan, commands: &[Command])
+    fn begin<L: Link>(&mut self, link: &mut L, plan: &Plan, commands: &[Task])
         ensures { (text : Record → List ℕ) (known : Option (List ℕ))
             → Does plan.now commands.now Begin text (L.acts link.old) (L.acts link.new) known known self.old self.new }
     {
@@ -146,7 +184,7 @@ impl Station {
 
     // Makes a connection.
     fn open<L: Link>(&mut self, link: &mut L, plan: &Plan)
-        ensures { (commands : List Command) (text : Record → List ℕ) (known : Option (List ℕ))
+        ensures { (commands : List Task) (text : Record → List ℕ) (known : Option (List ℕ))
             → Does plan.now commands Open text (L.acts link.old) (L.acts link.new) known known self.old self.new }
     {
         let commands = self.commands();
@@ -166,7 +204,7 @@ impl Station {
     }
 
     // Sends a lone line feed.
-    fn clear<L: Link>(&mut self, link: &mut L, plan: &Plan, commands: &[Command])
+    fn clear<L: Link>(&mut self, link: &mut L, plan: &Plan, commands: &[Task])
         ensures { (text : Record → List ℕ) (known : Option (List ℕ))
             → Does plan.now commands.now Clear text (L.acts link.old) (L.acts link.new) known known self.old self.new }
     {
@@ -180,27 +218,29 @@ impl Station {
     fn ask<L: Link>(
         &mut self,
         link: &mut L,
-        plan: &Plan,
-        target: u32,
-        call: &Call,
+        command: &Command,
+        wait: u64,
         mark: Option<Mark>,
     ) -> Result<(), usize>
         requires width { self.old.client.width ≡ WINDOW }
         requires room { length self.old.client.ids.waiting < WINDOW }
         requires paired { IsPaired self.old }
-        ensures tells { Tells (L.acts link.old) (L.acts link.new) (put_as result (request_text self.old.client.ids call.now) ∷ []) }
-        ensures part { IsPart result (request_text self.old.client.ids call.now) }
+        ensures tells { Tells (L.acts link.old) (L.acts link.new) (put_as result (request_text self.old.client.ids command.now.call) ∷ []) }
+        ensures part { IsPart result (request_text self.old.client.ids command.now.call) }
         ensures asks { self.new ≡ record self.old {
           client = record self.old.client {
             ids =
-                client_sent self.old.client.ids (sends self.old.client.width self.old.client.ids target call.now (later self.old.progress.moment.elapsed plan.now.deadline));
+                client_sent self.old.client.ids (sends self.old.client.width self.old.client.ids command.now.target command.now.call (later self.old.progress.moment.elapsed wait));
           };
           marks = record { items = self.old.marks.items ++ mark ∷ [] };
         } }
     {
-        let deadline = later(self.progress.moment.elapsed, plan.deadline);
+        let deadline = later(self.progress.moment.elapsed, wait);
         let mut line = Line::new();
-        let Ok(()) = self.client.send_into(target, call, deadline, &mut line) else {
+        let Ok(()) = self
+            .client
+            .send_into(command.target, &command.call, deadline, &mut line)
+        else {
             unreachable!()
         };
         self.marks.push(mark);
@@ -211,7 +251,7 @@ impl Station {
     }
 
     // Sends the null procedure with which it begins anew.
-    fn probe<L: Link>(&mut self, link: &mut L, plan: &Plan, commands: &[Command])
+    fn probe<L: Link>(&mut self, link: &mut L, plan: &Plan, commands: &[Task])
         requires width { self.old.client.width ≡ WINDOW }
         requires room { length self.old.client.ids.waiting < WINDOW }
         requires paired { IsPaired self.old }
@@ -219,13 +259,13 @@ impl Station {
             → Does plan.now commands.now Probe text (L.acts link.old) (L.acts link.new) known known self.old self.new }
     {
         let requests = self.requests_out(plan, commands);
-        let put = self.ask(link, plan, 0, &Call::NullProc, None);
+        let put = self.ask(link, &null_command(), plan.deadline, None);
         self.progress.probe();
         self.cut(put, requests);
     }
 
     // Sends the next command.
-    fn send<L: Link>(&mut self, link: &mut L, plan: &Plan, commands: &[Command])
+    fn send<L: Link>(&mut self, link: &mut L, plan: &Plan, commands: &[Task])
         requires width { self.old.client.width ≡ WINDOW }
         requires room { length self.old.client.ids.waiting < WINDOW }
         requires paired { IsPaired self.old }
@@ -236,14 +276,87 @@ impl Station {
     {
         let requests = self.requests_out(plan, commands);
         let mark = self.mark(plan, commands);
-        let command = &commands[self.place(commands)];
-        let put = self.ask(link, plan, command.target, &command.call, Some(mark));
-        self.progress.send();
+        let task = &commands[self.place(commands)];
+        let bound = self.bound_next(commands);
+        let put = self.ask(link, &task.command, task.deadline, Some(mark));
+        self.progress.send(bound);
         self.cut(put, requests);
     }
 
+    // Reads the clock, and writes the next command down without sending it.
+    fn skip<L: Link, B: Book>(
+        &mut self,
+        link: &mut L,
+        book: &mut B,
+        plan: &Plan,
+        commands: &[Task],
+    ) -> Result<(), PortFailed>
+        requires unsent { 0 < self.old.progress.unsent }
+        requires within { self.old.progress.unsent ≤ length commands.now }
+        ensures does { Made commands.now Skip (moved plan.now commands.now Skip) (B.text book.old) (L.acts link.old) (L.acts link.new) (B.taken book.old) (B.taken book.new) self.old self.new result }
+        ensures fails { FailsWith result (B.failed book.old) (B.failed book.new) }
+        ensures form { B.text book.new ≡ B.text book.old }
+    {
+        match link.now() {
+            Ok(moment) => {
+                if let Err(failed) = self.write_skipped(book, plan, commands, moment) {
+                    return Err(failed);
+                }
+                let waiting = self.commands();
+                let bound = self.bound_next(commands);
+                self.progress.skip(bound, moment);
+                self.progress.reckon_early(plan, waiting);
+                self.client.expire(moment.elapsed);
+                Ok(())
+            }
+            Err(_) => {
+                self.progress.fail(Cause::Clock);
+                Ok(())
+            }
+        }
+    }
+
+    // Writes the next command down, which isn't sent: it is skipped, or its cycle is missed.
+    fn write_skipped<B: Book>(
+        &mut self,
+        book: &mut B,
+        plan: &Plan,
+        commands: &[Task],
+        moment: Moment,
+    ) -> Result<(), PortFailed>
+        requires unsent { 0 < self.old.progress.unsent }
+        requires within { self.old.progress.unsent ≤ length commands.now }
+        ensures wrote { (start : Option (List ℕ)) (before : List Record) → Appends start (B.taken book.old) (texts_of (B.text book.old) before)
+            → WritesAll (B.text book.old) before (before ++ skips plan.now commands.now self.old.progress (Told moment)) start (B.taken book.new) result }
+        ensures after { OnOk result (self.new ≡ record self.old {
+          tally = tallied self.old.tally (skips plan.now commands.now self.old.progress (Told moment));
+          well = false;
+        }) }
+        ensures fails { FailsWith result (B.failed book.old) (B.failed book.new) }
+        ensures form { B.text book.new ≡ B.text book.old }
+    {
+        let mark = self.mark(plan, commands);
+        let task = &commands[self.place(commands)];
+        let stamp = Stamp {
+            utc: self.progress.skipped_at(moment),
+            cycle: mark.cycle,
+            place: mark.place,
+        };
+        let ending = if self.progress.missed {
+            Ending::Missed
+        } else {
+            Ending::Skipped
+        };
+        if let Err(failed) = book.write(stamp, &task.command, ending) {
+            return Err(failed);
+        }
+        self.tally.count(ending);
+        self.well = false;
+        Ok(())
+    }
+
     // Sends a null procedure behind requests that are all given up.
-    fn flush<L: Link>(&mut self, link: &mut L, plan: &Plan, commands: &[Command])
+    fn flush<L: Link>(&mut self, link: &mut L, plan: &Plan, commands: &[Task])
         requires width { self.old.client.width ≡ WINDOW }
         requires room { length self.old.client.ids.waiting < WINDOW }
         requires paired { IsPaired self.old }
@@ -251,26 +364,34 @@ impl Station {
             → Does plan.now commands.now Flush text (L.acts link.old) (L.acts link.new) known known self.old self.new }
     {
         let requests = self.requests_out(plan, commands);
-        let put = self.ask(link, plan, 0, &Call::NullProc, None);
+        let put = self.ask(link, &null_command(), plan.deadline, None);
         self.progress.ask();
         self.cut(put, requests);
     }
 
     // Writes down what was settled, by the marks of the oldest that waited, which go.
     fn write<B: Book>(&mut self, book: &mut B) -> Result<(), PortFailed>
-        ensures wrote { (start : Option (List ℕ)) (before : List Record) → Appends start (B.taken book.old) (texts_of B.text before)
-            → WritesAll B.text before (before ++ records_of self.old.progress.moment.utc self.old.marks.items (map settlement_seen self.old.settled.items)) start (B.taken book.new) result }
+        requires { All (λ s. IsWellRead s.call s.outcome) self.old.settled.items }
+        ensures wrote { (reads : Call → List ℕ → Reading) (start : Option (List ℕ)) (before : List Record)
+            → AreReadings reads → Appends start (B.taken book.old) (texts_of (B.text book.old) before)
+            → WritesAll (B.text book.old) before (before ++ records_of reads self.old.progress.moment.utc self.old.marks.items (map settlement_seen self.old.settled.items)) start (B.taken book.new) result }
         ensures after { OnOk result (self.new ≡ record self.old {
           marks = record { items = drop (length self.old.settled.items) self.old.marks.items };
-          tally =
-              tallied self.old.tally (records_of self.old.progress.moment.utc self.old.marks.items (map settlement_seen self.old.settled.items));
+          tally = self.new.tally;
+          well = self.new.well;
         }) }
+        ensures tally { OnOk result ((reads : Call → List ℕ → Reading) → AreReadings reads
+            → self.new.tally ≡ tallied self.old.tally (records_of reads self.old.progress.moment.utc self.old.marks.items (map settlement_seen self.old.settled.items))) }
+        ensures well { OnOk result ((reads : Call → List ℕ → Reading) → AreReadings reads
+            → self.new.well ≡ last_well reads self.old.well (records_of reads self.old.progress.moment.utc self.old.marks.items (map settlement_seen self.old.settled.items))) }
         ensures fails { FailsWith result (B.failed book.old) (B.failed book.new) }
+        ensures form { B.text book.new ≡ B.text book.old }
     {
         let utc = self.progress.moment.utc;
         write_settlements(
             book,
             &mut self.tally,
+            &mut self.well,
             &mut self.marks,
             utc,
             self.settled.as_slice(),
@@ -280,9 +401,10 @@ impl Station {
     // Takes the line of a frame, if it is one, and writes down what it settles.
     fn hear<B: Book>(&mut self, book: &mut B, frame: Lent<'_>) -> Result<(), PortFailed>
         requires { IsLineWithin frame }
-        ensures hears { (s : Standing) (start : Option (List ℕ)) → Stands self.old s → Appends start (B.taken book.old) (texts_of B.text s.records)
-            → Follows B.text s.records self.new start (B.taken book.new) (lines_came s (option_to_list (line_in (lent_seen frame.entry)))) result }
+        ensures hears { (s : Standing) (start : Option (List ℕ)) → Stands self.old s → Took (B.text book.old) start (B.taken book.old) s
+            → Follows (B.text book.old) s.records self.new start (B.taken book.new) (lines_came s (option_to_list (line_in (lent_seen frame.entry)))) result }
         ensures fails { FailsWith result (B.failed book.old) (B.failed book.new) }
+        ensures form { B.text book.new ≡ B.text book.old }
     {
         let Lent::Line(line) = frame else {
             return Ok(());
@@ -297,9 +419,10 @@ impl Station {
 
     // Takes the lines of a piece.
     fn listen<B: Book>(&mut self, book: &mut B, piece: &[u8]) -> Result<(), PortFailed>
-        ensures listens { (s : Standing) (start : Option (List ℕ)) → Stands self.old s → Appends start (B.taken book.old) (texts_of B.text s.records)
-            → Follows B.text s.records self.new start (B.taken book.new) (piece_came piece.now s) result }
+        ensures listens { (s : Standing) (start : Option (List ℕ)) → Stands self.old s → Took (B.text book.old) start (B.taken book.old) s
+            → Follows (B.text book.old) s.records self.new start (B.taken book.new) (piece_came piece.now s) result }
         ensures fails { FailsWith result (B.failed book.old) (B.failed book.new) }
+        ensures form { B.text book.new ≡ B.text book.old }
     {
         let mut cut = Line::new();
         let mut at = 0;
@@ -315,9 +438,10 @@ impl Station {
 
     // Takes the lines of a piece where they are heard.
     fn take_lines<B: Book>(&mut self, book: &mut B, piece: &[u8]) -> Result<(), PortFailed>
-        ensures takes { (s : Standing) (start : Option (List ℕ)) → Stands self.old s → Appends start (B.taken book.old) (texts_of B.text s.records)
-            → Follows B.text s.records self.new start (B.taken book.new) (came (is_heard s.progress.phase) piece.now s) result }
+        ensures takes { (s : Standing) (start : Option (List ℕ)) → Stands self.old s → Took (B.text book.old) start (B.taken book.old) s
+            → Follows (B.text book.old) s.records self.new start (B.taken book.new) (came (is_heard s.progress.phase) piece.now s) result }
         ensures fails { FailsWith result (B.failed book.old) (B.failed book.new) }
+        ensures form { B.text book.new ≡ B.text book.old }
     {
         if !self.progress.phase.is_heard() {
             return Ok(());
@@ -334,9 +458,10 @@ impl Station {
         piece: &[u8],
         now: Moment,
     ) -> Result<(), PortFailed>
-        ensures takes { (s : Standing) (start : Option (List ℕ)) → Stands self.old s → Appends start (B.taken book.old) (texts_of B.text s.records)
-            → Follows B.text s.records self.new start (B.taken book.new) (piece_at plan.now rested piece.now now s) result }
+        ensures takes { (s : Standing) (start : Option (List ℕ)) → Stands self.old s → Took (B.text book.old) start (B.taken book.old) s
+            → Follows (B.text book.old) s.records self.new start (B.taken book.new) (piece_at plan.now rested piece.now now s) result }
         ensures fails { FailsWith result (B.failed book.old) (B.failed book.new) }
+        ensures form { B.text book.new ≡ B.text book.old }
     {
         let before = self.commands();
         self.progress.tell(now);
@@ -358,9 +483,10 @@ impl Station {
         plan: &Plan,
         rested: bool,
     ) -> Result<(), PortFailed>
-        ensures does { (commands : List Command)
-            → Made commands (read_order rested) (moved plan.now commands (read_order rested)) B.text (L.acts link.old) (L.acts link.new) (B.taken book.old) (B.taken book.new) self.old self.new result }
+        ensures does { (commands : List Task)
+            → Made commands (read_order rested) (moved plan.now commands (read_order rested)) (B.text book.old) (L.acts link.old) (L.acts link.new) (B.taken book.old) (B.taken book.new) self.old self.new result }
         ensures fails { FailsWith result (B.failed book.old) (B.failed book.new) }
+        ensures form { B.text book.new ≡ B.text book.old }
     {
         let mut buf = [0u8; 256];
         let millis = self.patience(plan, rested);
@@ -389,7 +515,7 @@ impl Station {
 
     // Closes the connection. What waits goes on waiting.
     fn close<L: Link>(&mut self, link: &mut L, plan: &Plan, cause: Cause)
-        ensures { (commands : List Command) (text : Record → List ℕ) (known : Option (List ℕ))
+        ensures { (commands : List Task) (text : Record → List ℕ) (known : Option (List ℕ))
             → Does plan.now commands (Close cause) text (L.acts link.old) (L.acts link.new) known known self.old self.new }
     {
         link.close();
@@ -404,15 +530,16 @@ impl Station {
         link: &mut L,
         book: &mut B,
         plan: &Plan,
-        commands: &[Command],
+        commands: &[Task],
         order: Order,
     ) -> Result<(), PortFailed>
         requires width { self.old.client.width ≡ WINDOW }
         requires paired { IsPaired self.old }
         requires within { self.old.progress.unsent ≤ length commands.now }
         requires room { IsFitting self.old.progress (length self.old.client.ids.waiting) order }
-        ensures does { OnCall order (Made commands.now order (moved plan.now commands.now order) B.text (L.acts link.old) (L.acts link.new) (B.taken book.old) (B.taken book.new) self.old self.new result) }
+        ensures does { OnCall order (Made commands.now order (moved plan.now commands.now order) (B.text book.old) (L.acts link.old) (L.acts link.new) (B.taken book.old) (B.taken book.new) self.old self.new result) }
         ensures fails { FailsWith result (B.failed book.old) (B.failed book.new) }
+        ensures form { B.text book.new ≡ B.text book.old }
     {
         match order {
             Order::Tell => {
@@ -439,6 +566,7 @@ impl Station {
                 self.send(link, plan, commands);
                 Ok(())
             }
+            Order::Skip => self.skip(link, book, plan, commands),
             Order::Flush => {
                 self.flush(link, plan, commands);
                 Ok(())
@@ -455,9 +583,10 @@ impl Station {
 
     // Writes all that wait down as lost, where the next connection begins anew and where no act follows.
     fn end<B: Book>(&mut self, book: &mut B) -> Result<(), PortFailed>
-        ensures ends { (s : Standing) (start : Option (List ℕ)) → Stands self.old s → Appends start (B.taken book.old) (texts_of B.text s.records)
-            → Follows B.text s.records self.new start (B.taken book.new) (ended s) result }
+        ensures ends { (s : Standing) (start : Option (List ℕ)) → Stands self.old s → Took (B.text book.old) start (B.taken book.old) s
+            → Follows (B.text book.old) s.records self.new start (B.taken book.new) (ended s) result }
         ensures fails { FailsWith result (B.failed book.old) (B.failed book.new) }
+        ensures form { B.text book.new ≡ B.text book.old }
     {
         if !self.progress.loses_all() {
             return Ok(());
@@ -472,15 +601,16 @@ impl Station {
         link: &mut L,
         book: &mut B,
         plan: &Plan,
-        commands: &[Command],
+        commands: &[Task],
         order: Order,
     ) -> Result<(), PortFailed>
         requires width { self.old.client.width ≡ WINDOW }
         requires paired { IsPaired self.old }
         requires within { self.old.progress.unsent ≤ length commands.now }
         requires room { IsFitting self.old.progress (length self.old.client.ids.waiting) order }
-        ensures does { OnCall order (Made commands.now order (stepped plan.now commands.now order) B.text (L.acts link.old) (L.acts link.new) (B.taken book.old) (B.taken book.new) self.old self.new result) }
+        ensures does { OnCall order (Made commands.now order (stepped plan.now commands.now order) (B.text book.old) (L.acts link.old) (L.acts link.new) (B.taken book.old) (B.taken book.new) self.old self.new result) }
         ensures fails { FailsWith result (B.failed book.old) (B.failed book.new) }
+        ensures form { B.text book.new ≡ B.text book.old }
     {
         self.progress.turn();
         if let Err(failed) = self.obey(link, book, plan, commands, order) {

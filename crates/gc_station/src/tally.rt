@@ -1,20 +1,26 @@
-//! A tally: how many requests were answered, late and lost.
+//! A tally: how many commands ended how.
 
 ghost use Rattle.std.specs.Prelude.{◌≡◌};
-ghost use Rattle.gc_client.specs.Settlements.{outcome_seen};
 ghost use Rattle.gc_station.specs.Tallies.{none_yet, counted};
+ghost use Rattle.gc_texts.specs.Endings.{ending_seen};
 
-use gc_client::Outcome;
+use gc_texts::Ending;
 
-/// How many requests ended how. A count stops at 2^64 - 1.
+/// How many commands ended how. A count stops at 2^64 - 1.
 #[derive(Clone, Copy, Debug, PartialEq, Eq)]
 pub struct Tally {
-    /// A reply came in time.
+    /// A reply came in time. Where both its codes are 0, its values read.
     pub answered: u64,
     /// A reply came after the request was given up.
     pub late: u64,
     /// No reply came, or none will be taken.
     pub lost: u64,
+    /// It wasn't sent: the one before it in its chain wasn't answered well.
+    pub skipped: u64,
+    /// A reply came in time, with both codes 0, whose values don't read.
+    pub unreadable: u64,
+    /// It wasn't sent: its cycle couldn't begin before the next was due.
+    pub missed: u64,
 }
 
 impl Tally {
@@ -25,16 +31,22 @@ impl Tally {
             answered: 0,
             late: 0,
             lost: 0,
+            skipped: 0,
+            unreadable: 0,
+            missed: 0,
         }
     }
 
-    pub(crate) fn count(&mut self, outcome: &Outcome)
-        ensures { self.new ≡ counted (outcome_seen outcome.now) self.old }
+    pub(crate) fn count(&mut self, ending: Ending<'_>)
+        ensures { self.new ≡ counted (ending_seen ending.entry) self.old }
     {
-        match outcome {
-            Outcome::Answered(_, _) => self.answered = self.answered.saturating_add(1),
-            Outcome::Late => self.late = self.late.saturating_add(1),
-            Outcome::Lost => self.lost = self.lost.saturating_add(1),
+        match ending {
+            Ending::Answered(_) => self.answered = self.answered.saturating_add(1),
+            Ending::Unreadable(_, _) => self.unreadable = self.unreadable.saturating_add(1),
+            Ending::Late => self.late = self.late.saturating_add(1),
+            Ending::Lost => self.lost = self.lost.saturating_add(1),
+            Ending::Skipped => self.skipped = self.skipped.saturating_add(1),
+            Ending::Missed => self.missed = self.missed.saturating_add(1),
         }
     }
 }

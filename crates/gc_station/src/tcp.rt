@@ -75,7 +75,7 @@ impl<'a, R: Net<Listener = TcpListener, Stream = TcpStream> + Clock> TcpLink<'a,
             return Ok(None);
         };
         // A time of zero would be an error, and none would wait for ever.
-        stream.set_read_timeout(Some(Duration::from_millis(millis.max(1))))?;
+        stream.set_read_timeout(Some(Duration::from_millis(in_time(millis).max(1))))?;
         match stream.read(buf) {
             Ok(n) => Ok(Some(n)),
             Err(error) if is_silence(error.kind()) => Ok(None),
@@ -119,6 +119,18 @@ impl<'a, R: Net<Listener = TcpListener, Stream = TcpStream> + Clock> TcpLink<'a,
             Ok(moment) => Came::Silence(moment),
             Err(_) => Came::NoMoment,
         }
+    }
+}
+
+// How long a read is told to wait, so that it ends in so many milliseconds. The system may end a wait of more than a quarter of a second
+// late by an eighth of it, and a shorter one by a few milliseconds; a read that ends early is made again.
+fn in_time(millis: u64) -> u64
+    ensures { result ≤ millis }
+{
+    if millis > 200 {
+        millis - millis / 8
+    } else {
+        millis
     }
 }
 

@@ -1,11 +1,15 @@
 //! Writing settlements into a book, and counting them.
 
-ghost use Rattle.std.specs.Prelude.{◌≡◌, ◌++◌, ℕ, List, [], ◌∷◌, length, drop, map, Option, OnOk};
+ghost use Rattle.std.specs.Prelude.{◌≡◌, ◌++◌, ℕ, List, [], ◌∷◌, length, drop, map, Option, OnOk, All};
 ghost use Rattle.std.specs.Io.KnownBytes.{Appends};
 ghost use Rattle.gc_lines.specs.Ports.{FailsWith};
 ghost use Rattle.gc_client.specs.Rule;
-ghost use Rattle.gc_client.specs.Settlements.{settlement_seen};
-ghost use Rattle.gc_station.specs.Marks.{records_of};
+ghost use Rattle.gc_catalogue.specs.declared.answer.Reading.{Reading};
+ghost use Rattle.gc_catalogue.specs.declared.call.Call.{Call};
+ghost use Rattle.gc_client.specs.Settlements.{settlement_seen, outcome_seen, IsWellRead};
+ghost use Rattle.gc_station.specs.Marks.{records_of, end_of, last_well, is_well};
+ghost use Rattle.gc_station.specs.Scopes.{AreReadings};
+ghost use Rattle.gc_texts.specs.Endings.{ending_seen};
 ghost use Rattle.gc_station.specs.Records.{Record, texts_of, WritesAll};
 ghost use Rattle.gc_station.specs.Tallies.{tallied};
 
@@ -13,14 +17,16 @@ use crate::book::{Book, Stamp};
 use crate::mark::Mark;
 use crate::tally::Tally;
 use arrayvec::ArrayVec;
-use gc_client::{Settlement, WINDOW};
+use gc_catalogue::Reading;
+use gc_client::{Outcome, Settlement, WINDOW};
 use gc_lines::PortFailed;
+use gc_texts::{Command, Ending};
 
 // The mark of the oldest request that waits, which goes.
 fn take_mark(marks: &mut ArrayVec<Option<Mark>, WINDOW>) -> Option<Mark>
     ensures rest { marks.new.items ≡ drop 1 marks.old.items }
-    ensures records { (utc : ℕ) (settlement : Rule.Settlement)
-        → records_of utc marks.old.items (settlement ∷ []) ≡ records_of utc (result ∷ []) (settlement ∷ []) }
+    ensures records { (reads : Call → List ℕ → Reading) (utc : ℕ) (settlement : Rule.Settlement)
+        → records_of reads utc marks.old.items (settlement ∷ []) ≡ records_of reads utc (result ∷ []) (settlement ∷ []) }
 {
     match marks.pop_at(0) {
         Some(mark) => mark,
@@ -28,18 +34,46 @@ fn take_mark(marks: &mut ArrayVec<Option<Mark>, WINDOW>) -> Option<Mark>
     }
 }
 
+// How a command ended whose request ended so.
+fn ending_of(outcome: &Outcome) -> Ending<'_>
+    ensures { (reads : Call → List ℕ → Reading) (call : Call) → AreReadings reads → IsWellRead call outcome.now
+        → ending_seen result ≡ end_of reads call (outcome_seen outcome.now) }
+{
+    match outcome {
+        Outcome::Answered(Reading::Unreadable(fault), line) => Ending::Unreadable(line, *fault),
+        Outcome::Answered(_, line) => Ending::Answered(line),
+        Outcome::Late => Ending::Late,
+        Outcome::Lost => Ending::Lost,
+    }
+}
+
+// Whether it was answered well: with both codes 0 and values that read.
+fn is_well(outcome: &Outcome) -> bool
+    ensures { (reads : Call → List ℕ → Reading) (call : Call) → AreReadings reads → IsWellRead call outcome.now
+        → result ≡ is_well reads call (end_of reads call (outcome_seen outcome.now)) }
+{
+    matches!(outcome, Outcome::Answered(Reading::Value(_), _))
+}
+
 // Writes how a request with this mark ended. A null procedure has none, and isn't written.
 fn write_one<B: Book>(
     book: &mut B,
     tally: &mut Tally,
+    well: &mut bool,
     utc: u64,
     mark: Option<Mark>,
     settlement: &Settlement,
 ) -> Result<(), PortFailed>
-    ensures wrote { (start : Option (List ℕ)) (before : List Record) → Appends start (B.taken book.old) (texts_of B.text before)
-        → WritesAll B.text before (before ++ records_of utc (mark ∷ []) (settlement_seen settlement.now ∷ [])) start (B.taken book.new) result }
-    ensures tally { OnOk result (tally.new ≡ tallied tally.old (records_of utc (mark ∷ []) (settlement_seen settlement.now ∷ []))) }
+    requires { IsWellRead settlement.now.call settlement.now.outcome }
+    ensures wrote { (reads : Call → List ℕ → Reading) (start : Option (List ℕ)) (before : List Record)
+        → AreReadings reads → Appends start (B.taken book.old) (texts_of (B.text book.old) before)
+        → WritesAll (B.text book.old) before (before ++ records_of reads utc (mark ∷ []) (settlement_seen settlement.now ∷ [])) start (B.taken book.new) result }
+    ensures tally { OnOk result ((reads : Call → List ℕ → Reading) → AreReadings reads
+        → tally.new ≡ tallied tally.old (records_of reads utc (mark ∷ []) (settlement_seen settlement.now ∷ []))) }
+    ensures well { OnOk result ((reads : Call → List ℕ → Reading) → AreReadings reads
+        → well.new ≡ last_well reads well.old (records_of reads utc (mark ∷ []) (settlement_seen settlement.now ∷ []))) }
     ensures fails { FailsWith result (B.failed book.old) (B.failed book.new) }
+    ensures form { B.text book.new ≡ B.text book.old }
 {
     let Some(mark) = mark else {
         return Ok(());
@@ -49,10 +83,16 @@ fn write_one<B: Book>(
         cycle: mark.cycle,
         place: mark.place,
     };
-    if let Err(failed) = book.write(stamp, settlement) {
+    let command = Command {
+        target: settlement.target,
+        call: settlement.call,
+    };
+    let ending = ending_of(&settlement.outcome);
+    if let Err(failed) = book.write(stamp, &command, ending) {
         return Err(failed);
     }
-    tally.count(&settlement.outcome);
+    tally.count(ending);
+    *well = is_well(&settlement.outcome);
     Ok(())
 }
 
@@ -60,19 +100,26 @@ fn write_one<B: Book>(
 pub(crate) fn write_settlements<B: Book>(
     book: &mut B,
     tally: &mut Tally,
+    well: &mut bool,
     marks: &mut ArrayVec<Option<Mark>, WINDOW>,
     utc: u64,
     settlements: &[Settlement],
 ) -> Result<(), PortFailed>
-    ensures wrote { (start : Option (List ℕ)) (before : List Record) → Appends start (B.taken book.old) (texts_of B.text before)
-        → WritesAll B.text before (before ++ records_of utc marks.old.items (map settlement_seen settlements.now)) start (B.taken book.new) result }
-    ensures tally { OnOk result (tally.new ≡ tallied tally.old (records_of utc marks.old.items (map settlement_seen settlements.now))) }
+    requires { All (λ s. IsWellRead s.call s.outcome) settlements.now }
+    ensures wrote { (reads : Call → List ℕ → Reading) (start : Option (List ℕ)) (before : List Record)
+        → AreReadings reads → Appends start (B.taken book.old) (texts_of (B.text book.old) before)
+        → WritesAll (B.text book.old) before (before ++ records_of reads utc marks.old.items (map settlement_seen settlements.now)) start (B.taken book.new) result }
+    ensures tally { OnOk result ((reads : Call → List ℕ → Reading) → AreReadings reads
+        → tally.new ≡ tallied tally.old (records_of reads utc marks.old.items (map settlement_seen settlements.now))) }
+    ensures well { OnOk result ((reads : Call → List ℕ → Reading) → AreReadings reads
+        → well.new ≡ last_well reads well.old (records_of reads utc marks.old.items (map settlement_seen settlements.now))) }
     ensures marks { OnOk result (marks.new.items ≡ drop (length settlements.now) marks.old.items) }
     ensures fails { FailsWith result (B.failed book.old) (B.failed book.new) }
+    ensures form { B.text book.new ≡ B.text book.old }
 {
     for settlement in settlements {
         let mark = take_mark(marks);
-        if let Err(failed) = write_one(book, tally, utc, mark, settlement) {
+        if let Err(failed) = write_one(book, tally, well, utc, mark, settlement) {
             return Err(failed);
         }
     }

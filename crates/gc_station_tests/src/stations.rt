@@ -2,8 +2,10 @@
 //! anew: a lone line feed, the quiet time, and a null procedure with id 0, which is answered before anything else goes out.
 
 mod beginnings;
+mod chains;
 mod drills;
 mod faults;
+mod logs;
 mod places;
 mod rests;
 mod script;
@@ -14,7 +16,7 @@ mod waits;
 use crate::telling::{Telling, run_telling};
 use gc_catalogue::Call;
 use gc_station::Plan;
-use gc_texts::{Command, RunFault};
+use gc_texts::{Command, RunFault, Task};
 use script::{Ends, Script, Step};
 use std::process::Abort;
 use std::test::Fail;
@@ -33,6 +35,41 @@ fn plan() -> Plan {
 
 fn command(target: u32, call: Call) -> Command {
     Command { target, call }
+}
+
+// At most sixteen tasks, of which so many count.
+#[derive(Clone, Copy)]
+struct Tasks {
+    list: [Task; 16],
+    count: usize,
+}
+
+impl Tasks {
+    fn as_slice(&self) -> &[Task] {
+        &self.list[..self.count.min(16)]
+    }
+}
+
+fn task_of(plan: &Plan, command: Command) -> Task {
+    Task {
+        command,
+        deadline: plan.deadline,
+        chained: false,
+    }
+}
+
+// Tasks that wait as long as the plan has it, of which none is of a chain.
+fn tasks_of(plan: &Plan, commands: &[Command]) -> Tasks {
+    let mut list = [task_of(plan, null(0)); 16];
+    for (k, command) in commands.iter().enumerate() {
+        if let Some(task) = list.get_mut(k) {
+            *task = task_of(plan, *command);
+        }
+    }
+    Tasks {
+        list,
+        count: commands.len(),
+    }
 }
 
 fn null(target: u32) -> Command {
@@ -55,7 +92,8 @@ fn ends_so(
 ) {
     let mut telling = Telling::new(link);
     let mut book = book;
-    let result = run_telling(&mut telling, &mut book, commands, &plan, max_turns);
+    let tasks = tasks_of(&plan, commands);
+    let result = run_telling(&mut telling, &mut book, tasks.as_slice(), &plan, max_turns);
     assert!(rt;
         telling.link.text.as_slice() == put,
         "{name}, {max_turns}: put"

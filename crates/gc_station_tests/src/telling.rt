@@ -1,14 +1,17 @@
 //! Any link, made to tell its acts: each call is made as it is, and what it came to is added to a history, which costs nothing.
 
-ghost use Rattle.std.specs.Prelude.{◌≡◌, [], Some};
+ghost use Rattle.std.specs.Prelude.{◌≡◌, ℕ, List, [], Some};
+ghost use Rattle.gc_catalogue.specs.declared.answer.Reading.{Reading};
+ghost use Rattle.gc_catalogue.specs.declared.call.Call.{Call};
 ghost use Rattle.gc_station.specs.Acts.{IsWithin, came_as};
 ghost use Rattle.gc_station.specs.Runs.{Ran};
+ghost use Rattle.gc_station.specs.Scopes.{AreReadings};
 ghost use Rattle.gc_station_tests.specs.Noted.{act_of};
 
 use crate::history::{History, Note};
 use gc_lines::PortFailed;
 use gc_station::{Book, Came, Link, Moment, Plan, Tally, run_station};
-use gc_texts::{Command, RunFault};
+use gc_texts::{RunFault, Task};
 
 /// A link that tells its acts, whatever link it stands over.
 #[derive(Drop)]
@@ -94,11 +97,12 @@ impl<L: Link> Link for Telling<L> {
 pub fn run_telling<L: Link, B: Book>(
     link: &mut Telling<L>,
     book: &mut B,
-    commands: &[Command],
+    commands: &[Task],
     plan: &Plan,
     max_turns: u64,
 ) -> Result<Tally, RunFault>
-    ensures { Ran plan.now commands.now max_turns B.text (Some link.old.history.acts) (Some link.new.history.acts) (B.taken book.old) (B.taken book.new) result }
+    ensures { (reads : Call → List ℕ → Reading) → AreReadings reads
+        → Ran plan.now commands.now (record { turns = max_turns; reads = reads }) (B.text book.old) (Some link.old.history.acts) (Some link.new.history.acts) (B.taken book.old) (B.taken book.new) result }
 {
     run_station(link, book, commands, plan, max_turns)
 }

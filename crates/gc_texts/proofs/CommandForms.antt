@@ -32,7 +32,7 @@ module _ (line : List ℕ) (command : Command) (is : IsCommand line command) whe
 same_command : (c d : Command) → c.target ≡ d.target → c.call ≡ d.call → c ≡ d
 same_command c d e f = ap (λ t. record { target = t; call = c.call }) e ∙ ap (λ x. record { target = d.target; call = x }) f
 
-one_command : (line : List ℕ) (c d : Command) → IsCommand line c → IsCommand line d → c ≡ d
+pub one_command : (line : List ℕ) (c d : Command) → IsCommand line c → IsCommand line d → c ≡ d
 one_command line c d r s =
     let parts = one_front 32 r.target_text s.target_text r.procedure s.procedure (sym r.line_is ∙ s.line_is)
     (digits_lack_spaces r.target_text r.target_is.names.digits) (digits_lack_spaces s.target_text s.target_is.names.digits) in

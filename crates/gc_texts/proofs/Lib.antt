@@ -2,9 +2,17 @@ pub mod Cutting
 pub mod Procedures
 mod LineEnds
 mod TextLines
+mod LinePlaces
 pub mod OneReading
 mod CommandForms
+mod TaskForms
+mod TaskReading
+mod TaskLaws
 pub mod SettlementLines
 mod Telling
 mod Columns
+mod Wanted
+mod Asked
 mod Dates
+pub mod Logs
+mod LogStamps

@@ -1,14 +1,54 @@
 -- Laws of the texts: this project's own, as the texts are.
-use Rattle.std.specs.Prelude.{◌≡◌, ℕ, List}
+use Rattle.std.specs.Prelude.{◌≡◌, ◌<◌, ◌≤◌, ◌^◌, ℕ, Bool, true, false, List, [], ◌∷◌, length, map, All, Option, None, Some}
 use Rattle.gc_texts.specs.Commands.{IsCommands}
+use Rattle.gc_texts.specs.Tasks.{IsTasks}
+use Rattle.gc_texts.specs.Troubles.{wanted}
+use Rattle.gc_catalogue.specs.Calls.{call_fields}
+use Rattle.gc_catalogue.specs.declared.call.Call.{Call}
 use Rattle.gc_lines.specs.Numbers.{IsNumber}
 use Rattle.gc_lines.specs.Replies.{ReplyFields, IsReply}
 use Rattle.gc_texts.specs.Records.{com_of, code_of, values_of}
+use Rattle.gc_texts.specs.Logs.{log_text, IsLogLine}
+use Rattle.gc_texts.specs.Stamps.{stamp_text}
 use Rattle.gc_texts.specs.declared.commands.Command.{Command}
+use Rattle.gc_texts.specs.declared.name.Name.{Name}
+use Rattle.gc_texts.specs.declared.tasks.Task.{Task}
+use Rattle.gc_texts.specs.declared.log_line.LogMark.{LogMark}
 
 -- a text has one list of commands
 abbrev pub OneCommandList : Type 0
 OneCommandList = (text : List ℕ) (xs ys : List Command) → IsCommands text xs → IsCommands text ys → xs ≡ ys
+
+-- a station's text gives one list of tasks, and one of names
+abbrev pub OneTaskList : Type 0
+OneTaskList =
+    (text : List ℕ) (deadline : ℕ) (chained : Bool) (xs ys : List Task) (ms ns : List Name) →
+    IsTasks text deadline chained xs ms → IsTasks text deadline chained ys ns → (xs ≡ ys) × (ms ≡ ns)
+
+-- each command text is a station's text: of the same commands in the same order, and without names
+abbrev pub CommandsAreTasks : Type 0
+CommandsAreTasks =
+    (text : List ℕ) (commands : List Command) (deadline : ℕ) (chained : Bool) → IsCommands text commands →
+    (tasks : List Task) × IsTasks text deadline chained tasks [] × (map (λ task. task.command) tasks ≡ commands)
+
+-- and where commands aren't chained, each has the deadline and goes out by itself
+abbrev pub CommandsArePlain : Type 0
+CommandsArePlain =
+    (text : List ℕ) (commands : List Command) (deadline : ℕ) → IsCommands text commands →
+    IsTasks text deadline false (map (λ command. record { command = command; deadline = deadline; chained = false }) commands) []
+
+-- each chained task stands behind one for the same target; what stands before them is for this one, where there is one
+abbrev pub AreRows : Option ℕ → List Task → Type 0
+AreRows before [] = Unit {0}
+AreRows before (task ∷ later) = (task.chained ≡ true → before ≡ Some task.command.target) × AreRows (Some task.command.target) later
+
+-- the first task of a text isn't chained, and each that is stands behind one for the same target
+abbrev pub ChainsAreRows : Type 0
+ChainsAreRows = (text : List ℕ) (deadline : ℕ) (chained : Bool) (tasks : List Task) (names : List Name) → IsTasks text deadline chained tasks names → AreRows None tasks
+
+-- what a trouble says of a procedure's parameters is how many the catalogue has
+abbrev pub WantedIsTheCatalogues : Type 0
+WantedIsTheCatalogues = (call : Call) → wanted (call_fields call).number ≡ length (call_fields call).values
 
 -- what the columns of a reply's line say
 pub record ColumnsSay (line : List ℕ) (r : ReplyFields) : Type 0 where
@@ -19,3 +59,12 @@ pub record ColumnsSay (line : List ℕ) (r : ReplyFields) : Type 0 where
 -- the columns of a reply's line are its fields
 abbrev pub ColumnsAreFields : Type 0
 ColumnsAreFields = (line : List ℕ) (r : ReplyFields) → IsReply line r → ColumnsSay line r
+
+-- what was written as a log line says that moment, that mark and those bytes, and nothing else
+pub record LogLinesReadBack : Type 0 where
+  pub written : (utc : ℕ) (mark : LogMark) (bytes : List ℕ) → utc < 2 ^ 64 → All (λ b. b < 256) bytes → IsLogLine (log_text (stamp_text utc) mark bytes) (stamp_text utc) mark bytes
+  pub once : (text one other : List ℕ) (mark sign : LogMark) (bytes more : List ℕ) → IsLogLine text one mark bytes → IsLogLine text other sign more → (one ≡ other) × (mark ≡ sign) × (bytes ≡ more)
+
+-- a log line has printable bytes alone, before its line feed
+abbrev pub LogLinesArePrintable : Type 0
+LogLinesArePrintable = (utc : ℕ) (mark : LogMark) (bytes : List ℕ) → utc < 2 ^ 64 → All (λ b. b < 256) bytes → All (λ b. (32 ≤ b) × (b ≤ 126)) (log_text (stamp_text utc) mark bytes)

@@ -2,9 +2,15 @@ pub mod Cuts
 pub mod LineForms
 pub mod Procedures
 pub mod Commands
+pub mod Names
+pub mod TaskLines
+pub mod Tasks
 pub mod Texts
 pub mod Settlements
 pub mod Faults
 pub mod Stamps
+pub mod Endings
 pub mod Records
+pub mod Troubles
+pub mod Logs
 pub mod Laws

@@ -1,5 +1,5 @@
 -- A text of lines, each of which stands for one item of a kind: this project's own.
-use Rattle.std.specs.Prelude.{◌≡◌, ℕ, ◌+◌, ◌<◌, ◌≤◌, ◌==◌, Bool, true, List, [], ◌∷◌, ◌++◌, length, map, filter, not, if◌then◌else◌}
+use Rattle.std.specs.Prelude.{◌≡◌, ℕ, ◌+◌, ◌-◌, ◌<◌, ◌≤◌, ◌==◌, Bool, true, List, [], ◌∷◌, ◌++◌, length, get_or, map, filter, not, if◌then◌else◌}
 use Rattle.gc_texts.specs.declared.fault.RunFault.{RunFault}
 use Rattle.gc_texts.specs.declared.fault.RunFault.TheVariants.{Schedule, Memory, InputTooLong}
 use Rattle.gc_texts.specs.declared.text.TheConstants.{TEXT_LIMIT}
@@ -22,6 +22,10 @@ without_cr (b ∷ c ∷ bs) = b ∷ without_cr (c ∷ bs)
 -- the lines of a text; an empty piece behind the last LF is an empty line, which is skipped
 abbrev pub text_lines : List ℕ → List (List ℕ)
 text_lines text = map without_cr (text_pieces [] text)
+
+-- line number n of a text, counted from 1; empty where the text has fewer
+abbrev pub line_at : List ℕ → ℕ → List ℕ
+line_at text n = get_or (text_lines text) (n - 1) []
 
 -- an empty line, or one that begins with `#`
 abbrev pub is_skipped : List ℕ → Bool

@@ -1,13 +1,14 @@
--- Records: a settlement with the moment at which it was told, as a line or as a row of comma-separated values. The columns are this
--- project's own, and how a field is quoted is RFC 4180's.
+-- Records: how a command ended, with the moment at which that was told, as a line or as a row of comma-separated values. The words and
+-- the columns are this project's own, and how a field is quoted is RFC 4180's.
 use Rattle.std.specs.Prelude.{ℕ, ◌==◌, ◌||◌, Bool, List, [], ◌∷◌, ◌++◌, if◌then◌else◌, codes}
 use Rattle.std.specs.Fmt.{decimal}
 use Rattle.std.specs.List.{flat_map, list_any}
-use Rattle.gc_client.specs.Rule.{Settlement, Outcome, Answered, Late, Lost}
 use Rattle.gc_catalogue.specs.Calls.{call_fields}
+use Rattle.gc_values.specs.ValueFault.{fault_number}
+use Rattle.gc_texts.specs.declared.commands.Command.{Command}
 use Rattle.gc_texts.specs.declared.record.Form.{Form}
 use Rattle.gc_texts.specs.declared.record.Form.TheVariants.{Lines, Csv}
-use Rattle.gc_texts.specs.Settlements.{settlement_line}
+use Rattle.gc_texts.specs.Endings.{End, Answered, Unreadable, Late, Lost, Skipped, Missed}
 use Rattle.gc_texts.specs.Stamps.{stamp_text}
 
 -- what stands before the first mark, or all of the text where there is none
@@ -43,26 +44,52 @@ within_quotes b = if b == 34 then 34 ∷ 34 ∷ [] else b ∷ []
 abbrev pub csv_field : List ℕ → List ℕ
 csv_field text = if list_any is_special text then codes "\"" ++ flat_map within_quotes text ++ codes "\"" else text
 
--- how a request ended, in four columns
-abbrev pub outcome_columns : Outcome → List ℕ
-outcome_columns (Answered line) = codes "answered," ++ com_of line ++ codes "," ++ code_of line ++ codes "," ++ csv_field (values_of line)
-outcome_columns Late = codes "late,,,"
-outcome_columns Lost = codes "lost,,,"
+-- the columns of a reply's line: its communication code, its return code, and its values
+abbrev pub reply_columns : List ℕ → List ℕ
+reply_columns line = com_of line ++ codes "," ++ code_of line ++ codes "," ++ csv_field (values_of line)
+
+-- how a command ended, in five columns: the outcome, the fault, and those of the reply
+abbrev pub ending_columns : End → List ℕ
+ending_columns (Answered line) = codes "answered,," ++ reply_columns line
+ending_columns (Unreadable line fault) = codes "unreadable," ++ decimal (fault_number fault) ++ codes "," ++ reply_columns line
+ending_columns Late = codes "late,,,,"
+ending_columns Lost = codes "lost,,,,"
+ending_columns Skipped = codes "skipped,,,,"
+ending_columns Missed = codes "missed,,,,"
+
+-- how a command ended, in words: behind `answered` the line of the reply, and behind `unreadable` its fault's number and the line
+abbrev pub ending_text : End → List ℕ
+ending_text (Answered line) = codes " answered " ++ line
+ending_text (Unreadable line fault) = codes " unreadable " ++ decimal (fault_number fault) ++ codes " " ++ line
+ending_text Late = codes " late"
+ending_text Lost = codes " lost"
+ending_text Skipped = codes " skipped"
+ending_text Missed = codes " missed"
 
 -- the names of the columns
 abbrev pub csv_header : List ℕ
-csv_header = codes "time,cycle,place,target,procedure,outcome,rc_com,rc,values\n"
+csv_header = codes "time,cycle,place,target,name,procedure,outcome,fault,rc_com,rc,values\n"
+
+-- when, where and for whom: the first four columns of a row, each with a comma behind it
+abbrev pub row_front : ℕ → ℕ → ℕ → ℕ → List ℕ
+row_front utc cycle place target =
+    stamp_text utc ++ codes "," ++ decimal cycle ++ codes "," ++ decimal place ++ codes "," ++ decimal target ++ codes ","
 
 -- the row of a record
-abbrev pub csv_row : ℕ → ℕ → ℕ → Settlement → List ℕ
-csv_row utc cycle place s =
-    stamp_text utc ++ codes "," ++ decimal cycle ++ codes "," ++ decimal place ++ codes "," ++ decimal s.target ++ codes ","
-    ++ decimal (call_fields s.call).number ++ codes "," ++ outcome_columns s.outcome ++ codes "\n"
+abbrev pub csv_row : ℕ → ℕ → ℕ → List ℕ → Command → End → List ℕ
+csv_row utc cycle place name command end =
+    row_front utc cycle place command.target ++ csv_field name ++ codes "," ++ decimal (call_fields command.call).number ++ codes ","
+    ++ ending_columns end ++ codes "\n"
 
--- a record in its form: the moment, the cycle, the place within it, and the settlement
-abbrev pub record_text : Form → ℕ → ℕ → ℕ → Settlement → List ℕ
-record_text Lines utc cycle place s = stamp_text utc ++ codes " " ++ settlement_line place s
-record_text Csv utc cycle place s = csv_row utc cycle place s
+-- the line of a record
+abbrev pub record_line : ℕ → ℕ → Command → End → List ℕ
+record_line utc place command end =
+    stamp_text utc ++ codes " " ++ decimal place ++ codes " " ++ decimal command.target ++ ending_text end ++ codes "\n"
+
+-- a record in its form: the moment, the cycle, the place within it, the target's name, the command, and how it ended
+abbrev pub record_text : Form → ℕ → ℕ → ℕ → List ℕ → Command → End → List ℕ
+record_text Lines utc cycle place name command end = record_line utc place command end
+record_text Csv utc cycle place name command end = csv_row utc cycle place name command end
 
 -- what stands in front of all records
 abbrev pub head_text : Form → List ℕ

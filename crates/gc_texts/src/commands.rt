@@ -36,7 +36,7 @@ impl LineForm for CommandForm {
 }
 
 // `T RPC` or `T RPC PARAMS`: a target and a call.
-fn read_command(line: &[u8]) -> Option<Command>
+pub(crate) fn read_command(line: &[u8]) -> Option<Command>
     ensures { MatchOption result ((command : Command) → IsCommand line.now command → ⊥) (λ command. IsCommand line.now command) }
 {
     let (target, procedure) = cut_at(b' ', line);

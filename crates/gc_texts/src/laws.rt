@@ -1,13 +1,44 @@
 //! What is proved of the definitions themselves. The functions have no effect: their contracts are the laws.
 
-ghost use Rattle.gc_texts.specs.Laws.{OneCommandList, ColumnsAreFields};
+ghost use Rattle.gc_texts.specs.Laws.{OneCommandList, OneTaskList, CommandsAreTasks, CommandsArePlain, ChainsAreRows, ColumnsAreFields, WantedIsTheCatalogues, LogLinesReadBack, LogLinesArePrintable};
 
 /// A text gives one list of commands at most.
 pub fn commands_have_one_reading()
     ensures { OneCommandList }
 {}
 
+/// A station's text gives one list of tasks at most, and one of names.
+pub fn tasks_have_one_reading()
+    ensures { OneTaskList }
+{}
+
+/// A command text is a station's text, and gives the same commands.
+pub fn commands_are_tasks()
+    ensures same { CommandsAreTasks }
+    ensures plain { CommandsArePlain }
+{}
+
+/// A task is chained only behind one for the same target; the first is never chained.
+pub fn chains_are_rows()
+    ensures { ChainsAreRows }
+{}
+
 /// The columns of a record that stand for a reply are its communication code, its return code and its values.
 pub fn columns_are_a_replys_fields()
     ensures { ColumnsAreFields }
+{}
+
+/// How many parameters a trouble says that a procedure wants is how many it has.
+pub fn wanted_is_the_catalogues()
+    ensures { WantedIsTheCatalogues }
+{}
+
+/// What was written as a line of a log reads back as the same moment, mark and bytes, and as nothing else.
+pub fn log_lines_read_back()
+    ensures { LogLinesReadBack }
+{}
+
+/// A line of a log has no byte below 32 nor above 126 before its line feed.
+pub fn log_lines_are_printable()
+    ensures { LogLinesArePrintable }
 {}

@@ -3,20 +3,35 @@
 
 mod commands;
 mod cuts;
+mod ending;
 mod fault;
 pub mod laws;
 mod line_forms;
+mod log_line;
+mod log_reading;
+mod name;
 mod procedure;
 mod record;
 mod settled;
 mod stamp;
+mod task_line;
+mod tasks;
 mod text;
+mod trouble;
 
 pub use commands::{Command, read_commands};
 pub use cuts::cut_at;
+pub use ending::Ending;
 pub use fault::RunFault;
-pub use line_forms::{LineForm, read_items};
+pub use line_forms::{LineForm, line_at, read_items};
+pub use log_line::{LogBytes, LogMark, write_log_line};
+pub use log_reading::{LogLine, read_log_line};
+pub use name::Name;
 pub use procedure::{TARGET_MAX, number_of, read_procedure};
 pub use record::{Form, write_head, write_record};
 pub use settled::{append_settlements, write_settlements};
+pub use stamp::{STAMP_ROOM, stamp_text};
+pub use task_line::DEADLINE_MAX;
+pub use tasks::{Task, Tasks, read_tasks};
 pub use text::{TEXT_LIMIT, limits_texts, read_text};
+pub use trouble::{Trouble, trouble_of};

@@ -2,7 +2,7 @@
 
 ghost use Rattle.std.specs.Prelude.{◌≡◌, ◌<◌, ◌≤◌, ◌↔◌, length, Err, IfOk, IfErr};
 ghost use Rattle.std.specs.Option.{option_copied};
-ghost use Rattle.gc_texts.specs.LineForms.{IsText, TextFault, without_cr, is_skipped};
+ghost use Rattle.gc_texts.specs.LineForms.{IsText, TextFault, without_cr, line_at, is_skipped};
 ghost use Rattle.gc_texts.specs.declared.fault.RunFault.{RunFault};
 ghost use Rattle.gc_texts.specs.declared.text.TheConstants.{TEXT_LIMIT};
 
@@ -27,7 +27,7 @@ pub trait LineForm {
 }
 
 // Drops one CR at the end.
-fn without_cr(line: &[u8]) -> &[u8]
+pub(crate) fn without_cr(line: &[u8]) -> &[u8]
     ensures { result.now ≡ without_cr line.now }
 {
     match line.strip_suffix(b"\r") {
@@ -36,8 +36,25 @@ fn without_cr(line: &[u8]) -> &[u8]
     }
 }
 
+/// Line number n of a text, counted from 1, as the faults of a text count them; empty where the text has fewer.
+pub fn line_at(text: &[u8], number: u32) -> &[u8]
+    ensures { result.now ≡ line_at text.now number }
+{
+    let mut left = Some(text);
+    let mut wanted = number;
+    while let Some(text) = left {
+        let (line, rest) = cut_at(b'\n', text);
+        if wanted <= 1 {
+            return without_cr(line);
+        }
+        wanted -= 1;
+        left = rest;
+    }
+    b""
+}
+
 // Whether the line is empty or begins with `#`.
-fn is_skipped(line: &[u8]) -> bool
+pub(crate) fn is_skipped(line: &[u8]) -> bool
     ensures { result ≡ is_skipped line.now }
 {
     matches!(line, [] | [b'#', ..])

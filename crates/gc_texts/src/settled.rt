@@ -55,7 +55,7 @@ pub fn write_settlements<K: Sink>(
 const LINE_ROOM: usize = 20 + 1 + 10 + 10 + 512 + 1;
 
 // The line of the settlement at a place.
-pub(crate) fn line_of(place: usize, settlement: &Settlement) -> ArrayVec<u8, LINE_ROOM>
+fn line_of(place: usize, settlement: &Settlement) -> ArrayVec<u8, LINE_ROOM>
     ensures { result.items ≡ settlement_line place (settlement_seen settlement.now) }
 {
     let mut digits = Buffer::new();

@@ -129,10 +129,10 @@ fn time_text(millis: u64) -> ArrayVec<u8, 12>
 }
 
 /// The most bytes of a stamp: a date, `T`, a time and `Z`.
-pub(crate) const STAMP_ROOM: usize = 26 + 1 + 12 + 1;
+pub const STAMP_ROOM: usize = 26 + 1 + 12 + 1;
 
 /// The moment so many milliseconds after the beginning of 1970, as 2026-11-22T23:08:27.123Z.
-pub(crate) fn stamp(utc: u64) -> ArrayVec<u8, STAMP_ROOM>
+pub fn stamp_text(utc: u64) -> ArrayVec<u8, STAMP_ROOM>
     ensures { result.items ≡ stamp_text utc }
 {
     let mut text = ArrayVec::new();

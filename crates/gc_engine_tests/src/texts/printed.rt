@@ -1,11 +1,12 @@
 //! A text that is read, the printed line of each fault, and a record in each form.
 
+ghost use Rattle.std.specs.Prelude.{◌≤◌, length};
+
 use gc_catalogue::Call;
-use gc_client::{Client, Heard, Settlement, Slots};
 use gc_lines::{Line, ToWriter};
-use gc_texts::{Command, Form, RunFault, read_commands, write_head, write_record};
+use gc_texts::{Command, Ending, Form, RunFault, read_commands, write_head, write_record};
+use gc_values::ValueFault;
 use std::alloc::Global;
-use std::process::Abort;
 use std::test::Fail;
 
 #[test]
@@ -77,38 +78,47 @@ fn moments_are_told(rt: HostRuntime) -> Result<(), Fail> {
         line.extend_from_slice(b" 3 0 lost\n")?;
         let mut written = Vec::new(alloc);
         let mut sink = ToWriter::new(&mut written);
-        let lost = Settlement::default();
-        let taken = write_record(&mut sink, Form::Lines, utc, 2, 3, &lost);
+        let taken = write_record(
+            &mut sink,
+            Form::Lines,
+            utc,
+            2,
+            3,
+            b"",
+            &Command {
+                target: 0,
+                call: Call::NullProc,
+            },
+            Ending::Lost,
+        );
         assert_eq!(rt; taken, Ok(()));
         assert_eq!(rt; written.as_slice(), line.as_slice());
     }
     Ok(())
 }
 
-// The end of a call for target 7, to which this reply came.
-fn settled_by(rt: &impl Abort, call: Call, reply: &[u8]) -> Settlement {
-    let mut client = Client::new(Slots::new());
-    let _ = client.send(7, call, u64::MAX);
-    let mut line = Line::new();
-    let _ = line.try_extend_from_slice(reply);
-    match client.on_line(&line) {
-        Heard::Settled(mut settled) => settled.pop().expect(rt, "one is settled"),
-        _ => Settlement::default(),
-    }
-}
-
-// A record of the second cycle in both forms.
-fn written(alloc: Global, settlement: &Settlement) -> Result<(Vec<u8>, Vec<u8>), Fail> {
+// A record of target 7 in the second cycle, in both forms.
+fn written(
+    alloc: Global,
+    name: &[u8],
+    call: Call,
+    ending: Ending<'_>,
+) -> Result<(Vec<u8>, Vec<u8>), Fail>
+    requires { length name.now ≤ 64 }
+{
     let mut lines = Vec::new(alloc);
     let mut rows = Vec::new(alloc);
     let moment = 1795388907123;
+    let command = Command { target: 7, call };
     let _ = write_record(
         &mut ToWriter::new(&mut lines),
         Form::Lines,
         moment,
         2,
         3,
-        settlement,
+        name,
+        &command,
+        ending,
     );
     let _ = write_record(
         &mut ToWriter::new(&mut rows),
@@ -116,9 +126,18 @@ fn written(alloc: Global, settlement: &Settlement) -> Result<(Vec<u8>, Vec<u8>),
         moment,
         2,
         3,
-        settlement,
+        name,
+        &command,
+        ending,
     );
     Ok((lines, rows))
+}
+
+// A reply's line.
+fn line_of(reply: &[u8]) -> Line {
+    let mut line = Line::new();
+    let _ = line.try_extend_from_slice(reply);
+    line
 }
 
 #[test]
@@ -127,23 +146,27 @@ fn records_are_written(rt: HostRuntime) -> Result<(), Fail> {
         (
             Call::InstrumentNo,
             b"%R1P,0,0:0,123456",
-            b"5003,answered,0,0,123456",
+            b"pier 4,5003,answered,,0,0,123456",
         ),
         (
             Call::InstrumentName,
             b"%R1P,0,0:0,\"GEOCOM SIM\"",
-            b"5004,answered,0,0,\"\"\"GEOCOM SIM\"\"\"",
+            b"pier 4,5004,answered,,0,0,\"\"\"GEOCOM SIM\"\"\"",
         ),
         (
             Call::GetAngle { mode: 1 },
             b"%R1P,0,0:0,2.25,1.625",
-            b"2107,answered,0,0,\"2.25,1.625\"",
+            b"pier 4,2107,answered,,0,0,\"2.25,1.625\"",
         ),
-        (Call::NullProc, b"%R1P,3080,0:0", b"0,answered,3080,0,"),
+        (
+            Call::NullProc,
+            b"%R1P,3080,0:0",
+            b"pier 4,0,answered,,3080,0,",
+        ),
     ];
     for (call, reply, columns) in rows {
-        let settlement = settled_by(&rt, call, reply);
-        let (line, row) = written(rt.alloc(), &settlement)?;
+        let answer = line_of(reply);
+        let (line, row) = written(rt.alloc(), b"pier 4", call, Ending::Answered(&answer))?;
         let wanted = line
             .strip_prefix(b"2026-11-22T23:08:27.123Z 3 7 answered ")
             .and_then(|rest| rest.strip_suffix(b"\n"));
@@ -153,21 +176,39 @@ fn records_are_written(rt: HostRuntime) -> Result<(), Fail> {
             .and_then(|rest| rest.strip_suffix(b"\n"));
         assert_eq!(rt; wanted, Some(columns));
     }
-    let lost = Settlement::default();
-    let (line, row) = written(rt.alloc(), &lost)?;
-    assert_eq!(rt;
-        line.as_slice(),
-        b"2026-11-22T23:08:27.123Z 3 0 lost\n".as_slice()
-    );
-    assert_eq!(rt;
-        row.as_slice(),
-        b"2026-11-22T23:08:27.123Z,2,3,0,0,lost,,,\n".as_slice()
-    );
+    Ok(())
+}
+
+#[test]
+fn endings_are_written(rt: HostRuntime) -> Result<(), Fail> {
+    let answer = line_of(b"%R1P,0,0:0,12x");
+    let rows: [(Ending<'_>, &[u8], &[u8]); 5] = [
+        (
+            Ending::Unreadable(&answer, ValueFault::Spelling),
+            b"unreadable 11 %R1P,0,0:0,12x",
+            b"unreadable,11,0,0,12x",
+        ),
+        (Ending::Late, b"late", b"late,,,,"),
+        (Ending::Lost, b"lost", b"lost,,,,"),
+        (Ending::Skipped, b"skipped", b"skipped,,,,"),
+        (Ending::Missed, b"missed", b"missed,,,,"),
+    ];
+    for (ending, words, columns) in rows {
+        let (line, row) = written(rt.alloc(), b"", Call::InstrumentNo, ending)?;
+        let wanted = line
+            .strip_prefix(b"2026-11-22T23:08:27.123Z 3 7 ")
+            .and_then(|rest| rest.strip_suffix(b"\n"));
+        assert_eq!(rt; wanted, Some(words));
+        let wanted = row
+            .strip_prefix(b"2026-11-22T23:08:27.123Z,2,3,7,,5003,")
+            .and_then(|rest| rest.strip_suffix(b"\n"));
+        assert_eq!(rt; wanted, Some(columns));
+    }
     let mut head = Vec::new(rt.alloc());
     let _ = write_head(&mut ToWriter::new(&mut head), Form::Csv);
     assert_eq!(rt;
         head.as_slice(),
-        b"time,cycle,place,target,procedure,outcome,rc_com,rc,values\n".as_slice()
+        b"time,cycle,place,target,name,procedure,outcome,fault,rc_com,rc,values\n".as_slice()
     );
     Ok(())
 }

@@ -17,6 +17,7 @@ fn with_open(bits: u8) -> Standard {
         input: bits & 1 != 0,
         output: bits & 2 != 0,
         messages: bits & 4 != 0,
+        terminal: false,
     }
 }
 
@@ -103,6 +104,7 @@ fn expect_asked(
         ends: &ends,
         seen: &seen,
         answer: None,
+        until: u64::MAX,
     };
     let mut written = Vec::new(alloc);
     let mut told = Vec::new(alloc);

@@ -64,6 +64,8 @@ pub(crate) struct FarEnd<'a, 'b> {
     pub(crate) seen: &'b RefCell<Seen>,
     // How many milliseconds an answer takes: less than the station waits for it. None: there is none.
     pub(crate) answer: Option<u64>,
+    // Behind so many milliseconds the clock can't be read any more.
+    pub(crate) until: u64,
 }
 
 impl<'a, 'b> FarEnd<'a, 'b> {
@@ -116,6 +118,9 @@ impl<'a, 'b> Clock for FarEnd<'a, 'b> {
         let patience = self.patience()?;
         if patience > NO_WAIT {
             self.wait(&mut seen, patience)?;
+        }
+        if seen.elapsed > self.until {
+            return Err(in_use());
         }
         Ok(Duration::from_millis(seen.elapsed))
     }

@@ -68,8 +68,11 @@ fn a_port_is_in_use(rt: HostRuntime) -> Result<(), Fail> {
 #[test]
 fn a_station_refuses_its_text(rt: HostRuntime) -> Result<(), Fail> {
     let alloc = rt.alloc();
-    let faulty = "geocom: fault 51 line 3\n";
+    let faulty = "geocom: fault 51 line 3\ngeocom: line 3: no form\n";
     let text = b"7 5003\n# one\n8\n";
+    expect_port_fault(&rt, alloc, "station", 4001, text, faulty)?;
+    let faulty = "geocom: fault 51 line 2\ngeocom: line 2: 2012 wants 1 parameters\n";
+    let text = b"name 7 pier\n7 2012\n";
     expect_port_fault(&rt, alloc, "station", 4001, text, faulty)?;
     let words = &["geocom", "station", "4001"];
     expect_fault(&rt, alloc, words, Broken, "geocom: fault 42\n")?;
@@ -77,14 +80,14 @@ fn a_station_refuses_its_text(rt: HostRuntime) -> Result<(), Fail> {
     expect_fault(&rt, alloc, head, COMMANDS, "geocom: fault 55\n")
 }
 
-// Each option of `station` with a default, and the text of the help that names it.
+// What the help says of each option of `station` with a default.
 const DEFAULTS: [&str; 6] = [
     "1 to 7 [default: 1]",
-    "after it was sent [default: 10000]",
-    "after the last began [default: 0]",
-    "so many times [default: 1]",
-    "for so many milliseconds [default: 2000]",
-    "in a row [default: 10]",
+    "says otherwise [default: 10000]",
+    "once the last is done [default: 0]",
+    "so many times, or 0: without end [default: 1]",
+    "1 to 86400000 [default: the longest deadline]",
+    "in a row, or 0: without end [default: 10]",
 ];
 
 #[test]

@@ -1,6 +1,6 @@
 //! A text of commands that is measured over a link in one thread: in both forms, and with each read and each write failing.
 
-use gc_console::{Form, Link, Plan, RunFault, Tally, run_station_text};
+use gc_console::{Choice, Form, Link, RunFault, Stop, Tally, Trouble, Watch, run_station_text};
 use gc_lines::PortFailed;
 use gc_probes::{PieceSink, PieceSource};
 use gc_station::{Came, Moment};
@@ -9,21 +9,25 @@ use std::process::Abort;
 
 const COMMANDS: &[u8] = b"7 5003\n8 0\n";
 
-const NULL_REPLY: &[u8] = b"%R1P,0,0:0\r\n";
+// What the null procedure and the two requests are answered.
+type Replies = [&'static [u8]; 3];
 
-const FIRST_REPLY: &[u8] = b"%R1P,0,1:0,123456\r\n";
-
-const SECOND_REPLY: &[u8] = b"%R1P,0,2:0\r\n";
+const REPLIES: Replies = [
+    b"%R1P,0,0:0\r\n",
+    b"%R1P,0,1:0,123456\r\n",
+    b"%R1P,0,2:0\r\n",
+];
 
 const LINES: &[u8] =
     b"2026-11-22T23:08:27.123Z 0 7 answered %R1P,0,1:0,123456\n2026-11-22T23:08:27.123Z 1 8 answered %R1P,0,2:0\n";
 
 const ROWS: &[u8] =
-    b"time,cycle,place,target,procedure,outcome,rc_com,rc,values\n2026-11-22T23:08:27.123Z,1,0,7,5003,answered,0,0,123456\n2026-11-22T23:08:27.123Z,1,1,8,0,answered,0,0,\n";
+    b"time,cycle,place,target,name,procedure,outcome,fault,rc_com,rc,values\n2026-11-22T23:08:27.123Z,1,0,7,,5003,answered,,0,0,123456\n2026-11-22T23:08:27.123Z,1,1,8,,0,answered,,0,0,\n";
 
 // A link at whose other end the null procedure and the two requests are answered at once. By its second clock it is always the same moment.
 #[derive(Drop)]
 struct Answering {
+    replies: Replies,
     sent: usize,
     answered: usize,
     elapsed: u64,
@@ -41,12 +45,8 @@ impl Answering {
     fn reply(&self) -> Option<&'static [u8]> {
         if self.answered == self.sent {
             None
-        } else if self.answered == 0 {
-            Some(NULL_REPLY)
-        } else if self.answered == 1 {
-            Some(FIRST_REPLY)
         } else {
-            Some(SECOND_REPLY)
+            self.replies.get(self.answered).copied()
         }
     }
 }
@@ -65,7 +65,7 @@ impl Link for Answering {
             self.elapsed = self.elapsed.saturating_add(millis);
             return Came::Silence(self.moment());
         };
-        self.answered = self.sent;
+        self.answered = self.answered.saturating_add(1);
         let mut n: usize = 0;
         for (place, byte) in buf.iter_mut().zip(reply) {
             *place = *byte;
@@ -91,6 +91,28 @@ impl Link for Answering {
     }
 }
 
+// A choice with short times.
+const CHOICE: Choice = Choice {
+    width: 1,
+    deadline: 100,
+    chained: true,
+    every: 0,
+    cycles: 1,
+    quiet: None,
+    retries: 0,
+    watch: Watch::Nobody,
+};
+
+// A link with these replies, at which nothing was sent yet.
+fn link_with(replies: Replies) -> Answering {
+    Answering {
+        replies,
+        sent: 0,
+        answered: 0,
+        elapsed: 0,
+    }
+}
+
 // Measures the two commands, over ports that give and take single bytes and answer so many calls, and expects this end, so
 // many requests, and this output.
 fn expect_measured(
@@ -99,23 +121,11 @@ fn expect_measured(
     form: Form,
     reads: u64,
     writes: u64,
-    end: Result<Tally, RunFault>,
+    end: Result<Tally, Stop>,
     sent: usize,
     output: &[u8],
 ) {
-    let mut link = Answering {
-        sent: 0,
-        answered: 0,
-        elapsed: 0,
-    };
-    let plan = Plan {
-        width: 1,
-        deadline: 100,
-        every: 0,
-        cycles: 1,
-        quiet: 10,
-        retries: 0,
-    };
+    let mut link = link_with(REPLIES);
     let mut source = PieceSource::new(COMMANDS, &[1; 100], reads);
     let sink = PieceSink::new(alloc, 1, writes);
     let mut told = Vec::new(alloc);
@@ -123,7 +133,7 @@ fn expect_measured(
         alloc,
         &mut link,
         form,
-        &plan,
+        &CHOICE,
         &mut source,
         sink,
         &mut told,
@@ -141,6 +151,9 @@ fn both_forms(rt: HostRuntime) {
         answered: 2,
         late: 0,
         lost: 0,
+        skipped: 0,
+        unreadable: 0,
+        missed: 0,
     });
     let all = u64::MAX;
     expect_measured(&rt, rt.alloc(), Form::Lines, all, all, done, 3, LINES);
@@ -149,20 +162,20 @@ fn both_forms(rt: HostRuntime) {
 
 #[test]
 fn each_read_of_the_text_fails(rt: HostRuntime) {
-    let (end, all) = (Err(RunFault::Read), u64::MAX);
+    let (end, all) = (Err(Stop::Text(RunFault::Read)), u64::MAX);
     for k in 0..=COMMANDS.len() {
         expect_measured(&rt, rt.alloc(), Form::Csv, k as u64, all, end, 0, b"");
     }
 }
 
-// The head has 59 bytes, and the first row 56.
+// The head has 70 bytes, and the first row 58.
 #[test]
 fn each_write_of_a_record_fails(rt: HostRuntime) {
-    let (end, all) = (Err(RunFault::Output), u64::MAX);
+    let (end, all) = (Err(Stop::Run(RunFault::Output)), u64::MAX);
     for k in 0..ROWS.len() {
-        let sent = if k < 59 {
+        let sent = if k < 70 {
             0
-        } else if k < 59 + 56 {
+        } else if k < 70 + 58 {
             2
         } else {
             3
@@ -178,4 +191,90 @@ fn each_write_of_a_record_fails(rt: HostRuntime) {
             &ROWS[..k],
         );
     }
+}
+
+// Measures a text with these replies in both forms, and expects so many requests and these records.
+fn expect_records(
+    rt: &impl Abort,
+    alloc: Global,
+    text: &[u8],
+    replies: Replies,
+    sent: usize,
+    lines: &[u8],
+    rows: &[u8],
+) {
+    for (form, output) in [(Form::Lines, lines), (Form::Csv, rows)] {
+        let mut link = link_with(replies);
+        let mut source = PieceSource::new(text, &[1; 200], u64::MAX);
+        let sink = PieceSink::new(alloc, 1, u64::MAX);
+        let mut told = Vec::new(alloc);
+        let (sink, end) = run_station_text(
+            alloc,
+            &mut link,
+            form,
+            &CHOICE,
+            &mut source,
+            sink,
+            &mut told,
+            60,
+        );
+        assert!(rt; end.is_ok(), "{form:?}");
+        assert_eq!(rt; link.sent, sent, "{form:?}");
+        assert_eq!(rt; sink.taken(), output, "{form:?}");
+    }
+}
+
+// The positioning is refused, so the distance isn't asked for.
+#[test]
+fn a_refused_positioning(rt: HostRuntime) {
+    expect_records(
+        &rt,
+        rt.alloc(),
+        b"name 7 pier\n7 9027 1.5,1.6,0,0,0\n7 2108 5000,1\n",
+        [b"%R1P,0,0:0\r\n", b"%R1P,0,1:8704\r\n", b""],
+        2,
+        b"2026-11-22T23:08:27.123Z 0 7 answered %R1P,0,1:8704\n2026-11-22T23:08:27.123Z 1 7 skipped\n",
+        b"time,cycle,place,target,name,procedure,outcome,fault,rc_com,rc,values\n2026-11-22T23:08:27.123Z,1,0,7,pier,9027,answered,,0,8704,\n2026-11-22T23:08:27.123Z,1,1,7,pier,2108,skipped,,,,\n",
+    );
+}
+
+// The serial number is a Long, and this is out of its range: fault 12.
+#[test]
+fn an_unreadable_answer(rt: HostRuntime) {
+    expect_records(
+        &rt,
+        rt.alloc(),
+        COMMANDS,
+        [
+            b"%R1P,0,0:0\r\n",
+            b"%R1P,0,1:0,123456789012\r\n",
+            b"%R1P,0,2:0\r\n",
+        ],
+        3,
+        b"2026-11-22T23:08:27.123Z 0 7 unreadable 12 %R1P,0,1:0,123456789012\n2026-11-22T23:08:27.123Z 1 8 answered %R1P,0,2:0\n",
+        b"time,cycle,place,target,name,procedure,outcome,fault,rc_com,rc,values\n2026-11-22T23:08:27.123Z,1,0,7,,5003,unreadable,12,0,0,123456789012\n2026-11-22T23:08:27.123Z,1,1,8,,0,answered,,0,0,\n",
+    );
+}
+
+#[test]
+fn a_faulty_line_has_its_trouble(rt: HostRuntime) {
+    let alloc = rt.alloc();
+    let mut link = link_with(REPLIES);
+    let mut source = PieceSource::new(b"7 5003\n7 5002\n", &[1; 100], u64::MAX);
+    let sink = PieceSink::new(alloc, 1, u64::MAX);
+    let mut told = Vec::new(alloc);
+    let (sink, end) = run_station_text(
+        alloc,
+        &mut link,
+        Form::Csv,
+        &CHOICE,
+        &mut source,
+        sink,
+        &mut told,
+        60,
+    );
+    assert_eq!(rt; end, Err(Stop::Line(2, Trouble::NoProcedure(5002))));
+    assert_eq!(rt; link.sent, 0);
+    assert!(rt; sink.taken().is_empty());
+    assert!(rt; told.is_empty());
 }

@@ -11,21 +11,24 @@ use std::process::{Abort, ExitCode};
 use std::test::Fail;
 
 // How many milliseconds an answer takes.
-const SOON: Option<u64> = Some(20);
+pub(crate) const SOON: Option<u64> = Some(20);
+
+// No run takes so many milliseconds, where it has an end.
+pub(crate) const HOUR: u64 = 3_600_000;
 
 // What came of a station.
 #[derive(Drop)]
-struct Ended {
-    status: ExitCode,
+pub(crate) struct Ended {
+    pub(crate) status: ExitCode,
     // The records, and the messages.
-    written: String,
-    told: String,
+    pub(crate) written: String,
+    pub(crate) told: String,
     // What came at the far end, with a `>` wherever the station waited behind it.
-    heard: String,
+    pub(crate) heard: String,
     // How many connections were made.
-    opened: u32,
+    pub(crate) opened: u32,
     // How many milliseconds it took.
-    elapsed: u64,
+    pub(crate) elapsed: u64,
 }
 
 // A text of these bytes.
@@ -35,7 +38,7 @@ fn text_of(rt: &impl Abort, alloc: Global, bytes: &[u8]) -> Result<String, Fail>
 }
 
 // Measures commands with these options, at a far end whose answers take so long.
-fn measure(
+pub(crate) fn measure(
     rt: &(impl Abort + Net<Listener = TcpListener, Stream = TcpStream>),
     alloc: Global,
     answer: Option<u64>,
@@ -48,6 +51,7 @@ fn measure(
         ends: &ends,
         seen: &seen,
         answer,
+        until: HOUR,
     };
     let mut words = Vec::new(alloc);
     for word in ["geocom", "station", "4001"] {
@@ -78,7 +82,7 @@ fn measure(
 }
 
 // Measures commands where each is answered, and expects these records and messages. Gives what came at the far end.
-fn expect_answered(
+pub(crate) fn expect_answered(
     rt: &(impl Abort + Net<Listener = TcpListener, Stream = TcpStream>),
     alloc: Global,
     answer: Option<u64>,
@@ -97,18 +101,18 @@ fn expect_answered(
 
 const THREE: &[u8] = b"7 5003\n8 0\n9 0\n";
 
-const THREE_COUNTED: &str = "answered 3 late 0 lost 0\n";
+const THREE_COUNTED: &str = "answered 3 late 0 lost 0 skipped 0 unreadable 0 missed 0\n";
 
 #[test]
 fn so_many_requests_are_under_way(rt: HostRuntime) -> Result<(), Fail> {
     let alloc = rt.alloc();
     let one =
-        "2026-11-22T23:08:02.040Z 0 7 answered %R1P,0,1:0,123456\n2026-11-22T23:08:02.060Z 1 8 answered %R1P,0,2:0\n2026-11-22T23:08:02.080Z 2 9 answered %R1P,0,3:0\n";
+        "2026-11-22T23:08:10.040Z 0 7 answered %R1P,0,1:0,123456\n2026-11-22T23:08:10.060Z 1 8 answered %R1P,0,2:0\n2026-11-22T23:08:10.080Z 2 9 answered %R1P,0,3:0\n";
     let heard = expect_answered(&rt, alloc, SOON, &[], THREE, one, THREE_COUNTED)?;
     let each_alone = "\n>%R1Q,0,0:\r\n>%R1Q,5003,1:\r\n>%R1Q,0,2:\r\n>%R1Q,0,3:\r\n>";
     assert_eq!(rt; heard.as_str(), each_alone);
     let two =
-        "2026-11-22T23:08:02.040Z 0 7 answered %R1P,0,1:0,123456\n2026-11-22T23:08:02.040Z 1 8 answered %R1P,0,2:0\n2026-11-22T23:08:02.060Z 2 9 answered %R1P,0,3:0\n";
+        "2026-11-22T23:08:10.040Z 0 7 answered %R1P,0,1:0,123456\n2026-11-22T23:08:10.040Z 1 8 answered %R1P,0,2:0\n2026-11-22T23:08:10.060Z 2 9 answered %R1P,0,3:0\n";
     let wide = ["--width", "2"];
     let heard = expect_answered(&rt, alloc, SOON, &wide, THREE, two, THREE_COUNTED)?;
     let two_at_once = "\n>%R1Q,0,0:\r\n>%R1Q,5003,1:\r\n%R1Q,0,2:\r\n>%R1Q,0,3:\r\n>";
@@ -116,33 +120,33 @@ fn so_many_requests_are_under_way(rt: HostRuntime) -> Result<(), Fail> {
     Ok(())
 }
 
-const ONE: &[u8] = b"7 0\n";
+pub(crate) const ONE: &[u8] = b"7 0\n";
 
 #[test]
 fn so_many_cycles_are_measured(rt: HostRuntime) -> Result<(), Fail> {
     let alloc = rt.alloc();
-    let once = "2026-11-22T23:08:02.040Z 0 7 answered %R1P,0,1:0\n";
-    let counted = "answered 1 late 0 lost 0\n";
+    let once = "2026-11-22T23:08:10.040Z 0 7 answered %R1P,0,1:0\n";
+    let counted = "answered 1 late 0 lost 0 skipped 0 unreadable 0 missed 0\n";
     expect_answered(&rt, alloc, SOON, &[], ONE, once, counted)?;
     let thrice =
-        "2026-11-22T23:08:02.040Z 0 7 answered %R1P,0,1:0\n2026-11-22T23:08:02.060Z 0 7 answered %R1P,0,2:0\n2026-11-22T23:08:02.080Z 0 7 answered %R1P,0,3:0\n";
+        "2026-11-22T23:08:10.040Z 0 7 answered %R1P,0,1:0\n2026-11-22T23:08:10.060Z 0 7 answered %R1P,0,2:0\n2026-11-22T23:08:10.080Z 0 7 answered %R1P,0,3:0\n";
     let options = ["--cycles", "3"];
     expect_answered(&rt, alloc, SOON, &options, ONE, thrice, THREE_COUNTED)?;
     Ok(())
 }
 
-const TWO_COUNTED: &str = "answered 2 late 0 lost 0\n";
+const TWO_COUNTED: &str = "answered 2 late 0 lost 0 skipped 0 unreadable 0 missed 0\n";
 
-// The first cycle begins at 2.02 seconds, and an answer takes 20 milliseconds.
+// The first cycle begins at 10.02 seconds, and an answer takes 20 milliseconds.
 #[test]
 fn a_cycle_begins_every_second(rt: HostRuntime) -> Result<(), Fail> {
     let alloc = rt.alloc();
     let at_once =
-        "2026-11-22T23:08:02.040Z 0 7 answered %R1P,0,1:0\n2026-11-22T23:08:02.060Z 0 7 answered %R1P,0,2:0\n";
+        "2026-11-22T23:08:10.040Z 0 7 answered %R1P,0,1:0\n2026-11-22T23:08:10.060Z 0 7 answered %R1P,0,2:0\n";
     let options = ["--cycles", "2"];
     expect_answered(&rt, alloc, SOON, &options, ONE, at_once, TWO_COUNTED)?;
     let each_second =
-        "2026-11-22T23:08:02.040Z 0 7 answered %R1P,0,1:0\n2026-11-22T23:08:03.040Z 0 7 answered %R1P,0,2:0\n";
+        "2026-11-22T23:08:10.040Z 0 7 answered %R1P,0,1:0\n2026-11-22T23:08:11.040Z 0 7 answered %R1P,0,2:0\n";
     let options = ["--cycles", "2", "--every", "1"];
     expect_answered(&rt, alloc, SOON, &options, ONE, each_second, TWO_COUNTED)?;
     Ok(())
@@ -153,12 +157,15 @@ fn a_cycle_begins_every_second(rt: HostRuntime) -> Result<(), Fail> {
 fn a_cycle_that_is_not_done_in_time_is_told(rt: HostRuntime) -> Result<(), Fail> {
     let alloc = rt.alloc();
     let rows =
-        "2026-11-22T23:08:04.400Z 0 7 answered %R1P,0,1:0\n2026-11-22T23:08:05.600Z 0 7 answered %R1P,0,2:0\n";
-    let told = "geocom: cycle 1 was not done when the next was due\nanswered 2 late 0 lost 0\n";
+        "2026-11-22T23:08:12.400Z 0 7 answered %R1P,0,1:0\n2026-11-22T23:08:13.600Z 0 7 answered %R1P,0,2:0\n";
+    let told =
+        "geocom: cycle 1 was not done when the next was due\nanswered 2 late 0 lost 0 skipped 0 unreadable 0 missed 0\n";
     let options = ["--cycles", "2", "--every", "1"];
     expect_answered(&rt, alloc, Some(1200), &options, ONE, rows, told)?;
+    let options = ["--cycles", "2", "--every", "1", "--silent"];
+    expect_answered(&rt, alloc, Some(1200), &options, ONE, rows, TWO_COUNTED)?;
     let rows =
-        "2026-11-22T23:08:04.400Z 0 7 answered %R1P,0,1:0\n2026-11-22T23:08:06.400Z 0 7 answered %R1P,0,2:0\n";
+        "2026-11-22T23:08:12.400Z 0 7 answered %R1P,0,1:0\n2026-11-22T23:08:14.400Z 0 7 answered %R1P,0,2:0\n";
     let options = ["--cycles", "2", "--every", "2"];
     expect_answered(&rt, alloc, Some(1200), &options, ONE, rows, TWO_COUNTED)?;
     Ok(())
@@ -167,27 +174,33 @@ fn a_cycle_that_is_not_done_in_time_is_told(rt: HostRuntime) -> Result<(), Fail>
 #[test]
 fn records_are_rows_with_csv(rt: HostRuntime) -> Result<(), Fail> {
     let alloc = rt.alloc();
-    let (commands, counted) = (b"7 5003\n", "answered 1 late 0 lost 0\n");
-    let line = "2026-11-22T23:08:02.040Z 0 7 answered %R1P,0,1:0,123456\n";
+    let (commands, counted) = (
+        b"7 5003\n",
+        "answered 1 late 0 lost 0 skipped 0 unreadable 0 missed 0\n",
+    );
+    let line = "2026-11-22T23:08:10.040Z 0 7 answered %R1P,0,1:0,123456\n";
     expect_answered(&rt, alloc, SOON, &[], commands, line, counted)?;
     let rows =
-        "time,cycle,place,target,procedure,outcome,rc_com,rc,values\n2026-11-22T23:08:02.040Z,1,0,7,5003,answered,0,0,123456\n";
+        "time,cycle,place,target,name,procedure,outcome,fault,rc_com,rc,values\n2026-11-22T23:08:10.040Z,1,0,7,,5003,answered,,0,0,123456\n";
     let options = ["--csv"];
     expect_answered(&rt, alloc, SOON, &options, commands, rows, counted)?;
     Ok(())
 }
 
-// Measures commands where nobody answers, and expects so many connections in so many milliseconds, and no record. Gives what
-// came at the far end.
+// Measures commands where nobody answers, silently, and expects these messages and then the fault, so many connections in so
+// many milliseconds, and no record. Gives what came at the far end.
 fn expect_unanswered(
     rt: &(impl Abort + Net<Listener = TcpListener, Stream = TcpStream>),
     alloc: Global,
     options: &[&str],
+    told: &str,
     opened: u32,
     elapsed: u64,
 ) -> Result<String, Fail> {
-    let ended = measure(rt, alloc, None, options, THREE)?;
-    assert_eq!(rt; ended.told.as_str(), "geocom: fault 46\n", "{options:?}");
+    let mut silent = Vec::from_slice(alloc, options)?;
+    silent.push("--silent")?;
+    let ended = measure(rt, alloc, None, silent.as_slice(), THREE)?;
+    assert_eq!(rt; ended.told.as_str(), told, "{options:?}");
     assert_eq!(rt; ended.written.as_str(), "", "{options:?}");
     assert_eq!(rt; ended.status, ExitCode::from(1), "{options:?}");
     assert_eq!(rt; ended.opened, opened, "{options:?}");
@@ -195,31 +208,92 @@ fn expect_unanswered(
     Ok(ended.heard)
 }
 
-// A connection takes 14 seconds: it is drained for two, waits ten for the null procedure, and two until the line is quiet. The
-// rests between take 2, 4, 8, 16, 32, and then 60 seconds each.
+const MUTE: &str = "geocom: fault 46\n";
+
+// A connection takes 30 seconds: it is drained for ten, waits ten for the null procedure, and ten until the line is quiet. The
+// rests between take 10, 20, 40, and then 60 seconds each.
 #[test]
 fn so_many_connections_are_made_in_a_row(rt: HostRuntime) -> Result<(), Fail> {
     let alloc = rt.alloc();
-    expect_unanswered(&rt, alloc, &["--retries", "0"], 1, 14_000)?;
-    expect_unanswered(&rt, alloc, &["--retries", "2"], 3, 48_000)?;
-    expect_unanswered(&rt, alloc, &[], 11, 516_000)?;
+    expect_unanswered(&rt, alloc, &["--retries", "1"], MUTE, 2, 70_000)?;
+    expect_unanswered(&rt, alloc, &["--retries", "2"], MUTE, 3, 120_000)?;
+    expect_unanswered(&rt, alloc, &[], MUTE, 11, 820_000)?;
     Ok(())
 }
 
-// The line is drained for the quiet time, the null procedure is given up at its deadline, and then the line has to be quiet.
+// The clock stops after an hour, so that the run has an end. Behind the first four connections, which take 190 seconds with
+// their rests, each takes 90 with the rest in front of it.
+#[test]
+fn no_retries_are_no_end(rt: HostRuntime) -> Result<(), Fail> {
+    let ended = measure(&rt, rt.alloc(), None, &["--retries", "0", "--silent"], ONE)?;
+    assert_eq!(rt; ended.told.as_str(), "geocom: fault 47\n");
+    assert_eq!(rt; ended.opened, 4 + (3600 - 190) / 90 + 1);
+    Ok(())
+}
+
+// The line is drained for the quiet time, the null procedure is given up at its deadline, and then the line has to be quiet. The
+// quiet time is the deadline, where none is chosen.
 #[test]
 fn a_deadline_is_no_quiet_time(rt: HostRuntime) -> Result<(), Fail> {
     let alloc = rt.alloc();
-    let patient = ["--retries", "0", "--deadline", "600"];
-    expect_unanswered(&rt, alloc, &patient, 1, 4_600)?;
-    let quick = ["--retries", "0", "--quiet", "200"];
-    expect_unanswered(&rt, alloc, &quick, 1, 10_400)?;
+    let same = ["--retries", "1", "--deadline", "600"];
+    expect_unanswered(&rt, alloc, &same, MUTE, 2, 2 * 1_800 + 600)?;
+    let slow = ["--retries", "1", "--deadline", "600", "--quiet", "2000"];
+    expect_unanswered(&rt, alloc, &slow, MUTE, 2, 2 * 4_600 + 2_000)?;
+    let hasty =
+        "geocom: the quiet time of 200 ms is shorter than the longest deadline of 10000 ms\ngeocom: fault 46\n";
+    let quick = ["--retries", "1", "--quiet", "200"];
+    expect_unanswered(&rt, alloc, &quick, hasty, 2, 2 * 10_400 + 200)?;
+    Ok(())
+}
+
+// The deadlines of the text count, too.
+#[test]
+fn the_quiet_time_is_the_longest_deadline(rt: HostRuntime) -> Result<(), Fail> {
+    let alloc = rt.alloc();
+    let text = b"deadline 20000\n7 0\ndeadline 500\n8 0\n";
+    let twenty =
+        "2026-11-22T23:08:20.040Z 0 7 answered %R1P,0,1:0\n2026-11-22T23:08:20.060Z 1 8 answered %R1P,0,2:0\n";
+    expect_answered(&rt, alloc, SOON, &[], text, twenty, TWO_COUNTED)?;
+    let fifteen =
+        "2026-11-22T23:08:15.040Z 0 7 answered %R1P,0,1:0\n2026-11-22T23:08:15.060Z 1 8 answered %R1P,0,2:0\n";
+    let told =
+        "geocom: the quiet time of 15000 ms is shorter than the longest deadline of 20000 ms\nanswered 2 late 0 lost 0 skipped 0 unreadable 0 missed 0\n";
+    let options = ["--quiet", "15000"];
+    expect_answered(&rt, alloc, SOON, &options, text, fifteen, told)?;
     Ok(())
 }
 
 #[test]
 fn the_null_procedure_goes_out_first(rt: HostRuntime) -> Result<(), Fail> {
-    let heard = expect_unanswered(&rt, rt.alloc(), &["--retries", "0"], 1, 14_000)?;
-    assert_eq!(rt; heard.as_str(), "\n>%R1Q,0,0:\r\n>");
+    let heard = expect_unanswered(&rt, rt.alloc(), &["--retries", "1"], MUTE, 2, 70_000)?;
+    assert_eq!(rt; heard.as_str(), "\n>%R1Q,0,0:\r\n>\n>%R1Q,0,0:\r\n>");
+    Ok(())
+}
+
+// Each record has 49 bytes, as long as the id has one digit: the output has room for six of them.
+#[test]
+fn no_cycles_are_no_end(rt: HostRuntime) -> Result<(), Fail> {
+    let alloc = rt.alloc();
+    let ends = both_ends(&rt)?;
+    let seen = RefCell::new(Seen::new(alloc));
+    let far_end = FarEnd {
+        ends: &ends,
+        seen: &seen,
+        answer: SOON,
+        until: HOUR,
+    };
+    let words = words_of(alloc, &["geocom", "station", "4001", "--cycles", "0"])?;
+    let mut room = [0; 300];
+    let output: &mut [u8] = &mut room;
+    let mut told = Vec::new(alloc);
+    let status = run_program(&far_end, alloc, OPEN, Ok(words), ONE, output, &mut told)?;
+    assert_eq!(rt; status, ExitCode::from(1));
+    assert_eq!(rt; told.as_slice(), b"geocom: fault 55\n".as_slice());
+    let seen = seen.try_borrow().expect(&rt, "the run is over");
+    let heard = str::from_utf8(seen.heard.as_slice()).expect(&rt, "it is text");
+    let seven =
+        "\n>%R1Q,0,0:\r\n>%R1Q,0,1:\r\n>%R1Q,0,2:\r\n>%R1Q,0,3:\r\n>%R1Q,0,4:\r\n>%R1Q,0,5:\r\n>%R1Q,0,6:\r\n>%R1Q,0,7:\r\n>";
+    assert_eq!(rt; heard, seven);
     Ok(())
 }

@@ -54,7 +54,7 @@ fn a_link_tells_what_a_socket_answers(rt: HostRuntime) -> Result<(), Fail> {
     Ok(())
 }
 
-// Runs `station` on a port with two commands and no retries, and expects status 1, this fault, and no record: where the null
+// Runs `station` on a port with two commands and one retry, and expects status 1, this fault, and no record: where the null
 // procedure isn't answered no command goes out.
 fn expect_fault(
     rt: &(impl Abort + Net<Listener = TcpListener, Stream = TcpStream> + Clock + Files),
@@ -73,7 +73,8 @@ fn expect_fault(
         "--quiet",
         "1",
         "--retries",
-        "0",
+        "1",
+        "--silent",
     ] {
         words.push(String::from_str(alloc, word)?)?;
     }

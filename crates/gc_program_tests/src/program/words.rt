@@ -21,6 +21,7 @@ pub(crate) const OPEN: Standard = Standard {
     input: true,
     output: true,
     messages: true,
+    terminal: false,
 };
 
 // The words of a command line, as the program is given them.
@@ -272,7 +273,7 @@ const COMMAND_LINES: [(&str, &[&str], u8, &str, &str); 26] = [
         "help of station",
         &["geocom", "station", "--help"],
         0,
-        "\n  answered 2 late 0 lost 0\n",
+        "\n  answered 2 late 0 lost 0 skipped 0 unreadable 0 missed 0\n",
         "",
     ),
     (
@@ -318,11 +319,17 @@ const COMMAND_LINES: [(&str, &[&str], u8, &str, &str); 26] = [
         "error: invalid value '86401' for '--every <SECONDS>'",
     ),
     (
-        "no cycles",
-        &["geocom", "station", "4001", "--cycles", "0"],
+        "cycles too many",
+        &[
+            "geocom",
+            "station",
+            "4001",
+            "--cycles",
+            "18446744073709551616",
+        ],
         2,
         "",
-        "error: invalid value '0' for '--cycles <N>'",
+        "error: invalid value '18446744073709551616' for '--cycles <N>'",
     ),
     (
         "retries too many",

@@ -37,7 +37,7 @@ fn beginnings(rt: HostRuntime) -> Result<(), Fail> {
         plan(),
         timed([QUIET, Step::Dead, Step::Answers].as_slice()),
         b"open@0 lf@0 #0@10 close@120 open@130 lf@130 #0@140 #1@145 #2@150 close@155 ",
-        b"10a2 11a3 ",
+        b"10u2 11u3 ",
         None,
     );
     runs_to(
@@ -46,7 +46,7 @@ fn beginnings(rt: HostRuntime) -> Result<(), Fail> {
         plan(),
         timed([QUIET, Step::Noise, Step::Answers].as_slice()),
         b"open@0 lf@0 #0@10 close@220 open@230 lf@230 #0@240 #1@245 #2@250 close@255 ",
-        b"10a2 11a3 ",
+        b"10u2 11u3 ",
         None,
     );
     runs_to(
@@ -73,7 +73,7 @@ fn beginnings_cut(rt: HostRuntime) -> Result<(), Fail> {
         plan(),
         timed([Step::Silence(9), Step::End, Step::Answers].as_slice()),
         b"open@0 lf@0 close@9 open@19 lf@19 #0@29 #1@34 #2@39 close@44 ",
-        b"10a1 11a2 ",
+        b"10u1 11u2 ",
         None,
     );
     runs_to(
@@ -82,7 +82,7 @@ fn beginnings_cut(rt: HostRuntime) -> Result<(), Fail> {
         plan(),
         timed([QUIET, Step::End, Step::Answers].as_slice()),
         b"open@0 lf@0 #0@10 close@10 open@20 lf@20 #0@30 #1@35 #2@40 close@45 ",
-        b"10a2 11a3 ",
+        b"10u2 11u3 ",
         None,
     );
     runs_to(
@@ -117,7 +117,7 @@ fn seven(retries: u32) -> Plan {
 
 const LOST: &[u8] = b"10x 11x 12x 13x 14x 15x 16x ";
 
-const LOST_AND_ANSWERED: &[u8] = b"10x 11x 12x 13x 14x 15x 16x 17a9 ";
+const LOST_AND_ANSWERED: &[u8] = b"10x 11x 12x 13x 14x 15x 16x 17u9 ";
 
 // It is drained for seven quiet times.
 #[test]
@@ -227,7 +227,7 @@ fn seven_given_up_and_a_beginning_cut(rt: HostRuntime) -> Result<(), Fail> {
         ]
         .as_slice()),
         b"open@0 lf@0 #0@10 #1@15 #2@15 #3@15 #4@15 #5@15 #6@15 #7@15 close@125 open@135 lf@135 #0@205 close@205 open@225 lf@225 #0@235 #1@240 close@245 ",
-        b"10x 11x 12x 13x 14x 15x 16x 17a0 ",
+        b"10x 11x 12x 13x 14x 15x 16x 17u0 ",
         None,
     );
     Ok(())
@@ -297,7 +297,7 @@ fn seven_given_up_and_nothing_left_to_be_sent(rt: HostRuntime) -> Result<(), Fai
         },
         timed(FIVE_NULL),
         b"open@0 lf@0 #0@10 #1@15 #2@15 #3@115 #4@215 #5@315 #6@415 #7@515 close@625 open@635 lf@635 #0@705 #1@710 #2@710 close@715 ",
-        b"10x 11x 20x 21a0 ",
+        b"10x 11x 20x 21u0 ",
         None,
     );
     Ok(())

@@ -4,6 +4,7 @@ use super::drills::plays;
 use super::script::{Ends, Script, Step};
 use super::{
     BEGUN, BOTH, EACH, FIRST, FLUSHED, GIVEN_UP, QUIET, SECOND, THIRD, command, null, plan,
+    tasks_of,
 };
 use arrayvec::ArrayVec;
 use gc_catalogue::Call;
@@ -25,7 +26,8 @@ fn asks(
 ) {
     let mut link = link;
     let mut book = Ends::new();
-    let number_is = match run_station(&mut link, &mut book, commands, &plan, 200) {
+    let tasks = tasks_of(&plan, commands);
+    let number_is = match run_station(&mut link, &mut book, tasks.as_slice(), &plan, 200) {
         Ok(_) => None,
         Err(fault) => Some(fault.number()),
     };
@@ -404,51 +406,51 @@ fn failure_at_every_call(rt: HostRuntime) -> Result<(), Fail> {
 const CALLS_AND_A_TRY: &[(&[u8], &[u8], Option<u8>)] = &[
     (
         b"shut open lf %R1Q,0,0: %R1Q,0,1: %R1Q,0,2: close ",
-        b"10a1 11a2 ",
+        b"10u1 11u2 ",
         None,
     ),
     (
         b"open cut close open lf %R1Q,0,0: %R1Q,0,1: %R1Q,0,2: close ",
-        b"10a1 11a2 ",
+        b"10u1 11u2 ",
         None,
     ),
     (b"open lf close ", b"", Some(47)),
     (
         b"open lf close open lf %R1Q,0,0: %R1Q,0,1: %R1Q,0,2: close ",
-        b"10a1 11a2 ",
+        b"10u1 11u2 ",
         None,
     ),
     (
         b"open lf cut close open lf %R1Q,0,0: %R1Q,0,1: %R1Q,0,2: close ",
-        b"10a1 11a2 ",
+        b"10u1 11u2 ",
         None,
     ),
     (NONE, b"", Some(47)),
     (
         b"open lf %R1Q,0,0: close open lf %R1Q,0,0: %R1Q,0,1: %R1Q,0,2: close ",
-        b"10a2 11a3 ",
+        b"10u2 11u3 ",
         None,
     ),
     (NONE, b"", Some(47)),
     (
         b"open lf %R1Q,0,0: cut close open lf %R1Q,0,2: close ",
-        b"10x 11a1 ",
+        b"10x 11u1 ",
         None,
     ),
     (b"open lf %R1Q,0,0: %R1Q,0,1: close ", b"10x ", Some(47)),
-    (EACH, b"10x 11a2 ", None),
+    (EACH, b"10x 11u2 ", None),
     (
         b"open lf %R1Q,0,0: %R1Q,0,1: cut close open lf %R1Q,0,3: close ",
-        b"10a1 11x ",
+        b"10u1 11x ",
         None,
     ),
-    (BOTH, b"10a1 11x ", Some(47)),
+    (BOTH, b"10u1 11x ", Some(47)),
     (
         b"open lf %R1Q,0,0: %R1Q,0,1: %R1Q,0,2: close open lf %R1Q,0,3: close ",
-        b"10a1 11x ",
+        b"10u1 11x ",
         None,
     ),
-    (BOTH, b"10a1 11a2 ", None),
+    (BOTH, b"10u1 11u2 ", None),
 ];
 
 #[test]

@@ -62,7 +62,7 @@ fn rests_between_cycles(rt: HostRuntime) -> Result<(), Fail> {
     runs_to(
         &rt,
         "a cycle that isn't done is told once, when the next is due",
-        two_cycles(9, 0),
+        two_cycles(15, 0),
         Script::new([
             QUIET,
             BEGUN,
@@ -103,7 +103,7 @@ fn a_beginning_between_cycles(rt: HostRuntime) -> Result<(), Fail> {
         commands.as_slice(),
         timed([QUIET, BEGUN, Step::Dead, Step::Answers].as_slice()),
         b"open@0 lf@0 #0@10 #1@15 #2@15 #3@15 #4@15 #5@15 #6@15 #7@15 close@125 open@1015 lf@1015 #0@1085 #1@1090 #2@1090 #3@1090 #4@1090 #5@1090 #6@1090 #7@1090 close@1095 ",
-        b"10x 11x 12x 13x 14x 15x 16x 20x 21x 22x 23x 24x 25x 26a5 ",
+        b"10x 11x 12x 13x 14x 15x 16x 20x 21x 22x 23x 24x 25x 26u5 ",
         None,
     );
     Ok(())

@@ -3,9 +3,9 @@
 ghost use Rattle.gc_station.specs.Acts.{IsWithin};
 
 use arrayvec::ArrayVec;
-use gc_client::{Outcome, Settlement};
 use gc_lines::PortFailed;
-use gc_station::{Book, Came, Link, Moment, Stamp};
+use gc_station::{Book, Came, Link, Moment, Sight, Stamp};
+use gc_texts::{Command, Ending};
 
 // What a read comes to, so many milliseconds after it began.
 #[derive(Clone, Copy, Default)]
@@ -264,6 +264,13 @@ impl Ends {
         let _ = self.text.try_extend_from_slice(text);
     }
 
+    fn note_values(&mut self, letter: &[u8], line: &[u8]) {
+        self.note(letter);
+        if line.len() > 11 {
+            self.note(&line[11..]);
+        }
+    }
+
     fn digit(&mut self, n: u64) {
         let _ = self.text.try_push(b'0'.wrapping_add((n % 10) as u8));
     }
@@ -272,35 +279,40 @@ impl Ends {
 impl Book for Ends {
     ghost use Rattle.std.specs.Prelude.{None, [], ◌∷◌, true};
 
-    ghost text = { λ _. 0 ∷ [] };
+    ghost text = { λ _ _. 0 ∷ [] };
 
     ghost taken = { λ _. None };
 
     ghost failed = { λ _. true };
 
-    fn write(&mut self, stamp: Stamp, settlement: &Settlement) -> Result<(), PortFailed> {
+    fn write(
+        &mut self,
+        stamp: Stamp,
+        command: &Command,
+        ending: Ending<'_>,
+    ) -> Result<(), PortFailed> {
         self.writes = self.writes.saturating_add(1);
         if self.writes == self.fails {
             return Err(PortFailed);
         }
-        self.digit(u64::from(stamp.cycle));
+        self.digit(stamp.cycle);
         self.digit(stamp.place as u64);
-        match &settlement.outcome {
-            Outcome::Answered(_, line) => {
-                self.note(b"a");
-                if line.len() > 11 {
-                    self.note(&line[11..]);
-                }
-            }
-            Outcome::Late => self.note(b"l"),
-            Outcome::Lost => self.note(b"x"),
+        match ending {
+            Ending::Answered(line) => self.note_values(b"a", line),
+            Ending::Unreadable(line, _) => self.note_values(b"u", line),
+            Ending::Late => self.note(b"l"),
+            Ending::Lost => self.note(b"x"),
+            Ending::Skipped => self.note(b"s"),
+            Ending::Missed => self.note(b"m"),
         }
         self.note(b" ");
         Ok(())
     }
 
-    fn overran(&mut self, cycle: u32) {
-        self.digit(u64::from(cycle));
+    fn sees(&mut self, _sight: Sight, _moment: Moment) {}
+
+    fn overran(&mut self, cycle: u64) {
+        self.digit(cycle);
         self.note(b"! ");
     }
 }

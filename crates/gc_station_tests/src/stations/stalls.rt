@@ -1,7 +1,7 @@
 //! Runs in which a write stalls behind so many of its bytes: what is told, and what goes out next.
 
 use super::script::{Ends, Script, Step};
-use super::{BEGUN, FIRST, FOURTH, GIVEN_UP, QUIET, SECOND, null, plan};
+use super::{BEGUN, FIRST, FOURTH, GIVEN_UP, QUIET, SECOND, null, plan, tasks_of};
 use arrayvec::ArrayVec;
 use gc_station::{Plan, run_station};
 use gc_texts::RunFault;
@@ -29,7 +29,8 @@ fn stalls(
     link.kept = kept;
     let mut book = Ends::new();
     let commands = [null(7), null(8)];
-    let result = run_station(&mut link, &mut book, commands.as_slice(), &plan, 60);
+    let tasks = tasks_of(&plan, commands.as_slice());
+    let result = run_station(&mut link, &mut book, tasks.as_slice(), &plan, 60);
     assert!(rt;
         link.text.as_slice() == put.as_slice(),
         "{cut}, {kept}: put"

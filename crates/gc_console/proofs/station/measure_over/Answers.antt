@@ -16,5 +16,5 @@ returns-clause-done g c =
     IfOk-weaker c.tell_counts.result _ _
     (λ status told zero.
     let d = done_at_0 m.0 _ _ _ _ _ _ _ _ (exit_status status) _ _ m.3 told zero in
-    (m.0, m.1, (d.0, d.1, c.run_station_text-sink.new.messages, d.2, d.3)))
+    (m.0, m.1, (d.0, d.1, d.2, c.run_station_text-sink.new.messages, d.3, d.4)))
     c.tell_counts.ensures.told

@@ -1,12 +1,18 @@
-use Rattle.std.proofs.Common.{◌≡◌, ◌≤◌, length}
-use Rattle.gc_station.proofs.Going.{Went}
+use Rattle.std.proofs.Common.{◌≡◌, ◌≤◌, ℕ, List, length}
+use Rattle.gc_catalogue.specs.declared.answer.Reading.{Reading}
+use Rattle.gc_catalogue.specs.declared.call.Call.{Call}
+use Rattle.gc_station.specs.Scopes.{AreReadings}
+use Rattle.gc_station.proofs.Going.{Went, Somewhere}
 use Rattle.gc_station.proofs.Turns.{left_to_do}
 use Rattle.gc_station.proofs.run.run.Given as goal
 
 abbrev pub invariant-loop-cause : goal.invariant-loop-cause
 invariant-loop-cause g l = record {
   within : l.station.progress.unsent ≤ length l.commands;
-  went : Went l.plan l.commands l.max_turns g.B.Book.text (g.L.Link.acts l.initial.link) (g.L.Link.acts l.link) (g.B.Book.taken l.initial.book) (g.B.Book.taken l.book) l.station;
+  some : Somewhere l.station;
+  went : (reads : Call → List ℕ → Reading) → AreReadings reads
+      → Went l.plan l.commands (record { turns = l.max_turns; reads = reads }) (g.B.Book.text l.initial.book) (g.L.Link.acts l.initial.link) (g.L.Link.acts l.link) (g.B.Book.taken l.initial.book) (g.B.Book.taken l.book) l.station;
+  form : g.B.Book.text l.book ≡ g.B.Book.text l.initial.book;
   failed : g.B.Book.failed l.book ≡ g.B.Book.failed l.initial.book;
 }
 

@@ -3,4 +3,4 @@ use Rattle.gc_station.proofs.Records.{mark_first}
 use Rattle.gc_station.proofs.writing.take_mark.Goals as goal
 
 pub returns-in-Some-clause-records : goal.returns-in-Some-clause-records
-returns-in-Some-clause-records c utc settlement = mark_first utc c.args.marks.now.items c.in-Some.mark settlement (sym c.in-Some.is ∙ c.pop_at.ensures.value)
+returns-in-Some-clause-records c reads utc settlement = mark_first reads utc c.args.marks.now.items c.in-Some.mark settlement (sym c.in-Some.is ∙ c.pop_at.ensures.value)

@@ -1,9 +1,15 @@
+use Rattle.std.proofs.Common.{◌++◌, subst, [], ◌∷◌}
+use Rattle.gc_texts.specs.Endings.{ending_seen}
 use Rattle.gc_client.specs.Settlements.{settlement_seen}
-use Rattle.gc_station.specs.Marks.{record_of}
-use Rattle.gc_station.proofs.Records.{part_one}
+use Rattle.gc_station.specs.Records.{Record, WritesPart}
+use Rattle.gc_station.proofs.Records.{part_one, record_as, record_same}
 use Rattle.gc_station.proofs.writing.write_one.Goals as goal
 
 pub returns-in-Err-clause-wrote : goal.returns-in-Err-clause-wrote
-returns-in-Err-clause-wrote g c start before so =
+returns-in-Err-clause-wrote g c reads start before are so =
     let w = c.in-Err.ensures.writes in
-    rw c.in-Some.is (part_one g.B.Book.text before (record_of c.args.utc c.in-Some.mark (settlement_seen c.args.settlement.now)) start (g.B.Book.taken c.args.book.now) (g.B.Book.taken c.write.new.self) w.0 so w.1 w.2)
+    let x = settlement_seen c.args.settlement.now in
+    let end = ending_seen c.ending_of-ending.result in
+    let same = record_same reads c.args.utc c.in-Some.mark x end (c.ending_of-ending.ensures reads x.call are c.requires) in
+    rw c.in-Some.is (subst (λ (r : Record). WritesPart (g.B.Book.text c.args.book.now) before (before ++ r ∷ []) start (g.B.Book.taken c.write.new.self)) same
+    (part_one (g.B.Book.text c.args.book.now) before (record_as c.args.utc c.in-Some.mark x end) start (g.B.Book.taken c.args.book.now) (g.B.Book.taken c.write.new.self) w.0 so w.1 w.2))

@@ -1,34 +1,37 @@
 use Rattle.std.proofs.Common.{[], ◌∷◌, ◌+◌, ◌++◌, take, drop, map, refl, ap, sym, ◌∙◌, append-nil, drop-drop}
 use Rattle.gc_lines.proofs.Known.{Appends-is}
 use Rattle.gc_client.specs.Settlements.{settlement_seen}
-use Rattle.gc_station.specs.Marks.{records_of}
+use Rattle.gc_station.specs.Marks.{records_of, last_well}
 use Rattle.gc_station.specs.Records.{texts_of}
 use Rattle.gc_station.specs.Tallies.{tallied}
-use Rattle.gc_station.proofs.Records.{records-none, front_more, front_rest, texts_more, part_behind, tallied_more}
+use Rattle.gc_station.proofs.Records.{records-none, front_more, front_rest, texts_more, part_behind, tallied_more, last_more}
 use Rattle.gc_station.proofs.writing.write_settlements.Goals as goal
 
 pub loop-settlement-init : goal.loop-settlement-init
 loop-settlement-init g c =
-    let none = records-none c.args.utc c.args.marks.now.items in
     record {
-      wrote = λ start before so. Appends-is start (g.B.Book.taken c.args.book.now) _ _ (sym (ap (λ rs. texts_of g.B.Book.text (before ++ rs)) none ∙ ap (texts_of g.B.Book.text) (append-nil before))) so;
-      tally = sym (ap (tallied c.args.tally.now) none);
+      wrote = λ reads start before are so.
+          let none = records-none reads c.args.utc c.args.marks.now.items in
+          Appends-is start (g.B.Book.taken c.args.book.now) _ _ (sym (ap (λ rs. texts_of (g.B.Book.text c.args.book.now) (before ++ rs)) none ∙ ap (texts_of (g.B.Book.text c.args.book.now)) (append-nil before))) so;
+      tally = λ reads are. sym (ap (tallied c.args.tally.now) (records-none reads c.args.utc c.args.marks.now.items));
+      well = λ reads are. sym (ap (last_well reads c.args.well.now) (records-none reads c.args.utc c.args.marks.now.items));
       marks = refl;
+      form = refl;
       failed = refl;
     }
 
 pub returns-in-Err-clause-wrote : goal.returns-in-Err-clause-wrote
-returns-in-Err-clause-wrote g c start before so =
+returns-in-Err-clause-wrote g c reads start before are so =
     let utc = c.args.utc in
     let marks = c.args.marks.now.items in
     let ss = c.args.settlements.now in
     let i = c.loop-settlement.settlement-index in
     let s = c.settlement-item.result in
     let b = c.loop-settlement.invariant in
-    let here = ap (λ ms. records_of utc ms (settlement_seen s ∷ [])) (sym b.marks) ∙ c.take_mark-mark.ensures.records utc (settlement_seen s) in
-    let more = front_more utc marks ss i s c.take_mark-mark.result c.loop-settlement-test.true c.settlement-item.is here in
-    let front = records_of utc marks (map settlement_seen (take i ss)) in
-    part_behind g.B.Book.text before front _ _ _ _ start (g.B.Book.taken c.write_one.new.book) more (front_rest utc marks ss (i + 1)) (c.in-Err.ensures.wrote start (before ++ front) (b.wrote start before so))
+    let here = ap (λ ms. records_of reads utc ms (settlement_seen s ∷ [])) (sym b.marks) ∙ c.take_mark-mark.ensures.records reads utc (settlement_seen s) in
+    let more = front_more reads utc marks ss i s c.take_mark-mark.result c.loop-settlement-test.true c.settlement-item.is here in
+    let front = records_of reads utc marks (map settlement_seen (take i ss)) in
+    part_behind (g.B.Book.text c.args.book.now) before front _ _ _ _ start (g.B.Book.taken c.write_one.new.book) more (front_rest reads utc marks ss (i + 1)) ((rw b.form at c.in-Err.ensures.wrote) reads start (before ++ front) are (b.wrote reads start before are so))
 
 pub loop-settlement-preserved : goal.loop-settlement-preserved
 loop-settlement-preserved g c =
@@ -38,13 +41,25 @@ loop-settlement-preserved g c =
     let i = c.loop-settlement.settlement-index in
     let s = c.settlement-item.result in
     let b = c.loop-settlement.invariant in
-    let here = ap (λ ms. records_of utc ms (settlement_seen s ∷ [])) (sym b.marks) ∙ c.take_mark-mark.ensures.records utc (settlement_seen s) in
-    let more = front_more utc marks ss i s c.take_mark-mark.result c.loop-settlement-test.true c.settlement-item.is here in
-    let front = records_of utc marks (map settlement_seen (take i ss)) in
-    let one = records_of utc (c.take_mark-mark.result ∷ []) (settlement_seen s ∷ []) in
     record {
-      wrote = λ start before so. Appends-is start (g.B.Book.taken c.write_one.new.book) _ _ (sym (texts_more g.B.Book.text before front _ _ more)) (c.in_default.ensures.wrote start (before ++ front) (b.wrote start before so));
-      tally = tallied_more c.args.tally.now c.loop-settlement.tally c.write_one.new.tally front one _ b.tally c.in_default.ensures.tally more;
+      wrote = λ reads start before are so.
+          let here = ap (λ ms. records_of reads utc ms (settlement_seen s ∷ [])) (sym b.marks) ∙ c.take_mark-mark.ensures.records reads utc (settlement_seen s) in
+          let more = front_more reads utc marks ss i s c.take_mark-mark.result c.loop-settlement-test.true c.settlement-item.is here in
+          let front = records_of reads utc marks (map settlement_seen (take i ss)) in
+          Appends-is start (g.B.Book.taken c.write_one.new.book) _ _ (sym (texts_more (g.B.Book.text c.args.book.now) before front _ _ more)) ((rw b.form at c.in_default.ensures.wrote) reads start (before ++ front) are (b.wrote reads start before are so));
+      tally = λ reads are.
+          let here = ap (λ ms. records_of reads utc ms (settlement_seen s ∷ [])) (sym b.marks) ∙ c.take_mark-mark.ensures.records reads utc (settlement_seen s) in
+          let more = front_more reads utc marks ss i s c.take_mark-mark.result c.loop-settlement-test.true c.settlement-item.is here in
+          let front = records_of reads utc marks (map settlement_seen (take i ss)) in
+          let one = records_of reads utc (c.take_mark-mark.result ∷ []) (settlement_seen s ∷ []) in
+          tallied_more c.args.tally.now c.loop-settlement.tally c.write_one.new.tally front one _ (b.tally reads are) (c.in_default.ensures.tally reads are) more;
+      well = λ reads are.
+          let here = ap (λ ms. records_of reads utc ms (settlement_seen s ∷ [])) (sym b.marks) ∙ c.take_mark-mark.ensures.records reads utc (settlement_seen s) in
+          let more = front_more reads utc marks ss i s c.take_mark-mark.result c.loop-settlement-test.true c.settlement-item.is here in
+          let front = records_of reads utc marks (map settlement_seen (take i ss)) in
+          let one = records_of reads utc (c.take_mark-mark.result ∷ []) (settlement_seen s ∷ []) in
+          last_more reads c.args.well.now c.loop-settlement.well c.write_one.new.well front one _ (b.well reads are) (c.in_default.ensures.well reads are) more;
       marks = c.take_mark-mark.ensures.rest ∙ ap (drop 1) b.marks ∙ drop-drop 1 i marks;
+      form = c.in_default.ensures.form ∙ b.form;
       failed = c.in_default.ensures.fails ∙ b.failed;
     }

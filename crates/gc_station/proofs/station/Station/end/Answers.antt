@@ -4,7 +4,7 @@ use Rattle.gc_client.specs.Rule.{restarts}
 use Rattle.gc_client.specs.Settlements.{settlement_seen}
 use Rattle.gc_station.specs.Progressing.{loses_all}
 use Rattle.gc_station.specs.Standing.{losing}
-use Rattle.gc_station.specs.Stations.{Follows}
+use Rattle.gc_station.specs.Stations.{Stands, Took, Follows}
 use Rattle.gc_station.proofs.Hearing.{restarts_paired, settles_either}
 use Rattle.gc_station.proofs.station.Station.end.Goals as goal
 
@@ -16,11 +16,18 @@ returns-clause-ends g c s start stands so =
     let items = c.restart-self.result.items in
     let same = c.restart-self.ensures.settled.seen ∙ ap (λ y. y.settlements) seen in
     let loses = sym c.if-not-loses_all.false ∙ c.loses_all.ensures ∙ ap loses_all stands.progress in
-    let t = settles_either g.B.Book.text c.args.self.now _ c.write.new.self s x (map settlement_seen items) (length items) start (g.B.Book.taken c.write.new.book) c.write.result
+    let t = settles_either (g.B.Book.text c.args.book.now) c.args.self.now _ c.write.new.self s x (map settlement_seen items) (length items) start (g.B.Book.taken c.write.new.book) c.write.result
     stands
-    (record { ids_are = ap (λ w. w.ids) client ∙ ap (λ y. y.client) seen; width = ap (λ w. w.width) client; marks = refl; assembler = refl; progress = refl; tally = refl })
+    (record { ids_are = ap (λ w. w.ids) client ∙ ap (λ y. y.client) seen; width = ap (λ w. w.width) client; marks = refl; assembler = refl; progress = refl; tally = refl; well = refl })
     same
     (sym (length-map items settlement_seen) ∙ ap length same)
     (restarts_paired s.marks s.client stands.paired)
-    (c.write.ensures.wrote start s.records so) c.write.ensures.after in
-    subst (λ b. Follows g.B.Book.text s.records c.write.new.self start (g.B.Book.taken c.write.new.book) (losing b s) c.write.result) loses t
+    (λ are. c.write.ensures.wrote s.reads start s.records are (so are)) c.write.ensures.after c.write.ensures.tally c.write.ensures.well in
+    subst (λ b. Follows (g.B.Book.text c.args.book.now) s.records c.write.new.self start (g.B.Book.taken c.write.new.book) (losing b s) c.write.result) loses t
+
+pub returns-then-not-loses_all-clause-ends : goal.returns-then-not-loses_all-clause-ends
+returns-then-not-loses_all-clause-ends g c s start stands so =
+    let self = c.args.self.now in
+    let taken = g.B.Book.taken c.args.book.now in
+    let loses = sym c.if-not-loses_all.true ∙ c.loses_all.ensures ∙ ap loses_all stands.progress in
+    subst (λ b. Stands self (losing b s) × Took (g.B.Book.text c.args.book.now) start taken (losing b s)) loses (stands, so)

@@ -1,9 +1,11 @@
-use Rattle.std.proofs.Common.{◌≤◌, length, map, ap, sym, ◌∙◌, refl}
+use Rattle.std.proofs.Common.{◌≤◌, ℕ, List, subst, length, map, ap, sym, ◌∙◌, refl}
 use Rattle.std.proofs.lemmas.List.{length-map}
 use Rattle.gc_client.specs.Rule.{hears, heard}
 use Rattle.gc_client.specs.Settlements.{settlement_seen}
-use Rattle.gc_station.specs.Standing.{is_reply, settles}
-use Rattle.gc_station.proofs.Hearing.{hears_paired, settles_ok, with_noted}
+use Rattle.gc_station.specs.Standing.{is_reply, settles, lines_came}
+use Rattle.gc_station.specs.Stations.{Stands, Took}
+use Rattle.std.specs.Option.{option_to_list}
+use Rattle.gc_station.proofs.Hearing.{hears_paired, settles_ok, settles_part, with_noted, no_line}
 use Rattle.gc_station.proofs.station.Station.hear.Goals as goal
 
 pub returns-clause-hears : goal.returns-clause-hears
@@ -16,11 +18,36 @@ returns-clause-hears g c s start stands so =
     let items = c.hear-hearing.new.settled.items in
     let same = (c.hear-hearing.ensures.settled short).seen ∙ ap (λ y. y.settlements) seen in
     let reply = c.is_reply.ensures _ _ line _ (c.hear-hearing.ensures.heard short) in
-    let t = settles_ok g.B.Book.text c.args.self.now _ c.write.new.self s x (map settlement_seen items) (length items) start (g.B.Book.taken c.write.new.book)
+    let t = settles_ok (g.B.Book.text c.args.book.now) c.args.self.now _ c.write.new.self s x (map settlement_seen items) (length items) start (g.B.Book.taken c.write.new.book)
     stands
-    (record { ids_are = ap (λ w. w.ids) client ∙ ap (λ y. y.client) seen; width = ap (λ w. w.width) client; marks = refl; assembler = refl; progress = refl; tally = refl })
+    (record { ids_are = ap (λ w. w.ids) client ∙ ap (λ y. y.client) seen; width = ap (λ w. w.width) client; marks = refl; assembler = refl; progress = refl; tally = refl; well = refl })
     same
     (sym (length-map items settlement_seen) ∙ ap length same)
     (hears_paired s.marks s.client line (heard line) stands.paired)
-    (c.in_default-write.ensures.wrote start s.records so) c.in_default-write.ensures.after in
+    (λ are. c.in_default-write.ensures.wrote s.reads start s.records are (so are)) c.in_default-write.ensures.after c.in_default-write.ensures.tally c.in_default-write.ensures.well in
     rw c.in-Line.is (with_noted c.write.new.self c.note.new.self c.is_reply.result (is_reply line) (settles x s) t.0 reply c.note.ensures, t.1)
+
+pub returns-in-Err-clause-hears : goal.returns-in-Err-clause-hears
+returns-in-Err-clause-hears g c s start stands so =
+    let line = c.in-Line.line.now in
+    let short : length line ≤ 512 = rw c.in-Line.is at c.requires in
+    let x = hears s.client line (heard line) in
+    let seen = ap (λ ids. hears ids line (heard line)) stands.ids in
+    let client = c.hear-hearing.ensures.client short in
+    let items = c.hear-hearing.new.settled.items in
+    let same = (c.hear-hearing.ensures.settled short).seen ∙ ap (λ y. y.settlements) seen in
+    let t = settles_part (g.B.Book.text c.args.book.now) c.args.self.now (record c.args.self.now { client = c.hear-hearing.new.self; settled = c.hear-hearing.new.settled }) s x (map settlement_seen items) start (g.B.Book.taken c.write.new.book)
+    stands
+    (record { ids_are = ap (λ w. w.ids) client ∙ ap (λ y. y.client) seen; width = ap (λ w. w.width) client; marks = refl; assembler = refl; progress = refl; tally = refl; well = refl })
+    same
+    (λ are. c.in-Err.ensures.wrote s.reads start s.records are (so are)) in
+    rw c.in-Line.is t
+
+pub returns-in_default : goal.returns-in_default
+returns-in_default g c = record {
+  hears = λ s start stands so.
+      let none = no_line c.args.frame c.in_default.not-Line in
+      subst (λ (lines : List (List ℕ)). Stands c.args.self.now (lines_came s lines) × Took (g.B.Book.text c.args.book.now) start (g.B.Book.taken c.args.book.now) (lines_came s lines)) (sym (ap option_to_list none)) (stands, so);
+  fails = refl;
+  form = refl;
+}

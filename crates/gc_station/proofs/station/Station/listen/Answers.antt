@@ -1,9 +1,10 @@
-use Rattle.std.proofs.Common.{◌∙◌, drop, arith, length-drop, drop-drop}
+use Rattle.std.proofs.Common.{◌≤◌, ◌∙◌, length, drop, subst, arith, length-drop, drop-drop}
+use Rattle.std.proofs.Math.ListN.{drop_of_length-le}
 use Rattle.std.proofs.lemmas.List.{take_rest}
 use Rattle.gc_lines.specs.Lent.{lent_seen}
 use Rattle.gc_lines.proofs.Passing.{Takes, takes}
 use Rattle.gc_station.specs.Standing.{with_rest}
-use Rattle.gc_station.proofs.Hearing.{hearing_on, hearing_part, with_kept}
+use Rattle.gc_station.proofs.Hearing.{Hearing, hearing_on, hearing_part, hearing_end, with_kept}
 use Rattle.gc_station.proofs.station.Station.listen.Goals as goal
 
 pub loop-at-preserved : goal.loop-at-preserved
@@ -22,8 +23,9 @@ loop-at-preserved g c =
           let h = c.loop-at.invariant.hearing s start stands so in
           let t : Takes h.now.rest left used frame c.next-used.new.self = takes h.now.rest left used frame c.next-used.new.self
           (λ e. let m = more e in (m.0, m.1, m.2 h.now.rest h.stands.assembles)) (λ i e. let m = whole i e in (m.0, m.1 h.now.rest h.stands.assembles, m.2)) in
-          rw (← drop-drop used at piece) (hearing_on g.B.Book.text start (g.B.Book.taken c.loop-at.book) (g.B.Book.taken c.hear.new.book) c.loop-at.self c.hear.new.self s piece left used frame c.next-used.new.self h t
-          (c.in_default.ensures.hears (with_rest t.now h.now) start (with_kept c.loop-at.self c.next-used.new.self t.now h.now h.stands t.stands) h.wrote));
+          rw (← drop-drop used at piece) (hearing_on (g.B.Book.text c.args.book.now) start (g.B.Book.taken c.loop-at.book) (g.B.Book.taken c.hear.new.book) c.loop-at.self c.hear.new.self s piece left used frame c.next-used.new.self h t
+          ((rw c.loop-at.invariant.form at c.in_default.ensures.hears) (with_rest t.now h.now) start (with_kept c.loop-at.self c.next-used.new.self t.now h.now h.stands t.stands) h.wrote));
+      form = c.in_default.ensures.form ∙ c.loop-at.invariant.form;
       failed = c.in_default.ensures.fails ∙ c.loop-at.invariant.failed;
     }
 
@@ -39,5 +41,14 @@ returns-in-Err-clause-listens g c s start stands so =
     let h = c.loop-at.invariant.hearing s start stands so in
     let t : Takes h.now.rest left used frame c.next-used.new.self = takes h.now.rest left used frame c.next-used.new.self
     (λ e. let m = more e in (m.0, m.1, m.2 h.now.rest h.stands.assembles)) (λ i e. let m = whole i e in (m.0, m.1 h.now.rest h.stands.assembles, m.2)) in
-    hearing_part g.B.Book.text start (g.B.Book.taken c.loop-at.book) (g.B.Book.taken c.hear.new.book) c.loop-at.self s piece left used frame c.next-used.new.self h t
-    (c.in-Err.ensures.hears (with_rest t.now h.now) start (with_kept c.loop-at.self c.next-used.new.self t.now h.now h.stands t.stands) h.wrote)
+    hearing_part (g.B.Book.text c.args.book.now) start (g.B.Book.taken c.loop-at.book) (g.B.Book.taken c.hear.new.book) c.loop-at.self s piece left used frame c.next-used.new.self h t
+    ((rw c.loop-at.invariant.form at c.in-Err.ensures.hears) (with_rest t.now h.now) start (with_kept c.loop-at.self c.next-used.new.self t.now h.now h.stands t.stands) h.wrote)
+
+pub returns-clause-listens : goal.returns-clause-listens
+returns-clause-listens g c s start stands so =
+    let piece = c.args.piece.now in
+    let at = c.loop-at.at in
+    let past : length piece ≤ at = omega (arith, c.loop-at-test.false) in
+    let h = c.loop-at.invariant.hearing s start stands so in
+    hearing_end (g.B.Book.text c.args.book.now) start (g.B.Book.taken c.loop-at.book) c.loop-at.self s piece
+    (subst (λ left. Hearing (g.B.Book.text c.args.book.now) start (g.B.Book.taken c.loop-at.book) c.loop-at.self s piece left) (drop_of_length-le piece past) h)

@@ -1,0 +1,122 @@
+//! Logs: of a station's link, written into a file; and of a night that is over, checked.
+
+ghost use Rattle.std.specs.Prelude.{◌≡◌, ◌≤◌, ◌<◌, ◌↔◌, IfOk, true, Result};
+ghost use Rattle.std.specs.Process.{exit_status};
+ghost use Rattle.gc_lines.specs.Answering.{fault_text};
+ghost use Rattle.gc_lines.specs.declared.served.Served.{Served};
+ghost use Rattle.gc_lines.specs.declared.served.ServeFault.{ServeFault};
+ghost use Rattle.gc_engines.specs.LogChecking.{IsCheckingLog};
+ghost use Rattle.gc_texts.specs.Faults.{Tells};
+
+use crate::asking::Asking;
+use crate::ending::{end_of, refuse_numbers};
+use crate::station::{Station, measure_over, station_of};
+use crate::streams::tell_end;
+use clap::{Arg, ArgMatches, Command};
+use gc_engines::run_check_log;
+use gc_lines::{Sink, Source, ToWriter};
+use gc_station::{Link, Logged, TcpLink};
+use gc_texts::RunFault;
+use std::alloc::{AllocError, Global};
+use std::fs::{Files, OpenOptions};
+use std::io::{self, Write};
+use std::net::{Net, TcpListener, TcpStream};
+use std::process::ExitCode;
+use std::time::Clock;
+
+/// The word of `station` that names the file of its log.
+pub(crate) fn with_log<'a>(alloc: Global, command: Command<'a>) -> Result<Command<'a>, AllocError> {
+    let log = Arg::new(alloc, "log").long("log").value_name("FILE").help(
+        "Appends each line that went or came to a file, with its moment; `check --log` reads it",
+    );
+    command.arg(log)
+}
+
+/// A station with a log, where the words ask for one.
+pub(crate) fn logged_of<'a>(
+    alloc: Global,
+    matches: &ArgMatches,
+) -> Result<Option<Asking<'a>>, AllocError> {
+    let Some(words) = matches.subcommand_matches("station") else {
+        return Ok(None);
+    };
+    let Some(path) = words.get_str("log") else {
+        return Ok(None);
+    };
+    let path = String::from_str(alloc, path)?;
+    Ok(Some(Asking::Logged(station_of(words), path)))
+}
+
+/// Measures on a port as without a log, and appends what was on the link to a file, which is opened before anything else is
+/// done: where it can't be that is fault 57. Where it can't be written to the end that is told behind the counts, or the
+/// fault, and changes no status. The sink is handed back.
+pub(crate) fn run_logged_port<
+    R: Net<Listener = TcpListener, Stream = TcpStream> + Clock + Files,
+    S: Source,
+    K: Sink,
+    E: Write,
+>(
+    rt: &R,
+    alloc: Global,
+    station: Station,
+    path: &str,
+    source: &mut S,
+    sink: K,
+    messages: &mut E,
+) -> (K, io::Result<ExitCode>)
+    ensures bound { IfOk result.1 (λ status. exit_status status ≤ 2) }
+{
+    if station.port == 0 {
+        return (sink, refuse_numbers(messages));
+    }
+    let Ok(file) = OpenOptions::new().append(true).create(true).open(rt, path) else {
+        return (sink, end_of(Err(RunFault::Log), messages));
+    };
+    let Ok(mut link) = TcpLink::new(rt, station.port) else {
+        return (sink, end_of(Err(RunFault::Clock), messages));
+    };
+    let Ok(moment) = link.now() else {
+        return (sink, end_of(Err(RunFault::Clock), messages));
+    };
+    let mut logged = Logged::new(link, ToWriter::new(file), moment.utc);
+    let (sink, ended) = measure_over(alloc, &mut logged, station, source, sink, messages);
+    (sink, tell_loss(ended, logged.has_lost_its_log(), messages))
+}
+
+// Tells that a log was lost, behind how the run ended, whose status stays.
+fn tell_loss<E: Write>(
+    ended: io::Result<ExitCode>,
+    is_lost: bool,
+    messages: &mut E,
+) -> io::Result<ExitCode>
+    requires { IfOk ended (λ status. exit_status status ≤ 1) }
+    ensures bound { IfOk result (λ status. exit_status status ≤ 2) }
+{
+    let status = ended?;
+    if is_lost {
+        writeln!(messages, "geocom: the log could not be written to its end")?;
+    }
+    Ok(status)
+}
+
+/// Checks a log, and tells how it ended.
+pub(crate) fn check_log<S: Source, K: Sink, E: Write>(
+    source: &mut S,
+    sink: &mut K,
+    messages: &mut E,
+) -> io::Result<ExitCode>
+    // What was checked, why it ended, and that the messages and the status tell it.
+    ensures told { IfOk result (λ status. (end : Result Served ServeFault)
+        × IsCheckingLog
+        (record { remaining = S.remaining source.old; reads = S.reads source.old; ended = S.ended source.old; source_failed = S.failed source.old; taken = K.taken sink.old; sink_failed = K.failed sink.old })
+        (record { remaining = S.remaining source.new; reads = S.reads source.new; ended = S.ended source.new; source_failed = S.failed source.new; taken = K.taken sink.new; sink_failed = K.failed sink.new })
+        4294967295 end
+        × Tells fault_text end (exit_status status) (E.contents messages.old) (E.contents messages.new)) }
+
+    // Status 0 exactly where the last read was the end.
+    ensures done { IfOk result (λ status. (exit_status status ≡ 0)
+        ↔ ((S.reads source.old < S.reads source.new) × (S.ended source.new ≡ true))) }
+    ensures bound { IfOk result (λ status. exit_status status ≤ 1) }
+{
+    tell_end(run_check_log(source, sink, u32::MAX), messages)
+}

@@ -1,0 +1,51 @@
+//! The stop: why a station that measures the commands of a text stopped before its end, and how that is told.
+
+ghost use Rattle.std.specs.Prelude.{◌≡◌, OnOk};
+ghost use Rattle.std.specs.Io.KnownBytes.{Appends};
+ghost use Rattle.gc_console.specs.Stops.{fault_of_stop, stop_text, end_of_run};
+
+use gc_texts::{RunFault, Trouble};
+use std::io::{self, Write};
+
+/// Why a station stopped before its end.
+#[derive(Clone, Copy, Debug, PartialEq, Eq)]
+pub enum Stop {
+    /// The text was refused, for this fault, before anything was done.
+    Text(RunFault),
+    /// The line of the text with this number, counted from 1, is the first faulty one, with this trouble. Nothing was done.
+    Line(u32, Trouble),
+    /// The run over its commands ended for this fault, or what stands in front of the records couldn't be written.
+    Run(RunFault),
+}
+
+impl Stop {
+    /// The fault.
+    pub fn fault(self) -> RunFault
+        ensures { result ≡ fault_of_stop self }
+    {
+        match self {
+            Stop::Text(fault) => fault,
+            Stop::Line(line, _) => RunFault::Schedule { line },
+            Stop::Run(fault) => fault,
+        }
+    }
+
+    /// Writes the fault's line, and behind that of a faulty line the line's trouble.
+    pub fn tell<E: Write>(self, messages: &mut E) -> io::Result<()>
+        ensures { OnOk result (Appends (E.contents messages.old) (E.contents messages.new) (stop_text self)) }
+    {
+        match self {
+            Stop::Text(fault) => fault.tell(messages),
+            Stop::Line(line, trouble) => tell_line(line, trouble, messages),
+            Stop::Run(fault) => fault.tell(messages),
+        }
+    }
+}
+
+// Writes the line of a faulty line's fault, and of its trouble.
+fn tell_line<E: Write>(line: u32, trouble: Trouble, messages: &mut E) -> io::Result<()>
+    ensures { OnOk result (Appends (E.contents messages.old) (E.contents messages.new) (stop_text (Stop.Line line trouble))) }
+{
+    RunFault::Schedule { line }.tell(messages)?;
+    trouble.tell(line, messages)
+}

@@ -1,0 +1,25 @@
+use Rattle.std.proofs.Common.{ℕ, List, inl, inr, take, sym, subst, ap, refl, ◌∙◌, ◌++◌}
+use Rattle.gc_texts.specs.declared.log_line.LogMark.{LogMark}
+use Rattle.gc_engines.specs.LogChecking.{IsSaid}
+use Rattle.gc_engines.proofs.LogSaid.{take_min}
+use Rattle.gc_engines.proofs.check_log.push_said.Goals as goal
+
+pub returns-in-Went-clause-items : goal.returns-in-Went-clause-items
+returns-in-Went-clause-items c =
+    let it = c.push_whole.ensures.items in
+    let bytes = c.args.bytes.now in (
+      it.0,
+      elim c.in-Went.is as (λ _. IsSaid c.args.mark bytes it.0) [
+        | inl went ↦ subst (λ (m : LogMark). IsSaid m bytes it.0) (sym went) it.1
+        | inr came ↦ subst (λ (m : LogMark). IsSaid m bytes it.0) (sym came) it.1
+      ],
+      it.2,
+    )
+
+pub returns-in-Link-clause-items : goal.returns-in-Link-clause-items
+returns-in-Link-clause-items c =
+    let bytes = c.args.bytes.now in (
+      take 100 bytes,
+      subst (λ (m : LogMark). IsSaid m bytes (take 100 bytes)) (sym c.in-Link.is) refl,
+      c.append.ensures ∙ ap (λ (l : List ℕ). c.args.text.now.items ++ l) (ap (λ (n : ℕ). take n bytes) c.min.ensures ∙ take_min 100 bytes),
+    )

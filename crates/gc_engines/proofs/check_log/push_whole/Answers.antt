@@ -1,0 +1,8 @@
+use Rattle.std.proofs.Common.{refl}
+use Rattle.gc_engines.specs.LogChecking.{line}
+use Rattle.gc_engines.specs.Verdicts.{verdict_text}
+use Rattle.gc_engines.proofs.check_log.push_whole.Goals as goal
+
+pub returns-else-bytes-gt512-clause-items : goal.returns-else-bytes-gt512-clause-items
+returns-else-bytes-gt512-clause-items c =
+    (verdict_text c.line_verdict.result, line c.line_verdict.result c.if-bytes-gt512.false c.line_verdict.ensures refl, c.push_verdict-else-bytes-gt512.ensures.items)

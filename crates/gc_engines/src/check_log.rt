@@ -1,0 +1,226 @@
+//! `check --log`: each line of a log, with its verdict.
+
+ghost use Rattle.std.specs.Prelude.{◌≡◌, ◌+◌, ◌<◌, ◌≤◌, ◌++◌, ℕ, List, [], ◌∷◌, length, codes, ◌^◌, OnOk, IfErr};
+ghost use Rattle.arrayvec.specs.ArrayVec.{array_vec_len};
+ghost use Rattle.gc_lines.specs.Frames.{rest_behind};
+ghost use Rattle.gc_lines.specs.Ports.{FailsWith};
+ghost use Rattle.gc_texts.specs.Logs.{mark_text};
+ghost use Rattle.gc_engines.specs.LogChecking.{IsWholeVerdict, part_verdict, ends_cleared, IsSaid, IsLogVerdict, KeepsLine, SaysAll, SaysPart, IsCheckingLog};
+
+use crate::verdict::{Verdict, line_verdict, push_verdict};
+use arrayvec::ArrayVec;
+use gc_lines::{Outgoing, ServeFault, Served, Sink, Source, append, write_whole};
+use gc_texts::{LogLine, LogMark, read_log_line};
+
+// How many bytes are read at a time at most.
+const PIECE: usize = 256;
+
+// The bytes of the longest line of a log, without its line feed, and some to spare.
+const LOG_LINE_MOST: usize = 2100;
+
+// What is kept since the last line feed: the first bytes, and whether more came than a log line has.
+#[derive(Drop)]
+struct Underway {
+    bytes: ArrayVec<u8, LOG_LINE_MOST>,
+    is_long: bool,
+}
+
+impl Underway {
+    // Nothing.
+    fn new() -> Underway
+        ensures { KeepsLine result [] }
+    {
+        Underway {
+            bytes: ArrayVec::new(),
+            is_long: false,
+        }
+    }
+
+    // Keeps one more byte.
+    fn keep(&mut self, b: u8)
+        ensures { (rest : List ℕ) → KeepsLine self.old rest → KeepsLine self.new (rest ++ b ∷ []) }
+    {
+        if self.bytes.is_full() {
+            self.is_long = true;
+        } else {
+            self.bytes.push(b);
+        }
+    }
+}
+
+/// Checks the lines of a log, as `station --log` writes them, until the end of a source, in at most `max_reads` reads of at
+/// most 256 bytes, and writes a line with LF for each of them into a sink: the moment and the mark as they stand, and what the
+/// bytes are.
+///
+/// | Mark | What is said |
+/// |---|---|
+/// | `>`, `<` | the verdict that `check` has for the line, and `overlong` for more than 512 bytes |
+/// | `>\|`, `<\|` | `cleared` where the bytes end in a line feed without a CR before it, else `part` |
+/// | `-` | the words as they stand |
+///
+/// Of a line that is none of a log it writes `no log line`. A rest without a line feed at the end of the input gets no line.
+/// `replies` in an answer counts the lines that went out whole. Takes no memory.
+///
+/// [`Served`] exactly where the last read was the end, 42 exactly where the source failed, 43 exactly where the sink did, and
+/// 44 exactly where all reads were answered and none was the end.
+pub fn run_check_log<S: Source, K: Sink>(
+    source: &mut S,
+    sink: &mut K,
+    max_reads: u32,
+) -> Result<Served, ServeFault>
+    ensures { IsCheckingLog
+        (record { remaining = S.remaining source.old; reads = S.reads source.old; ended = S.ended source.old; source_failed = S.failed source.old; taken = K.taken sink.old; sink_failed = K.failed sink.old })
+        (record { remaining = S.remaining source.new; reads = S.reads source.new; ended = S.ended source.new; source_failed = S.failed source.new; taken = K.taken sink.new; sink_failed = K.failed sink.new })
+        max_reads result }
+{
+    let mut kept = Underway::new();
+    let mut replies = 0u64;
+    let mut buf = [0u8; PIECE];
+    for _ in 0..max_reads {
+        match source.read(&mut buf) {
+            Ok(0) => return Ok(Served { replies }),
+            Ok(n) => {
+                if let Err(bytes) = check_piece(&mut kept, &mut replies, sink, &buf[..n]) {
+                    return Err(ServeFault::Write { replies, bytes });
+                }
+            }
+            Err(_) => return Err(ServeFault::Read { replies }),
+        }
+    }
+    Err(ServeFault::TooManyReads { replies })
+}
+
+// Checks the lines that end in a piece.
+fn check_piece<K: Sink>(
+    kept: &mut Underway,
+    replies: &mut u64,
+    sink: &mut K,
+    piece: &[u8],
+) -> Result<(), usize>
+    requires { replies.old + length piece.now < 2 ^ 64 }
+    ensures failed { FailsWith result (K.failed sink.old) (K.failed sink.new) }
+    ensures ok { OnOk result ((rest : List ℕ) → KeepsLine kept.old rest
+        → KeepsLine kept.new (rest_behind rest piece.now) × SaysAll rest piece.now (K.taken sink.old) (K.taken sink.new) replies.old replies.new) }
+    ensures err { IfErr result (λ n. (rest : List ℕ) → KeepsLine kept.old rest → SaysPart rest piece.now (K.taken sink.old) (K.taken sink.new) replies.old replies.new n) }
+    ensures few { OnOk result (replies.new ≤ replies.old + length piece.now) }
+{
+    for b in piece {
+        if let Err(n) = check_byte(kept, replies, sink, *b) {
+            return Err(n);
+        }
+    }
+    Ok(())
+}
+
+// Takes one more byte, and writes what is said of the line that it ends.
+fn check_byte<K: Sink>(
+    kept: &mut Underway,
+    replies: &mut u64,
+    sink: &mut K,
+    b: u8,
+) -> Result<(), usize>
+    requires { replies.old + 1 < 2 ^ 64 }
+    ensures failed { FailsWith result (K.failed sink.old) (K.failed sink.new) }
+    ensures ok { OnOk result ((rest : List ℕ) → KeepsLine kept.old rest
+        → KeepsLine kept.new (rest_behind rest (b ∷ [])) × SaysAll rest (b ∷ []) (K.taken sink.old) (K.taken sink.new) replies.old replies.new) }
+    ensures err { IfErr result (λ n. (rest : List ℕ) → KeepsLine kept.old rest → SaysPart rest (b ∷ []) (K.taken sink.old) (K.taken sink.new) replies.old replies.new n) }
+    ensures few { OnOk result (replies.new ≤ replies.old + 1) }
+{
+    if b != b'\n' {
+        kept.keep(b);
+        return Ok(());
+    }
+    let text = said_of(kept);
+    *kept = Underway::new();
+    if let Err(n) = write_whole(sink, &text) {
+        return Err(n);
+    }
+    *replies += 1;
+    Ok(())
+}
+
+// What is written of the line that is kept.
+fn said_of(kept: &Underway) -> Outgoing
+    ensures { (rest : List ℕ) → KeepsLine kept.now rest → IsLogVerdict rest result.items }
+{
+    if kept.is_long {
+        return unread();
+    }
+    match read_log_line(&kept.bytes) {
+        Some(line) => told(&line),
+        None => unread(),
+    }
+}
+
+// That it is no log line.
+fn unread() -> Outgoing
+    ensures { result.items ≡ codes "no log line\n" }
+{
+    let mut text = Outgoing::new();
+    append(&mut text, b"no log line\n");
+    text
+}
+
+// A log line with what is said of it.
+fn told(line: &LogLine<'_>) -> Outgoing
+    requires { length line.now.moment.now ≤ 2100 }
+    ensures room { length line.now.bytes.items ≤ 514 }
+    ensures said { (said : List ℕ) × IsSaid line.now.mark line.now.bytes.items said
+        × (result.items ≡ line.now.moment.now ++ 32 ∷ (mark_text line.now.mark ++ 32 ∷ (said ++ 10 ∷ []))) }
+{
+    let mut text = Outgoing::new();
+    append(&mut text, line.moment);
+    append(&mut text, b" ");
+    append(&mut text, line.mark.text());
+    append(&mut text, b" ");
+    push_said(&mut text, line.mark, &line.bytes);
+    append(&mut text, b"\n");
+    text
+}
+
+// Appends what is said of the bytes of a log line, for which there is room.
+fn push_said(text: &mut Outgoing, mark: LogMark, bytes: &[u8])
+    requires { length text.old.items + 100 ≤ 8192 }
+    ensures items { (said : List ℕ) × IsSaid mark bytes.now said × (text.new.items ≡ text.old.items ++ said) }
+    ensures bound { length text.new.items ≤ length text.old.items + 100 }
+{
+    match mark {
+        LogMark::Went | LogMark::Came => push_whole(text, bytes),
+        LogMark::WentPart | LogMark::CamePart => push_part(text, bytes),
+        LogMark::Link => append(text, &bytes[..bytes.len().min(100)]),
+    }
+}
+
+// Appends what is said of a line that went or came whole.
+fn push_whole(text: &mut Outgoing, bytes: &[u8])
+    requires { length text.old.items + 100 ≤ 8192 }
+    ensures items { (said : List ℕ) × IsWholeVerdict bytes.now said × (text.new.items ≡ text.old.items ++ said) }
+    ensures bound { length text.new.items ≤ length text.old.items + 100 }
+{
+    if bytes.len() > 512 {
+        push_verdict(text, Verdict::Overlong);
+    } else {
+        push_verdict(text, line_verdict(bytes));
+    }
+}
+
+// Appends what is said of bytes that are no whole line.
+fn push_part(text: &mut Outgoing, bytes: &[u8])
+    requires { length text.old.items + 100 ≤ 8192 }
+    ensures items { text.new.items ≡ text.old.items ++ part_verdict bytes.now }
+    ensures bound { length text.new.items ≤ length text.old.items + 100 }
+{
+    if ends_cleared(bytes) {
+        push_verdict(text, Verdict::Cleared);
+    } else {
+        append(text, b"part");
+    }
+}
+
+// Whether bytes end in a line feed without a CR before it.
+fn ends_cleared(bytes: &[u8]) -> bool
+    ensures { result ≡ ends_cleared bytes.now }
+{
+    let len = bytes.len();
+    0 < len && bytes[len - 1] == b'\n' && (len == 1 || bytes[len - 2] != b'\r')
+}

@@ -1,0 +1,425 @@
+-- A command of a chain goes out only behind the answer of the one before it.
+use Rattle.std.proofs.Common.{◌≡◌, ◌⊎◌, inl, inr, ℕ, zero, suc, ◌+◌, ◌-◌, ◌<◌, ◌≤◌, ◌||◌, Bool, true, false, if◌then◌else◌, List, [], ◌∷◌, ◌++◌, length, drop, map, Option, Some, None, refl, sym, ap, ◌∙◌, subst, arith, append_assoc}
+use Rattle.std.specs.List.{AllByRecursion}
+use Rattle.std.proofs.lemmas.List.{length-drop, map-append}
+use Rattle.gc_lines.specs.Frames.{rest_behind}
+use Rattle.gc_catalogue.specs.declared.answer.Reading.{Reading}
+use Rattle.gc_catalogue.specs.declared.call.Call.{Call}
+use Rattle.gc_texts.specs.declared.tasks.Task.{Task}
+use Rattle.gc_texts.specs.Endings.{End, Answered, Unreadable, Late, Lost, Skipped, Missed}
+use Rattle.gc_station.specs.declared.cause.Cause.{Cause}
+use Rattle.gc_station.specs.declared.cause.Cause.TheVariants as cause
+use Rattle.gc_station.specs.declared.mark.Mark.{Mark}
+use Rattle.gc_station.specs.declared.plan.Plan.{Plan}
+use Rattle.gc_station.specs.declared.progress.Order.{Order}
+use Rattle.gc_station.specs.declared.progress.Order.TheVariants.{Tell, Begin, Open, Clear, Probe, Send, Skip, Flush, Read, Rest, Close, Stop}
+use Rattle.gc_station.specs.declared.progress.Phase.{Phase}
+use Rattle.gc_station.specs.declared.progress.Phase.TheVariants as phase
+use Rattle.gc_station.specs.declared.progress.Progress.{Progress}
+use Rattle.gc_station.specs.declared.progress.Waiting.{Waiting}
+use Rattle.gc_station.specs.Acts.{Act, Told, Untold, Put, Cut, Gave, Silent, Ended, Broke, Closed, Opened, Unopened}
+use Rattle.gc_station.specs.Answers.{IsTrueRecord, answer_of}
+use Rattle.gc_station.specs.Chains.{IsChained, IsLinked}
+use Rattle.gc_station.specs.Deciding.{is_past, drain_of}
+use Rattle.gc_station.specs.EachOnce.{Request, of_record, of_task, requests, sent_by}
+use Rattle.gc_station.specs.Marks.{commands_in, is_value, is_well, last_well}
+use Rattle.gc_station.specs.Probing.{KeepsOpen}
+use Rattle.gc_station.specs.Progressing.{turned, told, begun, skipped, cleared, asking, probed, sent, reckoned_early, closed_again, closed, quieted, drained, waited}
+use Rattle.gc_station.specs.Reasons.{IsFor, MayGo}
+use Rattle.gc_station.specs.Records.{Record}
+use Rattle.gc_station.specs.Runs.{stood}
+use Rattle.gc_station.specs.Scopes.{Scope}
+use Rattle.gc_station.specs.Standing.{Standing, Obeys, IsTelling, IsOpening, IsReading, Puts, Runs, opening, order_at, waiting_of, place_next, cycles_begun, mark_next, is_chained, bound_next, with_progress, with_moment, with_rest, with_records, skips, asks_null, asks_first, asks_next, line_came, lines_came, lines_behind, came, is_heard, after_tell, after_put, after_open, after_read, moved, after}
+use Rattle.gc_station.proofs.Answers.{answers_true}
+use Rattle.gc_station.proofs.Counts.{ended_progress}
+use Rattle.gc_station.proofs.Each.{each_settled, sent_next}
+use Rattle.gc_station.proofs.EachRun.{fine_stood}
+use Rattle.gc_station.proofs.Facts.{order_for}
+use Rattle.gc_station.proofs.Fine.{Fine}
+use Rattle.gc_station.proofs.Going.{after_all-append}
+use Rattle.gc_station.proofs.Lists.{all_append}
+use Rattle.gc_station.proofs.Midway.{clash}
+use Rattle.gc_station.proofs.Readings.{stood_reads}
+
+-- What an act does to the place in a cycle, and to the chain that is there.
+
+-- it stays there
+record Still (p q : Progress) : Type 0 where
+  left : q.left ≡ p.left
+  unsent : q.unsent ≡ p.unsent
+  missed : q.missed ≡ p.missed
+  bound : q.bound ≡ p.bound
+  whole : q.whole ≡ true → p.whole ≡ true
+
+-- it goes on to the next command, which is bound so
+record Next (bound : Bool) (p q : Progress) : Type 0 where
+  left : q.left ≡ p.left
+  unsent : q.unsent ≡ p.unsent - 1
+  missed : q.missed ≡ p.missed
+  is_bound : q.bound ≡ bound
+
+-- a cycle of so many commands begins
+record Anew (count : ℕ) (q : Progress) : Type 0 where
+  unsent : q.unsent ≡ count
+  whole : q.whole ≡ false
+
+abbrev Steps : ℕ → Bool → Order → Progress → Progress → Type 0
+Steps count bound Begin p q = Still p q ⊎ Anew count q
+Steps count bound Send p q = Next bound p q
+Steps count bound Skip p q = Still p q ⊎ (Next bound p q × (q.whole ≡ false))
+Steps count bound (Close why) p q = Still p q × (q.whole ≡ false)
+Steps count bound _ p q = Still p q
+
+still : (p : Progress) → Still p p
+still p = record { left = refl; unsent = refl; missed = refl; bound = refl; whole = λ e. e }
+
+lines_still : (s : Standing) (lines : List (List ℕ)) → Still s.progress (lines_came s lines).progress
+lines_still s [] = still s.progress
+lines_still s (line ∷ others) = let k = lines_still (line_came s line) others in record { left = k.left; unsent = k.unsent; missed = k.missed; bound = k.bound; whole = k.whole }
+
+came_still : (heard : Bool) (piece : List ℕ) (s : Standing) → Still s.progress (came heard piece s).progress
+came_still true piece s = let k = lines_still (with_rest (rest_behind s.rest piece) s) (lines_behind s.rest piece) in record { left = k.left; unsent = k.unsent; missed = k.missed; bound = k.bound; whole = k.whole }
+came_still false piece s = still s.progress
+
+drained_still : (b : Bool) (p : Progress) → Still p (if b then drained p else p)
+drained_still true p = record { left = refl; unsent = refl; missed = refl; bound = refl; whole = λ e. e }
+drained_still false p = still p
+
+quieted_still : (plan : Plan) (phase : Phase) (p : Progress) → Still p (quieted plan phase p)
+quieted_still plan phase.Resting p = record { left = refl; unsent = refl; missed = refl; bound = refl; whole = λ e. e }
+quieted_still plan phase.Draining p = drained_still (is_past (drain_of plan p) p) p
+quieted_still plan phase p = still p
+
+read_still : (plan : Plan) (rested : Bool) (s : Standing) (act : Act) → Still s.progress (after_read plan rested s act).progress
+read_still plan rested s (Gave bytes m) =
+    let k = came_still (is_heard s.progress.phase) bytes (with_moment m (with_progress (told m) s)) in record { left = k.left; unsent = k.unsent; missed = k.missed; bound = k.bound; whole = k.whole }
+read_still plan rested s (Silent m) =
+    let k = quieted_still plan s.progress.phase (waited rested m s.progress) in record { left = k.left; unsent = k.unsent; missed = k.missed; bound = k.bound; whole = k.whole }
+read_still plan rested s Ended = record { left = refl; unsent = refl; missed = refl; bound = refl; whole = λ e. e }
+read_still plan rested s Broke = record { left = refl; unsent = refl; missed = refl; bound = refl; whole = λ e. e }
+read_still plan rested s act = record { left = refl; unsent = refl; missed = refl; bound = refl; whole = λ e. e }
+
+tell_still : (plan : Plan) (n : ℕ) (s : Standing) (act : Act) → Still s.progress (after_tell (λ m p. reckoned_early plan n (told m p)) s act).progress
+tell_still plan n s (Told m) = record { left = refl; unsent = refl; missed = refl; bound = refl; whole = λ e. e }
+tell_still plan n s act = record { left = refl; unsent = refl; missed = refl; bound = refl; whole = λ e. e }
+
+begin_steps : (plan : Plan) (count : ℕ) (s : Standing) (act : Act) → Still s.progress (after_tell (begun plan count) s act).progress ⊎ Anew count (after_tell (begun plan count) s act).progress
+begin_steps plan count s (Told m) = inr (record { unsent = refl; whole = refl })
+begin_steps plan count s act = inl (record { left = refl; unsent = refl; missed = refl; bound = refl; whole = λ e. e })
+
+skip_steps : (plan : Plan) (n : ℕ) (bound : Bool) (s : Standing) (act : Act)
+    → Still s.progress (after_tell (λ m p. reckoned_early plan n (skipped bound m p)) s act).progress
+    ⊎ (Next bound s.progress (after_tell (λ m p. reckoned_early plan n (skipped bound m p)) s act).progress × ((after_tell (λ m p. reckoned_early plan n (skipped bound m p)) s act).progress.whole ≡ false))
+skip_steps plan n bound s (Told m) = inr (record { left = refl; unsent = refl; missed = refl; is_bound = refl }, refl)
+skip_steps plan n bound s act = inl (record { left = refl; unsent = refl; missed = refl; bound = refl; whole = λ e. e })
+
+put_still : (p : Progress) (requests : ℕ) (f : Standing → Standing) (s : Standing) (act : Act) → Still p (f s).progress → Still p (after_put requests f s act).progress
+put_still p requests f s (Cut bytes n) k = record { left = k.left; unsent = k.unsent; missed = k.missed; bound = k.bound; whole = k.whole }
+put_still p requests f s act k = k
+
+put_next : (bound : Bool) (p : Progress) (requests : ℕ) (f : Standing → Standing) (s : Standing) (act : Act) → Next bound p (f s).progress → Next bound p (after_put requests f s act).progress
+put_next bound p requests f s (Cut bytes n) k = record { left = k.left; unsent = k.unsent; missed = k.missed; is_bound = k.is_bound }
+put_next bound p requests f s act k = k
+
+first_next : (bound : Bool) (mark : Mark) (left : List Task) (s : Standing) → Next bound s.progress (with_progress (sent bound) (asks_first mark left s)).progress
+first_next bound mark [] s = record { left = refl; unsent = refl; missed = refl; is_bound = refl }
+first_next bound mark (task ∷ others) s = record { left = refl; unsent = refl; missed = refl; is_bound = refl }
+
+open_still : (plan : Plan) (s : Standing) (act : Act) → Still s.progress (after_open plan s act).progress
+open_still plan s Opened = record { left = refl; unsent = refl; missed = refl; bound = refl; whole = λ e. e }
+open_still plan s act = record { left = refl; unsent = refl; missed = refl; bound = refl; whole = λ e. cc }
+
+again_steps : (plan : Plan) (w : Waiting) (why : Cause) (b : Bool) (p : Progress) → Still p (closed_again plan w why b p) × ((closed_again plan w why b p).whole ≡ false)
+again_steps plan w why true p = (record { left = refl; unsent = refl; missed = refl; bound = refl; whole = λ e. cc }, refl)
+again_steps plan w why false p = (record { left = refl; unsent = refl; missed = refl; bound = refl; whole = λ e. cc }, refl)
+
+closed_steps : (plan : Plan) (w : Waiting) (why : Cause) (p : Progress) → Still p (closed plan w why p) × ((closed plan w why p).whole ≡ false)
+closed_steps plan w cause.Done p = (record { left = refl; unsent = refl; missed = refl; bound = refl; whole = λ e. cc }, refl)
+closed_steps plan w cause.Clock p = (record { left = refl; unsent = refl; missed = refl; bound = refl; whole = λ e. cc }, refl)
+closed_steps plan w cause.Turns p = (record { left = refl; unsent = refl; missed = refl; bound = refl; whole = λ e. cc }, refl)
+closed_steps plan w cause.Silence p = again_steps plan w cause.Silence true p
+closed_steps plan w why p = again_steps plan w why (p.alone || p.anew) p
+
+moved_steps : (plan : Plan) (commands : List Task) (order : Order) (s : Standing) (act : Act) → Steps (length commands) (bound_next commands s.progress) order s.progress (moved plan commands order s act).progress
+moved_steps plan commands Tell s act = tell_still plan (commands_in s.marks) s act
+moved_steps plan commands Begin s act = begin_steps plan (length commands) s act
+moved_steps plan commands Open s act = open_still plan s act
+moved_steps plan commands Clear s act = put_still s.progress _ (with_progress cleared) s act (record { left = refl; unsent = refl; missed = refl; bound = refl; whole = λ e. e })
+moved_steps plan commands Probe s act = put_still s.progress _ (λ (x : Standing). with_progress probed (asks_null plan x)) s act (record { left = refl; unsent = refl; missed = refl; bound = refl; whole = λ e. e })
+moved_steps plan commands Send s act =
+    put_next (bound_next commands s.progress) s.progress _ (λ (x : Standing). with_progress (sent (bound_next commands x.progress)) (asks_next plan commands x)) s act
+    (first_next (bound_next commands s.progress) (mark_next plan commands s.progress) (drop (place_next commands s.progress) commands) s)
+moved_steps plan commands Skip s act = skip_steps plan (commands_in s.marks) (bound_next commands s.progress) (with_records (skips plan commands s.progress act) s) act
+moved_steps plan commands Flush s act = put_still s.progress _ (λ (x : Standing). with_progress asking (asks_null plan x)) s act (record { left = refl; unsent = refl; missed = refl; bound = refl; whole = λ e. e })
+moved_steps plan commands Read s act = read_still plan false s act
+moved_steps plan commands Rest s act = read_still plan true s act
+moved_steps plan commands (Close why) s act = closed_steps plan (waiting_of (with_rest [] s)) why s.progress
+moved_steps plan commands (Stop why) s act = still s.progress
+
+-- only a close closes
+puts_open : (bytes : List ℕ) (act : Act) → Puts bytes act → KeepsOpen act
+puts_open bytes Closed o = absurd o
+puts_open bytes act o = tt
+
+telling_open : (act : Act) → IsTelling act → KeepsOpen act
+telling_open Closed o = absurd o
+telling_open act o = tt
+
+opening_open : (act : Act) → IsOpening act → KeepsOpen act
+opening_open Closed o = absurd o
+opening_open act o = tt
+
+reading_open : (act : Act) → IsReading act → KeepsOpen act
+reading_open Closed o = absurd o
+reading_open act o = tt
+
+-- What every run keeps of the chain where it stands.
+
+-- the command before the next one went out among these acts, and no connection was closed since
+record Whole (plan : Plan) (commands : List Task) (scope : Scope) (acts : List Act) (p : Progress) : Type 0 where
+  before : List Act
+  request : Act
+  between : List Act
+  order : acts ≡ before ++ request ∷ between
+  sends : order_at plan (stood plan commands scope before) ≡ Send
+  cycle : cycles_begun plan p ≡ cycles_begun plan (stood plan commands scope before).progress
+  place : place_next commands p ≡ place_next commands (stood plan commands scope before).progress + 1
+  stays : AllByRecursion KeepsOpen between
+
+record Chain (plan : Plan) (commands : List Task) (scope : Scope) (acts : List Act) (p : Progress) : Type 0 where
+  bound : 0 < place_next commands p → p.bound ≡ (p.missed || is_chained (drop (place_next commands p) commands))
+  whole : p.whole ≡ true → Whole plan commands scope acts p
+
+chain_still : (plan : Plan) (commands : List Task) (scope : Scope) (acts : List Act) (act : Act) (p q : Progress) → Still p q → KeepsOpen act → Chain plan commands scope acts p → Chain plan commands scope (acts ++ act ∷ []) q
+chain_still plan commands scope acts act p q k stays h =
+    let place_is : place_next commands q ≡ place_next commands p = ap (λ (n : ℕ). length commands - n) k.unsent in
+    record {
+      bound = λ above.
+          k.bound ∙ h.bound (subst (λ (n : ℕ). 0 < n) place_is above) ∙ ap (λ (b : Bool). b || is_chained (drop (place_next commands p) commands)) (sym k.missed)
+          ∙ ap (λ (n : ℕ). q.missed || is_chained (drop n commands)) (sym place_is);
+      whole = λ e.
+          let w = h.whole (k.whole e) in
+          record {
+            before = w.before;
+            request = w.request;
+            between = w.between ++ act ∷ [];
+            order = ap (λ xs. xs ++ act ∷ []) w.order ∙ append_assoc w.before (w.request ∷ w.between) (act ∷ []);
+            sends = w.sends;
+            cycle = ap (λ (n : ℕ). plan.cycles - n) k.left ∙ w.cycle;
+            place = place_is ∙ w.place;
+            stays = all_append KeepsOpen w.between (act ∷ []) w.stays (stays, tt);
+          };
+    }
+
+-- a connection was closed
+chain_closed : (plan : Plan) (commands : List Task) (scope : Scope) (acts all : List Act) (p q : Progress) → Still p q → q.whole ≡ false → Chain plan commands scope acts p → Chain plan commands scope all q
+chain_closed plan commands scope acts all p q k broken h =
+    let place_is : place_next commands q ≡ place_next commands p = ap (λ (n : ℕ). length commands - n) k.unsent in
+    record {
+      bound = λ above.
+          k.bound ∙ h.bound (subst (λ (n : ℕ). 0 < n) place_is above) ∙ ap (λ (b : Bool). b || is_chained (drop (place_next commands p) commands)) (sym k.missed)
+          ∙ ap (λ (n : ℕ). q.missed || is_chained (drop n commands)) (sym place_is);
+      whole = λ e. absurd (clash q.whole e broken);
+    }
+
+-- a cycle begins
+chain_anew : (plan : Plan) (commands : List Task) (scope : Scope) (acts : List Act) (q : Progress) → Anew (length commands) q → Chain plan commands scope acts q
+chain_anew plan commands scope acts q a =
+    let none : place_next commands q ≡ 0 = omega (arith, a.unsent) in
+    record { bound = λ above. absurd (omega (arith, none, above)); whole = λ e. absurd (clash q.whole e a.whole) }
+
+-- the next command
+next_place : (commands : List Task) (p q : Progress) → q.unsent ≡ p.unsent - 1 → 0 < p.unsent → p.unsent ≤ length commands → place_next commands q ≡ place_next commands p + 1
+next_place commands p q less some within = omega (arith, less, some, within)
+
+next_bound : (commands : List Task) (p q : Progress) → Next (bound_next commands p) p q → place_next commands q ≡ place_next commands p + 1 → q.bound ≡ (q.missed || is_chained (drop (place_next commands q) commands))
+next_bound commands p q n at =
+    n.is_bound ∙ ap (λ (b : Bool). b || is_chained (drop (place_next commands p + 1) commands)) (sym n.missed) ∙ ap (λ (k : ℕ). q.missed || is_chained (drop k commands)) (sym at)
+
+chain_skipped : (plan : Plan) (commands : List Task) (scope : Scope) (acts : List Act) (p q : Progress) → Next (bound_next commands p) p q → q.whole ≡ false → 0 < p.unsent → p.unsent ≤ length commands → Chain plan commands scope acts q
+chain_skipped plan commands scope acts p q n broken some within =
+    let at = next_place commands p q n.unsent some within in
+    record { bound = λ above. next_bound commands p q n at; whole = λ e. absurd (clash q.whole e broken) }
+
+chain_sent : (plan : Plan) (commands : List Task) (scope : Scope) (acts : List Act) (act : Act) (p q : Progress) → p ≡ turned (stood plan commands scope acts).progress → order_at plan (stood plan commands scope acts) ≡ Send
+    → Next (bound_next commands p) p q → 0 < p.unsent → p.unsent ≤ length commands → Chain plan commands scope (acts ++ act ∷ []) q
+chain_sent plan commands scope acts act p q here is n some within =
+    let at = next_place commands p q n.unsent some within in
+    record {
+      bound = λ above. next_bound commands p q n at;
+      whole = λ e. record {
+        before = acts;
+        request = act;
+        between = [];
+        order = refl;
+        sends = is;
+        cycle = ap (λ (k : ℕ). plan.cycles - k) n.left ∙ ap (λ (x : Progress). cycles_begun plan x) here;
+        place = at ∙ ap (λ (x : Progress). place_next commands x + 1) here;
+        stays = tt;
+      };
+    }
+
+-- an act of an order
+chain_moved : (plan : Plan) (commands : List Task) (scope : Scope) (acts : List Act) (act : Act) (order : Order) (w : Waiting) (q : Progress) → Fine plan commands (stood plan commands scope acts)
+    → order_at plan (stood plan commands scope acts) ≡ order → IsFor plan (stood plan commands scope acts).progress w order → Obeys commands (stood plan commands scope acts) order act
+    → Steps (length commands) (bound_next commands (turned (stood plan commands scope acts).progress)) order (turned (stood plan commands scope acts).progress) q
+    → Chain plan commands scope acts (turned (stood plan commands scope acts).progress) → Chain plan commands scope (acts ++ act ∷ []) q
+chain_moved plan commands scope acts act Begin w q fine is needs o (inl k) h = chain_still plan commands scope acts act _ q k (telling_open act o) h
+chain_moved plan commands scope acts act Begin w q fine is needs o (inr a) h = chain_anew plan commands scope (acts ++ act ∷ []) q a
+chain_moved plan commands scope acts act Send w q fine is needs o n h = chain_sent plan commands scope acts act (turned (stood plan commands scope acts).progress) q refl is n needs.2 fine.unsent
+chain_moved plan commands scope acts act Skip w q fine is needs o (inl k) h = chain_still plan commands scope acts act _ q k (telling_open act o) h
+chain_moved plan commands scope acts act Skip w q fine is needs o (inr n) h = chain_skipped plan commands scope (acts ++ act ∷ []) (turned (stood plan commands scope acts).progress) q n.0 n.1 needs.2 fine.unsent
+chain_moved plan commands scope acts act (Close why) w q fine is needs o k h = chain_closed plan commands scope acts (acts ++ act ∷ []) _ q k.0 k.1 h
+chain_moved plan commands scope acts act (Stop why) w q fine is needs o k h = absurd o
+chain_moved plan commands scope acts act Tell w q fine is needs o k h = chain_still plan commands scope acts act _ q k (telling_open act o) h
+chain_moved plan commands scope acts act Open w q fine is needs o k h = chain_still plan commands scope acts act _ q k (opening_open act o) h
+chain_moved plan commands scope acts act Clear w q fine is needs o k h = chain_still plan commands scope acts act _ q k (puts_open _ act o) h
+chain_moved plan commands scope acts act Probe w q fine is needs o k h = chain_still plan commands scope acts act _ q k (puts_open _ act o) h
+chain_moved plan commands scope acts act Flush w q fine is needs o k h = chain_still plan commands scope acts act _ q k (puts_open _ act o) h
+chain_moved plan commands scope acts act Read w q fine is needs o k h = chain_still plan commands scope acts act _ q k (reading_open act o) h
+chain_moved plan commands scope acts act Rest w q fine is needs o k h = chain_still plan commands scope acts act _ q k (reading_open act o) h
+
+-- and so each run
+chain_along : (plan : Plan) (commands : List Task) (scope : Scope) (done acts : List Act) → Runs plan commands (stood plan commands scope done) acts → Chain plan commands scope done (stood plan commands scope done).progress
+    → Chain plan commands scope (done ++ acts) (stood plan commands scope (done ++ acts)).progress
+chain_along plan commands scope done [] runs h = subst (λ (xs : List Act). Chain plan commands scope xs (stood plan commands scope xs).progress) (sym (all_of done)) h where
+  all_of : (xs : List Act) → xs ++ [] ≡ xs
+  all_of [] = refl
+  all_of (x ∷ xs) = ap (λ ys. x ∷ ys) (all_of xs)
+chain_along plan commands scope done (act ∷ acts) runs h =
+    let s = stood plan commands scope done in
+    let t = moved plan commands (order_at plan s) (with_progress turned s) act in
+    let next = after_all-append plan commands (opening plan scope) done (act ∷ []) in
+    let far : (stood plan commands scope (done ++ act ∷ [])).progress ≡ t.progress = ap (λ (x : Standing). x.progress) next ∙ ended_progress t in
+    let at_turn : Chain plan commands scope done (turned s.progress) = record {
+      bound = h.bound;
+      whole = λ e.
+          let w = h.whole e in record { before = w.before; request = w.request; between = w.between; order = w.order; sends = w.sends; cycle = w.cycle; place = w.place; stays = w.stays };
+    } in
+    let one = chain_moved plan commands scope done act (order_at plan s) (waiting_of s) t.progress (fine_stood plan commands scope done) refl (order_for plan s.progress (waiting_of s)) runs.0
+    (moved_steps plan commands (order_at plan s) (with_progress turned s) act) at_turn in
+    let here = subst (λ (p : Progress). Chain plan commands scope (done ++ act ∷ []) p) (sym far) one in
+    let rest = subst (λ (x : Standing). Runs plan commands x acts) (sym next) runs.1 in
+    subst (λ (xs : List Act). Chain plan commands scope xs (stood plan commands scope xs).progress) (append_assoc done (act ∷ []) acts) (chain_along plan commands scope (done ++ act ∷ []) acts rest here)
+
+none_behind : (commands : List Task) → drop (length commands - 0) commands ≡ []
+none_behind commands = let at : length commands - 0 ≡ length commands = omega arith in ap (λ (n : ℕ). drop n commands) at ∙ all_dropped commands where
+  all_dropped : (commands : List Task) → drop (length commands) commands ≡ []
+  all_dropped [] = refl
+  all_dropped (task ∷ others) = all_dropped others
+
+chain_stood : (plan : Plan) (commands : List Task) (scope : Scope) (acts : List Act) → Runs plan commands (opening plan scope) acts → Chain plan commands scope acts (stood plan commands scope acts).progress
+chain_stood plan commands scope acts runs = chain_along plan commands scope [] acts runs (record { bound = λ above. sym (ap is_chained (none_behind commands)); whole = λ e. cc })
+
+-- What the last record says.
+
+record Last (reads : Call → List ℕ → Reading) (records : List Record) : Type 0 where
+  earlier : List Record
+  answer : Record
+  last : records ≡ earlier ++ answer ∷ []
+  line : List ℕ
+  answered : answer.end ≡ Answered line
+  well : is_value (reads answer.command.call line) ≡ true
+
+well_end : (reads : Call → List ℕ → Reading) (call : Call) (end : End) → is_well reads call end ≡ true → (line : List ℕ) × (end ≡ Answered line) × (is_value (reads call line) ≡ true)
+well_end reads call (Answered line) e = (line, refl, e)
+well_end reads call (Unreadable line fault) e = cc
+well_end reads call Late e = cc
+well_end reads call Lost e = cc
+well_end reads call Skipped e = cc
+well_end reads call Missed e = cc
+
+last_one : (reads : Call → List ℕ → Reading) (r : Record) (rs : List Record) → last_well reads (is_well reads r.command.call r.end) rs ≡ true → Last reads (r ∷ rs)
+last_one reads r [] e = let it = well_end reads r.command.call r.end e in record { earlier = []; answer = r; last = refl; line = it.0; answered = it.1; well = it.2 }
+last_one reads r (x ∷ rs) e =
+    let l = last_one reads x rs e in
+    record { earlier = r ∷ l.earlier; answer = l.answer; last = ap (λ xs. r ∷ xs) l.last; line = l.line; answered = l.answered; well = l.well }
+
+last_of : (reads : Call → List ℕ → Reading) (rs : List Record) → last_well reads false rs ≡ true → Last reads rs
+last_of reads [] e = cc
+last_of reads (r ∷ rs) e = last_one reads r rs e
+
+-- two lists with one end have one last element
+end_same : {A : Type 0} (xs ys : List A) (a b : A) → xs ++ a ∷ [] ≡ ys ++ b ∷ [] → a ≡ b
+end_same [] [] a b e = let same : Some a ≡ Some b = ap first e in cc where
+  first : {A : Type 0} → List A → Option A
+  first [] = None
+  first (x ∷ xs) = Some x
+end_same [] (y ∷ []) a b e = cc
+end_same [] (y ∷ (z ∷ ys)) a b e = cc
+end_same (x ∷ []) [] a b e = cc
+end_same (x ∷ (z ∷ xs)) [] a b e = cc
+end_same (x ∷ xs) (y ∷ ys) a b e = end_same xs ys a b (ap (drop 1) e)
+
+all_last : {A : Type 0} (P : A → Type 0) (xs : List A) (x : A) → AllByRecursion P (xs ++ x ∷ []) → P x
+all_last P [] x all = all.0
+all_last P (y ∷ xs) x all = all_last P xs x all.1
+
+-- the last of the commands that were sent
+last_sent : (commands : List Task) (begun place : ℕ) (left : List Task) → drop place commands ≡ left → 0 < length left → 0 < begun → (task : Task) × (sent_by commands begun place ++ requests begun place (of_task task ∷ []) ≡ sent_by commands begun (place + 1))
+last_sent commands begun place [] at some many = absurd (omega (arith, some))
+last_sent commands begun place (task ∷ others) at some many = (task, sent_next commands begun place task others at many)
+
+pub chain_kept : (plan : Plan) (commands : List Task) (scope : Scope) (acts : List Act) → Runs plan commands (opening plan scope) acts
+    → order_at plan (stood plan commands scope acts) ≡ Send → IsChained commands (stood plan commands scope acts) → IsLinked plan commands scope acts
+chain_kept plan commands scope acts runs is chained = of_may needs.4 where
+  s : Standing
+  s = stood plan commands scope acts
+
+  h : Chain plan commands scope acts s.progress
+  h = chain_stood plan commands scope acts runs
+
+  fine : Fine plan commands s
+  fine = fine_stood plan commands scope acts
+
+  needs : IsFor plan s.progress (waiting_of s) Send
+  needs = subst (λ (o : Order). IsFor plan s.progress (waiting_of s) o) is (order_for plan s.progress (waiting_of s))
+
+  bound : s.progress.bound ≡ true
+  bound = h.bound chained.0 ∙ ap (λ (b : Bool). s.progress.missed || b) chained.1 ∙ or_true s.progress.missed where
+    or_true : (b : Bool) → (b || true) ≡ true
+    or_true true = refl
+    or_true false = refl
+
+  of_last : commands_in s.marks ≡ 0 → Last scope.reads s.records → Whole plan commands scope acts s.progress → IsLinked plan commands scope acts
+  of_last settled l w =
+      let b = stood plan commands scope w.before in
+      let before = fine_stood plan commands scope w.before in
+      let asked = subst (λ (o : Order). IsFor plan b.progress (waiting_of b) o) w.sends (order_for plan b.progress (waiting_of b)) in
+      let some = asked.2 in
+      let below = before.begun some in
+      let many : 0 < cycles_begun plan b.progress = omega (arith, below) in
+      let place = place_next commands b.progress in
+      let cycle = cycles_begun plan b.progress in
+      let left : 0 < length (drop place commands) = let n = length-drop place commands in omega (arith, n, some, before.unsent) in
+      let sent = last_sent commands cycle place (drop place commands) refl left many in
+      let all = each_settled s.marks s.client.waiting s.records (sent_by commands (cycles_begun plan s.progress) (place_next commands s.progress)) settled fine.each in
+      let there : sent_by commands (cycles_begun plan s.progress) (place_next commands s.progress) ≡ sent_by commands cycle (place + 1) =
+      ap (λ (n : ℕ). sent_by commands n (place_next commands s.progress)) w.cycle ∙ ap (λ (n : ℕ). sent_by commands cycle n) w.place in
+      let ends : map of_record l.earlier ++ of_record l.answer ∷ [] ≡ sent_by commands cycle place ++ requests cycle place (of_task sent.0 ∷ []) =
+      sym (map-append of_record l.earlier (l.answer ∷ [])) ∙ ap (map of_record) (sym l.last) ∙ all ∙ there ∙ sym sent.1 in
+      let own = end_same (map of_record l.earlier) (sent_by commands cycle place) (of_record l.answer) (record { cycle = cycle; place = place; asked = of_task sent.0 }) ends in
+      let true_one = all_last (IsTrueRecord plan commands scope acts) l.earlier l.answer (subst (λ (rs : List Record). AllByRecursion (IsTrueRecord plan commands scope acts) rs) l.last (answers_true plan commands scope acts runs)) in
+      record {
+        before = w.before;
+        request = w.request;
+        between = w.between;
+        order = w.order;
+        sends = w.sends;
+        cycle = w.cycle;
+        place = w.place;
+        stays = w.stays;
+        earlier = l.earlier;
+        answer = l.answer;
+        last = l.last;
+        own_cycle = ap (λ (r : Request). r.cycle) own;
+        own_place = ap (λ (r : Request). r.place) own;
+        line = l.line;
+        answered = l.answered;
+        well = l.well;
+        in_time = true_one l.line (ap answer_of l.answered);
+      }
+
+  of_may : MayGo s.progress (waiting_of s) → IsLinked plan commands scope acts
+  of_may (inl free) = absurd (clash s.progress.bound bound free)
+  of_may (inr it) = of_last it.0 (last_of scope.reads s.records (ap (λ (reads : Call → List ℕ → Reading). last_well reads false s.records) (sym (stood_reads plan commands scope acts)) ∙ it.1)) (h.whole it.2)

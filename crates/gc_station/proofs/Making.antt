@@ -1,0 +1,168 @@
+-- What the calls of a station make: where it stands behind one act more.
+use Rattle.std.proofs.Common.{◌≡◌, ℕ, zero, suc, ◌+◌, ◌<◌, Bool, true, false, List, [], ◌∷◌, ◌++◌, length, drop, get_or, if◌then◌else◌, nat_eq, Option, Some, Result, Ok, Err, refl, sym, ap, ◌∙◌, subst, append-nil, arith}
+use Rattle.std.proofs.lemmas.Bool.{ne_eqb}
+use Rattle.std.proofs.lemmas.List.{length-append}
+use Rattle.gc_lines.specs.Assembler.{StandsFor}
+use Rattle.gc_catalogue.specs.declared.answer.Reading.{Reading}
+use Rattle.gc_catalogue.specs.declared.call.Call.{Call}
+use Rattle.gc_client.specs.declared.window.TheConstants.{WINDOW}
+use Rattle.gc_client.specs.Rule.{ById, sends, id_send}
+use Rattle.gc_texts.specs.Endings.{End, Skipped, Missed}
+use Rattle.gc_texts.specs.declared.commands.Command.{Command}
+use Rattle.gc_texts.specs.declared.tasks.Task.{Task}
+use Rattle.gc_station.specs.declared.link.Moment.{Moment}
+use Rattle.gc_station.specs.declared.mark.Mark.{Mark}
+use Rattle.gc_station.specs.declared.plan.Plan.{Plan}
+use Rattle.gc_station.specs.declared.cause.Cause.TheVariants as cause
+use Rattle.gc_station.specs.declared.progress.Progress.{Progress}
+use Rattle.gc_station.specs.declared.station.Station.{Station}
+use Rattle.gc_station.specs.Acts.{Act, Tells, put_as, IsPart}
+use Rattle.gc_station.specs.Deciding.{later}
+use Rattle.gc_station.specs.Marks.{is_well, last_well}
+use Rattle.gc_station.specs.Progressing.{failing, skipped_at}
+use Rattle.gc_station.specs.Records.{Record}
+use Rattle.gc_station.specs.Standing.{Standing, is_nil, Puts, IsReading, client_sent, asks, asks_first, skips_first, with_progress, with_records, after_put, after_read, moved}
+use Rattle.gc_station.specs.Stations.{Stands, Took, Makes, Made, Follows, cut_progress, read_order}
+use Rattle.gc_station.specs.Tallies.{none_yet, tallied}
+use Rattle.gc_station.proofs.Records.{tallied-append, last-append}
+
+-- how far it is changes, and nothing else
+pub stands_with : (station : Station) (p : Progress) (f : Progress → Progress) (s : Standing) → Stands station s → p ≡ f station.progress → Stands (record station { progress = p }) (with_progress f s)
+stands_with station p f s stands is = record {
+  progress = is ∙ ap f stands.progress;
+  ids = stands.ids;
+  width = stands.width;
+  marks = stands.marks;
+  paired = stands.paired;
+  assembles = stands.assembles;
+  tally = stands.tally;
+  well = stands.well;
+}
+
+-- Bytes are put.
+
+pub put_puts : (put : Result (Unit {0}) ℕ) (bytes want : List ℕ) → bytes ≡ want → IsPart put bytes → Puts want (put_as put bytes)
+put_puts (Ok r) bytes want is part = is
+put_puts (Err n) bytes want is part = (is, subst (λ (xs : List ℕ). n < length xs) is part)
+
+pub put_stands : (put : Result (Unit {0}) ℕ) (bytes : List ℕ) (requests wanted : ℕ) (f : Standing → Standing) (s : Standing) (mid new : Station) → Stands mid (f s)
+    → new ≡ record mid { progress = cut_progress put requests mid.progress } → requests ≡ wanted → Stands new (after_put wanted f s (put_as put bytes))
+put_stands (Ok r) bytes requests wanted f s mid new stands is same = subst (λ (x : Station). Stands x (f s)) (sym is) stands
+put_stands (Err n) bytes requests wanted f s mid new stands is same =
+    let why = ap (λ (k : ℕ). failing (cause.Write k n) mid.progress) same in
+    subst (λ (x : Station). Stands x (with_progress (failing (cause.Write wanted n)) (f s))) (sym is) (stands_with mid (cut_progress (Err n) requests mid.progress) (failing (cause.Write wanted n)) (f s) stands why)
+
+pub put_took : (text : Record → List ℕ) (start taken : Option (List ℕ)) (put : Result (Unit {0}) ℕ) (bytes : List ℕ) (requests : ℕ) (f : Standing → Standing) (s : Standing) → Took text start taken (f s) → Took text start taken (after_put requests f s (put_as put bytes))
+put_took text start taken (Ok r) bytes requests f s so = so
+put_took text start taken (Err n) bytes requests f s so = so
+
+-- Requests are sent.
+
+abbrev sent_to : ℕ → ById → Command → ℕ → ℕ → ById
+sent_to width ids command now wait = client_sent ids (sends width ids command.target command.call (later now wait))
+
+sent_count : (c : ById) (target : ℕ) (call : Call) (deadline : ℕ) (b : Bool) → b ≡ false → length (client_sent c (id_send c target call deadline b)).waiting ≡ length c.waiting + 1
+sent_count c target call deadline true e = cc
+sent_count c target call deadline false e = length-append c.waiting _
+
+pub asks_stands : (old new : Station) (s : Standing) (wait : ℕ) (command other : Command) (mark : Option Mark) → Stands old s → length old.client.ids.waiting < WINDOW → command ≡ other
+    → new ≡ record old {
+      client = record old.client { ids = client_sent old.client.ids (sends old.client.width old.client.ids command.target command.call (later old.progress.moment.elapsed wait)) };
+      marks = record { items = old.marks.items ++ mark ∷ [] };
+    }
+    → Stands new (asks wait other.target other.call mark s)
+asks_stands old new s wait command other mark stands room e is =
+    let elapsed = old.progress.moment.elapsed in
+    let fewer : length s.client.waiting < WINDOW = subst (λ (c : ById). length c.waiting < WINDOW) stands.ids room in
+    let more = sent_count s.client other.target other.call (later s.progress.moment.elapsed wait) (nat_eq (length s.client.waiting) WINDOW) (ne_eqb (length s.client.waiting) WINDOW (λ same. omega (arith, same, fewer))) in
+    let marks : length (s.marks ++ mark ∷ []) ≡ length s.marks + 1 = length-append s.marks (mark ∷ []) in
+    record {
+      progress = ap (λ (n : Station). n.progress) is ∙ stands.progress;
+      ids = ap (λ (n : Station). n.client.ids) is
+          ∙ ap (λ width. sent_to width old.client.ids command elapsed wait) stands.width
+          ∙ ap (λ ids. sent_to WINDOW ids command elapsed wait) stands.ids
+          ∙ ap (λ x. sent_to WINDOW s.client x elapsed wait) e
+          ∙ ap (λ (p : Progress). sent_to WINDOW s.client other p.moment.elapsed wait) stands.progress;
+      width = ap (λ (n : Station). n.client.width) is ∙ stands.width;
+      marks = ap (λ (n : Station). n.marks.items) is ∙ ap (λ ms. ms ++ mark ∷ []) stands.marks;
+      paired = marks ∙ ap (λ n. n + 1) stands.paired ∙ sym more;
+      assembles = subst (λ (x : Station). StandsFor x.assembler s.rest) (sym is) stands.assembles;
+      tally = λ are. ap (λ (n : Station). n.tally) is ∙ stands.tally are;
+      well = λ are. ap (λ (n : Station). n.well) is ∙ stands.well are;
+    }
+
+-- the first of those behind a place is the one at it
+pub drop_here : {A : Type 0} (xs : List A) (i : ℕ) (x : A) → i < length xs → x ≡ get_or xs i x → (others : List A) × (drop i xs ≡ x ∷ others)
+drop_here [] i x below e = absurd (omega (arith, below))
+drop_here (y ∷ ys) zero x below e = (ys, ap (λ z. z ∷ ys) (sym e))
+drop_here (y ∷ ys) (suc i) x below e = drop_here ys i x (omega (arith, below)) e
+
+-- there is one
+pub drop_some : {A : Type 0} (xs : List A) (i : ℕ) → i < length xs → (x : A) × (others : List A) × (drop i xs ≡ x ∷ others)
+drop_some [] i below = absurd (omega (arith, below))
+drop_some (y ∷ ys) zero below = (y, ys, refl)
+drop_some (y ∷ ys) (suc i) below = drop_some ys i (omega (arith, below))
+
+pub first_stands : (new : Station) (s : Standing) (mark mark' : Mark) (list : List Task) (task : Task) (others : List Task) → list ≡ task ∷ others → mark ≡ mark'
+    → Stands new (asks task.deadline task.command.target task.command.call (Some mark) s) → Stands new (asks_first mark' list s)
+first_stands new s mark mark' list task others is e stands =
+    subst (λ (ts : List Task). Stands new (asks_first mark' ts s)) (sym is) (subst (λ (m : Mark). Stands new (asks task.deadline task.command.target task.command.call (Some m) s)) e stands)
+
+pub first_took : (text : Record → List ℕ) (start taken : Option (List ℕ)) (s : Standing) (mark : Mark) (list : List Task) → Took text start taken s → Took text start taken (asks_first mark list s)
+first_took text start taken s mark [] so = so
+first_took text start taken s mark (task ∷ others) so = so
+
+-- A command is skipped.
+
+-- its record
+pub skips_as : (p : Progress) (m : Moment) (mark mark' : Mark) (utc : ℕ) (end : End) (list : List Task) (task : Task) (others : List Task) → list ≡ task ∷ others → mark ≡ mark' → utc ≡ skipped_at m p → end ≡ (if p.missed then Missed else Skipped)
+    → record { utc = utc; cycle = mark.cycle; place = mark.place; command = task.command; end = end } ∷ [] ≡ skips_first p m mark' list
+skips_as p m mark mark' utc end list task others is e at ends =
+    ap (λ (u : ℕ). record { utc = u; cycle = mark.cycle; place = mark.place; command = task.command; end = end } ∷ []) at
+    ∙ ap (λ (x : Mark). record { utc = skipped_at m p; cycle = x.cycle; place = x.place; command = task.command; end = end } ∷ []) e
+    ∙ ap (λ (x : End). record { utc = skipped_at m p; cycle = mark'.cycle; place = mark'.place; command = task.command; end = x } ∷ []) ends
+    ∙ sym (ap (skips_first p m mark') is)
+
+unwell_end : (reads : Call → List ℕ → Reading) (call : Call) (b : Bool) → is_well reads call (if b then Missed else Skipped) ≡ false
+unwell_end reads call true = refl
+unwell_end reads call false = refl
+
+-- it wasn't answered well
+pub skips_unwell : (reads : Call → List ℕ → Reading) (b : Bool) (p : Progress) (m : Moment) (mark : Mark) (list : List Task) (task : Task) (others : List Task) → list ≡ task ∷ others → last_well reads b (skips_first p m mark list) ≡ false
+skips_unwell reads b p m mark list task others is = ap (λ ts. last_well reads b (skips_first p m mark ts)) is ∙ unwell_end reads task.command.call p.missed
+
+pub skipped_stands : (old new : Station) (s : Standing) (rs : List Record) → Stands old s → ((reads : Call → List ℕ → Reading) (b : Bool) → last_well reads b rs ≡ false)
+    → new ≡ record old { tally = tallied old.tally rs; well = false } → Stands new (with_records rs s)
+skipped_stands old new s rs stands unwell is = record {
+  progress = ap (λ (n : Station). n.progress) is ∙ stands.progress;
+  ids = ap (λ (n : Station). n.client.ids) is ∙ stands.ids;
+  width = ap (λ (n : Station). n.client.width) is ∙ stands.width;
+  marks = ap (λ (n : Station). n.marks.items) is ∙ stands.marks;
+  paired = stands.paired;
+  assembles = subst (λ (x : Station). StandsFor x.assembler s.rest) (sym is) stands.assembles;
+  tally = λ are. ap (λ (n : Station). n.tally) is ∙ ap (λ t. tallied t rs) (stands.tally are) ∙ sym (tallied-append none_yet s.records rs);
+  well = λ are. ap (λ (n : Station). n.well) is ∙ sym (last-append s.reads false s.records rs ∙ unwell s.reads (last_well s.reads false s.records));
+}
+
+-- or not
+pub none_skipped : (s : Standing) → with_records [] s ≡ s
+none_skipped s = ap (λ (rs : List Record). record s { records = rs }) (append-nil s.records)
+
+-- A read.
+
+pub makes_read : (plan : Plan) (commands : List Task) (rested : Bool) (text : Record → List ℕ) (told told' : Option (List Act)) (taken taken' : Option (List ℕ)) (station new : Station) (act : Act) → Tells told told' (act ∷ []) → IsReading act
+    → ((s : Standing) (start : Option (List ℕ)) → Stands station s → Took text start taken s → Stands new (after_read plan rested s act) × Took text start taken' (after_read plan rested s act))
+    → Makes commands (read_order rested) (moved plan commands (read_order rested)) text told told' taken taken' station new
+makes_read plan commands true text told told' taken taken' station new act tells reads goes = record { act = act; tells = tells; goes = λ s start stands so. let g = goes s start stands so in (reads, g.0, g.1) }
+makes_read plan commands false text told told' taken taken' station new act tells reads goes = record { act = act; tells = tells; goes = λ s start stands so. let g = goes s start stands so in (reads, g.0, g.1) }
+
+pub made_read : {X E : Type 0} (plan : Plan) (commands : List Task) (rested : Bool) (text : Record → List ℕ) (told told' : Option (List Act)) (taken taken' : Option (List ℕ)) (station new : Station) (act : Act) (result : Result X E) → Tells told told' (act ∷ []) → IsReading act
+    → ((s : Standing) (start : Option (List ℕ)) → Stands station s → Took text start taken s → Follows text s.records new start taken' (after_read plan rested s act) result)
+    → Made commands (read_order rested) (moved plan commands (read_order rested)) text told told' taken taken' station new result
+made_read plan commands rested text told told' taken taken' station new act (Ok r) tells reads goes = makes_read plan commands rested text told told' taken taken' station new act tells reads goes
+made_read plan commands true text told told' taken taken' station new act (Err r) tells reads goes = record { act = act; tells = tells; goes = λ s start stands so. (reads, goes s start stands so) }
+made_read plan commands false text told told' taken taken' station new act (Err r) tells reads goes = record { act = act; tells = tells; goes = λ s start stands so. (reads, goes s start stands so) }
+
+pub nil_count : (xs : List ℕ) → nat_eq (length xs) 0 ≡ is_nil xs
+nil_count [] = refl
+nil_count (x ∷ xs) = ne_eqb (length (x ∷ xs)) 0 (λ e. omega (arith, e))

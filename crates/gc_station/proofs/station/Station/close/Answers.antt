@@ -1,0 +1,31 @@
+use Rattle.std.proofs.Common.{refl, ap, ◌∙◌}
+use Rattle.gc_station.specs.declared.progress.Waiting.{Waiting}
+use Rattle.gc_station.specs.Acts.{Closed}
+use Rattle.gc_station.specs.Standing.{waiting_of}
+use Rattle.gc_station.proofs.Hearing.{all_same, commands_same, closed_same}
+use Rattle.gc_station.proofs.station.Station.close.Goals as goal
+
+pub returns : goal.returns
+returns g c commands text known =
+    let old = c.args.self.now in
+    let plan = c.args.plan.now in
+    let w = c.waiting-waiting.result in
+    let is = c.waiting-waiting.ensures in
+    record {
+      act = Closed;
+      tells = c.close.ensures;
+      goes = λ s start stands so. (
+        refl,
+        record {
+          progress = c.close-2.ensures ∙ closed_same plan w (waiting_of s) c.args.cause old.progress s.progress (ap (λ (x : Waiting). x.all) is ∙ all_same old s stands) (ap (λ (x : Waiting). x.commands) is ∙ commands_same old s stands) stands.progress;
+          ids = stands.ids;
+          width = stands.width;
+          marks = stands.marks;
+          paired = stands.paired;
+          assembles = c.new-self.ensures;
+          tally = stands.tally;
+          well = stands.well;
+        },
+        so,
+      );
+    }

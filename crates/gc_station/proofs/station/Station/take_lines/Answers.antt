@@ -1,0 +1,19 @@
+use Rattle.std.proofs.Common.{ap, sym, ◌∙◌, subst}
+use Rattle.gc_station.specs.declared.progress.Progress.{Progress}
+use Rattle.gc_station.specs.Standing.{is_heard, came}
+use Rattle.gc_station.specs.Stations.{Stands, Took, Follows}
+use Rattle.gc_station.proofs.station.Station.take_lines.Goals as goal
+
+pub returns-then-not-is_heard-clause-takes : goal.returns-then-not-is_heard-clause-takes
+returns-then-not-is_heard-clause-takes g c s start stands so =
+    let self = c.args.self.now in
+    let piece = c.args.piece.now in
+    let taken = g.B.Book.taken c.args.book.now in
+    let heard = sym c.if-not-is_heard.true ∙ c.is_heard.ensures ∙ ap (λ (p : Progress). is_heard p.phase) stands.progress in
+    subst (λ b. Stands self (came b piece s) × Took (g.B.Book.text c.args.book.now) start taken (came b piece s)) heard (stands, so)
+
+pub returns-clause-takes : goal.returns-clause-takes
+returns-clause-takes g c s start stands so =
+    let piece = c.args.piece.now in
+    let heard = sym c.if-not-is_heard.false ∙ c.is_heard.ensures ∙ ap (λ (p : Progress). is_heard p.phase) stands.progress in
+    subst (λ b. Follows (g.B.Book.text c.args.book.now) s.records c.listen.new.self start (g.B.Book.taken c.listen.new.book) (came b piece s) c.listen.result) heard (c.listen.ensures.listens s start stands so)

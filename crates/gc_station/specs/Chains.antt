@@ -1,0 +1,42 @@
+-- Chains, this project's own: a command of a chain goes out only once the one before it in its cycle was answered well, on the connection
+-- on which that went out.
+use Rattle.std.specs.Prelude.{◌≡◌, ℕ, ◌+◌, ◌<◌, true, List, [], ◌∷◌, ◌++◌, drop, Some}
+use Rattle.std.specs.List.{AllByRecursion}
+use Rattle.gc_texts.specs.Endings.{Answered}
+use Rattle.gc_texts.specs.declared.tasks.Task.{Task}
+use Rattle.gc_station.specs.declared.plan.Plan.{Plan}
+use Rattle.gc_station.specs.declared.progress.Order.TheVariants.{Send}
+use Rattle.gc_station.specs.Acts.{Act}
+use Rattle.gc_station.specs.Answers.{IsAnsweredIn}
+use Rattle.gc_station.specs.Ends.{IsOwnRequest}
+use Rattle.gc_station.specs.Marks.{is_value}
+use Rattle.gc_station.specs.Probing.{KeepsOpen}
+use Rattle.gc_station.specs.Records.{Record}
+use Rattle.gc_station.specs.Runs.{stood}
+use Rattle.gc_station.specs.Scopes.{Scope}
+use Rattle.gc_station.specs.Standing.{Standing, order_at, cycles_begun, place_next, is_chained}
+
+-- the next command is not the first of its cycle, and is of a chain, and not its first
+abbrev pub IsChained : List Task → Standing → Type 0
+IsChained commands s = (0 < place_next commands s.progress) × (is_chained (drop (place_next commands s.progress) commands) ≡ true)
+
+-- behind these acts the command before the next one, of the same cycle, went out, and no connection was closed since; its record is the
+-- last one, and is an answer, which came in time with the id of that very request, with both codes 0 and values that read
+pub record IsLinked (plan : Plan) (commands : List Task) (scope : Scope) (acts : List Act) : Type 0 where
+  pub before : List Act
+  pub request : Act
+  pub between : List Act
+  pub order : acts ≡ before ++ request ∷ between
+  pub sends : order_at plan (stood plan commands scope before) ≡ Send
+  pub cycle : cycles_begun plan (stood plan commands scope acts).progress ≡ cycles_begun plan (stood plan commands scope before).progress
+  pub place : place_next commands (stood plan commands scope acts).progress ≡ place_next commands (stood plan commands scope before).progress + 1
+  pub stays : AllByRecursion KeepsOpen between
+  pub earlier : List Record
+  pub answer : Record
+  pub last : (stood plan commands scope acts).records ≡ earlier ++ answer ∷ []
+  pub own_cycle : answer.cycle ≡ cycles_begun plan (stood plan commands scope before).progress
+  pub own_place : answer.place ≡ place_next commands (stood plan commands scope before).progress
+  pub line : List ℕ
+  pub answered : answer.end ≡ Answered line
+  pub well : is_value (scope.reads answer.command.call line) ≡ true
+  pub in_time : IsAnsweredIn plan commands scope acts answer line

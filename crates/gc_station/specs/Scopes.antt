@@ -1,0 +1,17 @@
+-- What a run of a station is looked at with, this project's own: how many acts it makes at most, and what each reply says of its call.
+use Rattle.std.specs.Prelude.{◌≡◌, ℕ, List}
+use Rattle.gc_catalogue.specs.declared.answer.Reading.{Reading}
+use Rattle.gc_catalogue.specs.declared.call.Call.{Call}
+use Rattle.gc_client.specs.Settlements.{ReadsAs}
+
+pub record Scope : Type 0 where
+  pub turns : ℕ
+  pub reads : Call → List ℕ → Reading
+
+-- each line that is a reply says this of its call
+abbrev pub AreReadings : (Call → List ℕ → Reading) → Type 0
+AreReadings reads = (call : Call) (line : List ℕ) (reading : Reading) → ReadsAs call line reading → reads call line ≡ reading
+
+-- a line says one thing of a call at most
+abbrev pub OneReadingForALine : Type 0
+OneReadingForALine = (call : Call) (line : List ℕ) (x y : Reading) → ReadsAs call line x → ReadsAs call line y → x ≡ y

@@ -1,0 +1,168 @@
+-- The bytes of a log line: none of them is a space in its moment, and all of them are printable.
+use Rattle.std.proofs.Common.{◌≡◌, ℕ, zero, suc, ◌+◌, ◌/◌, ◌%◌, ◌<◌, ◌≤◌, ◌^◌, Bool, true, false, List, [], ◌∷◌, ◌++◌, refl, sym, subst, arith}
+use Rattle.std.specs.Prelude.{nat_lt, ◌==◌, ◌&&◌, not}
+use Rattle.std.specs.Fmt.{decimal}
+use Rattle.std.specs.List.{All, AllByRecursion}
+use Rattle.std.specs.Str.Parse.{AllDigits}
+use Rattle.std.proofs.Math.Nat.{div-add-mod}
+use Rattle.std.proofs.lemmas.Fmt.{decimal_is_IsNumeral}
+use Rattle.std.proofs.lemmas.Str.Parse.{digit_from_value}
+use Rattle.std.proofs.lemmas.Bool.{cond_both, ltb-true}
+use Rattle.std.proofs.lemmas.List.Elements.{recursion_from_All, All-from_recursion, All-append}
+use Rattle.gc_texts.specs.Cuts.{Lacks}
+use Rattle.gc_texts.specs.Laws.{LogLinesReadBack, LogLinesArePrintable}
+use Rattle.gc_texts.specs.Logs.{mark_text, is_as_it_is, hex_digit, escape, escaped}
+use Rattle.gc_texts.specs.Stamps.{next_day, days_after, date_of, month_days, two_digits, three_digits, date_text, time_text, stamp_text}
+use Rattle.gc_texts.specs.declared.log_line.LogMark.{LogMark}
+use Rattle.gc_texts.specs.declared.log_line.LogMark.TheVariants.{Went, WentPart, Came, CamePart, Link}
+use Rattle.gc_texts.specs.declared.stamp.Date.{Date}
+use Rattle.gc_texts.proofs.Dates.{few_days}
+use Rattle.gc_texts.proofs.Logs.{one_reading}
+
+-- a byte of a moment
+record IsInk (b : ℕ) : Type 0 where
+  above : 32 < b
+  below : b ≤ 126
+
+-- a byte of a line
+abbrev IsPrintable : ℕ → Type 0
+IsPrintable b = (32 ≤ b) × (b ≤ 126)
+
+ink : (b : ℕ) → 32 < b → b ≤ 126 → IsInk b
+ink b above below = record { above = above; below = below }
+
+digits_ink : (ds : List ℕ) → AllDigits 10 ds → AllByRecursion IsInk ds
+digits_ink [] digits = tt
+digits_ink (d ∷ ds) digits = let r = digit_from_value d digits.0 in (ink d (omega (arith, r.0)) (omega (arith, r.1)), digits_ink ds digits.1)
+
+decimal_ink : (n : ℕ) → n < 2 ^ 64 → All IsInk (decimal n)
+decimal_ink n h = All-from_recursion IsInk (decimal n) (digits_ink (decimal n) (decimal_is_IsNumeral n h).0.1)
+
+one_ink : (b : ℕ) → 32 < b → b ≤ 126 → All IsInk (b ∷ [])
+one_ink b above below = All-from_recursion IsInk (b ∷ []) (ink b above below, tt)
+
+two_ink : (n : ℕ) → n < 100 → All IsInk (two_digits n)
+two_ink n h = All-from_recursion IsInk (two_digits n) (ink (48 + n / 10) (omega arith) (omega (arith, h, div-add-mod n 10)), (ink (48 + n % 10) (omega arith) (omega arith), tt))
+
+three_ink : (n : ℕ) → n < 1000 → All IsInk (three_digits n)
+three_ink n h = All-append IsInk ((48 + n / 100) ∷ []) (two_digits (n % 100)) (one_ink (48 + n / 100) (omega arith) (omega (arith, h, div-add-mod n 100))) (two_ink (n % 100) (omega arith))
+
+both : (xs ys : List ℕ) → All IsInk xs → All IsInk ys → All IsInk (xs ++ ys)
+both xs ys = All-append IsInk xs ys
+
+-- the numbers of a day, so many days behind one
+record IsWithin (d : Date) (year : ℕ) : Type 0 where
+  month : d.month ≤ 12
+  day : d.day ≤ 31
+  years : d.year ≤ year
+
+next_within : (d : Date) (year : ℕ) → IsWithin d year → IsWithin (next_day d) (suc year)
+next_within d year h =
+    cond_both (nat_lt d.day (month_days d.year d.month)) _ _ (λ e. IsWithin e (suc year))
+    (λ less. record { month = h.month; day = omega (arith, ltb-true d.day (month_days d.year d.month) less, few_days d.year d.month); years = omega (arith, h.years) })
+    (λ _. cond_both (nat_lt d.month 12) _ _ (λ e. IsWithin e (suc year))
+    (λ less. record { month = omega (arith, ltb-true d.month 12 less); day = omega arith; years = omega (arith, h.years) })
+    (λ _. record { month = omega arith; day = omega arith; years = omega (arith, h.years) }))
+
+later_within : (n : ℕ) (d : Date) (year : ℕ) → IsWithin d year → IsWithin (days_after n d) (year + n)
+unfolding days_after
+later_within zero d year h = let e : year + 0 ≡ year = omega arith in subst (IsWithin d) (sym e) h
+later_within (suc n) d year h = let e : year + suc n ≡ suc year + n = omega arith in subst (IsWithin (days_after n (next_day d))) (sym e) (later_within n (next_day d) (suc year) (next_within d year h))
+
+date_within : (n : ℕ) → IsWithin (date_of n) (1970 + n)
+date_within n = later_within n (record { year = 1970; month = 1; day = 1 }) 1970 (record { month = omega arith; day = omega arith; years = omega arith })
+
+date_ink : (d : Date) → d.year < 2 ^ 64 → d.month < 100 → d.day < 100 → All IsInk (date_text d)
+date_ink d year month day =
+    let dash = one_ink 45 (omega arith) (omega arith) in
+    let first = both (decimal d.year) (45 ∷ []) (decimal_ink d.year year) dash in
+    let second = both (decimal d.year ++ 45 ∷ []) (two_digits d.month) first (two_ink d.month month) in
+    let third = both (decimal d.year ++ 45 ∷ [] ++ two_digits d.month) (45 ∷ []) second dash in
+    both (decimal d.year ++ 45 ∷ [] ++ two_digits d.month ++ 45 ∷ []) (two_digits d.day) third (two_ink d.day day)
+
+time_ink : (millis : ℕ) → millis < 86400000 → All IsInk (time_text millis)
+time_ink millis h =
+    let hours = two_ink (millis / 3600000) (omega (arith, h, div-add-mod millis 3600000)) in
+    let minutes = two_ink (millis / 60000 % 60) (omega arith) in
+    let seconds = two_ink (millis / 1000 % 60) (omega arith) in
+    let colon = one_ink 58 (omega arith) (omega arith) in
+    let point = one_ink 46 (omega arith) (omega arith) in
+    let rest = three_digits (millis % 1000) in
+    let least : All IsInk (46 ∷ rest) = both (46 ∷ []) rest point (three_ink (millis % 1000) (omega arith)) in
+    let third : All IsInk (58 ∷ (two_digits (millis / 1000 % 60) ++ 46 ∷ rest)) =
+    both (58 ∷ []) (two_digits (millis / 1000 % 60) ++ 46 ∷ rest) colon (both (two_digits (millis / 1000 % 60)) (46 ∷ rest) seconds least) in
+    let second : All IsInk (58 ∷ (two_digits (millis / 60000 % 60) ++ 58 ∷ (two_digits (millis / 1000 % 60) ++ 46 ∷ rest))) =
+    both (58 ∷ []) (two_digits (millis / 60000 % 60) ++ 58 ∷ (two_digits (millis / 1000 % 60) ++ 46 ∷ rest)) colon (both (two_digits (millis / 60000 % 60)) (58 ∷ (two_digits (millis / 1000 % 60) ++ 46 ∷ rest)) minutes third) in
+    both (two_digits (millis / 3600000)) (58 ∷ (two_digits (millis / 60000 % 60) ++ 58 ∷ (two_digits (millis / 1000 % 60) ++ 46 ∷ rest))) hours second
+
+stamp_ink : (utc : ℕ) → utc < 2 ^ 64 → All IsInk (stamp_text utc)
+stamp_ink utc h =
+    let days = utc / 86400000 in
+    let d = date_within days in
+    let few : days < 2 ^ 63 = omega (arith, h, div-add-mod utc 86400000) in
+    let moment = time_text (utc % 86400000) in
+    let first = both (date_text (date_of days)) (84 ∷ []) (date_ink (date_of days) (omega (arith, few, d.years)) (omega (arith, d.month)) (omega (arith, d.day))) (one_ink 84 (omega arith) (omega arith)) in
+    let second = both (date_text (date_of days) ++ 84 ∷ []) moment first (time_ink (utc % 86400000) (omega arith)) in
+    both (date_text (date_of days) ++ 84 ∷ [] ++ moment) (90 ∷ []) second (one_ink 90 (omega arith) (omega arith))
+
+-- ink is no space
+ink_lacks : (bs : List ℕ) → AllByRecursion IsInk bs → Lacks 32 bs
+ink_lacks [] h = tt
+ink_lacks (b ∷ bs) h = ((λ e. absurd (omega (arith, e, h.0.above))), ink_lacks bs h.1)
+
+ink_prints : (bs : List ℕ) → AllByRecursion IsInk bs → AllByRecursion IsPrintable bs
+ink_prints [] h = tt
+ink_prints (b ∷ bs) h = ((omega (arith, h.0.above), h.0.below), ink_prints bs h.1)
+
+-- a byte as it is written
+digit_ink : (n : ℕ) → n < 16 → IsPrintable (hex_digit n)
+digit_ink n h = cond_both (nat_lt n 10) (48 + n) (87 + n) IsPrintable (λ e. (omega (arith, h), omega (arith, h))) (λ e. (omega (arith, h), omega (arith, h)))
+
+and_left : (a b : Bool) → (a && b) ≡ true → a ≡ true
+and_left true b e = refl
+and_left false b e = e
+
+and_right : (a b : Bool) → (a && b) ≡ true → b ≡ true
+and_right true b e = e
+and_right false b e = let bad : false ≡ true = e in cc
+
+as_it_is_prints : (b : ℕ) → is_as_it_is b ≡ true → IsPrintable b
+as_it_is_prints b e =
+    let bounds = and_left (nat_lt 31 b && nat_lt b 127) (not (b == 92)) e in
+    (omega (arith, ltb-true 31 b (and_left (nat_lt 31 b) (nat_lt b 127) bounds)), omega (arith, ltb-true b 127 (and_right (nat_lt 31 b) (nat_lt b 127) bounds)))
+
+high_digit : (b : ℕ) → b < 256 → b / 16 < 16
+high_digit b h = omega (arith, h, div-add-mod b 16)
+
+escape_prints : (b : ℕ) → b < 256 → All IsPrintable (escape b)
+escape_prints b h =
+    cond_both (is_as_it_is b) (b ∷ []) (92 ∷ 120 ∷ hex_digit (b / 16) ∷ hex_digit (b % 16) ∷ []) (All IsPrintable)
+    (λ e. All-from_recursion IsPrintable (b ∷ []) (as_it_is_prints b e, tt))
+    (λ _. All-from_recursion IsPrintable (92 ∷ 120 ∷ hex_digit (b / 16) ∷ hex_digit (b % 16) ∷ [])
+    ((omega arith, omega arith), ((omega arith, omega arith), (digit_ink (b / 16) (high_digit b h), (digit_ink (b % 16) (omega arith), tt)))))
+
+escaped_prints : (bs : List ℕ) → AllByRecursion (λ b. b < 256) bs → All IsPrintable (escaped bs)
+escaped_prints [] h = All-from_recursion IsPrintable [] tt
+escaped_prints (b ∷ bs) h = All-append IsPrintable (escape b) (escaped bs) (escape_prints b h.0) (escaped_prints bs h.1)
+
+mark_prints : (mark : LogMark) → All IsPrintable (mark_text mark)
+mark_prints Went = All-from_recursion IsPrintable (62 ∷ []) ((omega arith, omega arith), tt)
+mark_prints WentPart = All-from_recursion IsPrintable (62 ∷ 124 ∷ []) ((omega arith, omega arith), ((omega arith, omega arith), tt))
+mark_prints Came = All-from_recursion IsPrintable (60 ∷ []) ((omega arith, omega arith), tt)
+mark_prints CamePart = All-from_recursion IsPrintable (60 ∷ 124 ∷ []) ((omega arith, omega arith), ((omega arith, omega arith), tt))
+mark_prints Link = All-from_recursion IsPrintable (45 ∷ []) ((omega arith, omega arith), tt)
+
+space_prints : (bs : List ℕ) → All IsPrintable bs → All IsPrintable (32 ∷ bs)
+space_prints bs h = All-append IsPrintable (32 ∷ []) bs (All-from_recursion IsPrintable (32 ∷ []) ((omega arith, omega arith), tt)) h
+
+pub read_back : LogLinesReadBack
+read_back = record {
+  written = λ utc mark bytes h are. record { is = refl; one_word = ink_lacks (stamp_text utc) (recursion_from_All IsInk (stamp_text utc) (stamp_ink utc h)); are_bytes = are };
+  once = λ text one other mark sign bytes more. one_reading text one other mark sign bytes more;
+}
+
+pub printable : LogLinesArePrintable
+printable utc mark bytes h are =
+    All-append IsPrintable (stamp_text utc) (32 ∷ (mark_text mark ++ 32 ∷ escaped bytes)) (All-from_recursion IsPrintable (stamp_text utc) (ink_prints (stamp_text utc) (recursion_from_All IsInk (stamp_text utc) (stamp_ink utc h))))
+    (space_prints (mark_text mark ++ 32 ∷ escaped bytes) (All-append IsPrintable (mark_text mark) (32 ∷ escaped bytes) (mark_prints mark)
+    (space_prints (escaped bytes) (escaped_prints bytes (recursion_from_All (λ b. b < 256) bytes are)))))

@@ -1,0 +1,191 @@
+-- Lines of a log: each byte reads back, and so does each line.
+use Rattle.std.proofs.Common.{◌≡◌, ◌≢◌, ℕ, ◌+◌, ◌/◌, ◌%◌, ◌<◌, ◌≤◌, Bool, true, false, cond, List, [], ◌∷◌, ◌++◌, length, Option, Some, None, refl, sym, ap, subst, ◌∙◌, arith, append_assoc, append-nil, length-append}
+use Rattle.std.specs.List.{All, AllByRecursion}
+use Rattle.std.specs.Prelude.{nat_lt, ◌==◌}
+use Rattle.std.proofs.Math.Nat.{div-add-mod}
+use Rattle.std.proofs.lemmas.Bool.{cond_both, eqb-true, ltb-true, ltb-false}
+use Rattle.std.proofs.lemmas.List.Elements.{recursion_from_All}
+use Rattle.gc_texts.specs.Cuts.{Lacks, Cuts}
+use Rattle.gc_texts.specs.Logs.{mark_text, is_as_it_is, hex_digit, escape, escaped, IsLogLine}
+use Rattle.gc_texts.specs.declared.log_line.LogMark.{LogMark}
+use Rattle.gc_texts.specs.declared.log_line.LogMark.TheVariants.{Went, WentPart, Came, CamePart, Link}
+use Rattle.gc_texts.proofs.Cutting.{cut_found, one_front}
+
+abbrev IsByte : ℕ → Type 0
+IsByte b = b < 256
+
+-- a byte's text is it alone, or `\x` and its digits
+data IsEscape (b : ℕ) (text : List ℕ) : Type 0 where
+  as_it_is : is_as_it_is b ≡ true → text ≡ b ∷ [] → IsEscape b text
+  as_digits : is_as_it_is b ≡ false → text ≡ 92 ∷ 120 ∷ hex_digit (b / 16) ∷ hex_digit (b % 16) ∷ [] → IsEscape b text
+
+escapes_at : (b : ℕ) (test : Bool) → is_as_it_is b ≡ test → IsEscape b (cond test (b ∷ []) (92 ∷ 120 ∷ hex_digit (b / 16) ∷ hex_digit (b % 16) ∷ []))
+escapes_at b true is = as_it_is is refl
+escapes_at b false is = as_digits is refl
+
+escapes : (b : ℕ) → IsEscape b (escape b)
+escapes b = escapes_at b (is_as_it_is b) refl
+
+-- a digit has one value
+low_digit : (n : ℕ) → n < 10 → hex_digit n ≡ 48 + n
+low_digit n low = cond_both (nat_lt n 10) (48 + n) (87 + n) (λ d. d ≡ 48 + n) (λ _. refl) (λ e. absurd (omega (arith, low, ltb-false n 10 e)))
+
+high_digit : (n : ℕ) → 10 ≤ n → hex_digit n ≡ 87 + n
+high_digit n high = cond_both (nat_lt n 10) (48 + n) (87 + n) (λ d. d ≡ 87 + n) (λ e. absurd (omega (arith, high, ltb-true n 10 e))) (λ _. refl)
+
+one_value : (m n : ℕ) → hex_digit m ≡ hex_digit n → m < 16 → n < 16 → m ≡ n
+one_value m n same small few =
+    cond_both (nat_lt m 10) (48 + m) (87 + m) (λ d. d ≡ hex_digit n → m ≡ n)
+    (λ a. cond_both (nat_lt n 10) (48 + n) (87 + n) (λ d. 48 + m ≡ d → m ≡ n) (λ b e. omega (arith, e)) (λ b e. absurd (omega (arith, e, small, few, ltb-true m 10 a, ltb-false n 10 b))))
+    (λ a. cond_both (nat_lt n 10) (48 + n) (87 + n) (λ d. 87 + m ≡ d → m ≡ n) (λ b e. absurd (omega (arith, e, small, few, ltb-false m 10 a, ltb-true n 10 b))) (λ b e. omega (arith, e)))
+    same
+
+-- what a text begins with is the text of one byte alone
+not_a_backslash : (b : ℕ) → is_as_it_is b ≡ true → b ≡ 92 → ⊥
+not_a_backslash b is e = let bad : false ≡ true = subst (λ x. is_as_it_is x ≡ true) e is in cc
+
+small_high : (b : ℕ) → b < 256 → b / 16 < 16
+small_high b h = omega (arith, h, div-add-mod b 16)
+
+small_low : (b : ℕ) → b % 16 < 16
+small_low b = omega arith
+
+one_byte : (b c : ℕ) (s t xs ys : List ℕ) → b < 256 → c < 256 → IsEscape b s → IsEscape c t → s ++ xs ≡ t ++ ys → (b ≡ c) × (xs ≡ ys)
+one_byte b c s t xs ys small few (as_it_is is so) (as_it_is was to) e =
+    let same : b ∷ xs ≡ c ∷ ys = sym (ap (λ z. z ++ xs) so) ∙ e ∙ ap (λ z. z ++ ys) to in
+    (cc, cc)
+one_byte b c s t xs ys small few (as_it_is is so) (as_digits was to) e =
+    let same : b ∷ xs ≡ 92 ∷ 120 ∷ hex_digit (c / 16) ∷ hex_digit (c % 16) ∷ ys = sym (ap (λ z. z ++ xs) so) ∙ e ∙ ap (λ z. z ++ ys) to in
+    absurd (not_a_backslash b is cc)
+one_byte b c s t xs ys small few (as_digits is so) (as_it_is was to) e =
+    let same : 92 ∷ 120 ∷ hex_digit (b / 16) ∷ hex_digit (b % 16) ∷ xs ≡ c ∷ ys = sym (ap (λ z. z ++ xs) so) ∙ e ∙ ap (λ z. z ++ ys) to in
+    absurd (not_a_backslash c was cc)
+one_byte b c s t xs ys small few (as_digits is so) (as_digits was to) e =
+    let same : 92 ∷ 120 ∷ hex_digit (b / 16) ∷ hex_digit (b % 16) ∷ xs ≡ 92 ∷ 120 ∷ hex_digit (c / 16) ∷ hex_digit (c % 16) ∷ ys = sym (ap (λ z. z ++ xs) so) ∙ e ∙ ap (λ z. z ++ ys) to in
+    let highs : hex_digit (b / 16) ≡ hex_digit (c / 16) = cc in
+    let lows : hex_digit (b % 16) ≡ hex_digit (c % 16) = cc in
+    let high = one_value (b / 16) (c / 16) highs (small_high b small) (small_high c few) in
+    let low = one_value (b % 16) (c % 16) lows (small_low b) (small_low c) in
+    (omega (arith, high, low, div-add-mod b 16, div-add-mod c 16), cc)
+
+-- no byte has no text
+some_text : (b : ℕ) (s xs : List ℕ) → IsEscape b s → s ++ xs ≡ [] → ⊥
+some_text b s xs (as_it_is is so) e = let bad : b ∷ xs ≡ [] = sym (ap (λ z. z ++ xs) so) ∙ e in cc
+some_text b s xs (as_digits is so) e = let bad : 92 ∷ 120 ∷ hex_digit (b / 16) ∷ hex_digit (b % 16) ∷ xs ≡ [] = sym (ap (λ z. z ++ xs) so) ∙ e in cc
+
+-- where the first bytes were read, the others are what is left
+record IsBehind (bytes left all : List ℕ) : Type 0 where
+  more : List ℕ
+  joins : all ≡ bytes ++ more
+  are : AllByRecursion IsByte more
+  so : left ≡ escaped more
+
+behind_bytes : (bytes left all : List ℕ) → AllByRecursion IsByte bytes → AllByRecursion IsByte all → escaped bytes ++ left ≡ escaped all → IsBehind bytes left all
+behind_bytes [] left all h k e = record { more = all; joins = refl; are = k; so = e }
+behind_bytes (b ∷ bs) left [] h k e = absurd (some_text b (escape b) (escaped bs ++ left) (escapes b) (sym (append_assoc (escape b) (escaped bs) left) ∙ e))
+behind_bytes (b ∷ bs) left (c ∷ cs) h k e =
+    let one = one_byte b c (escape b) (escape c) (escaped bs ++ left) (escaped cs) h.0 k.0 (escapes b) (escapes c) (sym (append_assoc (escape b) (escaped bs) left) ∙ e) in
+    let next = behind_bytes bs left cs h.1 k.1 one.1 in
+    record { more = next.more; joins = ap (λ x. x ∷ cs) (sym one.0) ∙ ap (λ l. b ∷ l) next.joins; are = next.are; so = next.so }
+
+-- what of a text was read, and what is left
+pub record ReadsBytes (text bytes left : List ℕ) : Type 0 where
+  pub so : text ≡ escaped bytes ++ left
+  pub are : All IsByte bytes
+
+pub is_left : (left : List ℕ) → false ≡ (length left == 0) → left ≢ []
+is_left left some none = let bad : false ≡ true = some ∙ ap (λ l. length l == 0) none in cc
+
+pub are_many : (n : ℕ) → true ≡ (n == 514) → 514 ≤ n
+are_many n full = omega (arith, eqb-true n 514 (sym full))
+
+-- a text of which no more reads is that of no bytes
+no_more : (left more : List ℕ) → left ≢ [] → ((b : ℕ) (rest : List ℕ) → b < 256 → left ≡ escape b ++ rest → ⊥) → AllByRecursion IsByte more → left ≡ escaped more → ⊥
+no_more left [] some none h e = some e
+no_more left (b ∷ bs) some none h e = none b (escaped bs) h.0 e
+
+pub reads_no_more : (text bytes left : List ℕ) → ReadsBytes text bytes left → left ≢ [] → ((b : ℕ) (rest : List ℕ) → b < 256 → left ≡ escape b ++ rest → ⊥)
+    → (all : List ℕ) → All IsByte all → text ≡ escaped all → ⊥
+reads_no_more text bytes left h some none all are e =
+    let k = behind_bytes bytes left all (recursion_from_All IsByte bytes h.are) (recursion_from_All IsByte all are) (sym h.so ∙ e) in
+    no_more left k.more some none k.are k.so
+
+-- and one of which more is left than there is room for is that of more bytes
+too_many : (left more : List ℕ) → left ≢ [] → left ≡ escaped more → 0 < length more
+too_many left [] some e = absurd (some e)
+too_many left (b ∷ bs) some e = omega arith
+
+pub reads_too_many : (text bytes left : List ℕ) → ReadsBytes text bytes left → left ≢ [] → 514 ≤ length bytes → (all : List ℕ) → length all ≤ 514 → All IsByte all → text ≡ escaped all → ⊥
+reads_too_many text bytes left h some full all room are e =
+    let k = behind_bytes bytes left all (recursion_from_All IsByte bytes h.are) (recursion_from_All IsByte all are) (sym h.so ∙ e) in
+    omega (arith, full, room, ap length k.joins, length-append bytes k.more, too_many left k.more some k.so)
+
+-- bytes have one text alone
+none_left : (xs ys more : List ℕ) → ys ≡ xs ++ more → [] ≡ escaped more → xs ≡ ys
+none_left xs ys [] joins so = sym (joins ∙ append-nil xs)
+none_left xs ys (b ∷ bs) joins so = absurd (some_text b (escape b) (escaped bs) (escapes b) (sym so))
+
+pub one_text : (xs ys : List ℕ) → All IsByte xs → All IsByte ys → escaped xs ≡ escaped ys → xs ≡ ys
+one_text xs ys h j e =
+    let k = behind_bytes xs [] ys (recursion_from_All IsByte xs h) (recursion_from_All IsByte ys j) (append-nil (escaped xs) ∙ e) in
+    none_left xs ys k.more k.joins k.so
+
+-- a mark is a word
+mark_lacks : (mark : LogMark) → Lacks 32 (mark_text mark)
+mark_lacks Went = ((λ e. absurd (omega (arith, e))), tt)
+mark_lacks WentPart = ((λ e. absurd (omega (arith, e))), ((λ e. absurd (omega (arith, e))), tt))
+mark_lacks Came = ((λ e. absurd (omega (arith, e))), tt)
+mark_lacks CamePart = ((λ e. absurd (omega (arith, e))), ((λ e. absurd (omega (arith, e))), tt))
+mark_lacks Link = ((λ e. absurd (omega (arith, e))), tt)
+
+some_is : (a b : List ℕ) → Some a ≡ Some b → a ≡ b
+some_is a b e = cc
+
+module _ (line front : List ℕ) (rest : Option (List ℕ)) (cut : Cuts 32 line front rest) (moment : List ℕ) (mark : LogMark) (bytes : List ℕ) (is : IsLogLine line moment mark bytes) where
+  -- the moment stands before the first space
+  first_word : (front ≡ moment) × (rest ≡ Some (mark_text mark ++ 32 ∷ escaped bytes))
+  first_word = cut_found 32 line front rest moment (mark_text mark ++ 32 ∷ escaped bytes) cut is.is is.one_word
+
+  -- and the mark before the second
+  second_word : (behind word : List ℕ) (text : Option (List ℕ)) → rest ≡ Some behind → Cuts 32 behind word text → (word ≡ mark_text mark) × (text ≡ Some (escaped bytes))
+  second_word behind word text so next = cut_found 32 behind word text (mark_text mark) (escaped bytes) next (some_is behind _ (sym so ∙ first_word.1)) (mark_lacks mark)
+
+  pub no_moment : rest ≡ None → ⊥
+  no_moment none = let bad : None ≡ Some (mark_text mark ++ 32 ∷ escaped bytes) = sym none ∙ first_word.1 in cc
+
+  pub no_mark : (behind word : List ℕ) (text : Option (List ℕ)) → rest ≡ Some behind → Cuts 32 behind word text → text ≡ None → ⊥
+  no_mark behind word text so next none = let bad : None ≡ Some (escaped bytes) = sym none ∙ (second_word behind word text so next).1 in cc
+
+  pub another_mark : (behind word : List ℕ) (text : Option (List ℕ)) → rest ≡ Some behind → Cuts 32 behind word text → ((m : LogMark) → word ≡ mark_text m → ⊥) → ⊥
+  another_mark behind word text so next none = none mark (second_word behind word text so next).0
+
+  pub other_bytes : (behind word text : List ℕ) → rest ≡ Some behind → Cuts 32 behind word (Some text) → length bytes ≤ 514
+      → ((all : List ℕ) → length all ≤ 514 → All IsByte all → text ≡ escaped all → ⊥) → ⊥
+  other_bytes behind word text so next room none = none bytes room is.are_bytes (some_is text (escaped bytes) (second_word behind word (Some text) so next).1)
+
+-- the text of a mark is that of one alone
+by_end : List ℕ → LogMark → LogMark → LogMark
+by_end [] whole part = whole
+by_end (b ∷ bs) whole part = part
+
+mark_from : List ℕ → LogMark
+mark_from [] = Link
+mark_from (b ∷ bs) = cond (b == 62) (by_end bs Went WentPart) (cond (b == 60) (by_end bs Came CamePart) Link)
+
+marked : (m : LogMark) → mark_from (mark_text m) ≡ m
+unfolding by_end mark_from
+marked Went = refl
+marked WentPart = refl
+marked Came = refl
+marked CamePart = refl
+marked Link = refl
+
+one_mark : (m k : LogMark) → mark_text m ≡ mark_text k → m ≡ k
+one_mark m k e = sym (marked m) ∙ ap mark_from e ∙ marked k
+
+-- a text is a log line in one way at most
+pub one_reading : (text : List ℕ) (m k : List ℕ) (a b : LogMark) (xs ys : List ℕ) → IsLogLine text m a xs → IsLogLine text k b ys → (m ≡ k) × (a ≡ b) × (xs ≡ ys)
+one_reading text m k a b xs ys one other =
+    let first = one_front 32 m k (mark_text a ++ 32 ∷ escaped xs) (mark_text b ++ 32 ∷ escaped ys) (sym one.is ∙ other.is) one.one_word other.one_word in
+    let second = one_front 32 (mark_text a) (mark_text b) (escaped xs) (escaped ys) first.1 (mark_lacks a) (mark_lacks b) in
+    (first.0, one_mark a b second.0, one_text xs ys one.are_bytes other.are_bytes second.1)

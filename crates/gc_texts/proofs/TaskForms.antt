@@ -1,0 +1,107 @@
+-- Which lines have the forms of a station's text.
+use Rattle.std.proofs.Common.{◌≡◌, ◌≤◌, ◌==◌, ℕ, List, [], ◌∷◌, ◌++◌, get_or, true, false, Option, Some, None, arith, refl, ap, subst, sym, ◌∙◌, codes, cond, ne_eqb, if◌then◌else◌}
+use Rattle.std.proofs.lemmas.List.{append_cancel_left}
+use Rattle.gc_values.specs.Digits.{AreDigits}
+use Rattle.gc_texts.specs.Cuts.{Cuts}
+use Rattle.gc_texts.specs.Names.{is_name}
+use Rattle.gc_texts.specs.Procedures.{IsNumber}
+use Rattle.gc_texts.specs.TaskLines.{IsDeadline, IsNaming, IsTaskLine}
+use Rattle.gc_texts.specs.declared.name.Name.{Name}
+use Rattle.gc_texts.specs.declared.task_line.TaskLine.{TaskLine}
+use Rattle.gc_texts.specs.declared.task_line.TaskLine.TheVariants as says
+use Rattle.gc_texts.proofs.Cutting.{cut_found, one_front, digits_lack_spaces}
+use Rattle.gc_texts.proofs.CommandForms.{one_command}
+use Rattle.gc_texts.proofs.Procedures.{one_number}
+
+-- the digits behind `deadline `
+pub deadline_digits : (line rest : List ℕ) (deadline : ℕ) → line ≡ codes "deadline " ++ rest → (is : IsDeadline line deadline) → is.digits ≡ rest
+deadline_digits line rest deadline e is = append_cancel_left (codes "deadline ") is.digits rest (sym is.line_is ∙ e)
+
+pub no_deadline : (line rest : List ℕ) → line ≡ codes "deadline " ++ rest → ((n : ℕ) → IsNumber rest n 86400000 → ⊥) → (deadline : ℕ) → IsDeadline line deadline → ⊥
+no_deadline line rest e none deadline is = none deadline (subst (λ (ds : List ℕ). IsNumber ds deadline 86400000) (deadline_digits line rest deadline e is) is.number)
+
+-- a deadline of 0 is none
+pub no_zero : (line rest : List ℕ) (n : ℕ) → line ≡ codes "deadline " ++ rest → IsNumber rest n 86400000 → n ≡ 0 → (deadline : ℕ) → IsDeadline line deadline → ⊥
+no_zero line rest n e number zero deadline is =
+    let same : n ≡ deadline = one_number rest n deadline 86400000 number (subst (λ (ds : List ℕ). IsNumber ds deadline 86400000) (deadline_digits line rest deadline e is) is.number) in
+    omega (arith, same, zero, is.some)
+
+module _ (line rest : List ℕ) (name : Name) (e : line ≡ codes "name " ++ rest) (is : IsNaming line name) where
+  the_rest : rest ≡ is.target_text ++ 32 ∷ name.text.items
+  the_rest = append_cancel_left (codes "name ") rest (is.target_text ++ 32 ∷ name.text.items) (sym e ∙ is.line_is)
+
+  the_cut : (target : List ℕ) (text : Option (List ℕ)) → Cuts 32 rest target text → (target ≡ is.target_text) × (text ≡ Some name.text.items)
+  the_cut target text cut = cut_found 32 rest target text is.target_text name.text.items cut the_rest (digits_lack_spaces is.target_text is.target_is.names.digits)
+
+  -- a space is there
+  pub no_space : (target : List ℕ) → Cuts 32 rest target None → ⊥
+  no_space target cut = let parts = the_cut target None cut in let bad : None ≡ Some name.text.items = parts.1 in cc
+
+  -- and a target and a name stand before and behind it
+  pub has_target : (target : List ℕ) (text : Option (List ℕ)) → Cuts 32 rest target text → ((n : ℕ) → IsNumber target n 4294967295 → ⊥) → ⊥
+  has_target target text cut none = none name.target (subst (λ (ds : List ℕ). IsNumber ds name.target 4294967295) (sym (the_cut target text cut).0) is.target_is)
+
+  pub has_name : (target text : List ℕ) → Cuts 32 rest target (Some text) → is_name text ≡ false → ⊥
+  has_name target text cut isnt =
+      let some : Some text ≡ Some name.text.items = (the_cut target (Some text) cut).1 in
+      let same : text ≡ name.text.items = cc in
+      let both : true ≡ false = sym is.text_is ∙ ap is_name (sym same) ∙ isnt in
+      cc
+
+-- what kind of line it is, and what its first byte tells of that
+abbrev kind : TaskLine → ℕ
+kind (says.Command command) = 0
+kind (says.Deadline deadline) = 1
+kind says.Chained = 2
+kind says.Unchained = 3
+kind (says.Naming name) = 4
+
+abbrev first_kind : ℕ → ℕ
+first_kind b = if b == 100 then 1 else if b == 99 then 2 else if b == 117 then 3 else if b == 110 then 4 else 0
+
+abbrev kind_in : List ℕ → ℕ
+kind_in line = first_kind (get_or line 0 0)
+
+digit_kind : (b : ℕ) → b ≤ 57 → first_kind b ≡ 0
+digit_kind b low =
+    ap (λ t. cond t 1 (if b == 99 then 2 else if b == 117 then 3 else if b == 110 then 4 else 0)) (ne_eqb b 100 (λ e. omega (arith, e, low)))
+    ∙ ap (λ t. cond t 2 (if b == 117 then 3 else if b == 110 then 4 else 0)) (ne_eqb b 99 (λ e. omega (arith, e, low)))
+    ∙ ap (λ t. cond t 3 (if b == 110 then 4 else 0)) (ne_eqb b 117 (λ e. omega (arith, e, low)))
+    ∙ ap (λ t. cond t 4 0) (ne_eqb b 110 (λ e. omega (arith, e, low)))
+
+digits_kind : (ds rest : List ℕ) → AreDigits ds → first_kind (get_or (ds ++ 32 ∷ rest) 0 0) ≡ 0
+digits_kind [] rest digits = refl
+digits_kind (d ∷ ds) rest digits = digit_kind d digits.0.1
+
+kind_is : (line : List ℕ) (said : TaskLine) → IsTaskLine line said → kind_in line ≡ kind said
+kind_is line (says.Command command) is = ap kind_in is.line_is ∙ digits_kind is.target_text is.procedure is.target_is.names.digits
+kind_is line (says.Deadline deadline) is = ap kind_in is.line_is
+kind_is line says.Chained is = ap kind_in is
+kind_is line says.Unchained is = ap kind_in is
+kind_is line (says.Naming name) is = ap kind_in is.line_is
+
+one_deadline : (line : List ℕ) (m n : ℕ) → IsDeadline line m → IsDeadline line n → m ≡ n
+one_deadline line m n x y =
+    one_number y.digits m n 86400000 (subst (λ (ds : List ℕ). IsNumber ds m 86400000) (deadline_digits line y.digits m y.line_is x) x.number) y.number
+
+same_name : (m n : Name) → m.target ≡ n.target → m.text.items ≡ n.text.items → m ≡ n
+same_name m n e f = ap (λ t. record { target = t; text = m.text }) e ∙ ap (λ xs. record { target = n.target; text = record { items = xs } }) f
+
+one_naming : (line : List ℕ) (m n : Name) → IsNaming line m → IsNaming line n → m ≡ n
+one_naming line m n x y =
+    let parts = one_front 32 x.target_text y.target_text m.text.items n.text.items
+    (append_cancel_left (codes "name ") (x.target_text ++ 32 ∷ m.text.items) (y.target_text ++ 32 ∷ n.text.items) (sym x.line_is ∙ y.line_is))
+    (digits_lack_spaces x.target_text x.target_is.names.digits) (digits_lack_spaces y.target_text y.target_is.names.digits) in
+    same_name m n (one_number y.target_text m.target n.target 4294967295 (subst (λ (t : List ℕ). IsNumber t m.target 4294967295) parts.0 x.target_is) y.target_is) parts.1
+
+same_said : (line : List ℕ) (a b : TaskLine) → IsTaskLine line a → IsTaskLine line b → kind a ≡ kind b → a ≡ b
+same_said line (says.Command c) (says.Command d) x y h = ap says.Command (one_command line c d x y)
+same_said line (says.Deadline m) (says.Deadline n) x y h = ap says.Deadline (one_deadline line m n x y)
+same_said line says.Chained says.Chained x y h = refl
+same_said line says.Unchained says.Unchained x y h = refl
+same_said line (says.Naming m) (says.Naming n) x y h = ap says.Naming (one_naming line m n x y)
+same_said line a b x y h = absurd (omega (arith, h))
+
+-- a line says one thing
+pub one_said : (line : List ℕ) (a b : TaskLine) → IsTaskLine line a → IsTaskLine line b → a ≡ b
+one_said line a b x y = same_said line a b x y (sym (kind_is line a x) ∙ kind_is line b y)

@@ -1,0 +1,102 @@
+-- Laws of a station's text: one reading, the commands' texts among them, and chains within rows.
+use Rattle.std.proofs.Common.{◌≡◌, ℕ, List, [], ◌∷◌, ◌++◌, map, Option, Some, None, Bool, true, false, ◌&&◌, ◌⊎◌, inl, inr, refl, ap, sym, ◌∙◌}
+use Rattle.std.specs.Prelude.{filter}
+use Rattle.std.proofs.lemmas.Bool.{eqb-true}
+use Rattle.gc_texts.specs.Commands.{IsCommand}
+use Rattle.gc_texts.specs.Laws.{OneTaskList, CommandsAreTasks, CommandsArePlain, AreRows, ChainsAreRows}
+use Rattle.gc_texts.specs.LineForms.{is_kept, text_lines, AreItems}
+use Rattle.gc_texts.specs.TaskLines.{IsTaskLine}
+use Rattle.gc_texts.specs.Tasks.{opening, behind, goes_on, tasks_of, names_of, MayFollow}
+use Rattle.gc_texts.specs.declared.commands.Command.{Command}
+use Rattle.gc_texts.specs.declared.name.Name.{Name}
+use Rattle.gc_texts.specs.declared.task_line.TaskLine.{TaskLine}
+use Rattle.gc_texts.specs.declared.task_line.TaskLine.TheVariants as says
+use Rattle.gc_texts.specs.declared.tasks.Mode.{Mode}
+use Rattle.gc_texts.specs.declared.tasks.Task.{Task}
+use Rattle.gc_texts.proofs.OneReading.{one_list}
+use Rattle.gc_texts.proofs.TaskForms.{one_said}
+
+-- a text gives one list of tasks, and one of names
+pub one_task_list : OneTaskList
+one_task_list text deadline chained xs ys ms ns h k =
+    let same : h.said ≡ k.said = one_list IsTaskLine one_said (filter is_kept (text_lines text)) h.said k.said h.lines.forms k.lines.forms in
+    (h.tasks_are ∙ ap (tasks_of (opening deadline chained)) same ∙ sym k.tasks_are, h.names_are ∙ ap names_of same ∙ sym k.names_are)
+
+-- lines of commands
+abbrev asks : List Command → List TaskLine
+asks commands = map says.Command commands
+
+asked_forms : (lines : List (List ℕ)) (commands : List Command) → AreItems IsCommand lines commands → AreItems IsTaskLine lines (asks commands)
+asked_forms [] [] are = tt
+asked_forms [] (c ∷ cs) are = absurd are
+asked_forms (line ∷ lines) [] are = absurd are
+asked_forms (line ∷ lines) (c ∷ cs) are = (are.0, asked_forms lines cs are.1)
+
+-- whatever names there are, commands may follow
+asked_follow : (names : List Name) (commands : List Command) → MayFollow names (asks commands)
+asked_follow names [] = tt
+asked_follow names (c ∷ cs) = (refl, asked_follow (names ++ []) cs)
+
+asked_names : (commands : List Command) → [] ≡ names_of (asks commands)
+asked_names [] = refl
+asked_names (c ∷ cs) = asked_names cs
+
+asked_tasks : (mode : Mode) (commands : List Command) → map (λ task. task.command) (tasks_of mode (asks commands)) ≡ commands
+asked_tasks mode [] = refl
+asked_tasks mode (c ∷ cs) = ap (λ l. c ∷ l) (asked_tasks (behind mode (says.Command c)) cs)
+
+-- each command text is a station's text
+pub commands_are_tasks : CommandsAreTasks
+commands_are_tasks text commands deadline chained are = (
+  tasks_of (opening deadline chained) (asks commands),
+  record {
+    said = asks commands;
+    lines = record { forms = asked_forms (filter is_kept (text_lines text)) commands are; follow = asked_follow [] commands };
+    tasks_are = refl;
+    names_are = asked_names commands;
+  },
+  asked_tasks (opening deadline chained) commands,
+)
+
+abbrev plain : ℕ → Command → Task
+plain deadline command = record { command = command; deadline = deadline; chained = false }
+
+plain_tasks : (deadline : ℕ) (row : Option ℕ) (commands : List Command) → map (plain deadline) commands ≡ tasks_of (record { deadline = deadline; chained = false; row = row }) (asks commands)
+plain_tasks deadline row [] = refl
+plain_tasks deadline row (c ∷ cs) = ap (λ l. plain deadline c ∷ l) (plain_tasks deadline (Some c.target) cs)
+
+pub commands_are_plain : CommandsArePlain
+commands_are_plain text commands deadline are =
+    record {
+      said = asks commands;
+      lines = record { forms = asked_forms (filter is_kept (text_lines text)) commands are; follow = asked_follow [] commands };
+      tasks_are = plain_tasks deadline None commands;
+      names_are = asked_names commands;
+    }
+
+both_true : (a b : Bool) → (a && b) ≡ true → b ≡ true
+both_true true b e = e
+both_true false b e = cc
+
+row_is : (row : Option ℕ) (target : ℕ) → goes_on row target ≡ true → row ≡ Some target
+row_is None target e = cc
+row_is (Some before) target e = ap Some (eqb-true before target e)
+
+row_before : (row before : Option ℕ) (target : ℕ) → (row ≡ None) ⊎ (row ≡ before) → row ≡ Some target → before ≡ Some target
+row_before row before target (inl none) e = let bad : None ≡ Some target = sym none ∙ e in cc
+row_before row before target (inr same) e = sym same ∙ e
+
+rows : (mode : Mode) (before : Option ℕ) (said : List TaskLine) → (mode.row ≡ None) ⊎ (mode.row ≡ before) → AreRows before (tasks_of mode said)
+rows mode before [] h = tt
+rows mode before (says.Command c ∷ later) h = (
+  (λ e. row_before mode.row before c.target h (row_is mode.row c.target (both_true mode.chained (goes_on mode.row c.target) e))),
+  rows (behind mode (says.Command c)) (Some c.target) later (inr refl),
+)
+rows mode before (says.Deadline d ∷ later) h = rows (behind mode (says.Deadline d)) before later h
+rows mode before (says.Chained ∷ later) h = rows (behind mode says.Chained) before later (inl refl)
+rows mode before (says.Unchained ∷ later) h = rows (behind mode says.Unchained) before later (inl refl)
+rows mode before (says.Naming n ∷ later) h = rows mode before later h
+
+-- a chain stays within its row
+pub chains_are_rows : ChainsAreRows
+chains_are_rows text deadline chained tasks names is = rw is.tasks_are (rows (opening deadline chained) None is.said (inl refl))

@@ -1,0 +1,143 @@
+-- The tasks and names of lines that stand one behind the other, and how far the reading of a station's text has come.
+use Rattle.std.proofs.Common.{◌≡◌, ◌+◌, ◌≤◌, ℕ, List, [], ◌∷◌, ◌++◌, length, Option, Some, None, Bool, true, false, refl, ap, subst, sym, ◌∙◌, append_assoc, append-nil}
+use Rattle.std.specs.Prelude.{filter, not}
+use Rattle.gc_texts.specs.Cuts.{Cuts}
+use Rattle.gc_texts.specs.LineForms.{text_lines, is_skipped, is_kept, without_cr, AreItems}
+use Rattle.gc_texts.specs.TaskLines.{IsTaskLine}
+use Rattle.gc_texts.specs.Tasks.{opening, behind, task_at, tasks_of, name_at, names_of, may_stand, MayFollow, IsTasks, IsFirstFaultyTask, IsBehindATask}
+use Rattle.gc_texts.specs.declared.name.Name.{Name}
+use Rattle.gc_texts.specs.declared.task_line.TaskLine.{TaskLine}
+use Rattle.gc_texts.specs.declared.tasks.Mode.{Mode}
+use Rattle.gc_texts.specs.declared.tasks.Task.{Task}
+use Rattle.gc_texts.proofs.TaskForms.{one_said}
+use Rattle.gc_texts.proofs.TextLines.{Reads, reads_none, reads_few, lines_left, lines-cut, turn_skips, turn_reads}
+
+-- what holds behind lines
+abbrev pub behind_all : Mode → List TaskLine → Mode
+behind_all mode [] = mode
+behind_all mode (line ∷ later) = behind_all (behind mode line) later
+
+tasks_more : (mode : Mode) (lines : List TaskLine) (next : TaskLine) → tasks_of mode (lines ++ next ∷ []) ≡ tasks_of mode lines ++ task_at (behind_all mode lines) next
+tasks_more mode [] next = append-nil (task_at mode next)
+tasks_more mode (line ∷ lines) next =
+    ap (λ ts. task_at mode line ++ ts) (tasks_more (behind mode line) lines next)
+    ∙ sym (append_assoc (task_at mode line) (tasks_of (behind mode line) lines) (task_at (behind_all (behind mode line) lines) next))
+
+names_more : (lines : List TaskLine) (next : TaskLine) → names_of (lines ++ next ∷ []) ≡ names_of lines ++ name_at next
+names_more [] next = append-nil (name_at next)
+names_more (line ∷ lines) next = ap (λ ns. name_at line ++ ns) (names_more lines next) ∙ sym (append_assoc (name_at line) (names_of lines) (name_at next))
+
+behind_more : (mode : Mode) (lines : List TaskLine) (next : TaskLine) → behind_all mode (lines ++ next ∷ []) ≡ behind (behind_all mode lines) next
+behind_more mode [] next = refl
+behind_more mode (line ∷ lines) next = behind_more (behind mode line) lines next
+
+follow_more : (names : List Name) (lines : List TaskLine) (next : TaskLine) → MayFollow names lines → may_stand (names ++ names_of lines) next ≡ true → MayFollow names (lines ++ next ∷ [])
+follow_more names [] next follow stands = (ap (λ ns. may_stand ns next) (sym (append-nil names)) ∙ stands, tt)
+follow_more names (line ∷ lines) next follow stands =
+    (follow.0, follow_more (names ++ name_at line) lines next follow.1 (ap (λ ns. may_stand ns next) (append_assoc names (name_at line) (names_of lines)) ∙ stands))
+
+-- how far the reading has come: what the lines that were read said, and what holds behind them
+pub record ReadsTasks (text : List ℕ) (first : Mode) (left : Option (List ℕ)) (number : ℕ) (tasks : List Task) (names : List Name) (mode : Mode) : Type 0 where
+  pub said : List TaskLine
+  pub reads : Reads IsTaskLine text left number said
+  pub follow : MayFollow [] said
+  pub tasks_are : tasks ≡ tasks_of first said
+  pub names_are : names ≡ names_of said
+  pub mode_is : mode ≡ behind_all first said
+
+-- at the beginning all lines are left
+pub tasks_none : (text : List ℕ) (first : Mode) → ReadsTasks text first (Some text) 0 [] [] first
+tasks_none text first = record { said = []; reads = reads_none IsTaskLine text; follow = tt; tasks_are = refl; names_are = refl; mode_is = refl }
+
+-- of a text within the limit no more lines are read than a u32 counts
+pub tasks_few : (text : List ℕ) (first : Mode) (left : Option (List ℕ)) (number : ℕ) (tasks : List Task) (names : List Name) (mode : Mode) → length text ≤ 65536 → ReadsTasks text first left number tasks names mode → number ≤ 65537
+tasks_few text first left number tasks names mode within r = reads_few IsTaskLine text left number r.said within r.reads
+
+opening_is : (first : Mode) → first.row ≡ None → first ≡ opening first.deadline first.chained
+opening_is first none = ap (λ row. record { deadline = first.deadline; chained = first.chained; row = row }) none
+
+-- all lines are read: these are the text's tasks and names
+pub tasks_all : (text : List ℕ) (first : Mode) (number : ℕ) (tasks : List Task) (names : List Name) (mode : Mode) → first.row ≡ None → ReadsTasks text first None number tasks names mode → IsTasks text first.deadline first.chained tasks names
+tasks_all text first number tasks names mode none r =
+    let all : text_lines text ≡ r.reads.read = r.reads.lines_are ∙ append-nil r.reads.read in
+    record {
+      said = r.said;
+      lines = record { forms = subst (λ ls. AreItems IsTaskLine (filter is_kept ls) r.said) (sym all) r.reads.items_are; follow = r.follow };
+      tasks_are = r.tasks_are ∙ ap (λ m. tasks_of m r.said) (opening_is first none);
+      names_are = r.names_are;
+    }
+
+-- one turn of the reading: a line that stands at the front of what is left
+module _
+    (text : List ℕ) (first : Mode) (left : Option (List ℕ)) (now line plain : List ℕ) (rest : Option (List ℕ)) (number : ℕ) (tasks : List Task) (names : List Name) (mode : Mode) (skipped : Bool)
+    (r : ReadsTasks text first left number tasks names mode) (some : left ≡ Some now) (cut : Cuts 10 now line rest) (is_plain : plain ≡ without_cr line) (tested : skipped ≡ is_skipped plain) where
+  pub task_skips : skipped ≡ true → ReadsTasks text first rest (number + 1) tasks names mode
+  task_skips is =
+      record {
+        said = r.said;
+        reads = turn_skips IsTaskLine text left now line plain rest number r.said skipped r.reads some cut is_plain tested is;
+        follow = r.follow;
+        tasks_are = r.tasks_are;
+        names_are = r.names_are;
+        mode_is = r.mode_is;
+      }
+
+  pub task_reads :
+      (said : TaskLine) (new_tasks : List Task) (new_names : List Name) (next : Mode) (stands : Bool) → skipped ≡ false → IsTaskLine plain said → stands ≡ may_stand names said → stands ≡ true →
+      new_tasks ≡ tasks ++ task_at mode said → new_names ≡ names ++ name_at said → next ≡ behind mode said → ReadsTasks text first rest (number + 1) new_tasks new_names next
+  task_reads said new_tasks new_names next stands isnt is asked did more_tasks more_names more =
+      record {
+        said = r.said ++ said ∷ [];
+        reads = turn_reads IsTaskLine text left now line plain rest number r.said skipped r.reads some cut is_plain tested said (r.said ++ said ∷ []) isnt is refl;
+        follow = follow_more [] r.said said r.follow (ap (λ ns. may_stand ns said) (sym r.names_are) ∙ sym asked ∙ did);
+        tasks_are = more_tasks ∙ ap (λ ts. ts ++ task_at mode said) r.tasks_are ∙ ap (λ m. tasks_of first r.said ++ task_at m said) r.mode_is ∙ sym (tasks_more first r.said said);
+        names_are = more_names ∙ ap (λ ns. ns ++ name_at said) r.names_are ∙ sym (names_more r.said said);
+        mode_is = more ∙ ap (λ m. behind m said) r.mode_is ∙ sym (behind_more first r.said said);
+      }
+
+  stood : Reads IsTaskLine text (Some now) number r.said
+  stood = subst (λ o. Reads IsTaskLine text o number r.said) some r.reads
+
+  split : text_lines text ≡ stood.read ++ without_cr line ∷ lines_left rest
+  split = stood.lines_are ∙ ap (λ ls. stood.read ++ ls) (lines-cut now line rest cut)
+
+  is_line : skipped ≡ false → is_kept (without_cr line) ≡ true
+  is_line isnt = ap not (ap is_skipped (sym is_plain) ∙ sym tested ∙ isnt)
+
+  faulty : skipped ≡ false → ((said : TaskLine) → IsTaskLine plain said → may_stand names said ≡ false) → IsFirstFaultyTask text (number + 1)
+  faulty isnt none =
+      record {
+        front = stood.read;
+        line = without_cr line;
+        rest = lines_left rest;
+        lines_are = split;
+        place = ap (λ n. n + 1) stood.count;
+        kept = is_line isnt;
+        before = r.said;
+        lines = record { forms = stood.items_are; follow = r.follow };
+        faulty = λ said is. ap (λ ns. may_stand ns said) (sym r.names_are) ∙ none said (subst (λ (l : List ℕ). IsTaskLine l said) (sym is_plain) is);
+      }
+
+  -- it has no form
+  pub task_fails : skipped ≡ false → ((said : TaskLine) → IsTaskLine plain said → ⊥) → IsFirstFaultyTask text (number + 1)
+  task_fails isnt none = faulty isnt (λ said is. absurd (none said is))
+
+  -- it may not stand there
+  pub task_refused : (said : TaskLine) (stands : Bool) → skipped ≡ false → IsTaskLine plain said → stands ≡ may_stand names said → stands ≡ false → IsFirstFaultyTask text (number + 1)
+  task_refused said stands isnt is asked no_more = faulty isnt (λ other form. ap (may_stand names) (one_said plain other said form is) ∙ sym asked ∙ no_more)
+
+  -- it stands, and there is no memory
+  pub task_wants : (said : TaskLine) (stands : Bool) → skipped ≡ false → IsTaskLine plain said → stands ≡ may_stand names said → stands ≡ true → IsBehindATask text
+  task_wants said stands isnt is asked did =
+      record {
+        front = stood.read;
+        line = without_cr line;
+        rest = lines_left rest;
+        lines_are = split;
+        kept = is_line isnt;
+        before = r.said;
+        lines = record { forms = stood.items_are; follow = r.follow };
+        said = said;
+        form = subst (λ (l : List ℕ). IsTaskLine l said) is_plain is;
+        stands = ap (λ ns. may_stand ns said) (sym r.names_are) ∙ sym asked ∙ did;
+      }

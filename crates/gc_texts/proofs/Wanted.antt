@@ -1,0 +1,8 @@
+-- How many parameters the procedures have, one by one.
+use Rattle.std.proofs.Common.{refl}
+use Rattle.gc_texts.specs.Laws.{WantedIsTheCatalogues}
+use Rattle.gc_catalogue.specs.declared.call.Call.TheVariants.{NullProc}
+
+pub wanted_is : WantedIsTheCatalogues
+wanted_is NullProc = refl
+wanted_is call = refl

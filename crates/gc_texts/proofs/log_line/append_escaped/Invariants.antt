@@ -1,0 +1,11 @@
+use Rattle.std.proofs.Common.{◌≡◌, ◌+◌, ◌*◌, ◌≤◌, ◌++◌, take}
+use Rattle.std.specs.List.{flat_map}
+use Rattle.arrayvec.specs.ArrayVec.{array_vec_len}
+use Rattle.gc_texts.specs.Logs.{escape}
+use Rattle.gc_texts.proofs.log_line.append_escaped.Given as goal
+
+abbrev pub invariant-loop-b : goal.invariant-loop-b
+invariant-loop-b g l = record {
+  written : l.to.items ≡ l.initial.to.items ++ flat_map escape (take l.b-index l.bytes);
+  room : array_vec_len l.to ≤ array_vec_len l.initial.to + 4 * l.b-index;
+}

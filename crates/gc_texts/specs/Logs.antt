@@ -1,0 +1,45 @@
+-- Lines of a log: what was on a link, in printable characters alone. Their form is this project's own.
+use Rattle.std.specs.Prelude.{◌≡◌, ◌<◌, ℕ, ◌/◌, ◌%◌, ◌+◌, ◌==◌, ◌&&◌, Bool, not, nat_lt, List, [], ◌∷◌, ◌++◌, All, if◌then◌else◌, codes}
+use Rattle.std.specs.List.{flat_map}
+use Rattle.gc_texts.specs.Cuts.{Lacks}
+use Rattle.gc_texts.specs.Stamps.{stamp_text}
+use Rattle.gc_texts.specs.declared.log_line.LogMark.{LogMark}
+use Rattle.gc_texts.specs.declared.log_line.LogMark.TheVariants.{Went, WentPart, Came, CamePart, Link}
+
+-- the mark of a log line
+abbrev pub mark_text : LogMark → List ℕ
+mark_text Went = codes ">"
+mark_text WentPart = codes ">|"
+mark_text Came = codes "<"
+mark_text CamePart = codes "<|"
+mark_text Link = codes "-"
+
+-- printable ASCII but the backslash, which stands as it is
+abbrev pub is_as_it_is : ℕ → Bool
+is_as_it_is b = nat_lt 31 b && nat_lt b 127 && not (b == 92)
+
+-- a digit of base 16, in lower case
+abbrev pub hex_digit : ℕ → ℕ
+hex_digit n = if nat_lt n 10 then 48 + n else 87 + n
+
+-- a byte as it is, or as \x and two digits
+abbrev pub escape : ℕ → List ℕ
+escape b = if is_as_it_is b then b ∷ [] else 92 ∷ 120 ∷ hex_digit (b / 16) ∷ hex_digit (b % 16) ∷ []
+
+-- bytes, each as it is or as \x and two digits
+abbrev pub escaped : List ℕ → List ℕ
+escaped bytes = flat_map escape bytes
+
+-- a log line without its line feed: the moment, the mark, and the bytes
+abbrev pub log_text : List ℕ → LogMark → List ℕ → List ℕ
+log_text moment mark bytes = moment ++ 32 ∷ (mark_text mark ++ 32 ∷ escaped bytes)
+
+-- a log line, of the moment so many milliseconds after the beginning of 1970
+abbrev pub log_line : ℕ → LogMark → List ℕ → List ℕ
+log_line utc mark bytes = log_text (stamp_text utc) mark bytes ++ codes "\n"
+
+-- what a text says as a log line: its moment is what stands before its first space
+pub record IsLogLine (text moment : List ℕ) (mark : LogMark) (bytes : List ℕ) : Type 0 where
+  pub is : text ≡ log_text moment mark bytes
+  pub one_word : Lacks 32 moment
+  pub are_bytes : All (λ b. b < 256) bytes

@@ -1,0 +1,21 @@
+-- Names of targets: this project's own.
+use Rattle.std.specs.Prelude.{ℕ, ◌==◌, ◌&&◌, ◌||◌, Bool, not, nat_lt, List, [], ◌∷◌, length, if◌then◌else◌}
+use Rattle.std.specs.List.{list_any}
+use Rattle.gc_texts.specs.declared.name.Name.{Name}
+
+-- a byte that stands in no name: all but printable ASCII, a comma, and a double quote
+abbrev pub is_foreign : ℕ → Bool
+is_foreign b = nat_lt b 32 || nat_lt 126 b || (b == 44) || (b == 34)
+
+-- a name: 1 to 64 bytes, and none that stands in no name
+abbrev pub is_name : List ℕ → Bool
+is_name text = nat_lt 0 (length text) && nat_lt (length text) 65 && not (list_any is_foreign text)
+
+-- whether a target has a name among these
+abbrev pub is_named : ℕ → List Name → Bool
+is_named target names = list_any (λ name. name.target == target) names
+
+-- the name of a target among these, or nothing
+abbrev pub name_text : ℕ → List Name → List ℕ
+name_text target [] = []
+name_text target (name ∷ names) = if name.target == target then name.text.items else name_text target names

@@ -1,0 +1,105 @@
+-- A station's text, and the tasks and names that it gives: this project's own.
+use Rattle.std.specs.Prelude.{◌≡◌, ℕ, ◌+◌, ◌<◌, ◌≤◌, ◌==◌, ◌&&◌, Bool, true, false, not, nat_lt, List, [], ◌∷◌, ◌++◌, length, filter, Option, None, Some}
+use Rattle.gc_texts.specs.LineForms.{text_lines, is_kept, AreItems}
+use Rattle.gc_texts.specs.Names.{is_named}
+use Rattle.gc_texts.specs.TaskLines.{IsTaskLine}
+use Rattle.gc_texts.specs.declared.fault.RunFault.{RunFault}
+use Rattle.gc_texts.specs.declared.fault.RunFault.TheVariants.{Schedule, Memory, InputTooLong}
+use Rattle.gc_texts.specs.declared.name.Name.{Name}
+use Rattle.gc_texts.specs.declared.task_line.TaskLine.{TaskLine}
+use Rattle.gc_texts.specs.declared.task_line.TaskLine.TheVariants as says
+use Rattle.gc_texts.specs.declared.tasks.Mode.{Mode}
+use Rattle.gc_texts.specs.declared.tasks.Task.{Task}
+use Rattle.gc_texts.specs.declared.text.TheConstants.{TEXT_LIMIT}
+
+-- what holds before any line: a deadline, a mode, and no row
+abbrev pub opening : ℕ → Bool → Mode
+opening deadline chained = record { deadline = deadline; chained = chained; row = None }
+
+-- what holds behind a line: a command's row is its target's, a line of the mode breaks the row, and a name changes nothing
+abbrev pub behind : Mode → TaskLine → Mode
+behind mode (says.Command command) = record { deadline = mode.deadline; chained = mode.chained; row = Some command.target }
+behind mode (says.Deadline deadline) = record { deadline = deadline; chained = mode.chained; row = mode.row }
+behind mode says.Chained = record { deadline = mode.deadline; chained = true; row = None }
+behind mode says.Unchained = record { deadline = mode.deadline; chained = false; row = None }
+behind mode (says.Naming name) = mode
+
+-- whether a command of this target goes on a row
+abbrev pub goes_on : Option ℕ → ℕ → Bool
+goes_on (Some before) target = before == target
+goes_on None target = false
+
+-- the task of a line, where it is a command: chained where the mode is, and it goes on the row
+abbrev pub task_at : Mode → TaskLine → List Task
+task_at mode (says.Command command) =
+    record { command = command; deadline = mode.deadline; chained = mode.chained && goes_on mode.row command.target } ∷ []
+task_at mode _ = []
+
+-- the tasks of lines
+abbrev pub tasks_of : Mode → List TaskLine → List Task
+tasks_of mode [] = []
+tasks_of mode (line ∷ later) = task_at mode line ++ tasks_of (behind mode line) later
+
+-- the name of a line, where it gives one
+abbrev pub name_at : TaskLine → List Name
+name_at (says.Naming name) = name ∷ []
+name_at _ = []
+
+-- the names of lines
+abbrev pub names_of : List TaskLine → List Name
+names_of [] = []
+names_of (line ∷ later) = name_at line ++ names_of later
+
+-- whether a line may stand behind those that gave these names: where it gives one, they are fewer than 64, and its target has none
+abbrev pub may_stand : List Name → TaskLine → Bool
+may_stand names (says.Naming name) = nat_lt (length names) 64 && not (is_named name.target names)
+may_stand names _ = true
+
+-- each line may stand behind these names and those of the lines before it
+abbrev pub MayFollow : List Name → List TaskLine → Type 0
+MayFollow names [] = Unit {0}
+MayFollow names (line ∷ later) = (may_stand names line ≡ true) × MayFollow (names ++ name_at line) later
+
+-- these lines stand in a station's text: each has its form, and may stand behind those before it
+pub record AreTaskLines (lines : List (List ℕ)) (said : List TaskLine) : Type 0 where
+  pub forms : AreItems IsTaskLine (filter is_kept lines) said
+  pub follow : MayFollow [] said
+
+-- the text gives these tasks and names, where this deadline and this mode hold before any line
+pub record IsTasks (text : List ℕ) (deadline : ℕ) (chained : Bool) (tasks : List Task) (names : List Name) : Type 0 where
+  pub said : List TaskLine
+  pub lines : AreTaskLines (text_lines text) said
+  pub tasks_are : tasks ≡ tasks_of (opening deadline chained) said
+  pub names_are : names ≡ names_of said
+
+-- line number n, counted from 1, is the first that isn't skipped and has no form, or may not stand behind those before it
+pub record IsFirstFaultyTask (text : List ℕ) (n : ℕ) : Type 0 where
+  pub front : List (List ℕ)
+  pub line : List ℕ
+  pub rest : List (List ℕ)
+  pub lines_are : text_lines text ≡ front ++ line ∷ rest
+  pub place : n ≡ length front + 1
+  pub kept : is_kept line ≡ true
+  pub before : List TaskLine
+  pub lines : AreTaskLines front before
+  pub faulty : (said : TaskLine) → IsTaskLine line said → may_stand (names_of before) said ≡ false
+
+-- a line has a form and may stand there, and no line before it is faulty
+pub record IsBehindATask (text : List ℕ) : Type 0 where
+  pub front : List (List ℕ)
+  pub line : List ℕ
+  pub rest : List (List ℕ)
+  pub lines_are : text_lines text ≡ front ++ line ∷ rest
+  pub kept : is_kept line ≡ true
+  pub before : List TaskLine
+  pub lines : AreTaskLines front before
+  pub said : TaskLine
+  pub form : IsTaskLine line said
+  pub stands : may_stand (names_of before) said ≡ true
+
+-- why a station's text gives no tasks, or none were read: it is too long, else its first faulty line, or a want of memory
+abbrev pub TaskFault : List ℕ → RunFault → Type 0
+TaskFault text InputTooLong = TEXT_LIMIT < length text
+TaskFault text (Schedule n) = (length text ≤ TEXT_LIMIT) × IsFirstFaultyTask text n
+TaskFault text Memory = (length text ≤ TEXT_LIMIT) × IsBehindATask text
+TaskFault text _ = ⊥

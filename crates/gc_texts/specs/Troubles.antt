@@ -1,0 +1,84 @@
+-- Which field of a faulty line of a station's text is at fault: this project's own.
+use Rattle.std.specs.Prelude.{◌≡◌, ℕ, ◌==◌, ◌||◌, ◌⊎◌, List, ◌++◌, length, if◌then◌else◌, codes}
+use Rattle.std.specs.Fmt.{decimal}
+use Rattle.gc_catalogue.specs.Calls.{IsCall, IsRefusal}
+use Rattle.gc_catalogue.specs.declared.call.Call.{Call}
+use Rattle.gc_catalogue.specs.declared.fault.CallFault.TheVariants.{Unknown, Parameters}
+use Rattle.gc_values.specs.declared.fault.ValueFault.{ValueFault}
+use Rattle.gc_values.specs.declared.fault.ValueFault.TheVariants.{Count, TooMany}
+use Rattle.gc_texts.specs.Procedures.{IsNumber}
+use Rattle.gc_texts.specs.Records.{before, behind}
+use Rattle.gc_texts.specs.declared.trouble.Trouble.{Trouble}
+use Rattle.gc_texts.specs.declared.trouble.Trouble.TheVariants as trouble
+
+-- how many parameters the procedure of a number has; 0 where there is none
+abbrev pub wanted : ℕ → ℕ
+wanted rpc =
+    if (rpc == 107) || (rpc == 2012) || (rpc == 2107) || (rpc == 17008) || (rpc == 17017) then 1
+    else (if (rpc == 2008) || (rpc == 2108) then 2 else (if (rpc == 9028) || (rpc == 9037) then 3
+    else (if rpc == 2010 then 4 else (if rpc == 9027 then 5 else (if rpc == 5007 then 6 else 0)))))
+
+-- the trouble of parameters with a fault: another number of them, or else their spelling
+abbrev pub list_trouble : ℕ → ValueFault → Trouble
+list_trouble rpc Count = trouble.Wants rpc (wanted rpc)
+list_trouble rpc TooMany = trouble.Wants rpc (wanted rpc)
+list_trouble rpc _ = trouble.Parameters
+
+-- the parameters have a fault, and this is its trouble
+pub record IsListTrouble (rpc : ℕ) (params : List ℕ) (t : Trouble) : Type 0 where
+  pub fault : ValueFault
+  pub refused : IsRefusal rpc params (Parameters fault)
+  pub is : t ≡ list_trouble rpc fault
+
+-- what is at fault of a procedure's number and its parameters: no procedure has the number, or the parameters have a
+-- fault; nothing, where they are a call's
+abbrev pub IsCallTrouble : ℕ → List ℕ → Trouble → Type 0
+IsCallTrouble rpc params (trouble.NoProcedure n) = (n ≡ rpc) × IsRefusal rpc params Unknown
+IsCallTrouble rpc params trouble.NoForm = (call : Call) × IsCall rpc params call
+IsCallTrouble rpc params (trouble.Wants n count) = IsListTrouble rpc params (trouble.Wants n count)
+IsCallTrouble rpc params trouble.Parameters = IsListTrouble rpc params trouble.Parameters
+IsCallTrouble rpc params _ = ⊥
+
+-- no number up to the greatest stands there
+abbrev pub NoNumber : List ℕ → ℕ → Type 0
+NoNumber text max = (n : ℕ) → IsNumber text n max → ⊥
+
+-- the fields of a line: its first word, the second, and what stands behind that
+abbrev pub first_word : List ℕ → List ℕ
+first_word line = before 32 line
+
+abbrev pub second_word : List ℕ → List ℕ
+second_word line = before 32 (behind 32 line)
+
+abbrev pub words_behind : List ℕ → List ℕ
+words_behind line = behind 32 (behind 32 line)
+
+-- the second word is a procedure's number, and the number and what stands behind it have the trouble
+pub record IsAsked (line : List ℕ) (t : Trouble) : Type 0 where
+  pub rpc : ℕ
+  pub number : IsNumber (second_word line) rpc 65535
+  pub is : IsCallTrouble rpc (words_behind line) t
+
+-- which field of a line is at fault; none where there is one word, or where number and parameters are a call's
+abbrev pub IsTrouble : List ℕ → Trouble → Type 0
+IsTrouble line trouble.Deadline = first_word line ≡ codes "deadline"
+IsTrouble line trouble.Name = (first_word line ≡ codes "name") × ((n : ℕ) × IsNumber (second_word line) n 4294967295)
+IsTrouble line trouble.Target = ((first_word line ≡ codes "name") × NoNumber (second_word line) 4294967295) ⊎ NoNumber (first_word line) 4294967295
+IsTrouble line trouble.Number = NoNumber (second_word line) 65535
+IsTrouble line trouble.NoForm = (length (behind 32 line) ≡ 0) ⊎ IsAsked line trouble.NoForm
+IsTrouble line t = IsAsked line t
+
+-- a trouble as it is printed
+abbrev pub trouble_text : Trouble → List ℕ
+trouble_text (trouble.NoProcedure rpc) = codes "no procedure " ++ decimal rpc
+trouble_text (trouble.Wants rpc count) = decimal rpc ++ codes " wants " ++ decimal count ++ codes " parameters"
+trouble_text trouble.Parameters = codes "spelling of the parameters"
+trouble_text trouble.Number = codes "procedure"
+trouble_text trouble.Target = codes "target"
+trouble_text trouble.Deadline = codes "deadline"
+trouble_text trouble.Name = codes "name"
+trouble_text trouble.NoForm = codes "no form"
+
+-- the line that the program writes of the trouble of a text's line with this number, counted from 1
+abbrev pub trouble_line : ℕ → Trouble → List ℕ
+trouble_line line t = (codes "geocom: line " ++ decimal line ++ codes ": ") ++ (trouble_text t ++ codes "\n")

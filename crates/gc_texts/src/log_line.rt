@@ -1,0 +1,120 @@
+//! Lines of a log: what was on a link, each with its moment, in printable characters alone.
+
+ghost use Rattle.std.specs.Prelude.{◌≡◌, ◌+◌, ◌*◌, ◌<◌, ◌≤◌, ◌++◌, length, take, OnOk, IfErr};
+ghost use Rattle.std.specs.Io.KnownBytes.{Appends};
+ghost use Rattle.arrayvec.specs.ArrayVec.{array_vec_len};
+ghost use Rattle.gc_lines.specs.Ports.{FailsWith, TakesFront};
+ghost use Rattle.gc_texts.specs.Logs.{mark_text, is_as_it_is, hex_digit, escape, escaped, log_line};
+
+use crate::stamp::stamp_text;
+use arrayvec::ArrayVec;
+use gc_lines::{Sink, append, write_whole};
+
+/// What one line of a log tells: at most as many bytes as the longest line has with its CR LF.
+pub type LogBytes = ArrayVec<u8, 514>;
+
+// The bytes of the longest log line: a moment, a mark of two bytes, each byte as four, two spaces and a line feed.
+const LOG_ROOM: usize = 40 + 1 + 2 + 1 + 4 * 514 + 1;
+
+/// Which way the bytes of a log line were going, and what stood behind them.
+#[derive(Clone, Copy, Debug, PartialEq, Eq)]
+pub enum LogMark {
+    /// `>`: a line that went, without its CR LF.
+    Went,
+    /// `>|`: these bytes went, and no CR LF is left out: a line feed without a CR, what a close cut, or a part of a line of
+    /// more than 512 bytes.
+    WentPart,
+    /// `<`: a line that came, without its CR LF.
+    Came,
+    /// `<|`: these bytes came, as with `>|`.
+    CamePart,
+    /// `-`: what became of the connection, in words.
+    Link,
+}
+
+impl LogMark {
+    /// The mark as it is written.
+    pub fn text(self) -> &'static [u8]
+        ensures is { result.now ≡ mark_text self }
+        ensures short { length result.now ≤ 2 }
+    {
+        match self {
+            LogMark::Went => b">",
+            LogMark::WentPart => b">|",
+            LogMark::Came => b"<",
+            LogMark::CamePart => b"<|",
+            LogMark::Link => b"-",
+        }
+    }
+}
+
+/// Writes a line of a log, in one write where the sink takes all of it: the moment in milliseconds since 1970, UTC, a space,
+/// the mark, a space, and the bytes. Printable ASCII stands as it is, but the backslash; each other byte is `\x` and two
+/// lower-case digits of base 16.
+///
+/// `Err(n)`: the sink took the first n bytes of the line, which aren't all, and failed.
+pub fn write_log_line<K: Sink>(
+    sink: &mut K,
+    utc: u64,
+    mark: LogMark,
+    bytes: &LogBytes,
+) -> Result<(), usize>
+    ensures failed { FailsWith result (K.failed sink.old) (K.failed sink.new) }
+    ensures ok { OnOk result (Appends (K.taken sink.old) (K.taken sink.new) (log_line utc mark bytes.now.items)) }
+    ensures err { IfErr result (λ n. TakesFront (K.taken sink.old) (K.taken sink.new) n (log_line utc mark bytes.now.items)) }
+{
+    write_whole(sink, &log_line(utc, mark, bytes))
+}
+
+// The line of a log.
+fn log_line(utc: u64, mark: LogMark, bytes: &LogBytes) -> ArrayVec<u8, LOG_ROOM>
+    ensures { result.items ≡ log_line utc mark bytes.now.items }
+{
+    let mut line = ArrayVec::new();
+    append(&mut line, &stamp_text(utc));
+    append(&mut line, b" ");
+    append(&mut line, mark.text());
+    append(&mut line, b" ");
+    append_escaped(&mut line, bytes);
+    append(&mut line, b"\n");
+    line
+}
+
+// Appends bytes, each as it is or as `\x` and two digits.
+fn append_escaped<const N: usize>(to: &mut ArrayVec<u8, N>, bytes: &[u8])
+    requires { array_vec_len to.old + 4 * length bytes.now ≤ N }
+    ensures text { to.new.items ≡ to.old.items ++ escaped bytes.now }
+    ensures room { array_vec_len to.new ≤ array_vec_len to.old + 4 * length bytes.now }
+{
+    for b in bytes {
+        append_escape(to, *b);
+    }
+}
+
+// Appends a byte, as it is or as `\x` and two digits.
+fn append_escape<const N: usize>(to: &mut ArrayVec<u8, N>, b: u8)
+    requires { array_vec_len to.old + 4 ≤ N }
+    ensures text { to.new.items ≡ to.old.items ++ escape b }
+    ensures room { array_vec_len to.new ≤ array_vec_len to.old + 4 }
+{
+    if is_as_it_is(b) {
+        append(to, &[b]);
+    } else {
+        append(to, &[b'\\', b'x', hex_digit(b / 16), hex_digit(b % 16)]);
+    }
+}
+
+// Whether a byte stands as it is: printable ASCII but the backslash.
+pub(crate) fn is_as_it_is(b: u8) -> bool
+    ensures { result ≡ is_as_it_is b }
+{
+    31 < b && b < 127 && b != b'\\'
+}
+
+// A digit of base 16.
+pub(crate) fn hex_digit(n: u8) -> u8
+    requires { n < 16 }
+    ensures { result ≡ hex_digit n }
+{
+    if n < 10 { b'0' + n } else { b'a' - 10 + n }
+}

@@ -1,0 +1,133 @@
+//! The reading of a log's lines: a line reads exactly where it could have been written.
+
+ghost use Rattle.std.specs.Prelude.{◌≡◌, ◌+◌, ◌<◌, ◌≤◌, ◌∷◌, ◌++◌, ℕ, List, length, All, MatchOption};
+ghost use Rattle.gc_texts.specs.Logs.{mark_text, hex_digit, escape, escaped, IsLogLine};
+ghost use Rattle.gc_texts.specs.declared.log_line.LogMark.{LogMark};
+
+use crate::cuts::cut_at;
+use crate::log_line::{LogBytes, LogMark, is_as_it_is};
+
+/// What a line of a log says.
+#[derive(Debug, PartialEq, Eq, Drop)]
+pub struct LogLine<'a> {
+    /// The moment, as it stands: one word.
+    pub moment: &'a [u8],
+    /// Which way the bytes were going, and what stood behind them.
+    pub mark: LogMark,
+    /// The bytes themselves.
+    pub bytes: LogBytes,
+}
+
+/// Reads a line of a log, without its line feed. `None`: it is no such line, since it isn't a word, a mark and the bytes of
+/// at most 514, each in the one way in which it is written.
+pub fn read_log_line(line: &[u8]) -> Option<LogLine<'_>>
+    ensures { MatchOption result
+        ((moment : List ℕ) (mark : LogMark) (bytes : List ℕ) → length bytes ≤ 514 → IsLogLine line.now moment mark bytes → ⊥)
+        (λ read. IsLogLine line.now read.moment.now read.mark read.bytes.items) }
+{
+    let (moment, behind) = cut_at(b' ', line);
+    let Some(behind) = behind else {
+        return None;
+    };
+    let (word, text) = cut_at(b' ', behind);
+    let Some(text) = text else {
+        return None;
+    };
+    let Some(mark) = read_mark(word) else {
+        return None;
+    };
+    let Some(bytes) = read_bytes(text) else {
+        return None;
+    };
+    Some(LogLine {
+        moment,
+        mark,
+        bytes,
+    })
+}
+
+// Reads a mark.
+fn read_mark(text: &[u8]) -> Option<LogMark>
+    ensures { MatchOption result ((mark : LogMark) → text.now ≡ mark_text mark → ⊥) (λ mark. text.now ≡ mark_text mark) }
+{
+    match text {
+        [b'>'] => Some(LogMark::Went),
+        [b'>', b'|'] => Some(LogMark::WentPart),
+        [b'<'] => Some(LogMark::Came),
+        [b'<', b'|'] => Some(LogMark::CamePart),
+        [b'-'] => Some(LogMark::Link),
+        _ => None,
+    }
+}
+
+// Reads bytes, each as it is or as `\x` and two digits, of which there are at most 514.
+fn read_bytes(text: &[u8]) -> Option<LogBytes>
+    ensures { MatchOption result
+        ((bytes : List ℕ) → length bytes ≤ 514 → All (λ b. b < 256) bytes → text.now ≡ escaped bytes → ⊥)
+        (λ bytes. (text.now ≡ escaped bytes.items) × All (λ b. b < 256) bytes.items) }
+{
+    let mut bytes = LogBytes::new();
+    let mut left = text;
+    while !left.is_empty() {
+        let Some((b, more)) = read_byte(left) else {
+            return None;
+        };
+        if bytes.is_full() {
+            return None;
+        }
+        bytes.push(b);
+        left = more;
+    }
+    Some(bytes)
+}
+
+// Reads the first byte of a text, and says what stands behind it.
+fn read_byte(text: &[u8]) -> Option<(u8, &[u8])>
+    ensures { MatchOption result
+        ((b : ℕ) (more : List ℕ) → b < 256 → text.now ≡ escape b ++ more → ⊥)
+        (λ r. text.now ≡ escape r.0 ++ r.1.now) }
+{
+    let [b, more @ ..] = text else {
+        return None;
+    };
+    if is_as_it_is(*b) {
+        return Some((*b, more));
+    }
+    let Some(digits) = text.strip_prefix(b"\\x") else {
+        return None;
+    };
+    read_digits(digits)
+}
+
+// Reads the two digits of a byte that doesn't stand as it is, and says what stands behind them.
+fn read_digits(text: &[u8]) -> Option<(u8, &[u8])>
+    ensures { MatchOption result
+        ((b : ℕ) (more : List ℕ) → b < 256 → 92 ∷ 120 ∷ text.now ≡ escape b ++ more → ⊥)
+        (λ r. 92 ∷ 120 ∷ text.now ≡ escape r.0 ++ r.1.now) }
+{
+    let [high, low, more @ ..] = text else {
+        return None;
+    };
+    let Some(high) = read_digit(*high) else {
+        return None;
+    };
+    let Some(low) = read_digit(*low) else {
+        return None;
+    };
+    let b = high * 16 + low;
+    if is_as_it_is(b) {
+        return None;
+    }
+    Some((b, more))
+}
+
+// Reads a digit of base 16, in lower case.
+fn read_digit(digit: u8) -> Option<u8>
+    ensures { MatchOption result ((n : ℕ) → n < 16 → digit ≡ hex_digit n → ⊥) (λ n. (n < 16) × (digit ≡ hex_digit n)) }
+{
+    match digit {
+        b'0'..=b'9' => Some(digit - b'0'),
+        b'a'..=b'f' => Some(digit - b'a' + 10),
+        _ => None,
+    }
+}

@@ -1,0 +1,66 @@
+//! Names: what a target is called in the rows.
+
+ghost use Rattle.std.specs.Prelude.{◌≡◌, ◌≤◌, length};
+ghost use Rattle.std.specs.List.{list_any};
+ghost use Rattle.gc_texts.specs.Names.{is_foreign, is_name, is_named, name_text};
+
+use arrayvec::ArrayVec;
+use gc_lines::append;
+
+/// The most bytes of a name.
+pub const NAME_ROOM: usize = 64;
+
+/// The name of a target.
+#[derive(Debug, Drop, PartialEq, Eq)]
+pub struct Name {
+    /// Whose name it is.
+    pub target: u32,
+    /// The name: 1 to 64 bytes, each printable ASCII other than a comma and a double quote.
+    pub text: ArrayVec<u8, NAME_ROOM>,
+}
+
+// Whether a byte stands in no name: all but printable ASCII, and the comma and the double quote, which rows use.
+fn is_foreign(text: &[u8]) -> bool
+    ensures { result ≡ list_any is_foreign text.now }
+{
+    text.iter()
+        .any(|b| *b < 32 || *b > 126 || *b == b',' || *b == b'"')
+}
+
+/// Whether a text is a name: 1 to 64 bytes, and none that stands in no name.
+pub(crate) fn is_name(text: &[u8]) -> bool
+    ensures { result ≡ is_name text.now }
+{
+    !text.is_empty() && text.len() <= NAME_ROOM && !is_foreign(text)
+}
+
+/// The name of these bytes for a target.
+pub(crate) fn name_of_bytes(target: u32, bytes: &[u8]) -> Name
+    requires { length bytes.now ≤ 64 }
+    ensures target { result.target ≡ target }
+    ensures text { result.text.items ≡ bytes.now }
+{
+    let mut text = ArrayVec::new();
+    append(&mut text, bytes);
+    Name { target, text }
+}
+
+/// Whether a target has a name among these.
+pub(crate) fn is_named(target: u32, names: &[Name]) -> bool
+    ensures { result ≡ is_named target names.now }
+{
+    names.iter().any(|name| name.target == target)
+}
+
+/// The name of a target among these: that of the first that is the target's, or nothing.
+pub(crate) fn name_text(target: u32, names: &[Name]) -> &[u8]
+    ensures is { result.now ≡ name_text target names.now }
+    ensures short { length result.now ≤ 64 }
+{
+    for name in names {
+        if name.target == target {
+            return name.text.as_slice();
+        }
+    }
+    b""
+}

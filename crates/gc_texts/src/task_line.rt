@@ -1,0 +1,99 @@
+//! One line of a station's text, read: the only place that knows its words.
+
+ghost use Rattle.std.specs.Prelude.{◌≡◌, ◌↔◌, ◌++◌, ℕ, List, IsTrue, MatchOption};
+ghost use Rattle.gc_texts.specs.TaskLines.{IsDeadline, IsNaming, IsTaskLine};
+ghost use Rattle.gc_texts.specs.declared.name.Name.{Name};
+ghost use Rattle.gc_texts.specs.declared.task_line.TaskLine.{TaskLine};
+
+use crate::commands::{Command, read_command};
+use crate::cuts::cut_at;
+use crate::name::{Name, is_name, name_of_bytes};
+use crate::procedure::{TARGET_MAX, number_of};
+
+/// The greatest deadline of a line, in milliseconds: a day.
+pub const DEADLINE_MAX: u64 = 86400000;
+
+// What a line of a station's text says.
+#[derive(Drop)]
+pub(crate) enum TaskLine {
+    // A command is to be asked.
+    Command(Command),
+    // The deadline of the commands behind it, in milliseconds.
+    Deadline(u64),
+    // The commands behind it are chained.
+    Chained,
+    // The commands behind it aren't chained.
+    Unchained,
+    // A target has a name.
+    Naming(Name),
+}
+
+// What stands behind a word, where the line begins with it.
+fn behind<'a>(word: &[u8], line: &'a [u8]) -> Option<&'a [u8]>
+    ensures { MatchOption result ((rest : List ℕ) → line.now ≡ word.now ++ rest → ⊥) (λ rest. line.now ≡ word.now ++ rest.now) }
+{
+    line.strip_prefix(word)
+}
+
+// Whether the line is this word.
+pub(crate) fn is_word(word: &[u8], line: &[u8]) -> bool
+    ensures { IsTrue result ↔ (line.now ≡ word.now) }
+{
+    line == word
+}
+
+// `deadline MS`, from 1 to a day.
+fn read_deadline(line: &[u8]) -> Option<u64>
+    ensures { MatchOption result ((deadline : ℕ) → IsDeadline line.now deadline → ⊥) (λ deadline. IsDeadline line.now deadline) }
+{
+    let Some(digits) = behind(b"deadline ", line) else {
+        return None
+    };
+    let Some(deadline) = number_of(digits, DEADLINE_MAX) else {
+        return None
+    };
+    if deadline == 0 {
+        return None;
+    }
+    Some(deadline)
+}
+
+// `name T TEXT`: a target and its name.
+fn read_naming(line: &[u8]) -> Option<Name>
+    ensures { MatchOption result ((name : Name) → IsNaming line.now name → ⊥) (λ name. IsNaming line.now name) }
+{
+    let Some(rest) = behind(b"name ", line) else {
+        return None
+    };
+    let (target, text) = cut_at(b' ', rest);
+    let Some(text) = text else { return None };
+    let Some(target) = number_of(target, TARGET_MAX) else {
+        return None
+    };
+    if !is_name(text) {
+        return None;
+    }
+    Some(name_of_bytes(target as u32, text))
+}
+
+// Reads one line of a station's text; none where it has no form.
+pub(crate) fn read_task_line(line: &[u8]) -> Option<TaskLine>
+    ensures { MatchOption result ((said : TaskLine) → IsTaskLine line.now said → ⊥) (λ said. IsTaskLine line.now said) }
+{
+    if is_word(b"chained", line) {
+        return Some(TaskLine::Chained);
+    }
+    if is_word(b"unchained", line) {
+        return Some(TaskLine::Unchained);
+    }
+    if let Some(deadline) = read_deadline(line) {
+        return Some(TaskLine::Deadline(deadline));
+    }
+    if let Some(name) = read_naming(line) {
+        return Some(TaskLine::Naming(name));
+    }
+    match read_command(line) {
+        Some(command) => Some(TaskLine::Command(command)),
+        None => None,
+    }
+}

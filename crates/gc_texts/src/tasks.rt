@@ -1,0 +1,201 @@
+//! Tasks: commands of a station's text, with how each goes out.
+
+ghost use Rattle.std.specs.Prelude.{◌≡◌, ◌<◌, ◌≤◌, ◌↔◌, ◌++◌, ℕ, length, Err, None, IfOk, IfErr, OnOk};
+ghost use Rattle.gc_texts.specs.Names.{name_text};
+ghost use Rattle.gc_texts.specs.Tasks.{opening, behind, goes_on, task_at, name_at, may_stand, IsTasks, IsFirstFaultyTask, IsBehindATask, TaskFault};
+ghost use Rattle.gc_texts.specs.declared.fault.RunFault.{RunFault};
+ghost use Rattle.gc_texts.specs.declared.text.TheConstants.{TEXT_LIMIT};
+
+use crate::commands::Command;
+use crate::cuts::cut_at;
+use crate::fault::RunFault;
+use crate::line_forms::{is_skipped, without_cr};
+use crate::name::{Name, is_named, name_text};
+use crate::task_line::{TaskLine, read_task_line};
+use crate::text::TEXT_LIMIT;
+use std::alloc::{AllocError, Global};
+
+/// A command of a station's cycle, and how it goes out.
+#[derive(Clone, Copy, Debug, PartialEq, Eq)]
+pub struct Task {
+    /// What is asked, and whom.
+    pub command: Command,
+    /// How long its request waits before it is given up, in milliseconds.
+    pub deadline: u64,
+    /// Whether it goes out only once the command before it was answered with both codes 0 and values that read.
+    pub chained: bool,
+}
+
+/// What a station's text gives: what is asked in each cycle, and what the targets are called.
+#[derive(Drop)]
+pub struct Tasks {
+    /// The commands, in order.
+    pub tasks: Vec<Task>,
+    /// The names, in order: one at most for each target, and 64 at most.
+    pub names: Vec<Name>,
+}
+
+impl Tasks {
+    /// The name of a target; empty where it has none.
+    pub fn name_of(&self, target: u32) -> &[u8]
+        ensures is { result.now ≡ name_text target self.now.names.items }
+        ensures short { length result.now ≤ 64 }
+    {
+        name_text(target, self.names.as_slice())
+    }
+}
+
+// The most targets that have a name.
+const NAMES_MAX: usize = 64;
+
+// What holds where a command stands.
+#[derive(Clone, Copy)]
+struct Mode {
+    // The deadline, in milliseconds.
+    deadline: u64,
+    // Whether a command is chained to the one before it in its row.
+    chained: bool,
+    // The target of the command before it, where its row may go on.
+    row: Option<u32>,
+}
+
+// What holds behind a line.
+fn behind(mode: Mode, said: &TaskLine) -> Mode
+    ensures { result ≡ behind mode said.now }
+{
+    match said {
+        TaskLine::Command(command) => Mode {
+            row: Some(command.target),
+            ..mode
+        },
+        TaskLine::Deadline(deadline) => Mode {
+            deadline: *deadline,
+            ..mode
+        },
+        TaskLine::Chained => Mode {
+            chained: true,
+            row: None,
+            ..mode
+        },
+        TaskLine::Unchained => Mode {
+            chained: false,
+            row: None,
+            ..mode
+        },
+        TaskLine::Naming(_) => mode,
+    }
+}
+
+// Whether a command of this target goes on a row.
+fn goes_on(row: Option<u32>, target: u32) -> bool
+    ensures { result ≡ goes_on row target }
+{
+    match row {
+        Some(before) => before == target,
+        None => false,
+    }
+}
+
+// Whether a line may stand behind those that gave these names.
+fn may_stand(names: &[Name], said: &TaskLine) -> bool
+    ensures { result ≡ may_stand names.now said.now }
+{
+    match said {
+        TaskLine::Naming(name) => names.len() < NAMES_MAX && !is_named(name.target, names),
+        _ => true,
+    }
+}
+
+// Keeps the task or the name of a line.
+fn keep(
+    tasks: &mut Vec<Task>,
+    names: &mut Vec<Name>,
+    mode: Mode,
+    said: TaskLine,
+) -> Result<(), AllocError>
+    ensures tasks { OnOk result (tasks.new.items ≡ tasks.old.items ++ task_at mode said) }
+    ensures names { OnOk result (names.new.items ≡ names.old.items ++ name_at said) }
+{
+    match said {
+        TaskLine::Command(command) => {
+            let chained = mode.chained && goes_on(mode.row, command.target);
+            tasks.reserve(1)?;
+            tasks.push_reserved(Task {
+                command,
+                deadline: mode.deadline,
+                chained,
+            });
+            Ok(())
+        }
+        TaskLine::Naming(name) => {
+            names.reserve(1)?;
+            names.push_reserved(name);
+            Ok(())
+        }
+        _ => Ok(()),
+    }
+}
+
+/// Reads a station's text: its commands with how each goes out, and the names of targets. Until a line says otherwise the
+/// commands have this deadline, in milliseconds, and are chained or not.
+///
+/// Refused are a text of more than 65,536 bytes (`InputTooLong`, before any line is looked at), and the first line that has no
+/// form, names a target a second time, or names one more than 64 (`Schedule`, with its number counted from 1). `Memory` comes
+/// only where a growth was refused, behind a line that stands.
+pub fn read_tasks(
+    alloc: Global,
+    text: &[u8],
+    deadline: u64,
+    chained: bool,
+) -> Result<Tasks, RunFault>
+    ensures found { IfOk result (λ all. IsTasks text.now deadline chained all.tasks.items all.names.items) }
+    ensures too_long { (result ≡ Err RunFault.InputTooLong) ↔ (TEXT_LIMIT < length text.now) }
+    ensures faulty { (n : ℕ) → result ≡ Err (RunFault.Schedule n) → IsFirstFaultyTask text.now n }
+    ensures memory { result ≡ Err RunFault.Memory → IsBehindATask text.now }
+    ensures faults { IfErr result (λ e. TaskFault text.now e) }
+{
+    if text.len() > TEXT_LIMIT {
+        return Err(RunFault::InputTooLong);
+    }
+    let opening = Mode {
+        deadline,
+        chained,
+        row: None,
+    };
+    read_task_lines(alloc, text, opening)
+}
+
+// Reads the lines of a station's text.
+fn read_task_lines(alloc: Global, text: &[u8], opening: Mode) -> Result<Tasks, RunFault>
+    requires short { length text.now ≤ TEXT_LIMIT }
+    requires opening { opening.row ≡ None }
+    ensures found { IfOk result (λ all. IsTasks text.now opening.deadline opening.chained all.tasks.items all.names.items) }
+    ensures fault { IfErr result (λ e. TaskFault text.now e) }
+{
+    let mut tasks = Vec::new(alloc);
+    let mut names = Vec::new(alloc);
+    let mut mode = opening;
+    let mut left = Some(text);
+    let mut number = 0u32;
+    while let Some(text) = left {
+        let (line, rest) = cut_at(b'\n', text);
+        let line = without_cr(line);
+        left = rest;
+        number += 1;
+        if is_skipped(line) {
+            continue;
+        }
+        let Some(said) = read_task_line(line) else {
+            return Err(RunFault::Schedule { line: number });
+        };
+        if !may_stand(names.as_slice(), &said) {
+            return Err(RunFault::Schedule { line: number });
+        }
+        let next = behind(mode, &said);
+        if keep(&mut tasks, &mut names, mode, said).is_err() {
+            return Err(RunFault::Memory);
+        }
+        mode = next;
+    }
+    Ok(Tasks { tasks, names })
+}
