@@ -63,7 +63,7 @@ def rows(instrument, before):
             held, came = carry(near, far, before)
             before -= came + bool(held)
     written, told = station.communicate(timeout=20)
-    print(f"held {told.strip()}")
+    print(f"held {told.splitlines()[-1:]}")
     return [(row["target"], row["outcome"], row["values"]) for row in csv.DictReader(written.splitlines())]
 
 

@@ -6,12 +6,12 @@ line that is cut there the front, the whole or nothing gets through. The instrum
 Nothing from before may be under way once a beginning's quiet time is over. So what was held back comes while each connection is
 drained, or well behind the quiet time, or behind the first request; where that one is a null procedure with id 0, it is lost.
 
-With `--tag` each answer carries, in place of its values, the number of the request on whose execution it was made. The log has a
-line for each thing that came or went, with the milliseconds of this machine's clock in front:
+With `--tag` each answer carries, in place of its first value, the number of the request on whose execution it was made. The log has
+a line for each thing that came or went, with the milliseconds of this machine's clock in front:
 
     clear                       the station's lone line feed
     null ID                     a null procedure of the station's own
-    sent NUMBER CYCLE PLACE     a command's request, as it came from the station
+    sent NUMBER CYCLE PLACE     a command's request, as it came from the station; cycles of which none came aren't counted
     came NUMBER                 a reply to it that went on to the station, whole
 """
 
@@ -28,8 +28,10 @@ import subprocess
 import sys
 import time
 
+from tagging import tagged
+
 REQUEST = re.compile(rb"%R1Q,(\d+),(\d):")
-REPLY = re.compile(rb"%R1P,0,(\d):0(,[^\r]*)?\r\n$")
+REPLY = re.compile(rb"%R1P,0,(\d):0,([^\r]*)\r\n$")
 LOST = -1
 
 
@@ -175,7 +177,7 @@ class Relay:
                 continue
             found = REPLY.match(line)
             if self.options.tag and number and found:
-                line = b"%%R1P,0,%s:0,%d\r\n" % (found[1], number)
+                line = b"%%R1P,0,%s:0,%s\r\n" % (found[1], tagged(found[2].decode(), number).encode())
             if self.asked:
                 self.spoil(self.down, line, (None, number))
             else:

@@ -1,0 +1,180 @@
+"""Trials of files: the log of a station, and scenes of an instrument."""
+
+import os
+import re
+import tempfile
+from functools import partial
+from pathlib import Path
+
+from far_end import CLOSES, good, standing
+from measuring import expect_each_once, finished, measuring
+from operating import REPLY, REQUEST, ask, call, ended, expect, expect_same, free_port, started, written_file
+
+LINE = re.compile(rb"(\d{4}-\d\d-\d\dT\d\d:\d\d:\d\d\.\d{3}Z) (>|<|>\||<\||-) (.*)")
+ESCAPE = re.compile(rb"\\x([0-9a-f]{2})")
+TWO = b"7 5003\n8 5004\n"
+SCENE = b"# the east pillar\nserial 71\nname EAST\ntarget 0.25 1.5 12.5\ntarget 4.0 1.5 48.25\n"
+SCENE_REPLIES = b'%R1P,0,1:0,71\r\n%R1P,0,2:0,"EAST"\r\n%R1P,0,3:0\r\n%R1P,0,4:0,0.25,1.5,12.5,2\r\n'
+SCENE_REQUESTS = b"%R1Q,5003,1:\r\n%R1Q,5004,2:\r\n%R1Q,9027,3:0.25,1.5,0,0,0\r\n%R1Q,17017,4:2\r\n"
+SCENE_COMMANDS = b"7 5003\n7 5004\n7 9027 0.25,1.5,0,0,0\n7 17017 2\n"
+# Scenes that are refused, with what is told.
+FAULTY = [
+    (b"target 0.25 1.5\n", "geocom: fault 51 line 1\n"),
+    (b"serial 1\n\nnames EAST\n", "geocom: fault 51 line 3\n"),
+    (b"target 0.25 1.5 12.5\n" * 33, "geocom: fault 41\n"),
+    (b"#" * 65537, "geocom: fault 53\n"),
+]
+
+
+def entries(log):
+    """The lines of a log, each with its mark and the bytes that it stands for, in order of time."""
+    found = [LINE.fullmatch(line) for line in log.splitlines()]
+    expect(all(found) and log.endswith(b"\n"), f"a line of the log has no form: {log!r}")
+    times = [line[1] for line in found]
+    expect(times == sorted(times), f"the log goes back: {times}")
+    ends = {b">": b"\r\n", b"<": b"\r\n"}
+    return [(line[2], ESCAPE.sub(lambda two: bytes([int(two[1], 16)]), line[3]) + ends.get(line[2], b"")) for line in found]
+
+
+def carried(log):
+    """What the log says came and went over each connection."""
+    went, came = [], []
+    for mark, data in entries(log):
+        if (mark, data) == (b"-", b"open"):
+            went.append(b"")
+            came.append(b"")
+        elif mark in (b">", b">|"):
+            went[-1] += data
+        elif mark in (b"<", b"<|"):
+            came[-1] += data
+    return went, came
+
+
+def logs_each_byte(width, program):
+    """What stands in the log is what the far end saw, byte by byte, over each connection; and `check --log` reads it."""
+    asked = []
+    noise = [b"", b"no reply \x00\x7f\x80\xff\\x41\r\n", b"half a li\n", b"\r\r\n\n", b"%R1P,0," + 600 * b"9" + b"\r\n", b"\\"]
+
+    def answers(request):
+        asked.append(request)
+        if len(asked) in (5, 6):
+            return CLOSES
+        return noise[len(asked) % len(noise)] + good(request)
+
+    with tempfile.TemporaryDirectory() as folder, standing(answers) as far:
+        log = Path(folder, "log")
+        words = f"--log {log} --quiet 200 --deadline 200 --cycles 6 --width {width}"
+        with measuring(program, far.port, words, TWO) as run:
+            rows, _ = finished(run, patience=12)
+        expect_each_once(rows, 2, 6)
+        expect(len(far.came) > 2, f"{len(far.came)} connections")
+        expect_same(carried(log.read_bytes()), (far.came, far.went), "what the log says")
+        expect_read_by_check(log, program)
+        expect_appends(log, far, program)
+
+
+def expect_read_by_check(log, program):
+    """`check --log` says of each line what its bytes are."""
+    said = {b"-": rb"(open|not open|ended|failed|closed)", b">": rb"request \d+ ok", b">|": rb"(cleared|part)",
+            b"<": rb"(reply 0 0|fault \d|overlong)", b"<|": rb"(cleared|part)"}
+    status, written, told = ended(program, ["check", "--log"], log.read_bytes())
+    expect_same((status, told), (0, ""), "status and messages of check --log")
+    lines = written.splitlines()
+    marks = [mark for mark, _ in entries(log.read_bytes())]
+    expect_same(len(lines), len(marks), "how many lines check --log wrote")
+    for line, mark in zip(lines, marks):
+        expect(re.fullmatch(rb"\S+ " + re.escape(mark) + b" " + said[mark], line), f"check --log said {line!r}")
+
+
+def expect_appends(log, far, program):
+    """A second run leaves what stands in the log."""
+    before = log.read_bytes()
+    with measuring(program, far.port, f"--log {log} --quiet 100 --deadline 100", TWO) as run:
+        finished(run)
+    expect(log.read_bytes().startswith(before) and len(log.read_bytes()) > len(before), "the log was not appended to")
+
+
+def measures_on_without_its_log(program):
+    """Where the log can't be written the rows are the same, and that is told in the end."""
+    with standing() as far, measuring(program, far.port, "--log /dev/full --quiet 100 --deadline 100", TWO) as run:
+        expect_same(run.status(), 0, "the status")
+        told = run.told().splitlines()
+        expect_same(told[-1:], ["geocom: the log could not be written to its end"], "the last line")
+        expect_same(told[0], "answered 2 late 0 lost 0 skipped 0 unreadable 0 missed 0", "the counts")
+        expect_same(run.written(1).count(b",answered,"), 2, "how many rows")
+
+
+def needs_its_log(program):
+    """Where the log can't be opened nothing is sent."""
+    with standing() as far, measuring(program, far.port, "--log /nowhere/log --quiet 100", TWO) as run:
+        expect_same(run.status(), 1, "the status")
+        expect_same((run.told(), run.written(1)), ("geocom: fault 57\n", b""), "what was told, and written")
+        expect_same(far.came, [], "the connections")
+
+
+def answers_from_a_scene(program):
+    """`exec`, `drill` and `loop` have the scene's instrument, and no other targets."""
+    with written_file(SCENE) as scene:
+        expect_same(ended(program, ["exec", "--scene", scene], SCENE_REQUESTS), (0, SCENE_REPLIES, ""), "exec")
+        elsewhere = b"%R1Q,9027,1:0.5,1.5,0,0,0\r\n%R1Q,17017,2:2\r\n"
+        nothing = b"%R1P,0,1:0\r\n%R1P,0,2:1285\r\n"
+        expect_same(ended(program, ["exec", "--scene", scene], elsewhere), (0, nothing, ""), "exec elsewhere")
+        schedule = b"send 7 10 5003\nup deliver\ndown deliver\nsend 7 10 5004\nup deliver\ndown deliver\n"
+        settled = b'0 7 answered %R1P,0,0:0,71\n1 7 answered %R1P,0,1:0,"EAST"\n'
+        expect_same(ended(program, ["drill", "--scene", scene], schedule), (0, settled, ""), "drill")
+        status, written, told = ended(program, ["loop", "--scene", scene], SCENE_COMMANDS)
+        expect_same((status, told), (0, ""), "status and messages of loop")
+        replies = [line.split(b" ", 3)[3].split(b":")[1] for line in written.splitlines()]
+        expect_same(replies, [b"0,71", b'0,"EAST"', b"0", b"0,0.25,1.5,12.5,2"], "loop")
+
+
+def serves_a_scene(words, program):
+    """A connection to `serve` gets the scene's instrument; the file may be gone by then."""
+    port = free_port()
+    with tempfile.TemporaryDirectory() as folder:
+        scene = Path(folder, "scene")
+        scene.write_bytes(SCENE)
+        with started(program, ["serve", str(port), "--scene", str(scene), *words]):
+            with call(port) as caller:
+                os.unlink(scene)
+                for request, reply in zip(SCENE_REQUESTS.splitlines(True), SCENE_REPLIES.splitlines(True)):
+                    ask(caller, request, reply)
+    port = free_port()
+    with started(program, ["serve", str(port), *words]), call(port) as caller:
+        ask(caller, REQUEST, REPLY)
+
+
+def measures_a_scene(program):
+    """A station over a port with a scene has its values in its rows."""
+    port = free_port()
+    with written_file(SCENE) as scene, started(program, ["serve", str(port), "--scene", scene, "--keep"]):
+        call(port).close()
+        with measuring(program, port, "--quiet 100 --deadline 100", SCENE_COMMANDS) as run:
+            rows, _ = finished(run)
+            expect_same([row["values"] for row in rows], ["71", '"EAST"', "", "0.25,1.5,12.5,2"], "the values")
+
+
+def refuses_a_faulty_scene(program):
+    """Before anything else is done a scene is refused: nothing is written, and no port is bound."""
+    for content, message in FAULTY:
+        with written_file(content) as scene:
+            expect_refused(scene, message, program)
+    expect_refused("/nowhere/scene", "geocom: fault 42\n", program)
+
+
+def expect_refused(scene, message, program):
+    for words in ["exec"], ["drill"], ["loop"], ["serve", str(free_port())], ["serve", str(free_port()), "--keep"]:
+        found = ended(program, [*words, "--scene", scene], SCENE_COMMANDS)
+        expect_same(found, (1, b"", message), " ".join(words))
+
+
+def trials():
+    for width in (1, 7):
+        yield f"--log, each byte, width {width}", partial(logs_each_byte, width)
+    yield "--log, a full disk", measures_on_without_its_log
+    yield "--log, no such folder", needs_its_log
+    yield "--scene of exec, drill and loop", answers_from_a_scene
+    yield "--scene of serve", partial(serves_a_scene, [])
+    yield "--scene of serve --keep", partial(serves_a_scene, ["--keep"])
+    yield "--scene, and a station", measures_a_scene
+    yield "--scene, faulty", refuses_a_faulty_scene

@@ -1,0 +1,67 @@
+"""A run of `geocom station` against a far end of a trial's own, and what its rows have to be in any case."""
+
+import collections
+import csv
+import datetime
+import io
+from contextlib import contextmanager
+
+from operating import PATIENCE, expect, expect_same, started
+
+HEAD = b"time,cycle,place,target,name,procedure,outcome,fault,rc_com,rc,values\n"
+STAMP = r"\d{4}-\d\d-\d\dT\d\d:\d\d:\d\d\.\d{3}Z"
+OUTCOMES = ["answered", "late", "lost", "skipped", "unreadable", "missed"]
+
+
+@contextmanager
+def measuring(program, port, words, given):
+    """A station under way, which writes rows."""
+    with started(program, ["station", str(port), "--csv", *words.split()], given=given) as run:
+        yield run
+
+
+def finished(run, status=0, patience=PATIENCE):
+    """Its rows, and the lines that it told before its counts, once it has ended with this status."""
+    expect_same(run.status(patience), status, f"the status, where {run.told()!r} was told")
+    rows = rows_of(run.written(1))
+    told = run.told().splitlines()
+    if status == 0:
+        expect_same(told[-1:], [counts_of(rows)], "the last line")
+        told.pop()
+    return rows, told
+
+
+def rows_of(written):
+    """The rows that were written, each with the columns that its outcome has."""
+    expect(written.startswith(HEAD), f"the head is {written.splitlines()[:1]}")
+    rows = list(csv.DictReader(io.StringIO(written.decode("latin-1"), newline="")))
+    for row in rows:
+        came = row["outcome"] in ("answered", "unreadable")
+        expect(row["outcome"] in OUTCOMES, row)
+        expect(None not in row and None not in row.values(), row)
+        expect((row["fault"] != "") == (row["outcome"] == "unreadable"), row)
+        expect(all((row[name] != "") == came for name in ("rc_com", "rc")), row)
+        expect(came or row["values"] == "", row)
+    return rows
+
+
+def counts_of(rows):
+    """The last line of a run with these rows."""
+    count = collections.Counter(row["outcome"] for row in rows)
+    return " ".join(f"{outcome} {count[outcome]}" for outcome in OUTCOMES)
+
+
+def utc_of(row):
+    """The seconds since 1970 of a row."""
+    return datetime.datetime.fromisoformat(row["time"].replace("Z", "+00:00")).timestamp()
+
+
+def expect_ends(rows, ends):
+    """Each row has this target, procedure and outcome."""
+    expect_same([(int(row["target"]), int(row["procedure"]), row["outcome"]) for row in rows], ends, "the rows")
+
+
+def expect_each_once(rows, commands, cycles):
+    """There is a row for each command of each cycle, in order, and none besides."""
+    places = [(cycle, place) for cycle in range(1, cycles + 1) for place in range(commands)]
+    expect_same([(int(row["cycle"]), int(row["place"])) for row in rows], places, "cycles and places")

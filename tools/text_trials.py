@@ -1,0 +1,172 @@
+"""Trials of texts: what a station takes, what it refuses and how it says so, and which deadline and quiet time hold."""
+
+import select
+import socket
+import time
+from functools import partial
+
+from far_end import LOSES, good, standing
+from measuring import expect_ends, expect_each_once, finished, measuring
+from operating import ended, expect, expect_same, started
+
+# Texts that are refused, with the number of the first faulty line and what is said of it.
+FAULTY = [
+    (b"7 5003\n7 9999\n", 2, "no procedure 9999"),
+    (b"7 2107\n", 1, "2107 wants 1 parameters"),
+    (b"# angles\n\n7 9027 0.5,1.5\n", 3, "9027 wants 5 parameters"),
+    (b"7 2012 1,65\n", 1, "2012 wants 1 parameters"),
+    (b"7 2012 1.6x\n8 5003\n9\n", 1, "spelling of the parameters"),
+    (b"7 2012 1e14\n", 1, "spelling of the parameters"),
+    (b"7 65536\n", 1, "procedure"),
+    (b"4294967296 5003\n", 1, "target"),
+    (b"seven 5003\n", 1, "target"),
+    (b"deadline 0\n7 5003\n", 1, "deadline"),
+    (b"deadline 86400001\n", 1, "deadline"),
+    (b"deadline\n", 1, "deadline"),
+    (b"name 7 \n", 1, "name"),
+    (b"name 7 a,b\n", 1, "name"),
+    (b"name 7 " + 65 * b"a" + b"\n", 1, "name"),
+    (b"name 7 pier\n7 5003\nname 7 pillar\n", 3, "name"),
+    (b"".join(b"name %d pier\n" % target for target in range(65)), 65, "name"),
+    (b"name x pier\n", 1, "target"),
+    (b"7\n", 1, "no form"),
+    (b"Chained\n", 1, "no form"),
+]
+
+
+def says_what_is_faulty(text, line, trouble, program):
+    """Nothing is connected to or written, and the line and its trouble are told."""
+    with socket.create_server(("127.0.0.1", 0)) as listener:
+        status, written, told = ended(program, ["station", str(listener.getsockname()[1]), "--csv"], text)
+        expect(not select.select([listener], [], [], 0)[0], "it connected")
+        lines = f"geocom: fault 51 line {line}\ngeocom: line {line}: {trouble}\n"
+        expect_same((status, written, told), (1, b"", lines), "status, output and messages")
+
+
+def says_each(program):
+    for text, line, trouble in FAULTY:
+        says_what_is_faulty(text, line, trouble, program)
+
+
+def ask_refuses_them(program):
+    """What only a station's text may have is a line without form to `ask` and `loop`."""
+    with socket.create_server(("127.0.0.1", 0)) as listener:
+        port = str(listener.getsockname()[1])
+        for text in b"deadline 200\n", b"chained\n", b"unchained\n", b"name 7 pier 4\n":
+            for words in ["ask", port], ["loop"]:
+                status, written, told = ended(program, words, b"7 5003\n" + text)
+                expect_same((status, written, told), (1, b"", "geocom: fault 51 line 2\n"), f"{words[0]} of {text!r}")
+        expect(not select.select([listener], [], [], 0)[0], "it connected")
+
+
+def names_targets(program):
+    """A name stands in all rows of its target, wherever its line stands."""
+    text = b"7 5003\nname 7 pier 4\n8 5003\n7 5004\nname 0 it's %s: 100%\nname 9 " + 64 * b"x" + b"\r\n9 5003\n0 5003\n"
+    with standing() as far, measuring(program, far.port, "--quiet 100 --deadline 100 --cycles 2", text) as run:
+        rows, _ = finished(run)
+        expect_each_once(rows, 5, 2)
+        names = [row["name"] for row in rows]
+        expect_same(names, 2 * ["pier 4", "", "pier 4", 64 * "x", "it's %s: 100%"], "the names")
+
+
+def waits_as_the_text_says(program):
+    """A deadline of the text holds for the commands behind it, and that of the words for those before."""
+    text = b"7 2107 0\ndeadline 200\n8 2107 0\n# once more\ndeadline 1500\n9 2107 0\n"
+    asked = []
+
+    def answers(request):
+        if request.rpc:
+            asked.append(request)
+            time.sleep(0.6)
+        return good(request)
+
+    with standing(answers) as far, measuring(program, far.port, "--quiet 1500 --deadline 1500", text) as run:
+        rows, told = finished(run, patience=12)
+        expect_ends(rows, [(7, 2107, "answered"), (8, 2107, "late"), (9, 2107, "answered")])
+        expect_same(told, [], "what was told")
+
+
+def drains_what_an_earlier_run_left(program):
+    """An answer of three seconds, which an earlier run asked for, goes to no target: the quiet time is the deadline."""
+    busy = []
+
+    def says(_):
+        busy.append(time.monotonic() + 6.1)
+        return [(3, b"%R1P,0,0:0\r\n"), (6, b"%R1P,0,1:0,111111\r\n")]
+
+    def answers(request):
+        time.sleep(max(0.0, busy[0] - time.monotonic()))
+        return good(request)
+
+    with standing(answers, says) as far, measuring(program, far.port, "--deadline 4000", b"7 5003\n8 5003\n") as run:
+        rows, told = finished(run, patience=18)
+        expect_same([row["values"] for row in rows], ["123456", "123456"], "the values")
+        expect_same(told, [], "what was told")
+
+
+def is_quiet_for(words, text, least, tells, program):
+    """The line is quiet for so many milliseconds before the first request, and a hasty quiet time is told."""
+    opened = []
+
+    def says(_):
+        opened.append(time.monotonic())
+        return []
+
+    with standing(good, says) as far, measuring(program, far.port, words, text) as run:
+        rows, told = finished(run)
+        quiet = 1000 * (far.requests[0].moment - opened[0])
+        expect(least - 20 <= quiet <= least + 500, f"it was quiet for {quiet:.0f} ms, and it should be {least}")
+        expect_same(told, tells, "what was told")
+        expect_same({row["outcome"] for row in rows}, {"answered"}, "the outcomes")
+
+
+def hasty(quiet, deadline):
+    return [f"geocom: the quiet time of {quiet} ms is shorter than the longest deadline of {deadline} ms"]
+
+
+def gives_a_mute_line_up(mute, words, outcomes, program):
+    """A line on which no reply comes is fault 46, and what was sent is lost."""
+    with standing(mute()) as far, measuring(program, far.port, f"--deadline 200 --quiet 200 {words}", b"7 5003\n8 5004\n") as run:
+        rows, told = finished(run, status=1, patience=15)
+        expect_same(told[-1:], ["geocom: fault 46"], "the last line")
+        expect_same([row["outcome"] for row in rows], outcomes, "the outcomes")
+
+
+def falls_mute():
+    """What answers the null procedure of the begin, and nothing behind it."""
+    came = []
+
+    def answers(request):
+        came.append(request)
+        return good(request) if len(came) == 1 else LOSES
+
+    return answers
+
+
+def stays_mute():
+    return lambda _: LOSES
+
+
+def is_refused_by_the_command_line(program):
+    """Numbers out of their range are refused with status 2."""
+    for words in ["--deadline 0"], ["--deadline 86400001"], ["--quiet 0"], ["--width 0"], ["--width 8"], ["--every 86401"]:
+        with started(program, ["station", "1", *words[0].split()]) as run:
+            expect_same(run.status(), 2, f"the status of {words[0]}")
+
+
+def trials():
+    yield "a faulty text, what is said of it", says_each
+    yield "a station's lines in the texts of ask and loop", ask_refuses_them
+    yield "names of targets", names_targets
+    yield "deadlines of the text", waits_as_the_text_says
+    yield "an answer of three seconds from an earlier run", drains_what_an_earlier_run_left
+    one = b"7 5003\n"
+    slow = b"deadline 900\n" + one
+    yield "the quiet time, without a word", partial(is_quiet_for, "--deadline 700", one, 700, [])
+    yield "the quiet time, a deadline of the text", partial(is_quiet_for, "--deadline 500", slow, 900, [])
+    yield "the quiet time, as long as the deadline", partial(is_quiet_for, "--deadline 500 --quiet 500", one, 500, [])
+    yield "the quiet time, hasty", partial(is_quiet_for, "--deadline 500 --quiet 200", one, 200, hasty(200, 500))
+    yield "the quiet time, hasty by the text", partial(is_quiet_for, "--deadline 500 --quiet 600", slow, 600, hasty(600, 900))
+    yield "a mute line", partial(gives_a_mute_line_up, falls_mute, "--retries 1 --cycles 2", ["lost", "lost"])
+    yield "a mute line from the begin", partial(gives_a_mute_line_up, stays_mute, "--retries 1", [])
+    yield "numbers out of their range", is_refused_by_the_command_line
