@@ -1,4 +1,5 @@
 pub mod Choices
+pub mod Logging
 pub mod Measuring
 pub mod Refusals
 pub mod Stops

@@ -1,16 +1,28 @@
 //! Logs: of a station's link, written into a file; and of a night that is over, checked.
 
-ghost use Rattle.std.specs.Prelude.{◌≡◌, ◌≤◌, ◌<◌, ◌↔◌, IfOk, true, Result};
+ghost use Rattle.std.specs.Io.KnownBytes.{Consumes};
+ghost use Rattle.std.specs.Prelude.{◌≡◌, ◌≤◌, ◌<◌, ◌↔◌, ◌⊎◌, ℕ, List, Bool, true, None, Result, Ok, Err, IfOk};
 ghost use Rattle.std.specs.Process.{exit_status};
 ghost use Rattle.gc_lines.specs.Answering.{fault_text};
 ghost use Rattle.gc_lines.specs.declared.served.Served.{Served};
 ghost use Rattle.gc_lines.specs.declared.served.ServeFault.{ServeFault};
 ghost use Rattle.gc_engines.specs.LogChecking.{IsCheckingLog};
+ghost use Rattle.gc_station.specs.Runs.{FailsAtOutput};
+ghost use Rattle.gc_station.specs.declared.tally.Tally.{Tally};
 ghost use Rattle.gc_texts.specs.Faults.{Tells};
+ghost use Rattle.gc_texts.specs.declared.fault.RunFault.{RunFault};
+ghost use Rattle.gc_texts.specs.declared.name.Name.{Name};
+ghost use Rattle.gc_texts.specs.declared.tasks.Task.{Task};
+ghost use Rattle.gc_console.specs.Logging.{TellsLoss};
+ghost use Rattle.gc_console.specs.Measuring.{Measures, RunsBehind, TellsCounts};
+ghost use Rattle.gc_console.specs.Stops.{with_fault};
+ghost use Rattle.gc_console.specs.TaskTexts.{GivesTasks};
+ghost use Rattle.gc_console.specs.declared.stop.Stop.{Stop};
 
 use crate::asking::Asking;
-use crate::ending::{end_of, refuse_numbers};
-use crate::station::{Station, measure_over, station_of};
+use crate::ending::refuse_numbers;
+use crate::station::{Station, measure_over, station_of, tell_counts};
+use crate::stop::Stop;
 use crate::streams::tell_end;
 use clap::{Arg, ArgMatches, Command};
 use gc_engines::run_check_log;
@@ -64,33 +76,63 @@ pub(crate) fn run_logged_port<
     sink: K,
     messages: &mut E,
 ) -> (K, io::Result<ExitCode>)
+    // Status 2 exactly where the port is 0, and then nothing was read or written.
+    ensures port { IfOk result.1 (λ status. (exit_status status ≡ 2) ↔ (station.port ≡ 0)) }
+    ensures refused { station.port ≡ 0 → (S.reads source.new ≡ S.reads source.old) × (result.0 ≡ sink) }
+
+    // Else the status and the messages tell how it ended, as without a log, and behind that whether the log was lost; or that no
+    // log or no clock could be had, and then nothing was read or written.
+    ensures told { IfOk result.1 (λ status. 1 ≤ station.port → (end : Result Tally Stop) × (between : E) × (behind : E) × (is_lost : Bool)
+        × TellsCounts end (exit_status status) (E.contents between) (E.contents behind)
+        × TellsLoss is_lost (E.contents behind) (E.contents messages.new)
+        × FailsAtOutput (K.failed sink) (K.failed result.0) (with_fault end)
+        × (((given : List ℕ) × Consumes (S.remaining source.old) (S.remaining source.new) given
+        × Measures given
+        (record { remaining = S.remaining source.old; reads = S.reads source.old; ended = S.ended source.old; failed = S.failed source.old })
+        (record { remaining = S.remaining source.new; reads = S.reads source.new; ended = S.ended source.new; failed = S.failed source.new })
+        station.form station.choice 18446744073709551615
+        (record { acts = None; taken = K.taken sink; messages = E.contents messages.old })
+        (record { acts = None; taken = K.taken result.0; messages = E.contents between })
+        end)
+        ⊎ (((end ≡ Err (Stop.Run RunFault.Log)) ⊎ (end ≡ Err (Stop.Run RunFault.Clock))) × (S.reads source.new ≡ S.reads source.old) × (result.0 ≡ sink) × (between ≡ messages.old)))) }
+
+    // Status 0 only where the source gave a text to its end, and the run over its commands is done.
+    ensures done { IfOk result.1 (λ status. exit_status status ≡ 0 → (given : List ℕ) × Consumes (S.remaining source.old) (S.remaining source.new) given
+        × ((tasks : List Task) × (names : List Name) × (tally : Tally) × (between : E)
+        × GivesTasks given
+        (record { remaining = S.remaining source.old; reads = S.reads source.old; ended = S.ended source.old; failed = S.failed source.old })
+        (record { remaining = S.remaining source.new; reads = S.reads source.new; ended = S.ended source.new; failed = S.failed source.new })
+        station.choice.deadline station.choice.chained tasks names
+        × RunsBehind station.form station.choice names tasks 18446744073709551615
+        (record { acts = None; taken = K.taken sink; messages = E.contents messages.old })
+        (record { acts = None; taken = K.taken result.0; messages = E.contents between })
+        (Ok tally))) }
     ensures bound { IfOk result.1 (λ status. exit_status status ≤ 2) }
 {
     if station.port == 0 {
         return (sink, refuse_numbers(messages));
     }
     let Ok(file) = OpenOptions::new().append(true).create(true).open(rt, path) else {
-        return (sink, end_of(Err(RunFault::Log), messages));
+        return (sink, tell_counts(Err(Stop::Run(RunFault::Log)), messages));
     };
     let Ok(mut link) = TcpLink::new(rt, station.port) else {
-        return (sink, end_of(Err(RunFault::Clock), messages));
+        return (sink, tell_counts(Err(Stop::Run(RunFault::Clock)), messages));
     };
     let Ok(moment) = link.now() else {
-        return (sink, end_of(Err(RunFault::Clock), messages));
+        return (sink, tell_counts(Err(Stop::Run(RunFault::Clock)), messages));
     };
     let mut logged = Logged::new(link, ToWriter::new(file), moment.utc);
     let (sink, ended) = measure_over(alloc, &mut logged, station, source, sink, messages);
     (sink, tell_loss(ended, logged.has_lost_its_log(), messages))
 }
 
-// Tells that a log was lost, behind how the run ended, whose status stays.
+// Tells that a log was lost, where it was, behind how the run ended, whose status stays.
 fn tell_loss<E: Write>(
     ended: io::Result<ExitCode>,
     is_lost: bool,
     messages: &mut E,
 ) -> io::Result<ExitCode>
-    requires { IfOk ended (λ status. exit_status status ≤ 1) }
-    ensures bound { IfOk result (λ status. exit_status status ≤ 2) }
+    ensures told { IfOk result (λ status. (ended ≡ Ok status) × TellsLoss is_lost (E.contents messages.old) (E.contents messages.new)) }
 {
     let status = ended?;
     if is_lost {

@@ -285,8 +285,11 @@ pub(crate) fn measure_over<L: Link, S: Source, K: Sink, E: Write>(
     (sink, tell_counts(end, messages))
 }
 
-// Tells how a run ended: the status, and the counts, or why it stopped.
-fn tell_counts<E: Write>(end: Result<Tally, Stop>, messages: &mut E) -> io::Result<ExitCode>
+/// Tells how a run ended: the status, and the counts, or why it stopped.
+pub(crate) fn tell_counts<E: Write>(
+    end: Result<Tally, Stop>,
+    messages: &mut E,
+) -> io::Result<ExitCode>
     ensures told { IfOk result (λ status. TellsCounts end (exit_status status) (E.contents messages.old) (E.contents messages.new)) }
     ensures bound { IfOk result (λ status. exit_status status ≤ 1) }
 {

@@ -1,8 +1,7 @@
 -- What is said of the lines of a log, piece by piece.
-use Rattle.std.proofs.Common.{◌≡◌, ℕ, ◌+◌, ◌*◌, ◌-◌, ◌<◌, ◌≤◌, ◌==◌, min, get_or, inl, inr, Bool, true, false, cond, List, [], ◌∷◌, ◌++◌, length, take, drop, Option, refl, sym, ap, subst, ◌∙◌, arith, append_assoc, append-nil, length-append}
+use Rattle.std.proofs.Common.{◌≡◌, ℕ, ◌+◌, ◌*◌, ◌-◌, ◌<◌, ◌≤◌, ◌==◌, get_or, Bool, true, false, cond, List, [], ◌∷◌, ◌++◌, length, take, drop, Option, refl, sym, ap, subst, ◌∙◌, arith, append_assoc, append-nil, length-append}
 use Rattle.std.specs.Io.KnownBytes.{Appends, Consumes}
-use Rattle.std.proofs.lemmas.List.{take_all, take_more, take-append-drop}
-use Rattle.std.proofs.lemmas.Bool.Decides.{leb_tells}
+use Rattle.std.proofs.lemmas.List.{take_more, take-append-drop}
 use Rattle.gc_lines.specs.Answering.{all_of}
 use Rattle.gc_lines.specs.Frames.{is_line_feed, pieces_behind, rest_behind}
 use Rattle.gc_lines.specs.Ports.{TakesFront}
@@ -100,14 +99,6 @@ byte_part rest b a c n bytes text feeds said took = record {
   not_all = took.0;
   took = took.1;
 }
-
--- no more than there are
-pub take_min : (n : ℕ) (bs : List ℕ) → take (min (length bs) n) bs ≡ take n bs
-take_min n bs =
-    elim (leb_tells (length bs) n) as (λ _. take (min (length bs) n) bs ≡ take n bs) [
-      | inl is ↦ let e : min (length bs) n ≡ length bs = omega (arith, is.1) in ap (λ k. take k bs) e ∙ take_all (length bs) bs (omega arith) ∙ sym (take_all n bs is.1)
-      | inr is ↦ let e : min (length bs) n ≡ n = omega (arith, is.1) in ap (λ k. take k bs) e
-    ]
 
 -- a piece through its next byte
 pub piece_more : (bs : List ℕ) (i : ℕ) → i < length bs → (take (i + 1) bs ≡ take i bs ++ get_or bs i 0 ∷ []) × (bs ≡ (take i bs ++ get_or bs i 0 ∷ []) ++ drop (i + 1) bs)

@@ -7,7 +7,7 @@ use Rattle.gc_lines.specs.Ports.{TakesFront}
 use Rattle.gc_lines.specs.declared.served.Served.{Served}
 use Rattle.gc_lines.specs.declared.served.ServeFault.{ServeFault}
 use Rattle.gc_lines.specs.declared.served.ServeFault.TheVariants.{Read, Write, TooManyReads}
-use Rattle.gc_texts.specs.Logs.{mark_text, IsLogLine}
+use Rattle.gc_texts.specs.Logs.{mark_text, escaped, IsLogLine}
 use Rattle.gc_texts.specs.declared.log_line.LogMark.{LogMark}
 use Rattle.gc_texts.specs.declared.log_line.LogMark.TheVariants as mark
 use Rattle.gc_engines.specs.Verdicts.{IsLineVerdict, verdict_text}
@@ -28,13 +28,13 @@ ends_cleared bytes = nat_lt 0 (length bytes) && (get_or bytes (length bytes - 1)
 abbrev pub part_verdict : List ℕ → List ℕ
 part_verdict bytes = if ends_cleared bytes then verdict_text verdict.Cleared else codes "part"
 
--- what is said of the bytes of a log line; what became of the connection is told as it stands
+-- what is said of the bytes of a log line; what became of the connection is told as it stands in the log
 abbrev pub IsSaid : LogMark → List ℕ → List ℕ → Type 0
 IsSaid mark.Went bytes text = IsWholeVerdict bytes text
 IsSaid mark.WentPart bytes text = text ≡ part_verdict bytes
 IsSaid mark.Came bytes text = IsWholeVerdict bytes text
 IsSaid mark.CamePart bytes text = text ≡ part_verdict bytes
-IsSaid mark.Link bytes text = text ≡ take 100 bytes
+IsSaid mark.Link bytes text = text ≡ escaped bytes
 
 -- what is written of a line: its moment and its mark as they stand, and what is said of it; or that it is no log line
 pub data IsLogVerdict (line text : List ℕ) : Type 0 where

@@ -10,7 +10,7 @@ ghost use Rattle.gc_engines.specs.LogChecking.{IsWholeVerdict, part_verdict, end
 use crate::verdict::{Verdict, line_verdict, push_verdict};
 use arrayvec::ArrayVec;
 use gc_lines::{Outgoing, ServeFault, Served, Sink, Source, append, write_whole};
-use gc_texts::{LogLine, LogMark, read_log_line};
+use gc_texts::{LogLine, LogMark, append_escaped, read_log_line};
 
 // How many bytes are read at a time at most.
 const PIECE: usize = 256;
@@ -56,7 +56,7 @@ impl Underway {
 /// |---|---|
 /// | `>`, `<` | the verdict that `check` has for the line, and `overlong` for more than 512 bytes |
 /// | `>\|`, `<\|` | `cleared` where the bytes end in a line feed without a CR before it, else `part` |
-/// | `-` | the words as they stand |
+/// | `-` | the words as they stand in the log |
 ///
 /// Of a line that is none of a log it writes `no log line`. A rest without a line feed at the end of the input gets no line.
 /// `replies` in an answer counts the lines that went out whole. Takes no memory.
@@ -180,14 +180,15 @@ fn told(line: &LogLine<'_>) -> Outgoing
 
 // Appends what is said of the bytes of a log line, for which there is room.
 fn push_said(text: &mut Outgoing, mark: LogMark, bytes: &[u8])
-    requires { length text.old.items + 100 ≤ 8192 }
+    requires few { length bytes.now ≤ 514 }
+    requires room { length text.old.items + 2100 ≤ 8192 }
     ensures items { (said : List ℕ) × IsSaid mark bytes.now said × (text.new.items ≡ text.old.items ++ said) }
-    ensures bound { length text.new.items ≤ length text.old.items + 100 }
+    ensures bound { length text.new.items ≤ length text.old.items + 2100 }
 {
     match mark {
         LogMark::Went | LogMark::Came => push_whole(text, bytes),
         LogMark::WentPart | LogMark::CamePart => push_part(text, bytes),
-        LogMark::Link => append(text, &bytes[..bytes.len().min(100)]),
+        LogMark::Link => append_escaped(text, bytes),
     }
 }
 

@@ -14,6 +14,10 @@ use std::time::{Clock, Duration, Instant, SystemTime, UNIX_EPOCH};
 // modem takes a request line in less than a second; a put whose line goes out in parts may wait so long for each.
 const PATIENCE: u64 = 10_000;
 
+// A read that may wait no longer than so many milliseconds ends earlier, since the system may end it so much too late: a look every
+// few milliseconds keeps the moment that is waited for.
+const SHORT: u64 = 40;
+
 // How often one put is tried again where it was interrupted.
 const MOST_INTERRUPTIONS: u32 = 1000;
 
@@ -67,7 +71,7 @@ impl<'a, R: Net<Listener = TcpListener, Stream = TcpStream> + Clock> TcpLink<'a,
         self.silence()
     }
 
-    // Reads for so many milliseconds. `None`: nothing came, or the read was interrupted.
+    // Reads for so many milliseconds, which the system may end too late. `None`: nothing came, or the read was interrupted.
     fn read_for(&mut self, buf: &mut [u8], millis: u64) -> io::Result<Option<usize>>
         ensures { IfOk result (λ read. IfSome read (λ n. n ≤ length buf.new)) }
     {
@@ -75,7 +79,7 @@ impl<'a, R: Net<Listener = TcpListener, Stream = TcpStream> + Clock> TcpLink<'a,
             return Ok(None);
         };
         // A time of zero would be an error, and none would wait for ever.
-        stream.set_read_timeout(Some(Duration::from_millis(in_time(millis).max(1))))?;
+        stream.set_read_timeout(Some(Duration::from_millis(millis.max(1))))?;
         match stream.read(buf) {
             Ok(n) => Ok(Some(n)),
             Err(error) if is_silence(error.kind()) => Ok(None),
@@ -122,16 +126,12 @@ impl<'a, R: Net<Listener = TcpListener, Stream = TcpStream> + Clock> TcpLink<'a,
     }
 }
 
-// How long a read is told to wait, so that it ends in so many milliseconds. The system may end a wait of more than a quarter of a second
-// late by an eighth of it, and a shorter one by a few milliseconds; a read that ends early is made again.
+// How long a read is told to wait, so that it ends within so many milliseconds. The system may end a wait of more than a quarter of a
+// second too late by an eighth of it, and a shorter one by two of its ticks; who reads makes one that ended early again.
 fn in_time(millis: u64) -> u64
     ensures { result ≤ millis }
 {
-    if millis > 200 {
-        millis - millis / 8
-    } else {
-        millis
-    }
+    millis.saturating_sub((millis / 8).max(20))
 }
 
 // A time in milliseconds; the longest that a u64 holds, where it is longer.
@@ -171,7 +171,11 @@ impl<'a, R: Net<Listener = TcpListener, Stream = TcpStream> + Clock> Link for Tc
         if self.stream.is_none() {
             return self.wait(millis);
         }
-        match self.read_for(buf, millis) {
+        if millis <= SHORT {
+            thread::sleep(self.rt, Duration::from_millis(1));
+            return self.read_again(buf);
+        }
+        match self.read_for(buf, in_time(millis)) {
             Ok(Some(n)) => self.came(n),
             Ok(None) => self.read_again(buf),
             Err(_) => Came::Failure,

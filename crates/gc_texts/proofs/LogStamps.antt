@@ -25,8 +25,8 @@ record IsInk (b : ℕ) : Type 0 where
   below : b ≤ 126
 
 -- a byte of a line
-abbrev IsPrintable : ℕ → Type 0
-IsPrintable b = (32 ≤ b) × (b ≤ 126)
+abbrev IsShown : ℕ → Type 0
+IsShown b = (32 ≤ b) × (b ≤ 126)
 
 ink : (b : ℕ) → 32 < b → b ≤ 126 → IsInk b
 ink b above below = record { above = above; below = below }
@@ -110,13 +110,13 @@ ink_lacks : (bs : List ℕ) → AllByRecursion IsInk bs → Lacks 32 bs
 ink_lacks [] h = tt
 ink_lacks (b ∷ bs) h = ((λ e. absurd (omega (arith, e, h.0.above))), ink_lacks bs h.1)
 
-ink_prints : (bs : List ℕ) → AllByRecursion IsInk bs → AllByRecursion IsPrintable bs
+ink_prints : (bs : List ℕ) → AllByRecursion IsInk bs → AllByRecursion IsShown bs
 ink_prints [] h = tt
 ink_prints (b ∷ bs) h = ((omega (arith, h.0.above), h.0.below), ink_prints bs h.1)
 
 -- a byte as it is written
-digit_ink : (n : ℕ) → n < 16 → IsPrintable (hex_digit n)
-digit_ink n h = cond_both (nat_lt n 10) (48 + n) (87 + n) IsPrintable (λ e. (omega (arith, h), omega (arith, h))) (λ e. (omega (arith, h), omega (arith, h)))
+digit_ink : (n : ℕ) → n < 16 → IsShown (hex_digit n)
+digit_ink n h = cond_both (nat_lt n 10) (48 + n) (87 + n) IsShown (λ e. (omega (arith, h), omega (arith, h))) (λ e. (omega (arith, h), omega (arith, h)))
 
 and_left : (a b : Bool) → (a && b) ≡ true → a ≡ true
 and_left true b e = refl
@@ -126,7 +126,7 @@ and_right : (a b : Bool) → (a && b) ≡ true → b ≡ true
 and_right true b e = e
 and_right false b e = let bad : false ≡ true = e in cc
 
-as_it_is_prints : (b : ℕ) → is_as_it_is b ≡ true → IsPrintable b
+as_it_is_prints : (b : ℕ) → is_as_it_is b ≡ true → IsShown b
 as_it_is_prints b e =
     let bounds = and_left (nat_lt 31 b && nat_lt b 127) (not (b == 92)) e in
     (omega (arith, ltb-true 31 b (and_left (nat_lt 31 b) (nat_lt b 127) bounds)), omega (arith, ltb-true b 127 (and_right (nat_lt 31 b) (nat_lt b 127) bounds)))
@@ -134,35 +134,39 @@ as_it_is_prints b e =
 high_digit : (b : ℕ) → b < 256 → b / 16 < 16
 high_digit b h = omega (arith, h, div-add-mod b 16)
 
-escape_prints : (b : ℕ) → b < 256 → All IsPrintable (escape b)
+escape_prints : (b : ℕ) → b < 256 → All IsShown (escape b)
 escape_prints b h =
-    cond_both (is_as_it_is b) (b ∷ []) (92 ∷ 120 ∷ hex_digit (b / 16) ∷ hex_digit (b % 16) ∷ []) (All IsPrintable)
-    (λ e. All-from_recursion IsPrintable (b ∷ []) (as_it_is_prints b e, tt))
-    (λ _. All-from_recursion IsPrintable (92 ∷ 120 ∷ hex_digit (b / 16) ∷ hex_digit (b % 16) ∷ [])
+    cond_both (is_as_it_is b) (b ∷ []) (92 ∷ 120 ∷ hex_digit (b / 16) ∷ hex_digit (b % 16) ∷ []) (All IsShown)
+    (λ e. All-from_recursion IsShown (b ∷ []) (as_it_is_prints b e, tt))
+    (λ _. All-from_recursion IsShown (92 ∷ 120 ∷ hex_digit (b / 16) ∷ hex_digit (b % 16) ∷ [])
     ((omega arith, omega arith), ((omega arith, omega arith), (digit_ink (b / 16) (high_digit b h), (digit_ink (b % 16) (omega arith), tt)))))
 
-escaped_prints : (bs : List ℕ) → AllByRecursion (λ b. b < 256) bs → All IsPrintable (escaped bs)
-escaped_prints [] h = All-from_recursion IsPrintable [] tt
-escaped_prints (b ∷ bs) h = All-append IsPrintable (escape b) (escaped bs) (escape_prints b h.0) (escaped_prints bs h.1)
+escaped_prints : (bs : List ℕ) → AllByRecursion (λ b. b < 256) bs → All IsShown (escaped bs)
+escaped_prints [] h = All-from_recursion IsShown [] tt
+escaped_prints (b ∷ bs) h = All-append IsShown (escape b) (escaped bs) (escape_prints b h.0) (escaped_prints bs h.1)
 
-mark_prints : (mark : LogMark) → All IsPrintable (mark_text mark)
-mark_prints Went = All-from_recursion IsPrintable (62 ∷ []) ((omega arith, omega arith), tt)
-mark_prints WentPart = All-from_recursion IsPrintable (62 ∷ 124 ∷ []) ((omega arith, omega arith), ((omega arith, omega arith), tt))
-mark_prints Came = All-from_recursion IsPrintable (60 ∷ []) ((omega arith, omega arith), tt)
-mark_prints CamePart = All-from_recursion IsPrintable (60 ∷ 124 ∷ []) ((omega arith, omega arith), ((omega arith, omega arith), tt))
-mark_prints Link = All-from_recursion IsPrintable (45 ∷ []) ((omega arith, omega arith), tt)
+mark_prints : (mark : LogMark) → All IsShown (mark_text mark)
+mark_prints Went = All-from_recursion IsShown (62 ∷ []) ((omega arith, omega arith), tt)
+mark_prints WentPart = All-from_recursion IsShown (62 ∷ 124 ∷ []) ((omega arith, omega arith), ((omega arith, omega arith), tt))
+mark_prints Came = All-from_recursion IsShown (60 ∷ []) ((omega arith, omega arith), tt)
+mark_prints CamePart = All-from_recursion IsShown (60 ∷ 124 ∷ []) ((omega arith, omega arith), ((omega arith, omega arith), tt))
+mark_prints Link = All-from_recursion IsShown (45 ∷ []) ((omega arith, omega arith), tt)
 
-space_prints : (bs : List ℕ) → All IsPrintable bs → All IsPrintable (32 ∷ bs)
-space_prints bs h = All-append IsPrintable (32 ∷ []) bs (All-from_recursion IsPrintable (32 ∷ []) ((omega arith, omega arith), tt)) h
+space_prints : (bs : List ℕ) → All IsShown bs → All IsShown (32 ∷ bs)
+space_prints bs h = All-append IsShown (32 ∷ []) bs (All-from_recursion IsShown (32 ∷ []) ((omega arith, omega arith), tt)) h
+
+-- so a moment may be shown
+stamp_shown : (utc : ℕ) → utc < 2 ^ 64 → All IsShown (stamp_text utc)
+stamp_shown utc h = All-from_recursion IsShown (stamp_text utc) (ink_prints (stamp_text utc) (recursion_from_All IsInk (stamp_text utc) (stamp_ink utc h)))
 
 pub read_back : LogLinesReadBack
 read_back = record {
-  written = λ utc mark bytes h are. record { is = refl; one_word = ink_lacks (stamp_text utc) (recursion_from_All IsInk (stamp_text utc) (stamp_ink utc h)); are_bytes = are };
+  written = λ utc mark bytes h are. record { is = refl; one_word = ink_lacks (stamp_text utc) (recursion_from_All IsInk (stamp_text utc) (stamp_ink utc h)); is_printable = stamp_shown utc h; are_bytes = are };
   once = λ text one other mark sign bytes more. one_reading text one other mark sign bytes more;
 }
 
 pub printable : LogLinesArePrintable
 printable utc mark bytes h are =
-    All-append IsPrintable (stamp_text utc) (32 ∷ (mark_text mark ++ 32 ∷ escaped bytes)) (All-from_recursion IsPrintable (stamp_text utc) (ink_prints (stamp_text utc) (recursion_from_All IsInk (stamp_text utc) (stamp_ink utc h))))
-    (space_prints (mark_text mark ++ 32 ∷ escaped bytes) (All-append IsPrintable (mark_text mark) (32 ∷ escaped bytes) (mark_prints mark)
+    All-append IsShown (stamp_text utc) (32 ∷ (mark_text mark ++ 32 ∷ escaped bytes)) (stamp_shown utc h)
+    (space_prints (mark_text mark ++ 32 ∷ escaped bytes) (All-append IsShown (mark_text mark) (32 ∷ escaped bytes) (mark_prints mark)
     (space_prints (escaped bytes) (escaped_prints bytes (recursion_from_All (λ b. b < 256) bytes are)))))

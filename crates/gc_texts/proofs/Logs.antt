@@ -6,7 +6,7 @@ use Rattle.std.proofs.Math.Nat.{div-add-mod}
 use Rattle.std.proofs.lemmas.Bool.{cond_both, eqb-true, ltb-true, ltb-false}
 use Rattle.std.proofs.lemmas.List.Elements.{recursion_from_All}
 use Rattle.gc_texts.specs.Cuts.{Lacks, Cuts}
-use Rattle.gc_texts.specs.Logs.{mark_text, is_as_it_is, hex_digit, escape, escaped, IsLogLine}
+use Rattle.gc_texts.specs.Logs.{mark_text, is_as_it_is, hex_digit, escape, escaped, IsPrintable, IsLogLine}
 use Rattle.gc_texts.specs.declared.log_line.LogMark.{LogMark}
 use Rattle.gc_texts.specs.declared.log_line.LogMark.TheVariants.{Went, WentPart, Came, CamePart, Link}
 use Rattle.gc_texts.proofs.Cutting.{cut_found, one_front}
@@ -145,6 +145,9 @@ module _ (line front : List ℕ) (rest : Option (List ℕ)) (cut : Cuts 32 line 
   -- the moment stands before the first space
   first_word : (front ≡ moment) × (rest ≡ Some (mark_text mark ++ 32 ∷ escaped bytes))
   first_word = cut_found 32 line front rest moment (mark_text mark ++ 32 ∷ escaped bytes) cut is.is is.one_word
+
+  pub not_printable : (IsPrintable front → ⊥) → ⊥
+  not_printable none = none (subst IsPrintable (sym first_word.0) is.is_printable)
 
   -- and the mark before the second
   second_word : (behind word : List ℕ) (text : Option (List ℕ)) → rest ≡ Some behind → Cuts 32 behind word text → (word ≡ mark_text mark) × (text ≡ Some (escaped bytes))

@@ -8,7 +8,7 @@ use Rattle.gc_catalogue.specs.declared.call.Call.{Call}
 use Rattle.gc_lines.specs.Numbers.{IsNumber}
 use Rattle.gc_lines.specs.Replies.{ReplyFields, IsReply}
 use Rattle.gc_texts.specs.Records.{com_of, code_of, values_of}
-use Rattle.gc_texts.specs.Logs.{log_text, IsLogLine}
+use Rattle.gc_texts.specs.Logs.{log_text, IsPrintable, IsLogLine}
 use Rattle.gc_texts.specs.Stamps.{stamp_text}
 use Rattle.gc_texts.specs.declared.commands.Command.{Command}
 use Rattle.gc_texts.specs.declared.name.Name.{Name}
@@ -67,4 +67,4 @@ pub record LogLinesReadBack : Type 0 where
 
 -- a log line has printable bytes alone, before its line feed
 abbrev pub LogLinesArePrintable : Type 0
-LogLinesArePrintable = (utc : ℕ) (mark : LogMark) (bytes : List ℕ) → utc < 2 ^ 64 → All (λ b. b < 256) bytes → All (λ b. (32 ≤ b) × (b ≤ 126)) (log_text (stamp_text utc) mark bytes)
+LogLinesArePrintable = (utc : ℕ) (mark : LogMark) (bytes : List ℕ) → utc < 2 ^ 64 → All (λ b. b < 256) bytes → IsPrintable (log_text (stamp_text utc) mark bytes)

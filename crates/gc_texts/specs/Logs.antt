@@ -1,5 +1,5 @@
 -- Lines of a log: what was on a link, in printable characters alone. Their form is this project's own.
-use Rattle.std.specs.Prelude.{◌≡◌, ◌<◌, ℕ, ◌/◌, ◌%◌, ◌+◌, ◌==◌, ◌&&◌, Bool, not, nat_lt, List, [], ◌∷◌, ◌++◌, All, if◌then◌else◌, codes}
+use Rattle.std.specs.Prelude.{◌≡◌, ◌<◌, ℕ, ◌/◌, ◌%◌, ◌+◌, ◌≤◌, ◌==◌, ◌&&◌, Bool, not, nat_lt, List, [], ◌∷◌, ◌++◌, All, if◌then◌else◌, codes}
 use Rattle.std.specs.List.{flat_map}
 use Rattle.gc_texts.specs.Cuts.{Lacks}
 use Rattle.gc_texts.specs.Stamps.{stamp_text}
@@ -26,6 +26,10 @@ hex_digit n = if nat_lt n 10 then 48 + n else 87 + n
 abbrev pub escape : ℕ → List ℕ
 escape b = if is_as_it_is b then b ∷ [] else 92 ∷ 120 ∷ hex_digit (b / 16) ∷ hex_digit (b % 16) ∷ []
 
+-- printable ASCII alone
+abbrev pub IsPrintable : List ℕ → Type 0
+IsPrintable text = All (λ b. (32 ≤ b) × (b ≤ 126)) text
+
 -- bytes, each as it is or as \x and two digits
 abbrev pub escaped : List ℕ → List ℕ
 escaped bytes = flat_map escape bytes
@@ -38,8 +42,9 @@ log_text moment mark bytes = moment ++ 32 ∷ (mark_text mark ++ 32 ∷ escaped 
 abbrev pub log_line : ℕ → LogMark → List ℕ → List ℕ
 log_line utc mark bytes = log_text (stamp_text utc) mark bytes ++ codes "\n"
 
--- what a text says as a log line: its moment is what stands before its first space
+-- what a text says as a log line: its moment, in printable characters, is what stands before its first space
 pub record IsLogLine (text moment : List ℕ) (mark : LogMark) (bytes : List ℕ) : Type 0 where
   pub is : text ≡ log_text moment mark bytes
   pub one_word : Lacks 32 moment
+  pub is_printable : IsPrintable moment
   pub are_bytes : All (λ b. b < 256) bytes

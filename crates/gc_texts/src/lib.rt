@@ -24,7 +24,7 @@ pub use cuts::cut_at;
 pub use ending::Ending;
 pub use fault::RunFault;
 pub use line_forms::{LineForm, line_at, read_items};
-pub use log_line::{LogBytes, LogMark, write_log_line};
+pub use log_line::{LogBytes, LogMark, append_escaped, write_log_line};
 pub use log_reading::{LogLine, read_log_line};
 pub use name::Name;
 pub use procedure::{TARGET_MAX, number_of, read_procedure};

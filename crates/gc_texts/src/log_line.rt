@@ -80,8 +80,8 @@ fn log_line(utc: u64, mark: LogMark, bytes: &LogBytes) -> ArrayVec<u8, LOG_ROOM>
     line
 }
 
-// Appends bytes, each as it is or as `\x` and two digits.
-fn append_escaped<const N: usize>(to: &mut ArrayVec<u8, N>, bytes: &[u8])
+/// Appends bytes, each as it is or as `\x` and two digits, in the form of a log line.
+pub fn append_escaped<const N: usize>(to: &mut ArrayVec<u8, N>, bytes: &[u8])
     requires { array_vec_len to.old + 4 * length bytes.now ≤ N }
     ensures text { to.new.items ≡ to.old.items ++ escaped bytes.now }
     ensures room { array_vec_len to.new ≤ array_vec_len to.old + 4 * length bytes.now }

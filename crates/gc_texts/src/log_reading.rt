@@ -1,7 +1,7 @@
 //! The reading of a log's lines: a line reads exactly where it could have been written.
 
-ghost use Rattle.std.specs.Prelude.{◌≡◌, ◌+◌, ◌<◌, ◌≤◌, ◌∷◌, ◌++◌, ℕ, List, length, All, MatchOption};
-ghost use Rattle.gc_texts.specs.Logs.{mark_text, hex_digit, escape, escaped, IsLogLine};
+ghost use Rattle.std.specs.Prelude.{◌≡◌, ◌+◌, ◌<◌, ◌≤◌, ◌∷◌, ◌++◌, ℕ, ◌↔◌, List, length, All, MatchOption, IsTrue};
+ghost use Rattle.gc_texts.specs.Logs.{mark_text, hex_digit, escape, escaped, IsPrintable, IsLogLine};
 ghost use Rattle.gc_texts.specs.declared.log_line.LogMark.{LogMark};
 
 use crate::cuts::cut_at;
@@ -10,7 +10,7 @@ use crate::log_line::{LogBytes, LogMark, is_as_it_is};
 /// What a line of a log says.
 #[derive(Debug, PartialEq, Eq, Drop)]
 pub struct LogLine<'a> {
-    /// The moment, as it stands: one word.
+    /// The moment, as it stands: one word of printable ASCII.
     pub moment: &'a [u8],
     /// Which way the bytes were going, and what stood behind them.
     pub mark: LogMark,
@@ -18,8 +18,8 @@ pub struct LogLine<'a> {
     pub bytes: LogBytes,
 }
 
-/// Reads a line of a log, without its line feed. `None`: it is no such line, since it isn't a word, a mark and the bytes of
-/// at most 514, each in the one way in which it is written.
+/// Reads a line of a log, without its line feed. `None`: it is no such line, since it isn't a word of printable ASCII, a
+/// mark and the bytes of at most 514, each in the one way in which it is written.
 pub fn read_log_line(line: &[u8]) -> Option<LogLine<'_>>
     ensures { MatchOption result
         ((moment : List ℕ) (mark : LogMark) (bytes : List ℕ) → length bytes ≤ 514 → IsLogLine line.now moment mark bytes → ⊥)
@@ -29,6 +29,9 @@ pub fn read_log_line(line: &[u8]) -> Option<LogLine<'_>>
     let Some(behind) = behind else {
         return None;
     };
+    if !is_printable(moment) {
+        return None;
+    }
     let (word, text) = cut_at(b' ', behind);
     let Some(text) = text else {
         return None;
@@ -44,6 +47,13 @@ pub fn read_log_line(line: &[u8]) -> Option<LogLine<'_>>
         mark,
         bytes,
     })
+}
+
+// Whether a text is printable ASCII alone, so that it may be shown.
+fn is_printable(text: &[u8]) -> bool
+    ensures { IsTrue result ↔ IsPrintable text.now }
+{
+    text.iter().all(|b| 32 <= *b && *b <= 126)
 }
 
 // Reads a mark.

@@ -59,7 +59,7 @@ fn a_line_as_it_is_written(rt: HostRuntime) {
     );
 }
 
-const NO_LINES: [&str; 12] = [
+const NO_LINES: [&str; 14] = [
     "",
     "moment",
     "moment >",
@@ -72,6 +72,8 @@ const NO_LINES: [&str; 12] = [
     "moment > \\x0D",
     "moment > \\x41",
     "moment > a\tb",
+    "mom\x1bent > a",
+    "momént > a",
 ];
 
 #[test]

@@ -1,7 +1,7 @@
-use Rattle.std.proofs.Common.{ℕ, List, inl, inr, take, sym, subst, ap, refl, ◌∙◌, ◌++◌}
+use Rattle.std.proofs.Common.{ℕ, List, inl, inr, sym, subst, refl}
+use Rattle.gc_texts.specs.Logs.{escaped}
 use Rattle.gc_texts.specs.declared.log_line.LogMark.{LogMark}
 use Rattle.gc_engines.specs.LogChecking.{IsSaid}
-use Rattle.gc_engines.proofs.LogSaid.{take_min}
 use Rattle.gc_engines.proofs.check_log.push_said.Goals as goal
 
 pub returns-in-Went-clause-items : goal.returns-in-Went-clause-items
@@ -19,7 +19,7 @@ returns-in-Went-clause-items c =
 pub returns-in-Link-clause-items : goal.returns-in-Link-clause-items
 returns-in-Link-clause-items c =
     let bytes = c.args.bytes.now in (
-      take 100 bytes,
-      subst (λ (m : LogMark). IsSaid m bytes (take 100 bytes)) (sym c.in-Link.is) refl,
-      c.append.ensures ∙ ap (λ (l : List ℕ). c.args.text.now.items ++ l) (ap (λ (n : ℕ). take n bytes) c.min.ensures ∙ take_min 100 bytes),
+      escaped bytes,
+      subst (λ (m : LogMark). IsSaid m bytes (escaped bytes)) (sym c.in-Link.is) refl,
+      c.append_escaped.ensures.text,
     )

@@ -1,7 +1,7 @@
 use Rattle.std.proofs.Common.{ap, subst}
 use Rattle.std.specs.Option.{option_copied}
 use Rattle.gc_texts.specs.Cuts.{Cuts}
-use Rattle.gc_texts.proofs.Logs.{no_moment, no_mark, another_mark, other_bytes}
+use Rattle.gc_texts.proofs.Logs.{no_moment, not_printable, no_mark, another_mark, other_bytes}
 use Rattle.gc_texts.proofs.log_reading.read_log_line.Goals as goal
 
 pub returns-in_default : goal.returns-in_default
@@ -22,3 +22,8 @@ returns-in_default-read_bytes c = λ moment mark bytes room is.
     other_bytes c.args.line.now c.cut_at.result.0.now (option_copied c.cut_at.result.1) c.cut_at.ensures moment mark bytes is
     c.in-Some.behind.now c.cut_at-2.result.0.now c.in-Some-text.text.now (ap option_copied c.in-Some.is)
     (subst (Cuts 32 c.in-Some.behind.now c.cut_at-2.result.0.now) (ap option_copied c.in-Some-text.is) c.cut_at-2.ensures) room (c.in_default-read_bytes.ensures)
+
+pub returns-then-not-is_printable : goal.returns-then-not-is_printable
+returns-then-not-is_printable c = λ moment mark bytes room is.
+    not_printable c.args.line.now c.cut_at.result.0.now (option_copied c.cut_at.result.1) c.cut_at.ensures moment mark bytes is
+    (λ are. let printed = (c.is_printable.ensures).1 are in let tested = c.if-not-is_printable.true in cc)
