@@ -4,3 +4,4 @@ pub mod Keeping
 pub mod Listening
 pub mod Laws
 pub mod Looping
+pub mod Places

@@ -1,3 +1,4 @@
 mod Measured
+mod Linkless
 mod Refused
 mod Started

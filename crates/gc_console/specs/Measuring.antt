@@ -12,7 +12,7 @@ use Rattle.gc_console.specs.declared.choice.Choice.{Choice}
 use Rattle.gc_console.specs.declared.stop.Stop.{Stop}
 use Rattle.gc_console.specs.declared.stop.Stop.TheVariants.{Text, Line, Run}
 use Rattle.gc_lines.specs.Ports.{TakesFront}
-use Rattle.gc_station.specs.Acts.{Act}
+use Rattle.gc_links.specs.Acts.{Act}
 use Rattle.gc_station.specs.Records.{Record}
 use Rattle.gc_station.specs.Runs.{Ran}
 use Rattle.gc_station.specs.Scopes.{AreReadings}

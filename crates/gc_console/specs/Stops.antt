@@ -1,11 +1,13 @@
 -- Why a station that measures the commands of a text stopped before its end, and what the program tells of it: this project's own.
-use Rattle.std.specs.Prelude.{ℕ, List, ◌++◌, Result, Ok, Err}
+use Rattle.std.specs.Prelude.{ℕ, List, ◌++◌, Option, Some, None, Result, Ok, Err}
+use Rattle.gc_ask.specs.Places.{fault_of_reason}
 use Rattle.gc_console.specs.declared.stop.Stop.{Stop}
 use Rattle.gc_console.specs.declared.stop.Stop.TheVariants.{Text, Line, Run}
+use Rattle.gc_links.specs.declared.device.Unusable.{Unusable}
 use Rattle.gc_texts.specs.Faults.{run_fault_text, fault_line}
 use Rattle.gc_texts.specs.Troubles.{trouble_line}
 use Rattle.gc_texts.specs.declared.fault.RunFault.{RunFault}
-use Rattle.gc_texts.specs.declared.fault.RunFault.TheVariants.{Schedule}
+use Rattle.gc_texts.specs.declared.fault.RunFault.TheVariants.{Schedule, Clock}
 
 -- the fault of a stop
 abbrev pub fault_of_stop : Stop → RunFault
@@ -28,3 +30,8 @@ end_of_run (Err fault) = Err (Run fault)
 abbrev pub with_fault : {X : Type 0} → Result X Stop → Result X RunFault
 with_fault (Ok x) = Ok x
 with_fault (Err stop) = Err (fault_of_stop stop)
+
+-- the fault where there is no link: what is wrong with the device, or that the clock can't be read
+abbrev pub fault_without_link : Option Unusable → RunFault
+fault_without_link (Some unusable) = fault_of_reason (Some unusable)
+fault_without_link None = Clock

@@ -4,32 +4,34 @@ ghost use Rattle.std.specs.Prelude.{◌≡◌, ◌≤◌, false, IfOk};
 ghost use Rattle.std.specs.Process.{exit_status};
 ghost use Rattle.gc_console.specs.Streams.{are_open, TellsClosed};
 
-use crate::logging::run_logged_port;
-use crate::ports::{ask_port, loop_port};
+use crate::logging::run_logged_at;
+use crate::ports::{ask_place, loop_port};
 use crate::standard::Standard;
-use crate::station::{Station, run_station_port};
+use crate::station::{Station, run_station_at};
 use gc_lines::{Sink, Source};
+use gc_links::Place;
 use std::alloc::Global;
-use std::fs::Files;
+use std::fs::File;
 use std::io::{self, Write};
 use std::net::{Net, TcpListener, TcpStream};
 use std::process::ExitCode;
+use std::rt::Files;
 use std::time::Clock;
 
-/// What is to be asked over a connection: commands once, of a simulator or on a port, or a station's.
+/// What is to be asked over a connection: commands once, of a simulator or at a place, or a station's.
 #[derive(Drop)]
 pub(crate) enum Asking<'a> {
     // Of the instrument in the file of a scene, where one is named.
     Loop { scene: Option<&'a str> },
-    Ask { port: u16 },
-    Station(Station),
+    Ask { place: Place<'a> },
+    Station(Place<'a>, Station),
     // With a log, into the file of this path.
-    Logged(Station, String),
+    Logged(Place<'a>, Station, &'a str),
 }
 
 /// Asks, and tells how it ended; or tells that a standard stream is closed. The sink is handed back.
 pub(crate) fn run_asking<
-    R: Net<Listener = TcpListener, Stream = TcpStream> + Clock + Files,
+    R: Net<Listener = TcpListener, Stream = TcpStream> + Clock + Files<File = File>,
     S: Source,
     K: Sink,
     E: Write,
@@ -57,17 +59,17 @@ pub(crate) fn run_asking<
             let ended = loop_port(rt, alloc, scene, source, &mut sink, messages);
             (sink, ended)
         }
-        Asking::Ask { port } => {
-            let ended = ask_port(rt, alloc, port, source, &mut sink, messages);
+        Asking::Ask { place } => {
+            let ended = ask_place(rt, alloc, place, source, &mut sink, messages);
             (sink, ended)
         }
-        Asking::Station(station) => {
+        Asking::Station(place, station) => {
             let station = station.watched(standard.terminal);
-            run_station_port(rt, alloc, station, source, sink, messages)
+            run_station_at(rt, alloc, place, station, source, sink, messages)
         }
-        Asking::Logged(station, path) => {
+        Asking::Logged(place, station, path) => {
             let station = station.watched(standard.terminal);
-            run_logged_port(rt, alloc, station, path.as_str(), source, sink, messages)
+            run_logged_at(rt, alloc, place, station, path, source, sink, messages)
         }
     }
 }

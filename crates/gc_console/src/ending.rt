@@ -4,7 +4,7 @@ ghost use Rattle.std.specs.Prelude.{◌≡◌, ◌≤◌, IfOk};
 ghost use Rattle.std.specs.Io.KnownBytes.{Appends};
 ghost use Rattle.std.specs.Process.{exit_status};
 ghost use Rattle.gc_texts.specs.Faults.{run_fault_text, Tells};
-ghost use Rattle.gc_console.specs.Refusals.{range_line};
+ghost use Rattle.gc_console.specs.Refusals.{range_line, place_line};
 
 use gc_texts::RunFault;
 use std::io::{self, Write};
@@ -19,6 +19,24 @@ pub(crate) fn refuse_numbers<E: Write>(messages: &mut E) -> io::Result<ExitCode>
         messages,
         "error: a number of the command line is out of its range"
     )?;
+    Ok(ExitCode::from(2))
+}
+
+/// A word that names no place, of an instrument or of a simulator: that is told.
+pub(crate) fn refuse_place<E: Write>(serves: bool, messages: &mut E) -> io::Result<ExitCode>
+    ensures told { IfOk result (λ status. (exit_status status ≡ 2) × Appends (E.contents messages.old) (E.contents messages.new) (place_line serves)) }
+{
+    if serves {
+        writeln!(
+            messages,
+            "error: a simulator is served on a port of 127.0.0.1, from 1 to 65535, or on the path of a device, which has a /"
+        )?;
+    } else {
+        writeln!(
+            messages,
+            "error: a place is a port from 1 to 65535, HOST:PORT, [ADDRESS]:PORT, or the path of a device, which has a /"
+        )?;
+    }
     Ok(ExitCode::from(2))
 }
 

@@ -24,10 +24,13 @@ A fault is one line on standard error, `geocom: fault N`:
   51  a line of the schedule, of the commands, or of a scene has no form: `line L` says which, counted from 1
   52  no memory was found
   53  the schedule, the commands, or a scene have more than 65536 bytes
-  54  a port could not be bound or connected to, or no connection accepted
+  54  a port could not be bound, no connection made or accepted, or no device opened
   55  the settlements, or this text, could not be written
   56  standard input, output or error is closed: `station`, `ask` and `loop` did nothing
-  57  the log could not be opened";
+  57  the log could not be opened
+  58  what has the path of a device is no terminal
+  59  another program holds the device
+  60  this program may not read and write the device";
 
 /// What the help of `exec` ends with.
 pub(crate) const REQUESTS: &str =

@@ -1,12 +1,14 @@
 //! Logs: of a station's link, written into a file; and of a night that is over, checked.
 
 ghost use Rattle.std.specs.Io.KnownBytes.{Consumes};
-ghost use Rattle.std.specs.Prelude.{◌≡◌, ◌≤◌, ◌<◌, ◌↔◌, ◌⊎◌, ℕ, List, Bool, true, None, Result, Ok, Err, IfOk};
+ghost use Rattle.std.specs.Prelude.{◌≡◌, ◌≤◌, ◌<◌, ◌↔◌, ◌⊎◌, ℕ, List, [], Bool, true, Option, Some, Result, Ok, Err, IfOk};
 ghost use Rattle.std.specs.Process.{exit_status};
 ghost use Rattle.gc_lines.specs.Answering.{fault_text};
 ghost use Rattle.gc_lines.specs.declared.served.Served.{Served};
 ghost use Rattle.gc_lines.specs.declared.served.ServeFault.{ServeFault};
 ghost use Rattle.gc_engines.specs.LogChecking.{IsCheckingLog};
+ghost use Rattle.gc_links.specs.Acts.{Act};
+ghost use Rattle.gc_links.specs.declared.device.Unusable.{Unusable};
 ghost use Rattle.gc_station.specs.Runs.{FailsAtOutput};
 ghost use Rattle.gc_station.specs.declared.tally.Tally.{Tally};
 ghost use Rattle.gc_texts.specs.Faults.{Tells};
@@ -15,25 +17,27 @@ ghost use Rattle.gc_texts.specs.declared.name.Name.{Name};
 ghost use Rattle.gc_texts.specs.declared.tasks.Task.{Task};
 ghost use Rattle.gc_console.specs.Logging.{TellsLoss};
 ghost use Rattle.gc_console.specs.Measuring.{Measures, RunsBehind, TellsCounts};
-ghost use Rattle.gc_console.specs.Stops.{with_fault};
+ghost use Rattle.gc_console.specs.Stops.{with_fault, fault_without_link};
 ghost use Rattle.gc_console.specs.TaskTexts.{GivesTasks};
 ghost use Rattle.gc_console.specs.declared.stop.Stop.{Stop};
 
-use crate::asking::Asking;
-use crate::ending::refuse_numbers;
-use crate::station::{Station, measure_over, station_of, tell_counts};
+use crate::oddity::{Noticing, Oddities};
+use crate::station::{Station, measure_over, tell_counts, without_link};
 use crate::stop::Stop;
 use crate::streams::tell_end;
-use clap::{Arg, ArgMatches, Command};
+use clap::{Arg, Command};
 use gc_engines::run_check_log;
 use gc_lines::{Sink, Source, ToWriter};
-use gc_station::{Link, Logged, TcpLink};
+use gc_links::{Link, Place, PlacedLink, Telling};
+use gc_station::Logged;
 use gc_texts::RunFault;
 use std::alloc::{AllocError, Global};
-use std::fs::{Files, OpenOptions};
+use std::cell::Cell;
+use std::fs::{File, OpenOptions};
 use std::io::{self, Write};
 use std::net::{Net, TcpListener, TcpStream};
 use std::process::ExitCode;
+use std::rt::Files;
 use std::time::Clock;
 
 /// The word of `station` that names the file of its log.
@@ -44,85 +48,71 @@ pub(crate) fn with_log<'a>(alloc: Global, command: Command<'a>) -> Result<Comman
     command.arg(log)
 }
 
-/// A station with a log, where the words ask for one.
-pub(crate) fn logged_of<'a>(
-    alloc: Global,
-    matches: &ArgMatches,
-) -> Result<Option<Asking<'a>>, AllocError> {
-    let Some(words) = matches.subcommand_matches("station") else {
-        return Ok(None);
-    };
-    let Some(path) = words.get_str("log") else {
-        return Ok(None);
-    };
-    let path = String::from_str(alloc, path)?;
-    Ok(Some(Asking::Logged(station_of(words), path)))
-}
-
-/// Measures on a port as without a log, and appends what was on the link to a file, which is opened before anything else is
+/// Measures at a place as without a log, and appends what was on the link to a file, which is opened before anything else is
 /// done: where it can't be that is fault 57. Where it can't be written to the end that is told behind the counts, or the
 /// fault, and changes no status. The sink is handed back.
-pub(crate) fn run_logged_port<
-    R: Net<Listener = TcpListener, Stream = TcpStream> + Clock + Files,
+pub(crate) fn run_logged_at<
+    R: Net<Listener = TcpListener, Stream = TcpStream> + Clock + Files<File = File>,
     S: Source,
     K: Sink,
     E: Write,
 >(
     rt: &R,
     alloc: Global,
+    place: Place<'_>,
     station: Station,
     path: &str,
     source: &mut S,
     sink: K,
     messages: &mut E,
 ) -> (K, io::Result<ExitCode>)
-    // Status 2 exactly where the port is 0, and then nothing was read or written.
-    ensures port { IfOk result.1 (λ status. (exit_status status ≡ 2) ↔ (station.port ≡ 0)) }
-    ensures refused { station.port ≡ 0 → (S.reads source.new ≡ S.reads source.old) × (result.0 ≡ sink) }
-
-    // Else the status and the messages tell how it ended, as without a log, and behind that whether the log was lost; or that no
-    // log or no clock could be had, and then nothing was read or written.
-    ensures told { IfOk result.1 (λ status. 1 ≤ station.port → (end : Result Tally Stop) × (between : E) × (behind : E) × (is_lost : Bool)
+    // The status and the messages tell how it ended, as without a log, and behind that whether the log was lost; or that no
+    // log, no link or no clock could be had, and then nothing was read or written.
+    ensures told { IfOk result.1 (λ status. (end : Result Tally Stop) × (between : E) × (behind : E) × (is_lost : Bool)
         × TellsCounts end (exit_status status) (E.contents between) (E.contents behind)
         × TellsLoss is_lost (E.contents behind) (E.contents messages.new)
         × FailsAtOutput (K.failed sink) (K.failed result.0) (with_fault end)
-        × (((given : List ℕ) × Consumes (S.remaining source.old) (S.remaining source.new) given
+        × (((acts : List Act) × (given : List ℕ) × Consumes (S.remaining source.old) (S.remaining source.new) given
         × Measures given
         (record { remaining = S.remaining source.old; reads = S.reads source.old; ended = S.ended source.old; failed = S.failed source.old })
         (record { remaining = S.remaining source.new; reads = S.reads source.new; ended = S.ended source.new; failed = S.failed source.new })
         station.form station.choice 18446744073709551615
-        (record { acts = None; taken = K.taken sink; messages = E.contents messages.old })
-        (record { acts = None; taken = K.taken result.0; messages = E.contents between })
+        (record { acts = Some []; taken = K.taken sink; messages = E.contents messages.old })
+        (record { acts = Some acts; taken = K.taken result.0; messages = E.contents between })
         end)
-        ⊎ (((end ≡ Err (Stop.Run RunFault.Log)) ⊎ (end ≡ Err (Stop.Run RunFault.Clock))) × (S.reads source.new ≡ S.reads source.old) × (result.0 ≡ sink) × (between ≡ messages.old)))) }
+        ⊎ (((end ≡ Err (Stop.Run RunFault.Log)) ⊎ ((reason : Option Unusable) × (end ≡ Err (Stop.Run (fault_without_link reason))))) × (S.reads source.new ≡ S.reads source.old) × (result.0 ≡ sink) × (between ≡ messages.old)))) }
 
     // Status 0 only where the source gave a text to its end, and the run over its commands is done.
     ensures done { IfOk result.1 (λ status. exit_status status ≡ 0 → (given : List ℕ) × Consumes (S.remaining source.old) (S.remaining source.new) given
-        × ((tasks : List Task) × (names : List Name) × (tally : Tally) × (between : E)
+        × ((tasks : List Task) × (names : List Name) × (tally : Tally) × (between : E) × (acts : List Act)
         × GivesTasks given
         (record { remaining = S.remaining source.old; reads = S.reads source.old; ended = S.ended source.old; failed = S.failed source.old })
         (record { remaining = S.remaining source.new; reads = S.reads source.new; ended = S.ended source.new; failed = S.failed source.new })
         station.choice.deadline station.choice.chained tasks names
         × RunsBehind station.form station.choice names tasks 18446744073709551615
-        (record { acts = None; taken = K.taken sink; messages = E.contents messages.old })
-        (record { acts = None; taken = K.taken result.0; messages = E.contents between })
+        (record { acts = Some []; taken = K.taken sink; messages = E.contents messages.old })
+        (record { acts = Some acts; taken = K.taken result.0; messages = E.contents between })
         (Ok tally))) }
-    ensures bound { IfOk result.1 (λ status. exit_status status ≤ 2) }
+    ensures bound { IfOk result.1 (λ status. exit_status status ≤ 1) }
 {
-    if station.port == 0 {
-        return (sink, refuse_numbers(messages));
-    }
     let Ok(file) = OpenOptions::new().append(true).create(true).open(rt, path) else {
         return (sink, tell_counts(Err(Stop::Run(RunFault::Log)), messages));
     };
-    let Ok(mut link) = TcpLink::new(rt, station.port) else {
-        return (sink, tell_counts(Err(Stop::Run(RunFault::Clock)), messages));
+    let mut link = match PlacedLink::new(rt, place) {
+        Ok(link) => link,
+        Err(reason) => {
+            let stop = Stop::Run(without_link(reason));
+            return (sink, tell_counts(Err(stop), messages));
+        }
     };
     let Ok(moment) = link.now() else {
         return (sink, tell_counts(Err(Stop::Run(RunFault::Clock)), messages));
     };
-    let mut logged = Logged::new(link, ToWriter::new(file), moment.utc);
-    let (sink, ended) = measure_over(alloc, &mut logged, station, source, sink, messages);
+    let seen = Cell::new(Oddities::none());
+    let told = Telling::new(link);
+    let noticing = Noticing::new(told, &seen);
+    let mut logged = Logged::new(noticing, ToWriter::new(file), moment.utc);
+    let (sink, ended) = measure_over(alloc, &mut logged, station, &seen, source, sink, messages);
     (sink, tell_loss(ended, logged.has_lost_its_log(), messages))
 }
 

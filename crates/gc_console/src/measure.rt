@@ -12,13 +12,16 @@ ghost use Rattle.gc_texts.specs.Texts.{end_reads};
 ghost use Rattle.gc_texts.specs.declared.text.TheConstants.{TEXT_LIMIT};
 
 use crate::choice::Choice;
+use crate::oddity::Oddities;
 use crate::signs::Signs;
 use crate::stop::Stop;
 use crate::task_text::read_task_text;
 use gc_lines::{PortFailed, Sink, Source};
-use gc_station::{Book, Link, Moment, Plan, Sight, Stamp, Tally, run_station};
+use gc_links::{Link, Moment};
+use gc_station::{Book, Plan, Sight, Stamp, Tally, run_station};
 use gc_texts::{Command, Ending, Form, RunFault, Task, Tasks, write_head, write_record};
 use std::alloc::Global;
+use std::cell::Cell;
 use std::io::{self, Write};
 
 /// Reads the whole text of a source, writes what stands in front of the records in this form, and measures the commands over a
@@ -30,12 +33,14 @@ use std::io::{self, Write};
 /// wasn't used, or at a record.
 ///
 /// A quiet time that is shorter than the longest deadline is told on `messages` at the start, and so are signs of life, each at
-/// most once a minute, where the choice has them. Where that can't be written the station measures on.
+/// most once a minute, where the choice has them, and once what is noticed of the line in `oddities`. Where that can't be written
+/// the station measures on.
 pub fn run_station_text<L: Link, S: Source, K: Sink, E: Write>(
     alloc: Global,
     link: &mut L,
     form: Form,
     choice: &Choice,
+    oddities: &Cell<Oddities>,
     source: &mut S,
     mut sink: K,
     messages: &mut E,
@@ -85,6 +90,7 @@ pub fn run_station_text<L: Link, S: Source, K: Sink, E: Write>(
         &plan,
         tasks.as_slice(),
         named,
+        oddities,
         sink,
         signs,
         messages,
@@ -119,6 +125,7 @@ fn measure<L: Link, K: Sink, E: Write>(
     plan: &Plan,
     tasks: &[Task],
     named: Tasks,
+    oddities: &Cell<Oddities>,
     sink: K,
     signs: Signs,
     messages: &mut E,
@@ -133,6 +140,7 @@ fn measure<L: Link, K: Sink, E: Write>(
         sink,
         form,
         named,
+        oddities,
         signs,
         messages,
     };
@@ -141,6 +149,7 @@ fn measure<L: Link, K: Sink, E: Write>(
         sink,
         form: _,
         named: _,
+        oddities: _,
         signs,
         messages: _,
     } = records;
@@ -153,6 +162,7 @@ struct Records<'a, K, E> {
     form: Form,
     // The names, beside no tasks.
     named: Tasks,
+    oddities: &'a Cell<Oddities>,
     signs: Signs,
     messages: &'a mut E,
 }
@@ -190,6 +200,7 @@ impl<'a, K: Sink, E: Write> Book for Records<'a, K, E> {
     // Where that can't be written the station measures on: what it writes of each request doesn't depend on it.
     fn sees(&mut self, sight: Sight, moment: Moment) {
         let _ = self.signs.see(sight, moment, self.messages);
+        let _ = self.signs.tell_odd(self.oddities.get(), self.messages);
     }
 
     // As signs of life are.

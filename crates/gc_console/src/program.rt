@@ -7,6 +7,7 @@ ghost use Rattle.gc_texts.specs.declared.fault.RunFault.{RunFault};
 ghost use Rattle.gc_texts.specs.Faults.{run_fault_text, fault_line};
 
 use crate::asking::run_asking;
+use crate::ending::refuse_place;
 use crate::logging::check_log;
 use crate::serving::serve_filled;
 use crate::standard::Standard;
@@ -18,10 +19,11 @@ use gc_lines::{FromReader, ReadAhead, ToWriter};
 use gc_texts::RunFault;
 use std::alloc::Global;
 use std::env::Args;
-use std::fs::Files;
+use std::fs::File;
 use std::io::{self, Read, Write};
 use std::net::{Net, TcpListener, TcpStream};
 use std::process::ExitCode;
+use std::rt::Files;
 use std::time::Clock;
 
 /// Runs a command line, whose first word is the program's name, over the net, the clock and the files, an input, an output and
@@ -31,7 +33,7 @@ use std::time::Clock;
 /// `standard` says which of the three streams are open. Where one isn't, `station`, `ask` and `loop` do nothing but tell it, and
 /// `serve` fills its place.
 pub fn run_program<
-    R: Net<Listener = TcpListener, Stream = TcpStream> + Clock + Files,
+    R: Net<Listener = TcpListener, Stream = TcpStream> + Clock + Files<File = File>,
     I: Read + Drop,
     O: Write + Drop,
     E: Write + Drop,
@@ -68,7 +70,7 @@ pub fn run_program<
 
 // Runs the engine of a subcommand over the input and the output, and tells how it ended.
 fn run_subcommand<
-    R: Net<Listener = TcpListener, Stream = TcpStream> + Clock + Files,
+    R: Net<Listener = TcpListener, Stream = TcpStream> + Clock + Files<File = File>,
     I: Read + Drop,
     O: Write + Drop,
     E: Write,
@@ -119,7 +121,7 @@ fn run_subcommand<
         ),
         Subcommand::Serve {
             scene,
-            port,
+            place,
             connections,
             idle,
         } => serve_filled(
@@ -127,11 +129,12 @@ fn run_subcommand<
             alloc,
             standard,
             scene,
-            port,
+            place,
             connections,
             idle,
             messages,
         ),
+        Subcommand::Nowhere { serves } => refuse_place(serves, messages),
         Subcommand::Asks(asking) => {
             let mut source = FromReader::new(input);
             run_asking(rt, alloc, standard, asking, &mut source, sink, messages).1

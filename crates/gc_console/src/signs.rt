@@ -1,7 +1,9 @@
 //! Signs of life: what a station tells of itself while it runs. No record, and nothing that goes out, rests on it.
 
 use crate::choice::Watch;
-use gc_station::{Moment, Sight, Stamp, Tally};
+use crate::oddity::Oddities;
+use gc_links::Moment;
+use gc_station::{Sight, Stamp, Tally};
 use gc_texts::{Ending, stamp_text};
 use std::io::{self, Write};
 
@@ -54,6 +56,8 @@ pub(crate) struct Signs {
     answered: Option<u64>,
     // Whether a terminal shows the line that is written over.
     is_shown: bool,
+    // What was told of what is odd about the line.
+    odd: Oddities,
     unconnected: Told,
     connected: Told,
     unquiet: Told,
@@ -85,6 +89,7 @@ impl Signs {
             },
             answered: None,
             is_shown: false,
+            odd: Oddities::none(),
             unconnected: Told::new(),
             connected: Told::new(),
             unquiet: Told::new(),
@@ -148,6 +153,29 @@ impl Signs {
         self.tell_sight(before, messages)?;
         self.tell_skipped(messages)?;
         self.show(messages)
+    }
+
+    /// Tells what is odd about the line, each thing once.
+    pub(crate) fn tell_odd<E: Write>(&mut self, odd: Oddities, messages: &mut E) -> io::Result<()> {
+        if self.watch == Watch::Nobody || self.odd == odd {
+            return Ok(());
+        }
+        let told = self.odd;
+        self.odd = odd;
+        self.clear(messages)?;
+        if odd.echoes && !told.echoes {
+            writeln!(
+                messages,
+                "geocom: the line sends back what goes out: a modem or the far end has its echo on"
+            )?;
+        }
+        if odd.bare && !told.bare {
+            writeln!(
+                messages,
+                "geocom: the line changes CR to LF: it is to be raw (stty raw)"
+            )?;
+        }
+        Ok(())
     }
 
     // Tells how things stand, and how they stood before.

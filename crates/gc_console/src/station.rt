@@ -1,48 +1,51 @@
-//! `geocom station`: its words, and its run over connections to a port.
+//! `geocom station`: its words, and its run over connections to a place.
 
-ghost use Rattle.std.specs.Prelude.{◌≡◌, ◌≤◌, ◌↔◌, ◌⊎◌, ℕ, List, Option, None, Result, Ok, Err, IfOk, OnOk};
+ghost use Rattle.std.specs.Prelude.{◌≡◌, ◌≤◌, ◌⊎◌, ℕ, List, [], Option, Some, Result, Ok, Err, IfOk, OnOk};
 ghost use Rattle.std.specs.Io.KnownBytes.{Consumes, Appends};
 ghost use Rattle.std.specs.Process.{exit_status};
 ghost use Rattle.gc_console.specs.Measuring.{Measures, RunsBehind, TellsCounts, ends_text, others_text, tally_line};
-ghost use Rattle.gc_console.specs.Stops.{with_fault};
+ghost use Rattle.gc_console.specs.Stops.{with_fault, fault_without_link};
 ghost use Rattle.gc_console.specs.TaskTexts.{GivesTasks};
 ghost use Rattle.gc_console.specs.declared.stop.Stop.{Stop};
+ghost use Rattle.gc_links.specs.Acts.{Act};
+ghost use Rattle.gc_links.specs.declared.device.Unusable.{Unusable};
 ghost use Rattle.gc_station.specs.Runs.{FailsAtOutput};
 ghost use Rattle.gc_station.specs.declared.tally.Tally.{Tally};
-ghost use Rattle.gc_texts.specs.declared.fault.RunFault.{RunFault};
 ghost use Rattle.gc_texts.specs.declared.name.Name.{Name};
 ghost use Rattle.gc_texts.specs.declared.tasks.Task.{Task};
 
 use crate::choice::{Choice, Watch};
-use crate::ending::refuse_numbers;
 use crate::help::STATION;
 use crate::logging::with_log;
 use crate::measure::run_station_text;
+use crate::oddity::{Noticing, Oddities};
 use crate::stop::Stop;
-use crate::words::{flag_of, port_of};
+use crate::words::{flag_of, place_word};
 use clap::{Arg, ArgMatches, Command, value_parser};
+use gc_ask::fault_of;
 use gc_lines::{Sink, Source};
-use gc_station::{Link, Tally, TcpLink};
+use gc_links::{Link, Place, PlacedLink, Telling, Unusable};
+use gc_station::Tally;
 use gc_texts::{Form, RunFault};
 use std::alloc::{AllocError, Global};
+use std::cell::Cell;
+use std::fs::File;
 use std::io::{self, Write};
 use std::net::{Net, TcpListener, TcpStream};
 use std::process::ExitCode;
+use std::rt::Files;
 use std::time::Clock;
 
-/// What the words of `station` ask for.
+/// What the words of `station` ask for, but where.
 #[derive(Clone, Copy)]
 pub(crate) struct Station {
-    pub(crate) port: u16,
     form: Form,
     choice: Choice,
 }
 
 impl Station {
     /// The same, where somebody may watch at a terminal.
-    pub(crate) fn watched(self, at_terminal: bool) -> Station
-        ensures { result.port ≡ self.port }
-    {
+    pub(crate) fn watched(self, at_terminal: bool) -> Station {
         let mut station = self;
         if at_terminal && self.choice.watch == Watch::Lines {
             station.choice.watch = Watch::Terminal;
@@ -56,10 +59,10 @@ impl Station {
 pub(crate) fn station_command<'a>(alloc: Global) -> Result<Command<'a>, AllocError> {
     let command = Command::new(alloc, "station")
         .about(
-            "Measures the commands of standard input on a port of 127.0.0.1, cycle after cycle, with deadlines",
+            "Measures the commands of standard input at a place, cycle after cycle, with deadlines",
         )
         .after_help(STATION)
-        .arg(port_of(alloc))?;
+        .arg(place_word(alloc))?;
     let command = with_pace(alloc, command)?;
     let command = with_bounds(alloc, command)?;
     let command = with_flags(alloc, command)?;
@@ -140,7 +143,6 @@ fn time_of<'a>(alloc: Global, name: &'a str, value: &'a str, help: &'a str) -> A
 pub(crate) fn station_of(matches: &ArgMatches) -> Station {
     let number = |name: &str| matches.get_one::<u64>(name).unwrap_or(0);
     Station {
-        port: matches.get_one::<u16>("port").unwrap_or(0),
         form: if matches.get_flag("csv") {
             Form::Csv
         } else {
@@ -181,60 +183,71 @@ fn cycles_of(matches: &ArgMatches) -> u64 {
     }
 }
 
-/// Measures on a port, and tells how it ended: the counts, or the fault's line. `Clock` comes too where the clock can't be
-/// read. The sink is handed back.
-pub(crate) fn run_station_port<
-    R: Net<Listener = TcpListener, Stream = TcpStream> + Clock,
+/// Measures at a place, and tells how it ended: the counts, or the fault's line. `Clock` comes too where the clock can't be
+/// read, and the faults of a device where one is there and can't be used. The sink is handed back.
+pub(crate) fn run_station_at<
+    R: Net<Listener = TcpListener, Stream = TcpStream> + Clock + Files<File = File>,
     S: Source,
     K: Sink,
     E: Write,
 >(
     rt: &R,
     alloc: Global,
+    place: Place<'_>,
     station: Station,
     source: &mut S,
     sink: K,
     messages: &mut E,
 ) -> (K, io::Result<ExitCode>)
-    // Status 2 exactly where the port is 0, and then nothing was read or written.
-    ensures port { IfOk result.1 (λ status. (exit_status status ≡ 2) ↔ (station.port ≡ 0)) }
-    ensures refused { station.port ≡ 0 → (S.reads source.new ≡ S.reads source.old) × (result.0 ≡ sink) }
-
-    // Else the status and the messages tell how it ended: what the text was, and what of its commands was measured, as the
-    // sink has it that is handed back; or that the clock couldn't be read, and then nothing was read or written.
-    ensures told { IfOk result.1 (λ status. 1 ≤ station.port → (end : Result Tally Stop) × (between : E)
+    // The status and the messages tell how it ended: what the text was, and what of its commands was measured, by acts that the
+    // link told from none on, as the sink has it that is handed back; or that there is no link, and then nothing was read or written.
+    ensures told { IfOk result.1 (λ status. (end : Result Tally Stop) × (between : E)
         × TellsCounts end (exit_status status) (E.contents between) (E.contents messages.new)
         × FailsAtOutput (K.failed sink) (K.failed result.0) (with_fault end)
-        × (((given : List ℕ) × Consumes (S.remaining source.old) (S.remaining source.new) given
+        × (((acts : List Act) × (given : List ℕ) × Consumes (S.remaining source.old) (S.remaining source.new) given
         × Measures given
         (record { remaining = S.remaining source.old; reads = S.reads source.old; ended = S.ended source.old; failed = S.failed source.old })
         (record { remaining = S.remaining source.new; reads = S.reads source.new; ended = S.ended source.new; failed = S.failed source.new })
         station.form station.choice 18446744073709551615
-        (record { acts = None; taken = K.taken sink; messages = E.contents messages.old })
-        (record { acts = None; taken = K.taken result.0; messages = E.contents between })
+        (record { acts = Some []; taken = K.taken sink; messages = E.contents messages.old })
+        (record { acts = Some acts; taken = K.taken result.0; messages = E.contents between })
         end)
-        ⊎ ((end ≡ Err (Stop.Run RunFault.Clock)) × (S.reads source.new ≡ S.reads source.old) × (result.0 ≡ sink) × (between ≡ messages.old)))) }
+        ⊎ ((reason : Option Unusable) × (end ≡ Err (Stop.Run (fault_without_link reason))) × (S.reads source.new ≡ S.reads source.old) × (result.0 ≡ sink) × (between ≡ messages.old)))) }
 
     // Status 0 only where the source gave a text to its end, and the run over its commands is done.
     ensures done { IfOk result.1 (λ status. exit_status status ≡ 0 → (given : List ℕ) × Consumes (S.remaining source.old) (S.remaining source.new) given
-        × ((tasks : List Task) × (names : List Name) × (tally : Tally) × (between : E)
+        × ((tasks : List Task) × (names : List Name) × (tally : Tally) × (between : E) × (acts : List Act)
         × GivesTasks given
         (record { remaining = S.remaining source.old; reads = S.reads source.old; ended = S.ended source.old; failed = S.failed source.old })
         (record { remaining = S.remaining source.new; reads = S.reads source.new; ended = S.ended source.new; failed = S.failed source.new })
         station.choice.deadline station.choice.chained tasks names
         × RunsBehind station.form station.choice names tasks 18446744073709551615
-        (record { acts = None; taken = K.taken sink; messages = E.contents messages.old })
-        (record { acts = None; taken = K.taken result.0; messages = E.contents between })
+        (record { acts = Some []; taken = K.taken sink; messages = E.contents messages.old })
+        (record { acts = Some acts; taken = K.taken result.0; messages = E.contents between })
         (Ok tally))) }
-    ensures bound { IfOk result.1 (λ status. exit_status status ≤ 2) }
+    ensures bound { IfOk result.1 (λ status. exit_status status ≤ 1) }
 {
-    if station.port == 0 {
-        return (sink, refuse_numbers(messages));
-    }
-    let Ok(mut link) = TcpLink::new(rt, station.port) else {
-        return (sink, tell_counts(Err(Stop::Run(RunFault::Clock)), messages));
+    let link = match PlacedLink::new(rt, place) {
+        Ok(link) => link,
+        Err(reason) => {
+            let stop = Stop::Run(without_link(reason));
+            return (sink, tell_counts(Err(stop), messages));
+        }
     };
-    measure_over(alloc, &mut link, station, source, sink, messages)
+    let seen = Cell::new(Oddities::none());
+    let told = Telling::new(link);
+    let mut link = Noticing::new(told, &seen);
+    measure_over(alloc, &mut link, station, &seen, source, sink, messages)
+}
+
+/// The fault where there is no link: what is wrong with the device, or that the clock can't be read.
+pub(crate) fn without_link(reason: Option<Unusable>) -> RunFault
+    ensures { result ≡ fault_without_link reason }
+{
+    match reason {
+        Some(unusable) => fault_of(Some(unusable)),
+        None => RunFault::Clock,
+    }
 }
 
 // Measures over a link, and tells how it ended. The sink is handed back.
@@ -242,6 +255,7 @@ pub(crate) fn measure_over<L: Link, S: Source, K: Sink, E: Write>(
     alloc: Global,
     link: &mut L,
     station: Station,
+    oddities: &Cell<Oddities>,
     source: &mut S,
     sink: K,
     messages: &mut E,
@@ -277,6 +291,7 @@ pub(crate) fn measure_over<L: Link, S: Source, K: Sink, E: Write>(
         link,
         station.form,
         &station.choice,
+        oddities,
         source,
         sink,
         messages,

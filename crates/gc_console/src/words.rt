@@ -2,9 +2,9 @@
 
 use crate::asking::Asking;
 use crate::help::{COMMANDS, EVENTS, KEPT, REQUESTS, SCENES_AND_FAULTS, VERDICTS};
-use crate::logging::logged_of;
 use crate::station::{station_command, station_of};
 use clap::{Arg, ArgAction, ArgMatches, Command, Error, value_parser};
+use gc_links::{Place, place_of};
 use std::alloc::{AllocError, Global};
 
 /// What a command line asks for. A scene is the name of its file, where one is named.
@@ -21,14 +21,18 @@ pub(crate) enum Subcommand<'a> {
         totals: bool,
         width: u8,
     },
-    // A port that is kept says after how many seconds a connection is idle.
+    // A port or a device; one that is kept says after how many seconds a connection is idle.
     Serve {
         scene: Option<&'a str>,
-        port: u16,
+        place: Place<'a>,
         connections: Option<u32>,
         idle: Option<u32>,
     },
     Asks(Asking<'a>),
+    // A word that is to name a place names none, of a simulator or of an instrument.
+    Nowhere {
+        serves: bool,
+    },
 }
 
 /// What the words ask for. A subcommand is required.
@@ -45,9 +49,6 @@ pub(crate) fn subcommand_of<'a>(
         .disable_help_subcommand(true);
     let command = with_streams(alloc, command)?;
     let matches = with_ports(alloc, command)?.try_get_matches_from(words)?;
-    if let Some(logged) = logged_of(alloc, &matches)? {
-        return Ok(Subcommand::Asks(logged));
-    }
     Ok(asked_for(&matches))
 }
 
@@ -79,7 +80,7 @@ fn with_ports<'a>(alloc: Global, command: Command<'a>) -> Result<Command<'a>, Al
         .subcommand(station_command(alloc)?)
 }
 
-// The subcommand that serves a port.
+// The subcommand that serves a simulator.
 fn serve_of<'a>(alloc: Global) -> Result<Command<'a>, AllocError> {
     let connections = Arg::new(alloc, "connections")
         .long("connections")
@@ -89,14 +90,17 @@ fn serve_of<'a>(alloc: Global) -> Result<Command<'a>, AllocError> {
             "Serves so many connections, 1 to 1000, one after the other [default: 1, and with --keep no end]",
         );
     let command = Command::new(alloc, "serve")
-        .about("Serves a simulator on a port of 127.0.0.1")
+        .about("Serves a simulator on a port of 127.0.0.1, or on a device")
         .after_help(KEPT)
-        .arg(port_of(alloc))?
+        .arg(where_of(
+            alloc,
+            "A port of 127.0.0.1, from 1 on, or the path of a device",
+        ))?
         .arg(connections)?;
     with_keeping(alloc, command)?.arg(scene_of(alloc))
 }
 
-// How a port is kept.
+// How a port or a device is kept.
 fn with_keeping<'a>(alloc: Global, command: Command<'a>) -> Result<Command<'a>, AllocError> {
     let keep = flag_of(
         alloc,
@@ -109,13 +113,13 @@ fn with_keeping<'a>(alloc: Global, command: Command<'a>) -> Result<Command<'a>, 
         .value_parser(value_parser!(u32).range(1..=86_400))
         .default_value("60")
         .help(
-            "With --keep: closes a connection on which nothing came for so many seconds, 1 to 86400",
+            "With --keep, on a port: closes a connection on which nothing came for so many seconds, 1 to 86400",
         )
         .requires_arg("keep")?;
     command.arg(keep)?.arg(idle)
 }
 
-// After how many seconds a connection is idle, where a port is to be kept.
+// After how many seconds a connection is idle, where it is to be kept.
 fn idle_of(serve: &ArgMatches) -> Option<u32> {
     if serve.get_flag("keep") {
         Some(serve.get_one::<u32>("idle").unwrap_or(0))
@@ -124,12 +128,12 @@ fn idle_of(serve: &ArgMatches) -> Option<u32> {
     }
 }
 
-// The subcommand that asks on a port.
+// The subcommand that asks at a place.
 fn ask_of<'a>(alloc: Global) -> Result<Command<'a>, AllocError> {
     Command::new(alloc, "ask")
-        .about("Asks the commands of standard input on a port of 127.0.0.1")
+        .about("Asks the commands of standard input at a place")
         .after_help(COMMANDS)
-        .arg(port_of(alloc))
+        .arg(place_word(alloc))
 }
 
 // Which subcommand the words ask for.
@@ -147,20 +151,19 @@ fn asked_for<'a>(matches: &ArgMatches<'a>) -> Subcommand<'a> {
         };
     }
     if let Some(serve) = matches.subcommand_matches("serve") {
-        return Subcommand::Serve {
-            scene: serve.get_str("scene"),
-            port: serve.get_one::<u16>("port").unwrap_or(0),
-            connections: serve.get_one::<u32>("connections"),
-            idle: idle_of(serve),
-        };
+        return serve_asked_for(serve);
     }
     if let Some(ask) = matches.subcommand_matches("ask") {
-        return Subcommand::Asks(Asking::Ask {
-            port: ask.get_one::<u16>("port").unwrap_or(0),
-        });
+        return match named_place(ask) {
+            Some(place) => Subcommand::Asks(Asking::Ask { place }),
+            None => Subcommand::Nowhere { serves: false },
+        };
     }
     if let Some(station) = matches.subcommand_matches("station") {
-        return Subcommand::Asks(Asking::Station(station_of(station)));
+        return match named_place(station) {
+            Some(place) => Subcommand::Asks(measured(place, station)),
+            None => Subcommand::Nowhere { serves: false },
+        };
     }
     if let Some(looped) = matches.subcommand_matches("loop") {
         return Subcommand::Asks(Asking::Loop {
@@ -172,6 +175,35 @@ fn asked_for<'a>(matches: &ArgMatches<'a>) -> Subcommand<'a> {
             scene: exec.get_str("scene"),
         },
         None => Subcommand::Exec { scene: None },
+    }
+}
+
+// What the words of `serve` ask for. A simulator is served on this machine alone.
+fn serve_asked_for<'a>(serve: &ArgMatches<'a>) -> Subcommand<'a> {
+    match named_place(serve) {
+        None | Some(Place::Host(_)) => Subcommand::Nowhere { serves: true },
+        Some(place) => Subcommand::Serve {
+            scene: serve.get_str("scene"),
+            place,
+            connections: serve.get_one::<u32>("connections"),
+            idle: idle_of(serve),
+        },
+    }
+}
+
+// A station, with a log where the words name the file of one.
+fn measured<'a>(place: Place<'a>, words: &ArgMatches<'a>) -> Asking<'a> {
+    match words.get_str("log") {
+        Some(path) => Asking::Logged(place, station_of(words), path),
+        None => Asking::Station(place, station_of(words)),
+    }
+}
+
+// The place that the words name.
+fn named_place<'a>(words: &ArgMatches<'a>) -> Option<Place<'a>> {
+    match words.get_str("where") {
+        Some(word) => place_of(word),
+        None => None,
     }
 }
 
@@ -195,13 +227,20 @@ fn drill_of<'a>(alloc: Global) -> Result<Command<'a>, AllocError> {
         .arg(scene_of(alloc))
 }
 
-// A port, as a required word.
-pub(crate) fn port_of<'a>(alloc: Global) -> Arg<'a> {
-    Arg::new(alloc, "port")
-        .value_name("PORT")
+// The place of an instrument, as a required word.
+pub(crate) fn place_word<'a>(alloc: Global) -> Arg<'a> {
+    where_of(
+        alloc,
+        "A port of 127.0.0.1, from 1 on, HOST:PORT, [ADDRESS]:PORT, or the path of a device, which has a slash",
+    )
+}
+
+// A place, as a required word.
+fn where_of<'a>(alloc: Global, help: &'a str) -> Arg<'a> {
+    Arg::new(alloc, "where")
+        .value_name("WHERE")
         .required(true)
-        .value_parser(value_parser!(u16).range(1..))
-        .help("A port of 127.0.0.1, from 1 on")
+        .help(help)
 }
 
 // The file of a scene.

@@ -3,5 +3,6 @@
 mod keeping;
 mod links;
 mod loops;
+mod places;
 mod ports;
 mod sockets;

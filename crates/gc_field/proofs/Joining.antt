@@ -12,7 +12,7 @@ use Rattle.gc_texts.specs.declared.tasks.Task.{Task}
 use Rattle.gc_texts.specs.Endings.{End}
 use Rattle.gc_texts.specs.Endings as end
 use Rattle.gc_station.specs.declared.plan.Plan.{Plan}
-use Rattle.gc_station.specs.Acts.{Act}
+use Rattle.gc_links.specs.Acts.{Act}
 use Rattle.gc_station.specs.Answers.{answer_of}
 use Rattle.gc_station.specs.Marks.{record_of, records_of}
 use Rattle.gc_station.specs.Parts.{Part, joined, AreOf, parts_of, went_out, sent_with, sent_of, timeless}

@@ -2,7 +2,7 @@
 use Rattle.std.specs.Prelude.{List, []}
 use Rattle.gc_client.specs.declared.window.TheConstants.{WINDOW}
 use Rattle.gc_client.specs.Rule.{fresh}
-use Rattle.gc_station.specs.Acts.{Act}
+use Rattle.gc_links.specs.Acts.{Act}
 use Rattle.gc_world.specs.World.{Ends}
 use Rattle.gc_field.specs.Field.{Move, IsField, seen}
 use Rattle.gc_field.specs.Meaning.{Amount}

@@ -4,7 +4,7 @@ use Rattle.gc_client.specs.declared.window.TheConstants.{WINDOW}
 use Rattle.gc_client.specs.OneForOne.{Asked, begun, course, of_settled, of_pending}
 use Rattle.gc_client.specs.Rule.{ById, Settlement, Answered, fresh, settle}
 use Rattle.gc_instrument.specs.State.{State, IsFittingState}
-use Rattle.gc_station.specs.Acts.{Act}
+use Rattle.gc_links.specs.Acts.{Act}
 use Rattle.gc_world.specs.Clients.{ends, by_ids, by_numbers, ids_open, numbers_open}
 use Rattle.gc_world.specs.Record.{IsBooked, IsOneForOne}
 use Rattle.gc_world.specs.World.{Ends, Numbered, Sent, Wire, World}

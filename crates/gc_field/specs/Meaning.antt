@@ -9,8 +9,8 @@ use Rattle.gc_catalogue.specs.Texts.{request_line}
 use Rattle.gc_client.specs.declared.window.TheConstants.{WINDOW}
 use Rattle.gc_client.specs.OneForOne.{Step, Send, Hear, Expire, goes}
 use Rattle.gc_client.specs.Rule.{ById, Sending, sends}
-use Rattle.gc_station.specs.declared.link.Moment.{Moment}
-use Rattle.gc_station.specs.Acts.{Act, Told, Untold, Put, Cut, Gave, Silent, Ended, Broke, Closed, Opened, Unopened}
+use Rattle.gc_links.specs.declared.link.Moment.{Moment}
+use Rattle.gc_links.specs.Acts.{Act, Told, Untold, Put, Cut, Gave, Silent, Ended, Broke, Closed, Opened, Unopened}
 use Rattle.gc_station.specs.Standing.{lines_behind}
 
 -- these bytes are the line of a request that the client sends

@@ -9,7 +9,7 @@ use Rattle.gc_client.specs.Rule.{ById, Answered, Late, lost}
 use Rattle.gc_instrument.specs.State.{State, IsFittingState}
 use Rattle.gc_texts.specs.declared.tasks.Task.{Task}
 use Rattle.gc_station.specs.declared.plan.Plan.{Plan}
-use Rattle.gc_station.specs.Acts.{Act}
+use Rattle.gc_links.specs.Acts.{Act}
 use Rattle.gc_station.specs.Answers.{answer_of}
 use Rattle.gc_station.specs.EachOnce.{EachOnce, of_task}
 use Rattle.gc_station.specs.Marks.{records_of}

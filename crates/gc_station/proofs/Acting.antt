@@ -5,7 +5,7 @@ use Rattle.gc_lines.specs.Frames.{rest_behind}
 use Rattle.gc_client.specs.Rule.{ById, heard, hears, id_settled, place_in, expiring}
 use Rattle.gc_client.proofs.OneForOne.{heard_parts}
 use Rattle.gc_texts.specs.declared.tasks.Task.{Task}
-use Rattle.gc_station.specs.declared.link.Moment.{Moment}
+use Rattle.gc_links.specs.declared.link.Moment.{Moment}
 use Rattle.gc_station.specs.declared.mark.Mark.{Mark}
 use Rattle.gc_station.specs.declared.plan.Plan.{Plan}
 use Rattle.gc_station.specs.declared.cause.Cause.{Cause}
@@ -14,7 +14,7 @@ use Rattle.gc_station.specs.declared.progress.Phase.{Phase}
 use Rattle.gc_station.specs.declared.progress.Phase.TheVariants.{Down, Resting, Clearing, Draining, Probing, Ready, Closing, Over}
 use Rattle.gc_station.specs.declared.progress.Progress.{Progress}
 use Rattle.gc_station.specs.declared.progress.Waiting.{Waiting}
-use Rattle.gc_station.specs.Acts.{Act, Told, Cut, Gave, Silent, Ended, Broke, Opened}
+use Rattle.gc_links.specs.Acts.{Act, Told, Cut, Gave, Silent, Ended, Broke, Opened}
 use Rattle.gc_station.specs.Deciding.{is_up, is_past, drain_of}
 use Rattle.gc_station.specs.Marks.{commands_in}
 use Rattle.gc_station.specs.Progressing.{told, failing, opened, again, is_finished, is_spared, quieted, drained, waited, silent, is_resting, waiting_on, begins_anew, beginning_anew, closed, closed_again}

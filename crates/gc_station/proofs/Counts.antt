@@ -12,7 +12,7 @@ use Rattle.gc_station.specs.declared.progress.Order.TheVariants.{Tell, Begin, Op
 use Rattle.gc_station.specs.declared.progress.Progress.{Progress}
 use Rattle.gc_station.specs.declared.progress.Waiting.{Waiting}
 use Rattle.gc_station.specs.declared.mark.Mark.{Mark}
-use Rattle.gc_station.specs.Acts.{Act, Told, Cut, Gave, Silent, Ended, Broke, Opened}
+use Rattle.gc_links.specs.Acts.{Act, Told, Cut, Gave, Silent, Ended, Broke, Opened}
 use Rattle.gc_station.specs.Deciding.{is_past, drain_of}
 use Rattle.gc_station.specs.Marks.{commands_in}
 use Rattle.gc_station.specs.Standing.{Standing, moved, losing, ended, asks_null, asks_first, asks_next, with_records, skips, bound_next, with_progress, with_moment, with_rest, waiting_of, line_came, lines_came, lines_behind, came, after_tell, after_put, after_open, after_read, is_heard, place_next, mark_next}

@@ -3,7 +3,7 @@ use Rattle.std.proofs.Common.{◌≡◌, ℕ, ◌≤◌, ◌⊎◌, inl, inr, �
 use Rattle.std.proofs.Math.Nat.{le-min, le-max_right}
 use Rattle.gc_lines.specs.Frames.{rest_behind}
 use Rattle.gc_texts.specs.declared.tasks.Task.{Task}
-use Rattle.gc_station.specs.declared.link.Moment.{Moment}
+use Rattle.gc_links.specs.declared.link.Moment.{Moment}
 use Rattle.gc_station.specs.declared.mark.Mark.{Mark}
 use Rattle.gc_station.specs.declared.plan.Plan.{Plan}
 use Rattle.gc_station.specs.declared.cause.Cause.{Cause}
@@ -14,7 +14,7 @@ use Rattle.gc_station.specs.declared.progress.Order.{Order}
 use Rattle.gc_station.specs.declared.progress.Order.TheVariants as orders
 use Rattle.gc_station.specs.declared.progress.Progress.{Progress}
 use Rattle.gc_station.specs.declared.progress.Waiting.{Waiting}
-use Rattle.gc_station.specs.Acts.{Act, Told, Cut, Gave, Silent, Closed, Opened}
+use Rattle.gc_links.specs.Acts.{Act, Told, Cut, Gave, Silent, Closed, Opened}
 use Rattle.gc_station.specs.Closing.{Shows}
 use Rattle.gc_station.specs.Deciding.{width_of, is_up, is_past, drain_of}
 use Rattle.gc_station.specs.Marks.{commands_in}

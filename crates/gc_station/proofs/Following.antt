@@ -8,7 +8,7 @@ use Rattle.gc_client.specs.Rule.{ById, fresh, lost}
 use Rattle.gc_texts.specs.declared.tasks.Task.{Task}
 use Rattle.gc_station.specs.declared.mark.Mark.{Mark}
 use Rattle.gc_station.specs.declared.plan.Plan.{Plan}
-use Rattle.gc_station.specs.Acts.{Act}
+use Rattle.gc_links.specs.Acts.{Act}
 use Rattle.gc_station.specs.Marks.{records_of}
 use Rattle.gc_station.specs.Parts.{Part, nothing, joined, acting, in_front, parts_of, sent_of}
 use Rattle.gc_station.specs.Progressing.{turned, is_over, loses_all}

@@ -12,7 +12,7 @@ use Rattle.gc_station.specs.declared.progress.Order.{Order}
 use Rattle.gc_station.specs.declared.progress.Order.TheVariants.{Tell, Begin, Open, Clear, Probe, Send, Skip, Flush, Read, Rest, Close, Stop}
 use Rattle.gc_station.specs.declared.progress.Progress.{Progress}
 use Rattle.gc_station.specs.declared.station.Station.{Station}
-use Rattle.gc_station.specs.Acts.{Act, Closed, Tells}
+use Rattle.gc_links.specs.Acts.{Act, Closed, Tells}
 use Rattle.gc_station.specs.Progressing.{turned, loses_all}
 use Rattle.gc_station.specs.Records.{Record, texts_of}
 use Rattle.gc_station.specs.Runs.{stood, BrokeAt}

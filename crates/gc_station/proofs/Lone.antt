@@ -7,7 +7,7 @@ use Rattle.gc_texts.specs.declared.tasks.Task.{Task}
 use Rattle.gc_station.specs.declared.mark.Mark.{Mark}
 use Rattle.gc_station.specs.declared.plan.Plan.{Plan}
 use Rattle.gc_station.specs.declared.progress.Progress.{Progress}
-use Rattle.gc_station.specs.Acts.{Act}
+use Rattle.gc_links.specs.Acts.{Act}
 use Rattle.gc_station.specs.Parts.{Part, joined, acting, in_front, parts_of}
 use Rattle.gc_station.specs.Progressing.{turned, is_over, loses_all}
 use Rattle.gc_station.specs.Standing.{Standing, order_at, waiting_of, with_progress, moved, after, Runs}

@@ -12,7 +12,7 @@ use Rattle.gc_texts.specs.declared.commands.Command.{Command}
 use Rattle.gc_texts.specs.declared.tasks.Task.{Task}
 use Rattle.gc_station.specs.declared.cause.Cause.{Cause}
 use Rattle.gc_station.specs.declared.cause.Cause.TheVariants as cause
-use Rattle.gc_station.specs.declared.link.Moment.{Moment}
+use Rattle.gc_links.specs.declared.link.Moment.{Moment}
 use Rattle.gc_station.specs.declared.mark.Mark.{Mark}
 use Rattle.gc_station.specs.declared.plan.Plan.{Plan}
 use Rattle.gc_station.specs.declared.progress.Phase.{Phase}
@@ -21,7 +21,7 @@ use Rattle.gc_station.specs.declared.progress.Order.{Order}
 use Rattle.gc_station.specs.declared.progress.Order.TheVariants as orders
 use Rattle.gc_station.specs.declared.progress.Progress.{Progress}
 use Rattle.gc_station.specs.declared.progress.Waiting.{Waiting}
-use Rattle.gc_station.specs.Acts.{Act, Told, Cut, Gave, Silent, Ended, Broke, Closed, Opened}
+use Rattle.gc_links.specs.Acts.{Act, Told, Cut, Gave, Silent, Ended, Broke, Closed, Opened}
 use Rattle.gc_station.specs.Deciding.{is_up, is_past, drain_of, order_of, order_in, order_up}
 use Rattle.gc_station.specs.Ends.{IsWrittenAt, BeginsAnew, IsLast, IsLostIn}
 use Rattle.gc_station.specs.Marks.{commands_in, records_of}

@@ -10,13 +10,13 @@ use Rattle.gc_client.specs.Rule.{ById, sends, id_send}
 use Rattle.gc_texts.specs.Endings.{End, Skipped, Missed}
 use Rattle.gc_texts.specs.declared.commands.Command.{Command}
 use Rattle.gc_texts.specs.declared.tasks.Task.{Task}
-use Rattle.gc_station.specs.declared.link.Moment.{Moment}
+use Rattle.gc_links.specs.declared.link.Moment.{Moment}
 use Rattle.gc_station.specs.declared.mark.Mark.{Mark}
 use Rattle.gc_station.specs.declared.plan.Plan.{Plan}
 use Rattle.gc_station.specs.declared.cause.Cause.TheVariants as cause
 use Rattle.gc_station.specs.declared.progress.Progress.{Progress}
 use Rattle.gc_station.specs.declared.station.Station.{Station}
-use Rattle.gc_station.specs.Acts.{Act, Tells, put_as, IsPart}
+use Rattle.gc_links.specs.Acts.{Act, Tells, put_as, IsPart}
 use Rattle.gc_station.specs.Deciding.{later}
 use Rattle.gc_station.specs.Marks.{is_well, last_well}
 use Rattle.gc_station.specs.Progressing.{failing, skipped_at}

@@ -12,8 +12,8 @@ use Rattle.gc_texts.specs.declared.commands.Command.{Command}
 use Rattle.gc_texts.specs.declared.tasks.Task.{Task}
 use Rattle.gc_station.specs.declared.mark.Mark.{Mark}
 use Rattle.gc_station.specs.declared.plan.Plan.{Plan}
-use Rattle.gc_station.specs.declared.link.Moment.{Moment}
-use Rattle.gc_station.specs.Acts.{Act, Gave}
+use Rattle.gc_links.specs.declared.link.Moment.{Moment}
+use Rattle.gc_links.specs.Acts.{Act, Gave}
 use Rattle.gc_station.specs.Answers.{IsBefore, IsAnsweredIn}
 use Rattle.gc_station.specs.Ends.{IsPast, TellsPast, IsOwnRequest, Brings, IsWrittenAt, IsLateIn, IsOvertaken}
 use Rattle.gc_station.specs.Marks.{records_of}

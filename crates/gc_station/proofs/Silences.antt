@@ -8,7 +8,7 @@ use Rattle.gc_lines.specs.Frames.{rest_behind}
 use Rattle.gc_client.specs.declared.pending.Pending.{Pending}
 use Rattle.gc_client.specs.Rule.{ById, expired, is_expiring, expiring, deadlines}
 use Rattle.gc_texts.specs.declared.tasks.Task.{Task}
-use Rattle.gc_station.specs.declared.link.Moment.{Moment}
+use Rattle.gc_links.specs.declared.link.Moment.{Moment}
 use Rattle.gc_station.specs.declared.plan.Plan.{Plan}
 use Rattle.gc_station.specs.declared.cause.Cause.{Cause}
 use Rattle.gc_station.specs.declared.cause.Cause.TheVariants as cause
@@ -18,7 +18,7 @@ use Rattle.gc_station.specs.declared.progress.Order.{Order}
 use Rattle.gc_station.specs.declared.progress.Order.TheVariants as orders
 use Rattle.gc_station.specs.declared.progress.Progress.{Progress}
 use Rattle.gc_station.specs.declared.progress.Waiting.{Waiting}
-use Rattle.gc_station.specs.Acts.{Act, Told, Untold, Put, Cut, Gave, Silent, Ended, Broke, Opened, Unopened}
+use Rattle.gc_links.specs.Acts.{Act, Told, Untold, Put, Cut, Gave, Silent, Ended, Broke, Opened, Unopened}
 use Rattle.gc_station.specs.Closing.{Shows}
 use Rattle.gc_station.specs.Deciding.{is_up, is_past, is_quiet, is_dead, is_due, drain_of, has_room, order_in, order_on, order_told, may_go, order_ready, order_sent, order_settled, order_done, order_room, order_waiting, order_up}
 use Rattle.gc_station.specs.Marks.{commands_in}

@@ -9,7 +9,7 @@ use Rattle.gc_station.specs.declared.progress.Phase.TheVariants as phase
 use Rattle.gc_station.specs.declared.progress.Order.{Order}
 use Rattle.gc_station.specs.declared.progress.Progress.{Progress}
 use Rattle.gc_station.specs.declared.progress.Waiting.{Waiting}
-use Rattle.gc_station.specs.Acts.{Act}
+use Rattle.gc_links.specs.Acts.{Act}
 use Rattle.gc_station.specs.Deciding.{is_up, order_in, order_of, order_up}
 use Rattle.gc_station.specs.Progressing.{turned, is_finished, is_spared, again, begins_anew, beginning_anew, closed_again, closed}
 use Rattle.gc_station.specs.Standing.{Standing, waiting_of, order_at, Obeys, moved, after, with_progress}

@@ -7,7 +7,7 @@ use Rattle.gc_station.specs.declared.cause.Cause.{Cause}
 use Rattle.gc_station.specs.declared.cause.Cause.TheVariants as cause
 use Rattle.gc_station.specs.declared.progress.Order.TheVariants as orders
 use Rattle.gc_station.specs.declared.progress.Progress.{Progress}
-use Rattle.gc_station.specs.Acts.{Act}
+use Rattle.gc_links.specs.Acts.{Act}
 use Rattle.gc_station.specs.Closing.{EndsBehind, Ends, commands_behind}
 use Rattle.gc_station.specs.Progressing.{turned}
 use Rattle.gc_station.specs.Runs.{stood}

@@ -12,7 +12,7 @@ use Rattle.gc_station.specs.declared.mark.Mark.{Mark}
 use Rattle.gc_station.specs.declared.plan.Plan.{Plan}
 use Rattle.gc_station.specs.declared.progress.Order.{Order}
 use Rattle.gc_station.specs.declared.progress.Order.TheVariants as orders
-use Rattle.gc_station.specs.Acts.{Act, Gave}
+use Rattle.gc_links.specs.Acts.{Act, Gave}
 use Rattle.gc_station.specs.Answers.{IsBefore, deadline_behind, IsTrueRecord}
 use Rattle.gc_station.specs.Ends.{IsPast, TellsPast, IsTrulyLate, IsTrulyLost, IsOvertaken, BeginsAnew, IsLast, IsLostIn}
 use Rattle.gc_station.specs.Probing.{IsAsking}

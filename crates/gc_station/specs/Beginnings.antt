@@ -7,7 +7,7 @@ use Rattle.gc_catalogue.specs.declared.call.Call.TheVariants.{NullProc}
 use Rattle.gc_client.specs.Rule.{fresh, heard}
 use Rattle.gc_texts.specs.declared.tasks.Task.{Task}
 use Rattle.gc_station.specs.declared.plan.Plan.{Plan}
-use Rattle.gc_station.specs.Acts.{Act, Put, Gave, Closed}
+use Rattle.gc_links.specs.Acts.{Act, Put, Gave, Closed}
 use Rattle.gc_station.specs.Quiet.{AsksNothing, StaysConnected, IsClearedAndQuiet}
 use Rattle.gc_station.specs.Runs.{stood}
 use Rattle.gc_station.specs.Standing.{Puts, request_text}

@@ -10,11 +10,11 @@ use Rattle.gc_texts.specs.Endings.{Late, Lost}
 use Rattle.gc_texts.specs.declared.tasks.Task.{Task}
 use Rattle.gc_station.specs.declared.cause.Cause.{Cause}
 use Rattle.gc_station.specs.declared.cause.Cause.TheVariants as cause
-use Rattle.gc_station.specs.declared.link.Moment.{Moment}
+use Rattle.gc_links.specs.declared.link.Moment.{Moment}
 use Rattle.gc_station.specs.declared.plan.Plan.{Plan}
 use Rattle.gc_station.specs.declared.progress.Order.TheVariants.{Send, Close, Stop}
 use Rattle.gc_station.specs.declared.progress.Phase.TheVariants as phase
-use Rattle.gc_station.specs.Acts.{Act, Told, Gave, Silent, Closed}
+use Rattle.gc_links.specs.Acts.{Act, Told, Gave, Silent, Closed}
 use Rattle.gc_station.specs.Answers.{deadline_behind}
 use Rattle.gc_station.specs.Probing.{IsAsking}
 use Rattle.gc_station.specs.Records.{Record}

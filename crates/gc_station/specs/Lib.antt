@@ -1,4 +1,3 @@
-pub mod Acts
 pub mod Causes
 pub mod Scopes
 pub mod Records

@@ -6,7 +6,7 @@ use Rattle.gc_lines.specs.Frames.{ends_in_return}
 use Rattle.gc_texts.specs.Logs.{log_line}
 use Rattle.gc_texts.specs.declared.log_line.LogMark.{LogMark}
 use Rattle.gc_texts.specs.declared.log_line.LogMark.TheVariants as mark
-use Rattle.gc_station.specs.Acts.{Act, Told, Put, Cut, Gave, Silent, Ended, Broke, Closed, Opened, Unopened}
+use Rattle.gc_links.specs.Acts.{Act, Told, Put, Cut, Gave, Silent, Ended, Broke, Closed, Opened, Unopened}
 use Rattle.gc_station.specs.declared.logging.Pending.{Pending}
 use Rattle.gc_station.specs.declared.logging.Way.{Way}
 use Rattle.gc_station.specs.declared.logging.Way.TheVariants.{Went, Came}

@@ -10,7 +10,7 @@ use Rattle.gc_station.specs.declared.plan.Plan.{Plan}
 use Rattle.gc_station.specs.declared.mark.Mark.{Mark}
 use Rattle.gc_station.specs.declared.progress.Order.{Order}
 use Rattle.gc_station.specs.declared.progress.Order.TheVariants as order
-use Rattle.gc_station.specs.Acts.{Act, Told, Put, Cut, Gave, Silent}
+use Rattle.gc_links.specs.Acts.{Act, Told, Put, Cut, Gave, Silent}
 use Rattle.gc_station.specs.Deciding.{later}
 use Rattle.gc_station.specs.EachOnce.{of_task}
 use Rattle.gc_station.specs.Progressing.{loses_all}

@@ -3,11 +3,11 @@
 use Rattle.std.specs.Prelude.{◌≡◌, ℕ, List, ◌∷◌, ◌++◌, Some}
 use Rattle.gc_client.specs.Rule.{heard}
 use Rattle.gc_texts.specs.declared.tasks.Task.{Task}
-use Rattle.gc_station.specs.declared.link.Moment.{Moment}
+use Rattle.gc_links.specs.declared.link.Moment.{Moment}
 use Rattle.gc_station.specs.declared.plan.Plan.{Plan}
 use Rattle.gc_station.specs.declared.progress.Order.{Order}
 use Rattle.gc_station.specs.declared.progress.Order.TheVariants.{Send, Flush}
-use Rattle.gc_station.specs.Acts.{Act, Gave, Closed}
+use Rattle.gc_links.specs.Acts.{Act, Gave, Closed}
 use Rattle.gc_station.specs.Runs.{stood}
 use Rattle.gc_station.specs.Standing.{lines_behind}
 use Rattle.gc_station.specs.Scopes.{Scope}

@@ -1,8 +1,8 @@
 -- Before a request goes out its connection was cleared, and was quiet: this project's own, in terms of the acts alone.
 use Rattle.std.specs.Prelude.{◌≡◌, ◌≢◌, ℕ, ◌-◌, ◌≤◌, List, [], ◌∷◌, ◌++◌}
 use Rattle.std.specs.List.{AllByRecursion}
-use Rattle.gc_station.specs.declared.link.Moment.{Moment}
-use Rattle.gc_station.specs.Acts.{Act, Told, Put, Cut, Gave, Silent, Closed, Opened, Unopened}
+use Rattle.gc_links.specs.declared.link.Moment.{Moment}
+use Rattle.gc_links.specs.Acts.{Act, Told, Put, Cut, Gave, Silent, Closed, Opened, Unopened}
 
 -- a request goes out, whole or in part: bytes that aren't the lone line feed
 abbrev pub IsRequest : Act → Type 0

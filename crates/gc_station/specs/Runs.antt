@@ -11,7 +11,7 @@ use Rattle.gc_station.specs.declared.plan.Plan.{Plan}
 use Rattle.gc_station.specs.declared.cause.Cause.{Cause}
 use Rattle.gc_station.specs.declared.progress.Order.TheVariants.{Stop}
 use Rattle.gc_station.specs.declared.tally.Tally.{Tally}
-use Rattle.gc_station.specs.Acts.{Act, Closed, Tells}
+use Rattle.gc_links.specs.Acts.{Act, Closed, Tells}
 use Rattle.gc_station.specs.Records.{Record, texts_of, WritesPart}
 use Rattle.gc_station.specs.Standing.{Standing, opening, order_at, after_all, Runs}
 use Rattle.gc_station.specs.Tallies.{none_yet, tallied}

@@ -12,7 +12,7 @@ use Rattle.gc_station.specs.declared.progress.Order.TheVariants.{Send, Skip, Pro
 use Rattle.gc_station.specs.declared.progress.Progress.{Progress}
 use Rattle.gc_station.specs.declared.progress.Waiting.{Waiting}
 use Rattle.gc_station.specs.declared.station.Station.{Station}
-use Rattle.gc_station.specs.Acts.{Act, Tells}
+use Rattle.gc_links.specs.Acts.{Act, Tells}
 use Rattle.gc_station.specs.Marks.{commands_in, last_well}
 use Rattle.gc_station.specs.Scopes.{AreReadings}
 use Rattle.gc_station.specs.Progressing.{turned, failing}

@@ -4,8 +4,8 @@ ghost use Rattle.std.specs.Prelude.{◌≡◌};
 ghost use Rattle.gc_station.specs.Records.{record_seen, Writes};
 ghost use Rattle.gc_lines.specs.Ports.{FailsWith};
 
-use crate::link::Moment;
 use gc_lines::PortFailed;
+use gc_links::Moment;
 use gc_texts::{Command, Ending};
 
 /// When a command's end was told, and which one it was.

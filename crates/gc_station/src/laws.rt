@@ -8,7 +8,7 @@ ghost use Rattle.gc_station.specs.declared.cause.Cause.{Cause};
 ghost use Rattle.gc_station.specs.declared.cause.Cause.TheVariants as cause;
 ghost use Rattle.gc_station.specs.declared.progress.Order.TheVariants.{Probe, Send, Skip, Close, Stop};
 ghost use Rattle.gc_station.specs.declared.plan.Plan.{Plan};
-ghost use Rattle.gc_station.specs.Acts.{Act, Closed};
+ghost use Rattle.gc_links.specs.Acts.{Act, Closed};
 ghost use Rattle.gc_station.specs.Answers.{IsTrueRecord};
 ghost use Rattle.gc_station.specs.Beginnings.{IsFirst, IsAnsweredAmong, BeginsWith, quiet_times};
 ghost use Rattle.gc_station.specs.Closing.{IsReasoned, ClosesForACause, StopsForACause};

@@ -4,7 +4,6 @@
 mod book;
 mod cause;
 pub mod laws;
-mod link;
 mod logged;
 mod logging;
 mod mark;
@@ -15,14 +14,11 @@ mod progressing;
 mod run;
 mod station;
 mod tally;
-mod tcp;
 mod writing;
 
 pub use book::{Book, Sight, Stamp};
 pub use cause::Cause;
-pub use link::{Came, Link, Moment};
 pub use logged::{Logged, log_keeps_all};
 pub use plan::Plan;
 pub use run::run_station;
 pub use tally::Tally;
-pub use tcp::TcpLink;

@@ -1,12 +1,12 @@
 //! Any link, with a log of what is on it.
 
 ghost use Rattle.std.specs.Prelude.{◌≡◌, ◌<◌, [], ◌∷◌, length};
-ghost use Rattle.gc_station.specs.Acts.{Tells, Closed, told_as, came_as, put_as, opened_as, IsWithin, IsPart};
+ghost use Rattle.gc_links.specs.Acts.{Tells, Closed, told_as, came_as, put_as, opened_as, IsWithin, IsPart};
 ghost use Rattle.gc_station.specs.Logging.{Logs, LogKeepsAll};
 
-use crate::link::{Came, Link, Moment};
 use crate::logging::Log;
 use gc_lines::{PortFailed, Sink};
+use gc_links::{Came, Link, Moment};
 
 /// A link over another, of which a log is written into a sink: each line that went or came, and what became of the
 /// connection. Its acts are those of the link inside, whatever becomes of the log.

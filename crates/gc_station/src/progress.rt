@@ -6,10 +6,10 @@ ghost use Rattle.gc_station.specs.Progressing.{at_start};
 ghost use Rattle.gc_station.specs.Standing.{is_heard};
 
 use crate::cause::Cause;
-use crate::link::Moment;
 use crate::plan::Plan;
 use crate::progressing::later;
 use gc_client::WINDOW;
+use gc_links::Moment;
 
 /// Where a station is.
 #[derive(Clone, Copy)]

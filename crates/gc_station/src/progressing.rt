@@ -9,10 +9,10 @@ ghost use Rattle.gc_station.specs.Progressing.{turned, told, beginning, is_missi
 ghost use Rattle.gc_station.specs.Standing.{is_reply};
 
 use crate::cause::Cause;
-use crate::link::Moment;
 use crate::plan::Plan;
 use crate::progress::{Phase, Progress, Waiting};
 use gc_client::Hearing;
+use gc_links::Moment;
 
 // So much later than a moment, or the last moment that there is.
 pub(crate) fn later(moment: u64, wait: u64) -> u64

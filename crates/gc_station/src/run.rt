@@ -9,12 +9,12 @@ ghost use Rattle.gc_station.specs.Scopes.{AreReadings};
 
 use crate::book::Book;
 use crate::cause::Cause;
-use crate::link::Link;
 use crate::plan::Plan;
 use crate::progress::Order;
 use crate::station::Station;
 use crate::tally::Tally;
 use gc_lines::PortFailed;
+use gc_links::Link;
 use gc_texts::{RunFault, Task};
 
 // Runs a station, and says for which cause it stopped. `Err`: the book failed.

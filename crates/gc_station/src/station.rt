@@ -11,9 +11,9 @@ ghost use Rattle.gc_catalogue.specs.declared.answer.Reading.{Reading};
 ghost use Rattle.gc_catalogue.specs.declared.call.Call.{Call};
 ghost use Rattle.gc_catalogue.specs.declared.call.Call.TheVariants.{NullProc};
 ghost use Rattle.gc_client.specs.Settlements.{settlement_seen, IsWellRead};
-ghost use Rattle.gc_station.specs.Acts.{Tells, put_as, IsPart};
+ghost use Rattle.gc_links.specs.Acts.{Tells, put_as, IsPart};
 ghost use Rattle.gc_station.specs.Deciding.{later, order_of};
-ghost use Rattle.gc_station.specs.Acts.{Told};
+ghost use Rattle.gc_links.specs.Acts.{Told};
 ghost use Rattle.gc_station.specs.Marks.{commands_in, records_of, last_well};
 ghost use Rattle.gc_station.specs.Scopes.{AreReadings};
 ghost use Rattle.gc_station.specs.Records.{Record, texts_of, WritesAll};
@@ -26,7 +26,6 @@ ghost use Rattle.gc_texts.specs.Endings.{ending_seen};
 
 use crate::book::{Book, Stamp};
 use crate::cause::Cause;
-use crate::link::{Came, Link, Moment};
 use crate::mark::{Mark, commands_in};
 use crate::plan::Plan;
 use crate::progress::{Order, Progress, Waiting};
@@ -37,6 +36,7 @@ use arrayvec::ArrayVec;
 use gc_catalogue::Call;
 use gc_client::{Client, Settlement, Slots, WINDOW};
 use gc_lines::{Assembler, Lent, Line, PortFailed, append};
+use gc_links::{Came, Link, Moment};
 use gc_texts::{Command, Ending, Task};
 
 // The null procedure, for no target.

@@ -2,7 +2,6 @@
 //! over it.
 #![tactic(auto)]
 
-pub mod history;
 #[cfg(test)]
 mod stations;
 pub mod telling;

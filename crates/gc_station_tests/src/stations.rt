@@ -13,8 +13,9 @@ mod stalls;
 mod tcp;
 mod waits;
 
-use crate::telling::{Telling, run_telling};
+use crate::telling::run_telling;
 use gc_catalogue::Call;
+use gc_links::Telling;
 use gc_station::Plan;
 use gc_texts::{Command, RunFault, Task};
 use script::{Ends, Script, Step};

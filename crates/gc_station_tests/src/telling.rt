@@ -1,97 +1,14 @@
-//! Any link, made to tell its acts: each call is made as it is, and what it came to is added to a history, which costs nothing.
+//! A station over any link, made to tell its acts.
 
-ghost use Rattle.std.specs.Prelude.{◌≡◌, ℕ, List, [], Some};
+ghost use Rattle.std.specs.Prelude.{ℕ, List, Some};
 ghost use Rattle.gc_catalogue.specs.declared.answer.Reading.{Reading};
 ghost use Rattle.gc_catalogue.specs.declared.call.Call.{Call};
-ghost use Rattle.gc_station.specs.Acts.{IsWithin, came_as};
 ghost use Rattle.gc_station.specs.Runs.{Ran};
 ghost use Rattle.gc_station.specs.Scopes.{AreReadings};
-ghost use Rattle.gc_station_tests.specs.Noted.{act_of};
 
-use crate::history::{History, Note};
-use gc_lines::PortFailed;
-use gc_station::{Book, Came, Link, Moment, Plan, Tally, run_station};
+use gc_links::{Link, Telling};
+use gc_station::{Book, Plan, Tally, run_station};
 use gc_texts::{RunFault, Task};
-
-/// A link that tells its acts, whatever link it stands over.
-#[derive(Drop)]
-pub struct Telling<L> {
-    pub link: L,
-    pub history: History,
-}
-
-impl<L: Link> Telling<L> {
-    /// A link of which no call was made yet.
-    pub fn new(link: L) -> Telling<L>
-        ensures { result.history.acts ≡ [] }
-    {
-        Telling {
-            link,
-            history: History::new(),
-        }
-    }
-}
-
-// What a read came to, with the bytes that it gave.
-fn noted<'a>(came: Came, buf: &'a [u8]) -> Note<'a>
-    requires { IsWithin came buf.now }
-    ensures { act_of result ≡ came_as came buf.now }
-{
-    match came {
-        Came::Bytes(n, moment) => Note::Gave(&buf[..n], moment),
-        Came::Silence(moment) => Note::Silent(moment),
-        Came::End => Note::Ended,
-        Came::Failure => Note::Broke,
-        Came::NoMoment => Note::Untold,
-    }
-}
-
-impl<L: Link> Link for Telling<L> {
-    ghost use Rattle.std.specs.Prelude.{Some};
-
-    ghost acts = { λ t. Some t.history.acts };
-
-    fn now(&mut self) -> Result<Moment, PortFailed> {
-        let told = self.link.now();
-        let note = match &told {
-            Ok(moment) => Note::Told(*moment),
-            Err(_) => Note::Untold,
-        };
-        self.history = self.history.then(&note);
-        told
-    }
-
-    fn read(&mut self, buf: &mut [u8], millis: u64) -> Came {
-        let came = self.link.read(buf, millis);
-        self.history = self.history.then(&noted(came, buf));
-        came
-    }
-
-    fn put(&mut self, bytes: &[u8]) -> Result<(), usize> {
-        let put = self.link.put(bytes);
-        let note = match put {
-            Ok(()) => Note::Put(bytes),
-            Err(n) => Note::Cut(bytes, n),
-        };
-        self.history = self.history.then(&note);
-        put
-    }
-
-    fn close(&mut self) {
-        self.link.close();
-        self.history = self.history.then(&Note::Closed);
-    }
-
-    fn open(&mut self) -> Result<(), PortFailed> {
-        let opened = self.link.open();
-        let note = match &opened {
-            Ok(()) => Note::Opened,
-            Err(_) => Note::Unopened,
-        };
-        self.history = self.history.then(&note);
-        opened
-    }
-}
 
 /// A station over any link, made to tell its acts: all that `run_station` promises of such links is so.
 pub fn run_telling<L: Link, B: Book>(

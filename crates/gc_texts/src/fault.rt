@@ -52,10 +52,19 @@ pub enum RunFault {
     /// The log could not be opened.
     #[error("fault 57")]
     Log,
+    /// What has the path of a device is no terminal.
+    #[error("fault 58")]
+    NoTerminal,
+    /// Another program holds the device.
+    #[error("fault 59")]
+    Held,
+    /// This program may not read and write the device.
+    #[error("fault 60")]
+    Forbidden,
 }
 
 impl RunFault {
-    /// The number of the fault, 41 to 57. This project's own.
+    /// The number of the fault, 41 to 60. This project's own.
     pub fn number(self) -> u8
         ensures { result ≡ run_fault_number self }
     {
@@ -74,6 +83,9 @@ impl RunFault {
             RunFault::Output => 55,
             RunFault::StreamClosed => 56,
             RunFault::Log => 57,
+            RunFault::NoTerminal => 58,
+            RunFault::Held => 59,
+            RunFault::Forbidden => 60,
         }
     }
 
@@ -100,6 +112,9 @@ impl RunFault {
             RunFault::Output => writeln!(messages, "geocom: fault 55"),
             RunFault::StreamClosed => writeln!(messages, "geocom: fault 56"),
             RunFault::Log => writeln!(messages, "geocom: fault 57"),
+            RunFault::NoTerminal => writeln!(messages, "geocom: fault 58"),
+            RunFault::Held => writeln!(messages, "geocom: fault 59"),
+            RunFault::Forbidden => writeln!(messages, "geocom: fault 60"),
         }
     }
 }

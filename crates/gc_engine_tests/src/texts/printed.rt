@@ -7,6 +7,7 @@ use gc_lines::{Line, ToWriter};
 use gc_texts::{Command, Ending, Form, RunFault, read_commands, write_head, write_record};
 use gc_values::ValueFault;
 use std::alloc::Global;
+use std::process::Abort;
 use std::test::Fail;
 
 #[test]
@@ -26,35 +27,72 @@ fn a_command_text_is_read(rt: HostRuntime) -> Result<(), Fail> {
     Ok(())
 }
 
+// Expects that a fault is told so: its number, its line, and what `Display` prints.
+fn expect_told(
+    rt: &impl Abort,
+    alloc: Global,
+    fault: RunFault,
+    number: u8,
+    text: &str,
+) -> Result<(), Fail> {
+    let mut told = Vec::new(alloc);
+    fault.tell(&mut told)?;
+    let told = str::from_utf8(told.as_slice()).expect(rt, text);
+    let line = format!(in alloc; "geocom: {text}\n")?;
+    let shown = format!(in alloc; "{fault}")?;
+    assert_eq!(rt; told, line.as_str());
+    assert_eq!(rt; shown.as_str(), text);
+    assert_eq!(rt; fault.number(), number, "{text}");
+    Ok(())
+}
+
 #[test]
-fn each_fault_is_told(rt: HostRuntime) -> Result<(), Fail> {
+fn each_fault_of_a_run_is_told(rt: HostRuntime) -> Result<(), Fail> {
     let written = RunFault::Write {
         replies: 7,
         bytes: 21,
     };
     let rows = [
-        (RunFault::SceneFull, 41, "fault 41"),
         (RunFault::Read, 42, "fault 42"),
         (written, 43, "fault 43 reply 7 byte 21"),
         (RunFault::TooManyReads, 44, "fault 44"),
         (RunFault::LinkClosed, 45, "fault 45"),
+        (RunFault::Mute, 46, "fault 46"),
+        (RunFault::Clock, 47, "fault 47"),
+        (RunFault::Output, 55, "fault 55"),
+    ];
+    for (fault, number, text) in rows {
+        expect_told(&rt, rt.alloc(), fault, number, text)?;
+    }
+    Ok(())
+}
+
+#[test]
+fn each_fault_of_a_text_is_told(rt: HostRuntime) -> Result<(), Fail> {
+    let rows = [
+        (RunFault::SceneFull, 41, "fault 41"),
         (RunFault::Schedule { line: 3 }, 51, "fault 51 line 3"),
         (RunFault::Memory, 52, "fault 52"),
         (RunFault::InputTooLong, 53, "fault 53"),
-        (RunFault::Socket, 54, "fault 54"),
-        (RunFault::Output, 55, "fault 55"),
-        (RunFault::StreamClosed, 56, "fault 56"),
     ];
     for (fault, number, text) in rows {
-        let alloc = rt.alloc();
-        let mut told = Vec::new(alloc);
-        fault.tell(&mut told)?;
-        let told = str::from_utf8(told.as_slice()).expect(&rt, text);
-        let line = format!(in alloc; "geocom: {text}\n")?;
-        let shown = format!(in alloc; "{fault}")?;
-        assert_eq!(rt; told, line.as_str());
-        assert_eq!(rt; shown.as_str(), text);
-        assert_eq!(rt; fault.number(), number, "{text}");
+        expect_told(&rt, rt.alloc(), fault, number, text)?;
+    }
+    Ok(())
+}
+
+#[test]
+fn each_fault_of_what_is_opened_is_told(rt: HostRuntime) -> Result<(), Fail> {
+    let rows = [
+        (RunFault::Socket, 54, "fault 54"),
+        (RunFault::StreamClosed, 56, "fault 56"),
+        (RunFault::Log, 57, "fault 57"),
+        (RunFault::NoTerminal, 58, "fault 58"),
+        (RunFault::Held, 59, "fault 59"),
+        (RunFault::Forbidden, 60, "fault 60"),
+    ];
+    for (fault, number, text) in rows {
+        expect_told(&rt, rt.alloc(), fault, number, text)?;
     }
     Ok(())
 }

@@ -2,10 +2,10 @@
 
 use crate::program::far_end::{FarEnd, Seen, both_ends};
 use crate::program::words::{Broken, words_of};
-use gc_console::{Standard, run_program};
+use gc_console::{Oddities, Standard, run_program};
 use std::alloc::Global;
 use std::cell::RefCell;
-use std::fs::Files;
+use std::fs::{File, Files};
 use std::net::{Net, SocketAddr, TcpListener, TcpStream};
 use std::process::{Abort, ExitCode};
 use std::test::Fail;
@@ -24,7 +24,10 @@ fn with_open(bits: u8) -> Standard {
 // Runs a command line where these streams are open, over an input of which each read fails. Expects this status and these
 // messages, and no output.
 fn expect_told(
-    rt: &(impl Abort + Net<Listener = TcpListener, Stream = TcpStream> + Clock + Files),
+    rt: &(impl Abort
+        + Net<Listener = TcpListener, Stream = TcpStream>
+        + Clock
+        + Files<File = File>),
     alloc: Global,
     open: Standard,
     texts: &[&str],
@@ -105,6 +108,7 @@ fn expect_asked(
         seen: &seen,
         answer: None,
         until: u64::MAX,
+        odd: Oddities::none(),
     };
     let mut written = Vec::new(alloc);
     let mut told = Vec::new(alloc);

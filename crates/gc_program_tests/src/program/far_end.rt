@@ -1,11 +1,11 @@
 //! The far end of a test: a connection of one process, at which a simulator answers while the station waits, and a clock that
 //! goes only as it waits. So no test waits, and each moment is known.
 
-use gc_console::run_exec;
+use gc_console::{Oddities, run_exec};
 use gc_lines::{FromReader, ToWriter};
 use std::alloc::Global;
 use std::cell::RefCell;
-use std::io::{self, ErrorKind, Read};
+use std::io::{self, ErrorKind, Read, Write};
 use std::net::{Net, SocketAddr, TcpListener, TcpStream};
 use std::os::fd::OwnedFd;
 use std::os::unix::net::UnixStream;
@@ -66,6 +66,8 @@ pub(crate) struct FarEnd<'a, 'b> {
     pub(crate) answer: Option<u64>,
     // Behind so many milliseconds the clock can't be read any more.
     pub(crate) until: u64,
+    // What the line does to what is sent over it.
+    pub(crate) odd: Oddities,
 }
 
 impl<'a, 'b> FarEnd<'a, 'b> {
@@ -79,8 +81,15 @@ impl<'a, 'b> FarEnd<'a, 'b> {
 
     // Answers the requests of a piece, and says whether there were any.
     fn answers(&self, piece: &[u8]) -> bool {
+        let mut far = &self.ends.1;
+        if self.odd.echoes && far.write_all(piece).is_err() {
+            return false;
+        }
         let mut source = FromReader::new(piece);
-        let mut sink = ToWriter::new(&self.ends.1);
+        let mut sink = ToWriter::new(Changing {
+            stream: &self.ends.1,
+            bare: self.odd.bare,
+        });
         match run_exec(&mut source, &mut sink, u32::MAX) {
             Ok(served) => served.replies > 0,
             Err(_) => false,
@@ -102,6 +111,28 @@ impl<'a, 'b> FarEnd<'a, 'b> {
             Some(answer) if self.answers(piece) => seen.pass(answer),
             _ => seen.pass(millis),
         }
+        Ok(())
+    }
+}
+
+// A line that changes each CR to LF, where it is bare.
+#[derive(Drop)]
+struct Changing<'a> {
+    stream: &'a TcpStream,
+    bare: bool,
+}
+
+impl<'a> Write for Changing<'a> {
+    fn write(&mut self, buf: &[u8]) -> io::Result<usize> {
+        let mut stream = self.stream;
+        for b in buf {
+            let changed = if self.bare && *b == b'\r' { b'\n' } else { *b };
+            stream.write_all(&[changed])?;
+        }
+        Ok(buf.len())
+    }
+
+    fn flush(&mut self) -> io::Result<()> {
         Ok(())
     }
 }

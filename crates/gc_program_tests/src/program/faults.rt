@@ -3,7 +3,7 @@
 use crate::program::words::{Broken, OPEN, expect_fault, expect_run, words_of};
 use gc_console::run_program;
 use std::alloc::Global;
-use std::fs::Files;
+use std::fs::{File, Files};
 use std::net::{Net, SocketAddr, TcpListener, TcpStream};
 use std::process::{Abort, ExitCode};
 use std::test::Fail;
@@ -13,7 +13,10 @@ const COMMANDS: &[u8] = b"7 5003\n8 0\n";
 
 // The words of a subcommand on a port, and what is told where it is refused or fails, with status 1 and nothing written.
 fn expect_port_fault(
-    rt: &(impl Abort + Net<Listener = TcpListener, Stream = TcpStream> + Clock + Files),
+    rt: &(impl Abort
+        + Net<Listener = TcpListener, Stream = TcpStream>
+        + Clock
+        + Files<File = File>),
     alloc: Global,
     engine: &str,
     port: u16,

@@ -1,10 +1,13 @@
 //! A text of commands that is measured over a link in one thread: in both forms, and with each read and each write failing.
 
-use gc_console::{Choice, Form, Link, RunFault, Stop, Tally, Trouble, Watch, run_station_text};
+use gc_console::{
+    Choice, Form, Link, Oddities, RunFault, Stop, Tally, Trouble, Watch, run_station_text,
+};
 use gc_lines::PortFailed;
+use gc_links::{Came, Moment};
 use gc_probes::{PieceSink, PieceSource};
-use gc_station::{Came, Moment};
 use std::alloc::Global;
+use std::cell::Cell;
 use std::process::Abort;
 
 const COMMANDS: &[u8] = b"7 5003\n8 0\n";
@@ -134,6 +137,7 @@ fn expect_measured(
         &mut link,
         form,
         &CHOICE,
+        &Cell::new(Oddities::none()),
         &mut source,
         sink,
         &mut told,
@@ -213,6 +217,7 @@ fn expect_records(
             &mut link,
             form,
             &CHOICE,
+            &Cell::new(Oddities::none()),
             &mut source,
             sink,
             &mut told,
@@ -268,6 +273,7 @@ fn a_faulty_line_has_its_trouble(rt: HostRuntime) {
         &mut link,
         Form::Csv,
         &CHOICE,
+        &Cell::new(Oddities::none()),
         &mut source,
         sink,
         &mut told,

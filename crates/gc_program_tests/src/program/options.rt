@@ -3,7 +3,7 @@
 
 use crate::program::far_end::{FarEnd, Seen, both_ends};
 use crate::program::words::{OPEN, words_of};
-use gc_console::run_program;
+use gc_console::{Oddities, run_program};
 use std::alloc::Global;
 use std::cell::RefCell;
 use std::net::{Net, TcpListener, TcpStream};
@@ -52,6 +52,7 @@ pub(crate) fn measure(
         seen: &seen,
         answer,
         until: HOUR,
+        odd: Oddities::none(),
     };
     let mut words = Vec::new(alloc);
     for word in ["geocom", "station", "4001"] {
@@ -282,6 +283,7 @@ fn no_cycles_are_no_end(rt: HostRuntime) -> Result<(), Fail> {
         seen: &seen,
         answer: SOON,
         until: HOUR,
+        odd: Oddities::none(),
     };
     let words = words_of(alloc, &["geocom", "station", "4001", "--cycles", "0"])?;
     let mut room = [0; 300];

@@ -3,7 +3,7 @@
 use crate::program::words::{Broken, OPEN, expect_fault, expect_run, words_of};
 use gc_console::run_program;
 use std::alloc::Global;
-use std::fs::{self, Files};
+use std::fs::{self, File, Files};
 use std::net::{Net, SocketAddr, TcpListener, TcpStream};
 use std::process::{Abort, ExitCode};
 use std::test::Fail;
@@ -13,7 +13,10 @@ const EAST: &[u8] = b"# the east pillar\nserial 71\nname EAST\ntarget 1 1.5 20\n
 
 // Runs these words, and `--scene` with a file of this text behind them, and expects this output.
 fn expect_on<'a>(
-    rt: &(impl Abort + Net<Listener = TcpListener, Stream = TcpStream> + Clock + Files),
+    rt: &(impl Abort
+        + Net<Listener = TcpListener, Stream = TcpStream>
+        + Clock
+        + Files<File = File>),
     alloc: Global,
     words: &[&'a str],
     path: &'a str,
@@ -89,7 +92,10 @@ fn the_simulator_has_the_targets_that_are_told(rt: HostRuntime) -> Result<(), Fa
 
 // Serves a port that is in use with this scene, once and kept, and expects these messages.
 fn expect_unserved(
-    rt: &(impl Abort + Net<Listener = TcpListener, Stream = TcpStream> + Clock + Files),
+    rt: &(impl Abort
+        + Net<Listener = TcpListener, Stream = TcpStream>
+        + Clock
+        + Files<File = File>),
     alloc: Global,
     path: &str,
     messages: &str,
@@ -108,7 +114,10 @@ fn expect_unserved(
 // Runs each subcommand with a scene that is refused, over an input of which each read fails, or with a port that is in use.
 // Expects these messages.
 fn expect_refused(
-    rt: &(impl Abort + Net<Listener = TcpListener, Stream = TcpStream> + Clock + Files),
+    rt: &(impl Abort
+        + Net<Listener = TcpListener, Stream = TcpStream>
+        + Clock
+        + Files<File = File>),
     alloc: Global,
     path: &str,
     messages: &str,

@@ -3,7 +3,7 @@
 use crate::program::far_end::{FarEnd, Seen, both_ends};
 use crate::program::options::{HOUR, ONE, SOON, measure};
 use crate::program::words::{OPEN, words_of};
-use gc_console::{Standard, run_program};
+use gc_console::{Oddities, Standard, run_program};
 use std::cell::RefCell;
 use std::test::Fail;
 
@@ -44,6 +44,7 @@ fn a_terminal_has_a_line_that_is_written_over(rt: HostRuntime) -> Result<(), Fai
         seen: &seen,
         answer: SOON,
         until: HOUR,
+        odd: Oddities::none(),
     };
     let watched = Standard {
         terminal: true,

@@ -2,9 +2,9 @@
 
 use crate::program::words::OPEN;
 use gc_console::run_program;
-use gc_station::{Came, Link, TcpLink};
+use gc_links::{Came, Link, TcpLink};
 use std::alloc::Global;
-use std::fs::Files;
+use std::fs::{File, Files};
 use std::io::{Read, Write};
 use std::net::{Net, SocketAddr, TcpListener, TcpStream};
 use std::process::{Abort, ExitCode};
@@ -57,7 +57,10 @@ fn a_link_tells_what_a_socket_answers(rt: HostRuntime) -> Result<(), Fail> {
 // Runs `station` on a port with two commands and one retry, and expects status 1, this fault, and no record: where the null
 // procedure isn't answered no command goes out.
 fn expect_fault(
-    rt: &(impl Abort + Net<Listener = TcpListener, Stream = TcpStream> + Clock + Files),
+    rt: &(impl Abort
+        + Net<Listener = TcpListener, Stream = TcpStream>
+        + Clock
+        + Files<File = File>),
     alloc: Global,
     port: u16,
     fault: &[u8],

@@ -3,7 +3,7 @@
 use gc_console::{Standard, run_program};
 use std::alloc::{AllocError, Global};
 use std::env::Args;
-use std::fs::Files;
+use std::fs::{File, Files};
 use std::io::{self, ErrorKind, Read};
 use std::net::{Net, TcpListener, TcpStream};
 use std::process::{Abort, ExitCode};
@@ -13,6 +13,8 @@ use std::time::Clock;
 const REQUESTS: &[u8] = b"%R1Q,0,1:\r\n%R1Q,5003:\r\n";
 
 const REPLIES: &str = "%R1P,0,1:0\r\n%R1P,0,0:0,123456\r\n";
+
+pub(crate) const ONE_COMMAND: &[u8] = b"7 5003\n";
 
 const SCHEDULE: &[u8] = b"send 1 10 5003\nup deliver\ndown deliver\n";
 
@@ -35,7 +37,10 @@ pub(crate) fn words_of(alloc: Global, texts: &[&str]) -> Result<Args, AllocError
 
 // Runs a command line, and expects this status, this output and these messages.
 pub(crate) fn expect_run(
-    rt: &(impl Abort + Net<Listener = TcpListener, Stream = TcpStream> + Clock + Files),
+    rt: &(impl Abort
+        + Net<Listener = TcpListener, Stream = TcpStream>
+        + Clock
+        + Files<File = File>),
     alloc: Global,
     texts: &[&str],
     input: &[u8],
@@ -176,7 +181,7 @@ fn a_text_of_the_engines_is_refused(rt: HostRuntime) -> Result<(), Fail> {
 }
 
 // A name, a command line, its status, and a part of its output and of its messages.
-const COMMAND_LINES: [(&str, &[&str], u8, &str, &str); 26] = [
+const COMMAND_LINES: [(&str, &[&str], u8, &str, &str); 24] = [
     (
         "help",
         &["geocom", "--help"],
@@ -240,21 +245,7 @@ const COMMAND_LINES: [(&str, &[&str], u8, &str, &str); 26] = [
         "\n  1 8 answered %R1P,0,1:0,0\n",
         "",
     ),
-    ("no port", &["geocom", "ask"], 2, "", "  <PORT>\n"),
-    (
-        "port 0",
-        &["geocom", "ask", "0"],
-        2,
-        "",
-        "error: invalid value '0' for '<PORT>'",
-    ),
-    (
-        "a port too great",
-        &["geocom", "serve", "65536"],
-        2,
-        "",
-        "error: invalid value '65536' for '<PORT>'",
-    ),
+    ("no place", &["geocom", "ask"], 2, "", "  <WHERE>\n"),
     (
         "no connections",
         &["geocom", "serve", "4001", "--connections", "0"],
@@ -392,7 +383,10 @@ impl Read for Broken {
 
 // Runs a command line over this input and an output with room for five bytes, and expects status 1 and these messages.
 pub(crate) fn expect_fault<I: Read + Drop>(
-    rt: &(impl Abort + Net<Listener = TcpListener, Stream = TcpStream> + Clock + Files),
+    rt: &(impl Abort
+        + Net<Listener = TcpListener, Stream = TcpStream>
+        + Clock
+        + Files<File = File>),
     alloc: Global,
     texts: &[&str],
     input: I,
@@ -438,7 +432,10 @@ fn an_input_or_an_output_fails(rt: HostRuntime) -> Result<(), Fail> {
 
 // Runs the program with words that could not be read, and expects this status and these messages.
 fn expect_words_refused(
-    rt: &(impl Abort + Net<Listener = TcpListener, Stream = TcpStream> + Clock + Files),
+    rt: &(impl Abort
+        + Net<Listener = TcpListener, Stream = TcpStream>
+        + Clock
+        + Files<File = File>),
     alloc: Global,
     kind: ErrorKind,
     status: u8,

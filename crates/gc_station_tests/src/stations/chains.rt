@@ -2,8 +2,9 @@
 
 use super::script::{Ends, Step};
 use super::{BEGUN, FIRST, FOURTH, GIVEN_UP, QUIET, SECOND, THIRD, command, null, plan, timed};
-use crate::telling::{Telling, run_telling};
+use crate::telling::run_telling;
 use gc_catalogue::Call;
+use gc_links::Telling;
 use gc_station::Plan;
 use gc_texts::{Command, Task};
 use std::process::Abort;

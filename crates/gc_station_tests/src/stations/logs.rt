@@ -3,7 +3,8 @@
 use super::script::{Ends, Script, Step};
 use super::{null, plan, task_of};
 use gc_lines::{PortFailed, Sink};
-use gc_station::{Came, Link, Logged, run_station};
+use gc_links::{Came, Link};
+use gc_station::{Logged, run_station};
 use std::alloc::Global;
 use std::process::Abort;
 use std::test::Fail;

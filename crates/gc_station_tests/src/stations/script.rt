@@ -1,10 +1,11 @@
 //! A link that plays a script, and a book that keeps a letter for each outcome.
 
-ghost use Rattle.gc_station.specs.Acts.{IsWithin};
+ghost use Rattle.gc_links.specs.Acts.{IsWithin};
 
 use arrayvec::ArrayVec;
 use gc_lines::PortFailed;
-use gc_station::{Book, Came, Link, Moment, Sight, Stamp};
+use gc_links::{Came, Link, Moment};
+use gc_station::{Book, Sight, Stamp};
 use gc_texts::{Command, Ending};
 
 // What a read comes to, so many milliseconds after it began.

@@ -1,6 +1,6 @@
 //! A link over a real connection, whose other end is the test's own, in one thread.
 
-use gc_station::{Came, Link, Moment, TcpLink};
+use gc_links::{Came, Link, Moment, TcpLink};
 use std::alloc::{AllocError, Global};
 use std::io::{self, Read, Write};
 use std::net::{Net, SocketAddr, TcpListener, TcpStream};

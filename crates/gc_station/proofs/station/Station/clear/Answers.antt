@@ -1,5 +1,5 @@
 use Rattle.std.proofs.Common.{[], ◌∷◌, refl, ap, ◌∙◌}
-use Rattle.gc_station.specs.Acts.{put_as}
+use Rattle.gc_links.specs.Acts.{put_as}
 use Rattle.gc_station.specs.Progressing.{cleared}
 use Rattle.gc_station.specs.Standing.{requests_out, with_progress}
 use Rattle.gc_station.proofs.Making.{stands_with, put_puts, put_stands, put_took}

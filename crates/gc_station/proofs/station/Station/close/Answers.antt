@@ -1,6 +1,6 @@
 use Rattle.std.proofs.Common.{refl, ap, ◌∙◌}
 use Rattle.gc_station.specs.declared.progress.Waiting.{Waiting}
-use Rattle.gc_station.specs.Acts.{Closed}
+use Rattle.gc_links.specs.Acts.{Closed}
 use Rattle.gc_station.specs.Standing.{waiting_of}
 use Rattle.gc_station.proofs.Hearing.{all_same, commands_same, closed_same}
 use Rattle.gc_station.proofs.station.Station.close.Goals as goal

@@ -2,7 +2,7 @@ use Rattle.std.proofs.Common.{None, ap, ◌∙◌}
 use Rattle.gc_catalogue.specs.declared.call.Call.TheVariants.{NullProc}
 use Rattle.gc_client.specs.Rule.{ById}
 use Rattle.gc_texts.specs.declared.commands.Command.{Command}
-use Rattle.gc_station.specs.Acts.{put_as}
+use Rattle.gc_links.specs.Acts.{put_as}
 use Rattle.gc_station.specs.Progressing.{asking}
 use Rattle.gc_station.specs.Standing.{Standing, requests_out, request_text, asks_null, with_progress}
 use Rattle.gc_station.proofs.Making.{stands_with, asks_stands, put_puts, put_stands, put_took}

@@ -1,7 +1,7 @@
 use Rattle.std.proofs.Common.{ℕ, List, length, nat_eq, take, not, ap, ◌∙◌}
 use Rattle.gc_client.specs.Rule.{ById, expiring}
 use Rattle.gc_station.specs.declared.cause.Cause.TheVariants.{Clock, End, Read}
-use Rattle.gc_station.specs.Acts.{Gave, Silent, Ended, Broke, Untold}
+use Rattle.gc_links.specs.Acts.{Gave, Silent, Ended, Broke, Untold}
 use Rattle.gc_station.specs.Progressing.{failing, silent, waiting_on}
 use Rattle.gc_station.specs.Standing.{is_nil}
 use Rattle.gc_station.proofs.Hearing.{stands_expired}

@@ -1,7 +1,7 @@
 use Rattle.std.proofs.Common.{◌≡◌, ◌-◌, ◌<◌, List, ◌∷◌, Some, length, drop, refl, ap, sym, ◌∙◌, arith}
 use Rattle.gc_client.specs.Rule.{ById}
 use Rattle.gc_texts.specs.declared.tasks.Task.{Task}
-use Rattle.gc_station.specs.Acts.{put_as}
+use Rattle.gc_links.specs.Acts.{put_as}
 use Rattle.gc_station.specs.Progressing.{sent}
 use Rattle.gc_station.specs.Standing.{Standing, place_next, mark_next, bound_next, requests_out, request_text, first_text, asks_next, with_progress}
 use Rattle.gc_station.proofs.Making.{stands_with, asks_stands, put_puts, put_stands, put_took, drop_here, first_stands, first_took}

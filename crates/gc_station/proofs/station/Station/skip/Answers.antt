@@ -3,7 +3,7 @@ use Rattle.std.specs.Io.KnownBytes.{Appends}
 use Rattle.gc_station.specs.declared.cause.Cause.TheVariants.{Clock}
 use Rattle.gc_station.specs.declared.progress.Progress.{Progress}
 use Rattle.gc_station.specs.declared.station.Station.{Station}
-use Rattle.gc_station.specs.Acts.{Told, Untold}
+use Rattle.gc_links.specs.Acts.{Told, Untold}
 use Rattle.gc_station.specs.Marks.{commands_in}
 use Rattle.gc_station.specs.Progressing.{failing, skipped, reckoned_early}
 use Rattle.gc_station.specs.Records.{Record, texts_of}

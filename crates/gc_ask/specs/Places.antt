@@ -1,0 +1,12 @@
+-- The fault of a place over which no connection can be had: this project's own.
+use Rattle.std.specs.Prelude.{Option, Some, None}
+use Rattle.gc_links.specs.declared.device.Unusable.{Unusable}
+use Rattle.gc_links.specs.declared.device.Unusable.TheVariants as unusable
+use Rattle.gc_texts.specs.declared.fault.RunFault.{RunFault}
+use Rattle.gc_texts.specs.declared.fault.RunFault.TheVariants as fault
+
+abbrev pub fault_of_reason : Option Unusable → RunFault
+fault_of_reason (Some unusable.NoTerminal) = fault.NoTerminal
+fault_of_reason (Some unusable.Held) = fault.Held
+fault_of_reason (Some unusable.Forbidden) = fault.Forbidden
+fault_of_reason None = fault.Socket

@@ -1,0 +1,83 @@
+//! One caller of a port that is kept: the end that is read, and how it is served.
+
+ghost use Rattle.std.specs.Prelude.{◌≡◌, Result};
+ghost use Rattle.gc_ask.specs.Keeping.{end_of_caller};
+ghost use Rattle.gc_instrument.specs.Serving.{IsServing};
+ghost use Rattle.gc_instrument.specs.State.{restarted};
+ghost use Rattle.gc_lines.specs.declared.served.Served.{Served};
+ghost use Rattle.gc_lines.specs.declared.served.ServeFault.{ServeFault};
+
+use crate::callers::CallerFault;
+use gc_instrument::{Instrument, ServeFault, serve};
+use gc_lines::{Sink, Source};
+use std::io::{self, ErrorKind, Read};
+use std::net::TcpStream;
+
+// How often one read is tried again where it was interrupted.
+const MOST_INTERRUPTIONS: u32 = 1000;
+
+/// The reading end of a connection, which notes whether its last read gave nothing in its time.
+#[derive(Drop)]
+pub(crate) struct Caller<'a> {
+    stream: &'a TcpStream,
+    is_idle: bool,
+}
+
+impl<'a> Caller<'a> {
+    pub(crate) fn new(stream: &'a TcpStream) -> Caller<'a> {
+        Caller {
+            stream,
+            is_idle: false,
+        }
+    }
+
+    /// Whether the last read gave nothing in its time.
+    pub(crate) fn is_idle(&self) -> bool {
+        self.is_idle
+    }
+}
+
+impl<'a> Read for Caller<'a> {
+    // A read with a time-out is interrupted where the program was stopped and goes on: then it is made again.
+    fn read(&mut self, buf: &mut [u8]) -> io::Result<usize> {
+        let mut stream = self.stream;
+        for _ in 0..MOST_INTERRUPTIONS {
+            match stream.read(buf) {
+                Ok(n) => return Ok(n),
+                Err(error) if error.kind() == ErrorKind::Interrupted => {}
+                Err(error) => {
+                    self.is_idle = is_time_out(error.kind());
+                    return Err(error);
+                }
+            }
+        }
+        Err(io::Error::from(ErrorKind::Interrupted))
+    }
+}
+
+// Whether an error of a read says no more than that nothing came in its time.
+fn is_time_out(kind: ErrorKind) -> bool {
+    matches!(kind, ErrorKind::WouldBlock | ErrorKind::TimedOut)
+}
+
+/// Serves one connection, whose two directions these are, with an instrument that is restarted for it.
+pub(crate) fn serve_caller<S: Source, K: Sink>(
+    instrument: &mut Instrument,
+    source: &mut S,
+    sink: &mut K,
+    max_reads: u32,
+) -> Result<(), CallerFault>
+    ensures { (end : Result Served ServeFault) × IsServing (restarted instrument.old) instrument.new
+        (record { remaining = S.remaining source.old; reads = S.reads source.old; ended = S.ended source.old; source_failed = S.failed source.old; taken = K.taken sink.old; sink_failed = K.failed sink.old })
+        (record { remaining = S.remaining source.new; reads = S.reads source.new; ended = S.ended source.new; source_failed = S.failed source.new; taken = K.taken sink.new; sink_failed = K.failed sink.new })
+        max_reads end
+        × (result ≡ end_of_caller end) }
+{
+    instrument.restart();
+    match serve(instrument, source, sink, max_reads) {
+        Ok(_) => Ok(()),
+        Err(ServeFault::Read { .. }) => Err(CallerFault::Read),
+        Err(ServeFault::Write { replies, bytes }) => Err(CallerFault::Write { replies, bytes }),
+        Err(ServeFault::TooManyReads { .. }) => Err(CallerFault::TooManyReads),
+    }
+}

@@ -1,0 +1,185 @@
+//! What is asked and served over real connections, to their ends: what makes a connection stands in `gc_links`.
+
+ghost use Rattle.std.specs.Prelude.{◌≡◌, ◌≤◌, Result};
+ghost use Rattle.gc_lines.specs.declared.served.Served.{Served};
+ghost use Rattle.gc_lines.specs.declared.served.ServeFault.{ServeFault};
+ghost use Rattle.gc_instrument.specs.Serving.{IsServing};
+ghost use Rattle.gc_instrument.specs.State.{restarted};
+ghost use Rattle.gc_ask.specs.Places.{fault_of_reason};
+ghost use Rattle.gc_ask.specs.declared.connections.TheConstants.{MOST_CONNECTIONS};
+ghost use Rattle.gc_texts.specs.Faults.{end_of_serving};
+
+use crate::ask::{ask_all, read_command_text};
+use crate::looped::loop_all;
+use gc_instrument::{Instrument, ServeFault, serve};
+use gc_lines::{FromReader, Sink, Source, ToWriter};
+use gc_links::{Place, Unusable, accept, both_ends, listen, wire_to};
+use gc_texts::RunFault;
+use std::alloc::Global;
+use std::fs::File;
+use std::net::{Net, TcpListener, TcpStream};
+use std::rt::Files;
+use std::time::Clock;
+
+/// The most connections that one call serves.
+pub const MOST_CONNECTIONS: u32 = 1000;
+
+/// Reads the whole command text of a source, binds a free port, connects to it, and asks the commands over that one
+/// connection, at whose other end an instrument stands, in at most `max_reads` reads of both ends together.
+///
+/// The faults are those of `run_loop_on`, and `Socket` where a bind, a connect or an accept failed. No socket is opened
+/// before the whole text was read.
+pub fn loop_tcp_on<R: Net<Listener = TcpListener, Stream = TcpStream>, S: Source, K: Sink>(
+    rt: &R,
+    alloc: Global,
+    instrument: Instrument,
+    commands: &mut S,
+    sink: &mut K,
+    max_reads: u32,
+) -> Result<(), RunFault> {
+    let commands = read_command_text(alloc, commands)?;
+    let Ok((near, far)) = both_ends(rt) else {
+        return Err(RunFault::Socket);
+    };
+    loop_all(
+        commands.as_slice(),
+        instrument,
+        &mut FromReader::new(&near),
+        &mut ToWriter::new(&near),
+        &mut FromReader::new(&far),
+        &mut ToWriter::new(&far),
+        sink,
+        max_reads,
+    )
+}
+
+/// Asks the commands of a source as `loop_tcp_on` does, of a simulator, and has the same ends.
+pub fn loop_tcp<R: Net<Listener = TcpListener, Stream = TcpStream>, S: Source, K: Sink>(
+    rt: &R,
+    alloc: Global,
+    commands: &mut S,
+    sink: &mut K,
+    max_reads: u32,
+) -> Result<(), RunFault> {
+    loop_tcp_on(
+        rt,
+        alloc,
+        Instrument::simulator(),
+        commands,
+        sink,
+        max_reads,
+    )
+}
+
+/// Binds a port, accepts so many connections one after the other, and serves each with the instrument, which is restarted
+/// for it, in at most `max_reads` reads.
+///
+/// `Socket` comes where a bind or an accept failed. A fault of a connection ends the call with it: `Read`, `Write` and
+/// `TooManyReads` as `serve` has them. The instrument is left in the state after the lines that it answered last.
+pub fn serve_tcp<R: Net<Listener = TcpListener, Stream = TcpStream>>(
+    rt: &R,
+    port: u16,
+    connections: u32,
+    instrument: &mut Instrument,
+    max_reads: u32,
+) -> Result<(), RunFault>
+    requires port { 1 ≤ port }
+    requires some { 1 ≤ connections }
+    requires few { connections ≤ MOST_CONNECTIONS }
+{
+    let Ok(listener) = listen(rt, port) else {
+        return Err(RunFault::Socket);
+    };
+    serve_on(&listener, connections, instrument, max_reads)
+}
+
+/// Accepts so many connections of a port one after the other, and serves each with the instrument, which is restarted for
+/// it, in at most `max_reads` reads. Others wait, as the system has it.
+///
+/// `Socket` comes where an accept failed, and the faults of a connection are those of `serve_tcp`.
+pub fn serve_on(
+    listener: &TcpListener,
+    connections: u32,
+    instrument: &mut Instrument,
+    max_reads: u32,
+) -> Result<(), RunFault>
+    requires { connections ≤ MOST_CONNECTIONS }
+{
+    for _ in 0..connections {
+        let Ok(stream) = accept(listener) else {
+            return Err(RunFault::Socket);
+        };
+        serve_connection(
+            instrument,
+            &mut FromReader::new(&stream),
+            &mut ToWriter::new(&stream),
+            max_reads,
+        )?;
+    }
+    Ok(())
+}
+
+/// Reads the whole command text of a source, connects to a place or opens it, and asks the commands over that connection, in at
+/// most `max_reads` reads of it.
+///
+/// The faults are those of `run_ask`, and those of `fault_of` where no connection could be had. None is made before the whole
+/// text was read.
+pub fn ask_at<
+    R: Net<Listener = TcpListener, Stream = TcpStream> + Files<File = File> + Clock,
+    S: Source,
+    K: Sink,
+>(
+    rt: &R,
+    alloc: Global,
+    place: Place<'_>,
+    commands: &mut S,
+    sink: &mut K,
+    max_reads: u32,
+) -> Result<(), RunFault> {
+    let commands = read_command_text(alloc, commands)?;
+    let wire = match wire_to(rt, place) {
+        Ok(wire) => wire,
+        Err(reason) => return Err(fault_of(reason)),
+    };
+    ask_all(
+        commands.as_slice(),
+        &mut FromReader::new(&wire),
+        &mut ToWriter::new(&wire),
+        sink,
+        max_reads,
+    )
+}
+
+/// The fault of a place over which no connection can be had: `Socket` where that is none of the device.
+pub fn fault_of(reason: Option<Unusable>) -> RunFault
+    ensures { result ≡ fault_of_reason reason }
+{
+    match reason {
+        Some(Unusable::NoTerminal) => RunFault::NoTerminal,
+        Some(Unusable::Held) => RunFault::Held,
+        Some(Unusable::Forbidden) => RunFault::Forbidden,
+        None => RunFault::Socket,
+    }
+}
+
+/// Serves one connection, whose two directions these are, with an instrument that is restarted for it.
+pub(crate) fn serve_connection<S: Source, K: Sink>(
+    instrument: &mut Instrument,
+    source: &mut S,
+    sink: &mut K,
+    max_reads: u32,
+) -> Result<(), RunFault>
+    ensures { (end : Result Served ServeFault) × IsServing (restarted instrument.old) instrument.new
+        (record { remaining = S.remaining source.old; reads = S.reads source.old; ended = S.ended source.old; source_failed = S.failed source.old; taken = K.taken sink.old; sink_failed = K.failed sink.old })
+        (record { remaining = S.remaining source.new; reads = S.reads source.new; ended = S.ended source.new; source_failed = S.failed source.new; taken = K.taken sink.new; sink_failed = K.failed sink.new })
+        max_reads end
+        × (result ≡ end_of_serving end) }
+{
+    instrument.restart();
+    match serve(instrument, source, sink, max_reads) {
+        Ok(_) => Ok(()),
+        Err(ServeFault::Read { .. }) => Err(RunFault::Read),
+        Err(ServeFault::Write { replies, bytes }) => Err(RunFault::Write { replies, bytes }),
+        Err(ServeFault::TooManyReads { .. }) => Err(RunFault::TooManyReads),
+    }
+}

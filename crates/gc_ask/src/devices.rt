@@ -1,0 +1,133 @@
+//! An instrument at the end of a serial line: a device that is served as a connection is, once or for good.
+
+ghost use Rattle.std.specs.Prelude.{◌≡◌, ◌≤◌, Some, None, IfErr, IfOk};
+ghost use Rattle.gc_ask.specs.Keeping.{Kept, most_callers};
+ghost use Rattle.gc_ask.specs.Places.{fault_of_reason};
+ghost use Rattle.gc_ask.specs.declared.connections.TheConstants.{MOST_CONNECTIONS};
+ghost use Rattle.gc_links.specs.declared.device.Unusable.{Unusable};
+
+use crate::caller::serve_caller;
+use crate::callers::{CallerFault, Callers, keep};
+use crate::connections::{MOST_CONNECTIONS, fault_of, serve_connection};
+use crate::kept_port::Keeping;
+use gc_instrument::Instrument;
+use gc_lines::{FromReader, ToWriter};
+use gc_links::{Unusable, Wire, wire_on};
+use gc_texts::RunFault;
+use std::fs::File;
+use std::io::Write;
+use std::rt::Files;
+use std::thread;
+use std::time::{Clock, Duration};
+
+// The rest behind a device that ended, or that isn't there, in seconds: without one a line that is gone would be asked for
+// without a pause.
+const REST: u64 = 1;
+
+/// Opens a device so many times, one after the other, and serves it with the instrument, which is restarted for each, until its
+/// end, in at most `max_reads` reads.
+///
+/// The faults are those of `fault_of` where the device couldn't be opened, and those of `serve_on`.
+pub fn serve_device<R: Files<File = File> + Clock>(
+    rt: &R,
+    path: &str,
+    connections: u32,
+    instrument: &mut Instrument,
+    max_reads: u32,
+) -> Result<(), RunFault>
+    requires { connections ≤ MOST_CONNECTIONS }
+{
+    for _ in 0..connections {
+        let wire = match wire_on(rt, path) {
+            Ok(wire) => wire,
+            Err(reason) => return Err(fault_of(reason)),
+        };
+        serve_connection(
+            instrument,
+            &mut FromReader::new(&wire),
+            &mut ToWriter::new(&wire),
+            max_reads,
+        )?;
+    }
+    Ok(())
+}
+
+/// Serves a device for good, each time that it is there, as `keep_tcp` does with callers. It has one caller alone, who may be
+/// silent for as long as he likes, so `idle` is not used.
+///
+/// Where the device is there and can't be used the call ends with its fault, and nothing was told. A device that isn't there, or
+/// that ended, is looked for each second.
+pub fn keep_device<R: Files<File = File> + Clock, E: Write>(
+    rt: &R,
+    path: &str,
+    keeping: Keeping,
+    instrument: &mut Instrument,
+    messages: &mut E,
+) -> Result<bool, RunFault>
+    ensures kept { IfOk result (λ told. Kept (most_callers keeping.connections) told None None (E.contents messages.old) (E.contents messages.new)) }
+    ensures fault { IfErr result (λ fault. (messages.new ≡ messages.old) × ((unusable : Unusable) × (fault ≡ fault_of_reason (Some unusable)))) }
+{
+    let first = match wire_on(rt, path) {
+        Err(Some(unusable)) => return Err(fault_of(Some(unusable))),
+        Ok(wire) => Some(wire),
+        Err(None) => None,
+    };
+    let mut callers = DeviceCallers {
+        rt,
+        path,
+        first,
+        instrument,
+        max_reads: keeping.max_reads,
+    };
+    Ok(keep(&mut callers, keeping.most(), messages))
+}
+
+// Those who call over a device, and the instrument that serves them.
+#[derive(Drop)]
+struct DeviceCallers<'a, R> {
+    rt: &'a R,
+    path: &'a str,
+    // What was opened already, for the first of them.
+    first: Option<Wire<'a, R>>,
+    instrument: &'a mut Instrument,
+    max_reads: u32,
+}
+
+impl<'a, R: Files<File = File> + Clock> DeviceCallers<'a, R> {
+    // Waits until the device is there.
+    fn wait(&mut self) -> Result<Wire<'a, R>, CallerFault> {
+        if let Some(first) = self.first.take() {
+            return Ok(first);
+        }
+        for _ in 0..u64::MAX {
+            match wire_on(self.rt, self.path) {
+                Ok(wire) => return Ok(wire),
+                Err(Some(_)) => return Err(CallerFault::Socket),
+                Err(None) => self.rest(),
+            }
+        }
+        Err(CallerFault::Socket)
+    }
+
+    fn rest(&self) {
+        thread::sleep(self.rt, Duration::from_secs(REST));
+    }
+}
+
+impl<'a, R: Files<File = File> + Clock> Callers for DeviceCallers<'a, R> {
+    ghost served = { λ _. None };
+
+    fn serve_next(&mut self) -> Result<(), CallerFault> {
+        let ended = match self.wait() {
+            Ok(wire) => serve_caller(
+                self.instrument,
+                &mut FromReader::new(&wire),
+                &mut ToWriter::new(&wire),
+                self.max_reads,
+            ),
+            Err(fault) => Err(fault),
+        };
+        self.rest();
+        ended
+    }
+}

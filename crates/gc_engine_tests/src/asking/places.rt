@@ -1,0 +1,98 @@
+//! Where an instrument stands: each form of a word, addresses, and what is no device.
+
+use gc_ask::{Keeping, ask_at, keep_device, serve_device};
+use gc_instrument::Instrument;
+use gc_links::{Place, place_of};
+use gc_probes::{PieceSink, PieceSource};
+use gc_texts::RunFault;
+use std::net::{Ipv6Addr, SocketAddr, TcpListener};
+use std::test::Fail;
+
+#[test]
+fn each_form_of_a_place(rt: HostRuntime) {
+    let rows = [
+        ("1", Some(Place::Port(1))),
+        ("4001", Some(Place::Port(4001))),
+        ("65535", Some(Place::Port(65535))),
+        ("localhost:4001", Some(Place::Host("localhost:4001"))),
+        ("10.0.0.5:1", Some(Place::Host("10.0.0.5:1"))),
+        ("[::1]:65535", Some(Place::Host("[::1]:65535"))),
+        ("/dev/ttyUSB0", Some(Place::Device("/dev/ttyUSB0"))),
+        ("./line:1", Some(Place::Device("./line:1"))),
+        ("", None),
+        ("0", None),
+        ("65536", None),
+        ("99999999999999999999", None),
+        ("+4001", None),
+        ("4001 ", None),
+        ("totalstation", None),
+        (":4001", None),
+        ("host:", None),
+        ("host:0", None),
+        ("host:65536", None),
+        ("host:4001x", None),
+    ];
+    for (word, place) in rows {
+        assert_eq!(rt; place_of(word), place, "{word}");
+    }
+}
+
+#[test]
+fn addresses_and_names_are_connected_to(rt: HostRuntime) -> Result<(), Fail> {
+    let alloc = rt.alloc();
+    let here = TcpListener::bind(&rt, SocketAddr::from(([127, 0, 0, 2], 0)))?;
+    let port = here.local_addr()?.port();
+    let name = format!(in alloc; "127.0.0.2:{port}")?;
+    let mut none = PieceSource::new(b"", &[], u64::MAX);
+    let mut sink = PieceSink::new(alloc, 1000, u64::MAX);
+    let place = Place::Host(name.as_str());
+    let result = ask_at(&rt, alloc, place, &mut none, &mut sink, 9);
+    assert_eq!(rt; result, Ok(()), "an address");
+    here.accept()?;
+    if let Ok(here) = TcpListener::bind(&rt, (Ipv6Addr::LOCALHOST, 0)) {
+        let port = here.local_addr()?.port();
+        let name = format!(in alloc; "[::1]:{port}")?;
+        let mut none = PieceSource::new(b"", &[], u64::MAX);
+        let place = Place::Host(name.as_str());
+        let result = ask_at(&rt, alloc, place, &mut none, &mut sink, 9);
+        assert_eq!(rt; result, Ok(()), "an address of version 6");
+        here.accept()?;
+    }
+    let mut none = PieceSource::new(b"", &[], u64::MAX);
+    let place = Place::Host("no such name:4001");
+    let result = ask_at(&rt, alloc, place, &mut none, &mut sink, 9);
+    assert_eq!(rt; result, Err(RunFault::Socket), "a name that isn't found");
+    Ok(())
+}
+
+#[test]
+fn what_is_no_device_is_refused(rt: HostRuntime) -> Result<(), Fail> {
+    let alloc = rt.alloc();
+    let keeping = Keeping {
+        connections: Some(1),
+        idle: 1,
+        max_reads: 9,
+    };
+    let rows = [
+        ("/dev/null", RunFault::NoTerminal),
+        ("./", RunFault::NoTerminal),
+        ("./line", RunFault::Socket),
+    ];
+    for (path, fault) in rows {
+        let mut one = PieceSource::new(b"7 5003", &[], u64::MAX);
+        let mut sink = PieceSink::new(alloc, 1000, u64::MAX);
+        let asked = ask_at(&rt, alloc, Place::Device(path), &mut one, &mut sink, 9);
+        assert_eq!(rt; asked, Err(fault), "{path}");
+        assert!(rt; sink.taken().is_empty());
+        let mut instrument = Instrument::simulator();
+        let served = serve_device(&rt, path, 1, &mut instrument, 9);
+        assert_eq!(rt; served, Err(fault), "{path}");
+        if fault == RunFault::NoTerminal {
+            let mut told = Vec::new(alloc);
+            let kept = keep_device(&rt, path, keeping, &mut instrument, &mut told);
+            assert_eq!(rt; kept, Err(fault), "{path}");
+            assert!(rt; told.is_empty());
+        }
+    }
+    Ok(())
+}

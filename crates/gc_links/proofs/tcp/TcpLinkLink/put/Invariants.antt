@@ -1,0 +1,11 @@
+use Rattle.std.proofs.Common.{length, ◌+◌, ◌-◌, ◌≤◌}
+use Rattle.gc_links.proofs.tcp.TcpLinkLink.put.Given as goal
+
+abbrev pub invariant-loop-at : goal.invariant-loop-at
+invariant-loop-at g l = record {
+  within : l.at ≤ length l.bytes;
+  few : l.interruptions ≤ 1000;
+}
+
+abbrev pub decreases-loop-at : goal.decreases-loop-at
+decreases-loop-at g l = (length l.bytes - l.at) + (1000 - l.interruptions)

@@ -1,0 +1,52 @@
+-- How the logic stores acts.
+use Rattle.std.specs.Prelude.{◌≡◌, ℕ, List, [], cond, ◌==◌, refl}
+use Rattle.std.specs.Coded.{Coded, code_by, coded×, coded_ℕ, coded_list}
+use Rattle.gc_links.specs.declared.link.Moment.{Moment}
+use Rattle.gc_links.specs.Acts.{Act, Told, Untold, Put, Cut, Gave, Silent, Ended, Broke, Closed, Opened, Unopened}
+
+-- which act, its bytes, how many, and its moment on both clocks
+abbrev Parts : Type 0
+Parts = ℕ × (List ℕ × (ℕ × (ℕ × ℕ)))
+
+abbrev no_moment : Moment
+no_moment = record { elapsed = 0; utc = 0 }
+
+abbrev parts : ℕ → List ℕ → ℕ → Moment → Parts
+parts kind bytes count m = (kind, (bytes, (count, (m.elapsed, m.utc))))
+
+abbrev to_parts : Act → Parts
+to_parts (Told m) = parts 0 [] 0 m
+to_parts Untold = parts 1 [] 0 no_moment
+to_parts (Put bytes) = parts 2 bytes 0 no_moment
+to_parts (Cut bytes count) = parts 3 bytes count no_moment
+to_parts (Gave bytes m) = parts 4 bytes 0 m
+to_parts (Silent m) = parts 5 [] 0 m
+to_parts Ended = parts 6 [] 0 no_moment
+to_parts Broke = parts 7 [] 0 no_moment
+to_parts Closed = parts 8 [] 0 no_moment
+to_parts Opened = parts 9 [] 0 no_moment
+to_parts Unopened = parts 10 [] 0 no_moment
+
+abbrev moment_in : Parts → Moment
+moment_in p = record { elapsed = p.1.1.1.0; utc = p.1.1.1.1 }
+
+abbrev from_parts : Parts → Act
+from_parts p =
+    cond (p.0 == 0) (Told (moment_in p)) (cond (p.0 == 1) Untold (cond (p.0 == 2) (Put p.1.0) (cond (p.0 == 3) (Cut p.1.0 p.1.1.0) (cond (p.0 == 4) (Gave p.1.0 (moment_in p))
+    (cond (p.0 == 5) (Silent (moment_in p)) (cond (p.0 == 6) Ended (cond (p.0 == 7) Broke (cond (p.0 == 8) Closed (cond (p.0 == 9) Opened Unopened)))))))))
+
+pub from_parts-to_parts : (act : Act) → from_parts (to_parts act) ≡ act
+from_parts-to_parts (Told m) = refl
+from_parts-to_parts Untold = refl
+from_parts-to_parts (Put bytes) = refl
+from_parts-to_parts (Cut bytes count) = refl
+from_parts-to_parts (Gave bytes m) = refl
+from_parts-to_parts (Silent m) = refl
+from_parts-to_parts Ended = refl
+from_parts-to_parts Broke = refl
+from_parts-to_parts Closed = refl
+from_parts-to_parts Opened = refl
+from_parts-to_parts Unopened = refl
+
+abbrev pub acts_code : Coded (List Act)
+acts_code = coded_list (code_by Parts (coded× coded_ℕ (coded× (coded_list coded_ℕ) (coded× coded_ℕ (coded× coded_ℕ coded_ℕ)))) to_parts from_parts from_parts-to_parts)

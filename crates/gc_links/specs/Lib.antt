@@ -1,0 +1,4 @@
+pub mod Acts
+pub mod Coding
+pub mod Noted
+pub mod Places

@@ -1,0 +1,20 @@
+-- What a word says of where an instrument stands: this project's own.
+use Rattle.std.specs.Prelude.{◌≡◌, ℕ, ◌<◌, ◌≤◌, List, ◌∷◌, ◌++◌, length, get_or}
+use Rattle.gc_values.specs.Whole.{NamesNumber}
+use Rattle.gc_links.specs.declared.place.Place.{Place}
+use Rattle.gc_links.specs.declared.place.Place.TheVariants.{Port, Host, Device}
+
+-- digits write a port
+abbrev pub IsPort : List ℕ → ℕ → Type 0
+IsPort digits port = NamesNumber digits port × (1 ≤ port) × (port ≤ 65535)
+
+-- a slash stands in a word
+abbrev pub HasSlash : List ℕ → Type 0
+HasSlash word = (at : ℕ) × (at < length word) × (get_or word at 0 ≡ 47)
+
+-- a port is digits alone; a host is something, a colon and a port, with no slash; a device's path has a slash
+abbrev pub IsPlace : List ℕ → Place → Type 0
+IsPlace word (Port port) = IsPort word port
+IsPlace word (Host text) = (text.now ≡ word) × (HasSlash word → ⊥)
+    × ((host : List ℕ) × (digits : List ℕ) × (port : ℕ) × (0 < length host) × IsPort digits port × (word ≡ host ++ 58 ∷ digits))
+IsPlace word (Device path) = (path.now ≡ word) × HasSlash word

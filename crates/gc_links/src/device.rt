@@ -1,0 +1,198 @@
+//! A serial device: opened so that no call waits in the system, held against other programs, and a link over it.
+
+ghost use Rattle.std.specs.Prelude.{ℕ, ◌≤◌, List, length, None, IfOk, IfSome};
+ghost use Rattle.gc_links.specs.Acts.{IsWithin};
+
+use crate::link::{Came, Link, Moment};
+use crate::timer::Timer;
+use gc_lines::PortFailed;
+use std::fs::{File, OpenOptions, TryLockError};
+use std::io::{self, ErrorKind, IsTerminal, Read, Write};
+use std::net::TcpStream;
+use std::os::fd::AsFd;
+use std::rt::Files;
+use std::time::Clock;
+
+/// How long to rest where nothing has come, or nothing can go, in milliseconds. A byte takes half of one at 19,200 baud.
+pub(crate) const REST: u64 = 2;
+
+/// How long one write may wait for a device that takes nothing, in milliseconds.
+pub(crate) const PATIENCE: u64 = 10_000;
+
+/// Why a path is no device that a link can be had over.
+#[derive(Clone, Copy, Debug, PartialEq, Eq)]
+pub enum Unusable {
+    /// What has this name is no terminal.
+    NoTerminal,
+    /// Another program holds the device.
+    Held,
+    /// The system doesn't let this program read and write it.
+    Forbidden,
+}
+
+/// Opens a device for reading and writing, and holds it, so that no second program of this kind gets it. Neither a read nor a
+/// write of it waits: where one would have to, the system answers `WouldBlock`, or that nothing was read where `stty` has
+/// `min 0`, which is an end. Without `clocal` the opening itself may wait for the carrier.
+///
+/// `None` as the reason: it isn't there now, or it can't be opened for another reason than those that have a name.
+pub(crate) fn open_device<R: Files<File = File>>(
+    rt: &R,
+    path: &str,
+) -> Result<File, Option<Unusable>> {
+    let file = match OpenOptions::new().read(true).write(true).open(rt, path) {
+        Ok(file) => file,
+        Err(error) => return Err(reason_of(error.kind())),
+    };
+    if !file.is_terminal() {
+        return Err(Some(Unusable::NoTerminal));
+    }
+    match file.try_lock() {
+        Ok(()) => {}
+        Err(TryLockError::WouldBlock) => return Err(Some(Unusable::Held)),
+        Err(TryLockError::Error(_)) => return Err(None),
+    }
+    match set_free(&file) {
+        Ok(()) => Ok(file),
+        Err(_) => Err(None),
+    }
+}
+
+// Why a device can't be opened, where that has a name.
+fn reason_of(kind: ErrorKind) -> Option<Unusable> {
+    match kind {
+        ErrorKind::PermissionDenied => Some(Unusable::Forbidden),
+        ErrorKind::ResourceBusy => Some(Unusable::Held),
+        ErrorKind::IsADirectory => Some(Unusable::NoTerminal),
+        _ => None,
+    }
+}
+
+// Lets no call of a device wait. That is kept with what is open, and another descriptor of it serves to say so.
+fn set_free(file: &File) -> io::Result<()> {
+    let other = TcpStream::from(file.as_fd().try_clone_to_owned()?);
+    other.set_nonblocking(true)
+}
+
+/// Whether an error says no more than that nothing came or went until now.
+pub(crate) fn is_rest(kind: ErrorKind) -> bool {
+    matches!(kind, ErrorKind::WouldBlock | ErrorKind::Interrupted)
+}
+
+/// A serial device by its path, and the time since the link was made. No clause says what a device carried, so its acts are not
+/// known. Each of its calls ends, whatever the device does, but for an opening that waits for the carrier.
+#[derive(Drop)]
+pub struct DeviceLink<'a, R> {
+    rt: &'a R,
+    timer: Timer<'a, R>,
+    path: &'a str,
+    file: Option<File>,
+    // What was opened already, for the first time that it is to be.
+    first: Option<File>,
+}
+
+impl<'a, R: Files<File = File> + Clock> DeviceLink<'a, R> {
+    /// A link that is not open yet. It fails where the clock can't be read.
+    pub fn new(rt: &'a R, path: &'a str) -> io::Result<DeviceLink<'a, R>> {
+        Ok(DeviceLink {
+            rt,
+            timer: Timer::new(rt)?,
+            path,
+            file: None,
+            first: None,
+        })
+    }
+
+    /// Looks at the device, and opens it where it is there, for the link's first opening.
+    pub fn look(&mut self) -> Result<(), Option<Unusable>> {
+        self.first = Some(open_device(self.rt, self.path)?);
+        Ok(())
+    }
+
+    // One read: some bytes, none where the device is gone, or `None` where nothing has come.
+    fn read_once(&mut self, buf: &mut [u8]) -> io::Result<Option<usize>>
+        ensures { IfOk result (λ read. IfSome read (λ n. n ≤ length buf.new)) }
+    {
+        let Some(file) = &mut self.file else {
+            return Ok(Some(0));
+        };
+        match file.read(buf) {
+            Ok(n) => Ok(Some(n)),
+            Err(error) if is_rest(error.kind()) => Ok(None),
+            Err(error) => Err(error),
+        }
+    }
+
+    // Reads until some bytes came or so many milliseconds have gone by since `began`. Nothing had come until the moment that it
+    // tells, since a read behind that moment gave nothing.
+    fn read_until(&mut self, buf: &mut [u8], began: u64, millis: u64) -> Came
+        ensures { IsWithin result buf.new }
+    {
+        for _ in 0..u64::MAX {
+            let Ok(moment) = self.timer.moment() else {
+                return Came::NoMoment;
+            };
+            match self.read_once(buf) {
+                Ok(Some(n)) => return self.timer.came(n),
+                Ok(None) => {}
+                Err(_) => return Came::Failure,
+            }
+            let gone = moment.elapsed.saturating_sub(began);
+            if gone >= millis {
+                return Came::Silence(moment);
+            }
+            self.timer.rest(REST.min(millis - gone));
+        }
+        Came::End
+    }
+}
+
+impl<'a, R: Files<File = File> + Clock> Link for DeviceLink<'a, R> {
+    ghost acts = { λ _. None };
+
+    fn now(&mut self) -> Result<Moment, PortFailed> {
+        self.timer.moment().map_err(|_| PortFailed)
+    }
+
+    fn read(&mut self, buf: &mut [u8], millis: u64) -> Came {
+        if self.file.is_none() {
+            return self.timer.wait(millis);
+        }
+        let Ok(moment) = self.timer.moment() else {
+            return Came::NoMoment;
+        };
+        self.read_until(buf, moment.elapsed, millis)
+    }
+
+    fn put(&mut self, bytes: &[u8]) -> Result<(), usize> {
+        let mut at = 0;
+        let mut rests = 0;
+        while at < bytes.len() {
+            let Some(file) = &mut self.file else {
+                return Err(at);
+            };
+            match file.write(&bytes[at..]) {
+                Ok(0) => return Err(at),
+                Ok(n) => at += n,
+                Err(error) if is_rest(error.kind()) && rests < PATIENCE / REST => {
+                    rests += 1;
+                    self.timer.rest(REST);
+                }
+                Err(_) => return Err(at),
+            }
+        }
+        Ok(())
+    }
+
+    fn close(&mut self) {
+        self.file = None;
+    }
+
+    fn open(&mut self) -> Result<(), PortFailed> {
+        self.file = None;
+        self.file = match self.first.take() {
+            Some(first) => Some(first),
+            None => Some(open_device(self.rt, self.path).map_err(|_| PortFailed)?),
+        };
+        Ok(())
+    }
+}

@@ -1,0 +1,25 @@
+//! Connections: what a link is, the links over TCP and over a device, both ends of a line as they are read and written, and the
+//! ports that are listened at.
+#![tactic(auto)]
+
+mod connection;
+mod device;
+mod history;
+mod link;
+mod listening;
+mod place;
+mod placed;
+mod tcp;
+mod telling;
+mod timer;
+mod wire;
+
+pub use device::{DeviceLink, Unusable};
+pub use history::{History, Note};
+pub use link::{Came, Link, Moment};
+pub use listening::{accept, both_ends, listen};
+pub use place::{Place, place_of};
+pub use placed::PlacedLink;
+pub use tcp::TcpLink;
+pub use telling::Telling;
+pub use wire::{Wire, wire_on, wire_to};

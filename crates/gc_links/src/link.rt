@@ -1,0 +1,68 @@
+//! A link: a connection that can be made anew, and a clock, as one port, so that the order of all its calls is told.
+
+ghost use Rattle.std.specs.Prelude.{[], ◌∷◌, ◌<◌, length};
+ghost use Rattle.gc_links.specs.Acts.{Closed, Tells, told_as, put_as, came_as, opened_as, IsWithin, IsPart};
+
+use gc_lines::PortFailed;
+
+/// A moment, on two clocks. Either may go back; a request's deadline is then as far away as it was told.
+#[derive(Clone, Copy, Debug, PartialEq, Eq)]
+pub struct Moment {
+    /// Milliseconds since some start, for deadlines.
+    pub elapsed: u64,
+    /// Milliseconds since 1970-01-01, UTC, for time stamps.
+    pub utc: u64,
+}
+
+/// What a read of a link came to, with the moment after it.
+#[derive(Clone, Copy, Debug, PartialEq, Eq)]
+pub enum Came {
+    /// So many bytes.
+    Bytes(usize, Moment),
+    /// None in the time that was allowed, and none had come until this moment. The link is as good as before.
+    Silence(Moment),
+    /// The other end closed the connection.
+    End,
+    /// The connection failed.
+    Failure,
+    /// The moment after the read can't be told. What came, if anything did, is not known.
+    NoMoment,
+}
+
+/// A connection that can be closed and made anew, and its clock.
+///
+/// Each call tells one act, and `acts` is what was told so far, or `None` where that isn't known, as of a socket.
+pub trait Link {
+    ghost use Rattle.std.specs.Prelude.{List, Option};
+    ghost use Rattle.gc_links.specs.Acts.{Act};
+
+    /// What its calls came to so far, where that is known.
+    ghost acts: { Self → Option (List Act) };
+
+    /// Reads the clock.
+    fn now(&mut self) -> Result<Moment, PortFailed>
+        ensures { Tells (acts self.old) (acts self.new) (told_as result ∷ []) };
+
+    /// Reads some bytes, and waits for them no longer than so many milliseconds.
+    ///
+    /// Where there is no connection it waits that long, and answers `Silence`.
+    fn read(&mut self, buf: &mut [u8], millis: u64) -> Came
+        requires { 0 < length buf.old }
+        ensures tells { Tells (acts self.old) (acts self.new) (came_as result buf.new ∷ []) }
+        ensures within { IsWithin result buf.new };
+
+    /// Writes all of these bytes. `Err(n)`: the first n of them went out, which aren't all, and the connection failed. A
+    /// write that stalls is cut.
+    fn put(&mut self, bytes: &[u8]) -> Result<(), usize>
+        requires { 0 < length bytes.now }
+        ensures tells { Tells (acts self.old) (acts self.new) (put_as result bytes.now ∷ []) }
+        ensures part { IsPart result bytes.now };
+
+    /// Closes the connection.
+    fn close(&mut self)
+        ensures { Tells (acts self.old) (acts self.new) (Closed ∷ []) };
+
+    /// Makes a new connection.
+    fn open(&mut self) -> Result<(), PortFailed>
+        ensures { Tells (acts self.old) (acts self.new) (opened_as result ∷ []) };
+}

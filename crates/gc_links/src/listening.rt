@@ -1,0 +1,38 @@
+//! Ports of 127.0.0.1 that are listened at, and the connections that come.
+
+use crate::connection::{Peer, connect, here, send_at_once};
+use std::io;
+use std::net::{Net, TcpListener, TcpStream};
+use std::time::Duration;
+
+// How long both ends of one connection of this machine to itself may take to find each other, in seconds.
+const PATIENCE: u64 = 10;
+
+/// Listens at a port of 127.0.0.1; at 0: at any free one.
+pub fn listen<R: Net<Listener = TcpListener, Stream = TcpStream>>(
+    rt: &R,
+    port: u16,
+) -> io::Result<TcpListener> {
+    TcpListener::bind(rt, here(port))
+}
+
+/// The next connection that comes, which sends each line as it is written.
+pub fn accept(listener: &TcpListener) -> io::Result<TcpStream> {
+    let (stream, _) = listener.accept()?;
+    send_at_once(&stream);
+    Ok(stream)
+}
+
+/// Both ends of one connection of this machine to itself.
+pub fn both_ends<R: Net<Listener = TcpListener, Stream = TcpStream>>(
+    rt: &R,
+) -> io::Result<(TcpStream, TcpStream)> {
+    let listener = listen(rt, 0)?;
+    let near = connect(
+        rt,
+        Peer::Port(listener.local_addr()?.port()),
+        Duration::from_secs(PATIENCE),
+    )?;
+    let far = accept(&listener)?;
+    Ok((near, far))
+}

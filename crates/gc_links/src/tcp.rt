@@ -1,0 +1,174 @@
+//! A link over a real connection, to a port of 127.0.0.1 or to a host. None of its calls waits for ever.
+
+ghost use Rattle.std.specs.Prelude.{◌≤◌, length, None, IfOk, IfSome};
+ghost use Rattle.gc_links.specs.Acts.{IsWithin};
+
+use crate::connection::{Peer, connect};
+use crate::link::{Came, Link, Moment};
+use crate::timer::Timer;
+use gc_lines::PortFailed;
+use std::io::{self, ErrorKind, Read, Write};
+use std::net::{Net, TcpListener, TcpStream};
+use std::time::{Clock, Duration};
+
+// How long one write of the system, and the making of a connection, may wait for the other end, in milliseconds. A radio
+// modem takes a request line in less than a second; a put whose line goes out in parts may wait so long for each.
+const PATIENCE: u64 = 10_000;
+
+// A read that may wait no longer than so many milliseconds ends earlier, since the system may end it so much too late: a look every
+// few milliseconds keeps the moment that is waited for.
+const SHORT: u64 = 40;
+
+// How often one put is tried again where it was interrupted.
+const MOST_INTERRUPTIONS: u32 = 1000;
+
+/// A connection to a port of this machine or to a host, and the time since the link was made. No clause says what a socket
+/// carried, so its acts are not known.
+#[derive(Drop)]
+pub struct TcpLink<'a, R> {
+    rt: &'a R,
+    timer: Timer<'a, R>,
+    peer: Peer<'a>,
+    // How long one write, and the making of a connection, may wait, in milliseconds: at least one.
+    patience: u64,
+    stream: Option<TcpStream>,
+}
+
+impl<'a, R: Net<Listener = TcpListener, Stream = TcpStream> + Clock> TcpLink<'a, R> {
+    /// A link to a port of 127.0.0.1 that is not connected yet. It fails where the clock can't be read.
+    pub fn new(rt: &'a R, port: u16) -> io::Result<TcpLink<'a, R>> {
+        TcpLink::with_patience(rt, port, PATIENCE)
+    }
+
+    /// A link to a port of which one write, and the making of a connection, waits no longer than so many milliseconds; for none, one.
+    pub fn with_patience(rt: &'a R, port: u16, patience: u64) -> io::Result<TcpLink<'a, R>> {
+        TcpLink::to_peer(rt, Peer::Port(port), patience)
+    }
+
+    /// A link to `HOST:PORT` that is not connected yet. The name is looked up at each open, and each of its addresses is tried in
+    /// turn. It fails where the clock can't be read.
+    pub fn to_host(rt: &'a R, host: &'a str) -> io::Result<TcpLink<'a, R>> {
+        TcpLink::to_peer(rt, Peer::Host(host), PATIENCE)
+    }
+
+    fn to_peer(rt: &'a R, peer: Peer<'a>, patience: u64) -> io::Result<TcpLink<'a, R>> {
+        Ok(TcpLink {
+            rt,
+            timer: Timer::new(rt)?,
+            peer,
+            patience: patience.max(1),
+            stream: None,
+        })
+    }
+
+    // Reads for so many milliseconds, which the system may end too late. `None`: nothing came, or the read was interrupted.
+    fn read_for(&mut self, buf: &mut [u8], millis: u64) -> io::Result<Option<usize>>
+        ensures { IfOk result (λ read. IfSome read (λ n. n ≤ length buf.new)) }
+    {
+        let Some(stream) = &mut self.stream else {
+            return Ok(None);
+        };
+        // A time of zero would be an error, and none would wait for ever.
+        stream.set_read_timeout(Some(Duration::from_millis(millis.max(1))))?;
+        match stream.read(buf) {
+            Ok(n) => Ok(Some(n)),
+            Err(error) if is_silence(error.kind()) => Ok(None),
+            Err(error) => Err(error),
+        }
+    }
+
+    // Reads once more where a read gave nothing: while this program was stopped bytes may have come, which lie unread. So the
+    // moment is told first, and it is a silence where nothing had come until then.
+    fn read_again(&mut self, buf: &mut [u8]) -> Came
+        ensures { IsWithin result buf.new }
+    {
+        let Ok(moment) = self.timer.moment() else {
+            return Came::NoMoment;
+        };
+        match self.read_for(buf, 1) {
+            Ok(Some(n)) => self.timer.came(n),
+            Ok(None) => Came::Silence(moment),
+            Err(_) => Came::Failure,
+        }
+    }
+}
+
+// How long a read is told to wait, so that it ends within so many milliseconds. The system may end a wait of more than a quarter of a
+// second too late by an eighth of it, and a shorter one by two of its ticks; who reads makes one that ended early again.
+fn in_time(millis: u64) -> u64
+    ensures { result ≤ millis }
+{
+    millis.saturating_sub((millis / 8).max(20))
+}
+
+// Whether a call was interrupted, and did nothing.
+fn is_interrupted(error: &io::Error) -> bool {
+    error.kind() == ErrorKind::Interrupted
+}
+
+// Whether an error of a read says no more than that nothing came in its time.
+fn is_silence(kind: ErrorKind) -> bool {
+    matches!(
+        kind,
+        ErrorKind::WouldBlock | ErrorKind::TimedOut | ErrorKind::Interrupted
+    )
+}
+
+impl<'a, R: Net<Listener = TcpListener, Stream = TcpStream> + Clock> Link for TcpLink<'a, R> {
+    ghost acts = { λ _. None };
+
+    fn now(&mut self) -> Result<Moment, PortFailed> {
+        self.timer.moment().map_err(|_| PortFailed)
+    }
+
+    fn read(&mut self, buf: &mut [u8], millis: u64) -> Came {
+        if self.stream.is_none() {
+            return self.timer.wait(millis);
+        }
+        if millis <= SHORT {
+            self.timer.rest(1);
+            return self.read_again(buf);
+        }
+        match self.read_for(buf, in_time(millis)) {
+            Ok(Some(n)) => self.timer.came(n),
+            Ok(None) => self.read_again(buf),
+            Err(_) => Came::Failure,
+        }
+    }
+
+    fn put(&mut self, bytes: &[u8]) -> Result<(), usize> {
+        let Some(stream) = &mut self.stream else {
+            return Err(0);
+        };
+        let mut at = 0;
+        let mut interruptions = 0;
+        while at < bytes.len() {
+            match stream.write(&bytes[at..]) {
+                Ok(0) => return Err(at),
+                Ok(n) => at += n,
+                Err(error) if is_interrupted(&error) && interruptions < MOST_INTERRUPTIONS => {
+                    interruptions += 1;
+                }
+                Err(_) => return Err(at),
+            }
+        }
+        Ok(())
+    }
+
+    fn close(&mut self) {
+        self.stream = None;
+    }
+
+    fn open(&mut self) -> Result<(), PortFailed> {
+        let patience = Duration::from_millis(self.patience);
+        let Ok(stream) = connect(self.rt, self.peer, patience) else {
+            return Err(PortFailed);
+        };
+        // Without this a peer that takes nothing would hold a write for ever, so a connection that refuses it is none.
+        if stream.set_write_timeout(Some(patience)).is_err() {
+            return Err(PortFailed);
+        }
+        self.stream = Some(stream);
+        Ok(())
+    }
+}

@@ -1,0 +1,72 @@
+//! The clock of a link: the time since it was made, and the time of day.
+
+ghost use Rattle.std.specs.Prelude.{ℕ, ◌≤◌, List, length};
+ghost use Rattle.gc_links.specs.Acts.{IsWithin};
+
+use crate::link::{Came, Moment};
+use std::time::{Clock, Duration, Instant, SystemTime, UNIX_EPOCH};
+use std::{io, thread};
+
+/// A clock that was started.
+#[derive(Drop)]
+pub(crate) struct Timer<'a, R> {
+    rt: &'a R,
+    start: Instant,
+}
+
+impl<'a, R: Clock> Timer<'a, R> {
+    /// A clock that starts now. It fails where the clock can't be read.
+    pub(crate) fn new(rt: &'a R) -> io::Result<Timer<'a, R>> {
+        Ok(Timer {
+            rt,
+            start: Instant::now(rt)?,
+        })
+    }
+
+    /// The moment on both clocks.
+    pub(crate) fn moment(&self) -> io::Result<Moment> {
+        let elapsed = self.start.elapsed(self.rt)?;
+        let since_1970 = match SystemTime::now(self.rt)?.duration_since(UNIX_EPOCH) {
+            Ok(time) => time,
+            Err(_) => Duration::ZERO,
+        };
+        Ok(Moment {
+            elapsed: millis_of(elapsed),
+            utc: millis_of(since_1970),
+        })
+    }
+
+    /// Rests so many milliseconds.
+    pub(crate) fn rest(&self, millis: u64) {
+        thread::sleep(self.rt, Duration::from_millis(millis));
+    }
+
+    /// Rests so long where there is nothing to read from: nothing came.
+    pub(crate) fn wait(&self, millis: u64) -> Came
+        ensures { (buf : List ℕ) → IsWithin result buf }
+    {
+        self.rest(millis);
+        match self.moment() {
+            Ok(moment) => Came::Silence(moment),
+            Err(_) => Came::NoMoment,
+        }
+    }
+
+    /// A read gave so many bytes; none: that was the end.
+    pub(crate) fn came(&self, n: usize) -> Came
+        ensures { (buf : List ℕ) → n ≤ length buf → IsWithin result buf }
+    {
+        if n == 0 {
+            return Came::End;
+        }
+        match self.moment() {
+            Ok(moment) => Came::Bytes(n, moment),
+            Err(_) => Came::NoMoment,
+        }
+    }
+}
+
+// A time in milliseconds; the longest that a u64 holds, where it is longer.
+fn millis_of(time: Duration) -> u64 {
+    u64::try_from(time.as_millis()).unwrap_or(u64::MAX)
+}
