@@ -41,11 +41,11 @@ def good(request):
 
 
 class FarEnd:
-    """A far end that listens on a port. `answers` gives of each request the bytes of its reply, `LOSES` or `CLOSES`. `says` gives of
+    """A far end that listens on a port of an address. `answers` gives of each request the bytes of its reply, `LOSES` or `CLOSES`. `says` gives of
     each connection what comes on it unasked: pairs of the seconds behind its begin, and of bytes."""
 
-    def __init__(self, answers, says):
-        self.answers, self.says = answers, says
+    def __init__(self, answers, says, address="127.0.0.1"):
+        self.answers, self.says, self.address = answers, says, address
         self.port = free_port()
         self.requests = []
         # What came and went, for each connection.
@@ -56,7 +56,8 @@ class FarEnd:
 
     def plug(self):
         """Begins to listen."""
-        self.listener = socket.create_server(("127.0.0.1", self.port))
+        family = socket.AF_INET6 if ":" in self.address else socket.AF_INET
+        self.listener = socket.create_server((self.address, self.port), family=family)
         self.thread = threading.Thread(target=self.serve, args=[self.listener], daemon=True)
         self.thread.start()
 
@@ -122,9 +123,9 @@ class FarEnd:
 
 
 @contextmanager
-def standing(answers=good, says=lambda _: []):
+def standing(answers=good, says=lambda _: [], address="127.0.0.1"):
     """A far end; it is gone in the end."""
-    far = FarEnd(answers, says)
+    far = FarEnd(answers, says, address)
     try:
         yield far
     finally:

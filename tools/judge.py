@@ -33,6 +33,7 @@ right = [line.rstrip("\n") for line in open(values)]
 WHILE = 50
 OUTCOMES = ["answered", "late", "lost", "skipped", "unreadable", "missed"]
 COLUMNS = ["time", "cycle", "place", "target", "name", "procedure", "outcome", "fault", "rc_com", "rc", "values"]
+ECHOES = "the line sends back what goes out"
 STAMP = r"\d{4}-\d\d-\d\dT\d\d:\d\d:\d\d\.\d{3}Z"
 
 
@@ -172,7 +173,7 @@ if quiet < deadline:
     lines = lines[1:]
 kinds = [rf"geocom: (no connection) since {STAMP}", rf"geocom: (not quiet) since {STAMP}", rf"geocom: (nothing heard) since {STAMP}",
          r"geocom: (connected again)", r"geocom: (cycle) \d+ was not done when the next was due",
-         rf"geocom: (commands skipped) since {STAMP}: \d+"]
+         rf"geocom: (commands skipped) since {STAMP}: \d+", rf"geocom: ({ECHOES}): a modem or the far end has its echo on"]
 found = [next(filter(None, (re.fullmatch(kind, line) for kind in kinds)), None) for line in lines]
 if None in found:
     faults.append(f"told besides: {lines[found.index(None)]}")
@@ -181,6 +182,8 @@ told = collections.Counter(one[1] for one in found if one)
 minutes = (milliseconds(rows[-1]) - min(map(milliseconds, rows)) + 20 * deadline + 20 * quiet) // 60_000 if rows else 0
 if any(many > minutes + 1 for many in told.values()):
     faults.append(f"told more than once a minute: {dict(told)} in {minutes} minutes")
+if told[ECHOES] > 1:
+    faults.append(f"an echo is told {told[ECHOES]} times")
 late_cycles = [int(line.split()[2]) for line in lines if " was not done " in line]
 if late_cycles != sorted(set(late_cycles)) or any(not 0 < cycle < cycles or cycle in missed for cycle in late_cycles):
     faults.append(f"cycles told as not done in time: {late_cycles}")

@@ -44,9 +44,9 @@ def free_port():
 
 
 class Run:
-    """The program under way, with these standard streams closed."""
+    """The program under way, with these standard streams closed. `so` says how else it is started, as `subprocess` has it."""
 
-    def __init__(self, folder, program, words, closed=(), limit=None, given=COMMANDS):
+    def __init__(self, folder, program, words, closed=(), limit=None, given=COMMANDS, **so):
         self.files = [open(Path(folder, name), "w+b") for name in NAMES]
         self.files[0].write(given)
         self.files[0].flush()
@@ -55,7 +55,7 @@ class Run:
         limiting = f"ulimit -S -n {limit}; " if limit else ""
         self.child = subprocess.Popen(
             ["/bin/sh", "-c", f'{limiting}exec "$0" "$@" {closing}', program, *words],
-            stdin=self.files[0], stdout=self.files[1], stderr=self.files[2])
+            stdin=self.files[0], stdout=self.files[1], stderr=self.files[2], **so)
 
     def status(self, patience=PATIENCE):
         """Its status, once it has ended."""
@@ -84,10 +84,10 @@ class Run:
 
 
 @contextmanager
-def started(program, words, closed=(), limit=None, given=COMMANDS):
+def started(program, words, closed=(), limit=None, given=COMMANDS, **so):
     """The program under way; it is ended and its files are taken away in the end."""
     with tempfile.TemporaryDirectory() as folder:
-        run = Run(folder, program, words, closed, limit, given)
+        run = Run(folder, program, words, closed, limit, given, **so)
         try:
             yield run
         finally:
@@ -98,10 +98,10 @@ def started(program, words, closed=(), limit=None, given=COMMANDS):
                 file.close()
 
 
-def ended(program, words, given=b""):
+def ended(program, words, given=b"", patience=PATIENCE, **so):
     """How the program ended: its status, what it wrote, and what it told."""
-    with started(program, words, given=given) as run:
-        return run.status(), run.written(1), run.told()
+    with started(program, words, given=given, **so) as run:
+        return run.status(patience), run.written(1), run.told()
 
 
 @contextmanager

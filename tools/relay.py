@@ -303,7 +303,7 @@ class Relay:
 
     def run(self):
         self.start_anew()
-        at = socket.create_server(("127.0.0.1", self.options.listen))
+        at = socket.create_server((self.options.at, self.options.listen))
         while True:
             near, _ = at.accept()
             self.told["connections"] += 1
@@ -314,11 +314,12 @@ class Relay:
             if refuse:
                 self.told["refused"] += 1
                 time.sleep(1.5 * self.options.quiet / 1000)
-                at = socket.create_server(("127.0.0.1", self.options.listen))
+                at = socket.create_server((self.options.at, self.options.listen))
 
 
 def main():
     words = argparse.ArgumentParser()
+    words.add_argument("--at", default="127.0.0.1", help="the address that is listened at")
     words.add_argument("--listen", type=int, required=True)
     words.add_argument("--geocom", required=True)
     words.add_argument("--seed", type=int, required=True)

@@ -1,0 +1,150 @@
+"""Measures over a device whose line goes away at every tenth cycle and comes back as another, and judges each row: each command
+of a cycle has one, in order; each answer is that of its own request, for it says on which request it was made; and no descriptor is
+left open.
+
+    devices.py GEOCOM [CYCLES]
+
+The device is a symbolic link to a pseudo terminal. The line goes away, at each place of a cycle in turn, before an answer, behind
+one, within one, or before one and for a while. It ends with status 1 where anything is wrong.
+"""
+
+import collections
+import csv
+import itertools
+import os
+import subprocess
+import sys
+import tempfile
+import threading
+import time
+from pathlib import Path
+
+sys.dont_write_bytecode = True
+
+from far_end import CLOSES, GOOD
+from tagging import tagged
+from terminals import Terminal, lead
+
+PROCEDURES = [5003, 5004, 2011]
+COMMANDS = "".join(f"{target} {rpc}\n" for target, rpc in enumerate(PROCEDURES, 7))
+# How many cycles there are from one time to the next at which the line goes away.
+CYCLES_BETWEEN = 10
+WAYS = ["before", "behind", "within", "for a while"]
+OUTCOMES = ["answered", "late", "lost", "skipped", "unreadable", "missed"]
+
+
+def values_of(rpc, number):
+    """What a request of this number is answered with."""
+    return tagged(GOOD[rpc].decode().partition(",")[2], number)
+
+
+def number_in(values):
+    """The number of the request on which this answer was made."""
+    return int(float(values.strip('"')))
+
+
+class Device:
+    """A name, and the line that it leads to now. Commands' requests are numbered from 1 as they come, over all lines."""
+
+    def __init__(self, link):
+        self.link, self.station, self.line = link, None, None
+        # The procedure of each request that came, its number's place less one.
+        self.came = []
+        self.descriptors = []
+        self.pulled = 0
+        self.plug()
+
+    def plug(self):
+        self.line = Terminal(self.answer)
+        lead(self.link, self.line.path)
+
+    def answer(self, request):
+        if request.rpc == 0:
+            return request.reply(b"0")
+        self.came.append(request.rpc)
+        number = len(self.came)
+        if number % len(PROCEDURES) == 0 and self.station:
+            self.descriptors.append(len(os.listdir(f"/proc/{self.station.pid}/fd")))
+        reply = request.reply(b"0," + values_of(request.rpc, number).encode())
+        return self.pull(reply) if number == self.next_pull() else reply
+
+    def next_pull(self):
+        """The number of the request at which the line goes away next: at each place of a cycle in turn."""
+        cycle = CYCLES_BETWEEN * (self.pulled + 1)
+        return (cycle - 1) * len(PROCEDURES) + 1 + self.pulled % len(PROCEDURES)
+
+    def pull(self, reply):
+        """The line goes away, in one way after the other."""
+        way, old = WAYS[self.pulled % len(WAYS)], self.line
+        self.pulled += 1
+        if way == "for a while":
+            os.unlink(self.link)
+            threading.Timer(0.3, self.plug).start()
+        else:
+            self.plug()
+        os.write(old.far, {"behind": reply, "within": reply[: len(reply) // 2]}.get(way, b""))
+        return CLOSES
+
+
+def faults_of(rows, came, cycles):
+    """What is wrong with these rows, where these procedures were asked for."""
+    places = list(itertools.product(range(1, cycles + 1), range(len(PROCEDURES))))
+    if [(int(row["cycle"]), int(row["place"])) for row in rows] != places:
+        yield f"{len(rows)} rows, which aren't one for each place of {cycles} cycles in order"
+        return
+    at, last = -1, 0
+    for index, row in enumerate(rows):
+        if row["outcome"] != "answered":
+            continue
+        number, rpc = number_in(row["values"]), PROCEDURES[index % len(PROCEDURES)]
+        if not last < number <= len(came) or came[number - 1] != rpc or row["values"] != values_of(rpc, number):
+            yield f"row {index + 1} was answered {row['values']}, and the one before it {last}"
+        # What came between two answers are requests of rows between them, in order.
+        between = iter(int(other["procedure"]) for other in rows[at + 1 : index])
+        if not all(asked in between for asked in came[last : number - 1]):
+            yield f"row {index + 1}: between {last} and {number} came {came[last : number - 1]}, in {index - at - 1} rows"
+        at, last = index, number
+
+
+def measured(program, cycles, folder):
+    """The rows, what was told, the status, and the device."""
+    device = Device(str(Path(folder, "device")))
+    Path(folder, "commands").write_text(COMMANDS)
+    words = "--every 0 --deadline 300 --quiet 100 --retries 1000 --csv --cycles".split()
+    with open(Path(folder, "commands")) as given, open(Path(folder, "rows"), "w+") as rows, open(Path(folder, "told"), "w+") as told:
+        device.station = subprocess.Popen(
+            [program, "station", device.link, *words, str(cycles)], stdin=given, stdout=rows, stderr=told)
+        try:
+            status = device.station.wait(60 + cycles)
+        except subprocess.TimeoutExpired:
+            device.station.kill()
+            device.station.wait()
+            status = "none: it didn't end"
+    device.line.pull()
+    return list(csv.DictReader(open(Path(folder, "rows"), newline=""))), Path(folder, "told").read_text(), status, device
+
+
+def main():
+    program, cycles = sys.argv[1], int(sys.argv[2]) if sys.argv[2:] else 1000
+    began = time.monotonic()
+    with tempfile.TemporaryDirectory() as folder:
+        rows, told, status, device = measured(program, cycles, folder)
+    count = collections.Counter(row["outcome"] for row in rows)
+    counts = " ".join(f"{outcome} {count[outcome]}" for outcome in OUTCOMES)
+    faults = list(faults_of(rows, device.came, cycles))
+    if status != 0 or told.splitlines()[-1:] != [counts]:
+        faults.append(f"status {status}, told {told.splitlines()[-1:]}, and the counts are {counts}")
+    # A pull costs the requests that it meets, and few besides.
+    if count["answered"] < len(rows) - 6 * device.pulled - len(rows) // 20:
+        faults.append(f"{count['answered']} answers of {len(rows)}, where the line went away {device.pulled} times")
+    first, most = device.descriptors[:1], device.descriptors and [max(device.descriptors)]
+    if not first or most > first:
+        faults.append(f"descriptors: first {first}, most {most}")
+    print(*faults[:10], sep="\n", end="\n" if faults else "")
+    print(f"{cycles} cycles over a device that went away {device.pulled} times: {counts}; {len(device.came)} requests came; "
+          f"{first} descriptors at first and {most} at most; {time.monotonic() - began:.0f} s")
+    print(f"devices: {len(faults)} faults")
+    sys.exit(1 if faults else 0)
+
+
+main()
