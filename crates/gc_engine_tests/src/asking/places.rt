@@ -59,7 +59,10 @@ fn addresses_and_names_are_connected_to(rt: HostRuntime) -> Result<(), Fail> {
         here.accept()?;
     }
     let mut none = PieceSource::new(b"", &[], u64::MAX);
-    let place = Place::Host("no such name:4001");
+    // No label has 64 letters, so nobody is asked.
+    let place = Place::Host(
+        "nobody-has-a-name-of-which-one-part-alone-is-so-long-as-this-one-is:4001",
+    );
     let result = ask_at(&rt, alloc, place, &mut none, &mut sink, 9);
     assert_eq!(rt; result, Err(RunFault::Socket), "a name that isn't found");
     Ok(())
