@@ -1,0 +1,127 @@
+-- How calls of a file add up.
+use Rattle.std.proofs.Common.{◌≡◌, inl, inr, ℕ, ◌≤◌, ◌<◌, ◌==◌, true, false, List, [], ◌∷◌, ◌++◌, length, take, refl, sym, ◌∙◌, ap, subst, arith, append_assoc, if◌then◌else◌, Option, Some, None}
+use Rattle.std.proofs.lemmas.Bool.{cases_Bool, eqb-true, eq-eqb}
+use Rattle.std.proofs.lemmas.List.{append-nil}
+use Rattle.std.specs.Io.KnownBytes.{Appends}
+use Rattle.gc_files.specs.Sinks.{known_content}
+use Rattle.gc_files.proofs.Moments.{behind_two}
+use Rattle.gc_files.specs.Files.{Step, Append, Cut, Sync, Life, content, later_by, Adds}
+use Rattle.gc_files.specs.Rows.{whole, is_none, mended, cuts_none, appended, Ran, IsFront, Opens, OpensInPart, PutsAll}
+
+pub later_two : (xs ys : List Step) (life : Life) → later_by ys (later_by xs life) ≡ later_by (xs ++ ys) life
+later_two xs ys life = ap (λ (steps : List Step). record { start = life.start; steps = steps }) (append_assoc life.steps xs ys)
+
+pub later_none : (life : Life) → life ≡ later_by [] life
+later_none life = ap (λ (steps : List Step). record { start = life.start; steps = steps }) (sym (append-nil life.steps))
+
+pub adds_two : (old mid new : Option Life) (xs ys : List Step) → Adds old mid xs → Adds mid new ys → Adds old new (xs ++ ys)
+adds_two old mid new xs ys first second life is = second (later_by xs life) (first life is) ∙ ap (λ (l : Life). Some l) (later_two xs ys life)
+
+pub adds_none : (old : Option Life) → Adds old old []
+adds_none old life is = is ∙ ap (λ (l : Life). Some l) (later_none life)
+
+pub cuts_two : (xs ys : List Step) → cuts_none xs ≡ true → cuts_none ys ≡ true → cuts_none (xs ++ ys) ≡ true
+cuts_two [] ys one two = two
+cuts_two (Append bytes ∷ xs) ys one two = cuts_two xs ys one two
+cuts_two (Sync ∷ xs) ys one two = cuts_two xs ys one two
+cuts_two (Cut size ∷ xs) ys one two = let wrong : false ≡ true = one in cc
+
+pub appended_two : (xs ys : List Step) → appended (xs ++ ys) ≡ appended xs ++ appended ys
+appended_two [] ys = refl
+appended_two (Append bytes ∷ xs) ys = ap (λ (l : List ℕ). bytes ++ l) (appended_two xs ys) ∙ sym (append_assoc bytes (appended xs) (appended ys))
+appended_two (Sync ∷ xs) ys = appended_two xs ys
+appended_two (Cut size ∷ xs) ys = appended_two xs ys
+
+pub puts_none : (old : Option Life) → PutsAll old old []
+puts_none old life is = ([], adds_none old life is, record { none_cut = refl; all = refl })
+
+pub puts_more : (old mid new : Option Life) (done bytes : List ℕ) → PutsAll old mid done → Adds mid new (Append bytes ∷ []) → PutsAll old new (done ++ bytes)
+puts_more old mid new done bytes puts adds life is =
+    let first = puts life is in (
+      first.0 ++ Append bytes ∷ [],
+      adds (later_by first.0 life) first.1 ∙ ap (λ (l : Life). Some l) (later_two first.0 (Append bytes ∷ []) life),
+      record {
+        none_cut = cuts_two first.0 (Append bytes ∷ []) first.2.none_cut refl;
+        all = appended_two first.0 (Append bytes ∷ []) ∙ ap (λ (l : List ℕ). l ++ (bytes ++ [])) first.2.all ∙ ap (λ (l : List ℕ). done ++ l) (append-nil bytes);
+      },
+    )
+
+-- a file that is to be cut, and one that isn't
+pub is_cut : (held : List ℕ) (end len : ℕ) → end < len → len ≡ length held → end ≡ length (whole held) → mended held ≡ Cut end ∷ Sync ∷ []
+is_cut held end len less is ends = elim (cases_Bool (length (whole held) == length held)) [
+  | inl same ↦ absurd (omega (arith, less, is, ends, eqb-true (length (whole held)) (length held) same))
+  | inr differs ↦ rw (differs) (ap (λ n. Cut n ∷ Sync ∷ []) (sym ends))
+]
+
+pub is_whole : (held : List ℕ) (end len : ℕ) → len ≤ end → end ≤ len → len ≡ length held → end ≡ length (whole held) → mended held ≡ []
+is_whole held end len more within is ends = elim (cases_Bool (length (whole held) == length held)) [
+  | inl same ↦ rw (same) refl
+  | inr differs ↦ absurd (wrong (length (whole held)) (length held) (omega (arith, more, within, is, ends)) differs)
+]
+  where
+    wrong : (a b : ℕ) → a ≡ b → (a == b) ≡ false → ⊥
+    wrong a b same differs = let both : true ≡ false = sym (eq-eqb a b same) ∙ differs in cc
+
+pub mend_all : (old mid new : Option Life) (known : Life) (end len : ℕ) → end < len → len ≡ length (content known) → end ≡ length (whole (content known)) → Adds old mid (Cut end ∷ []) → Adds mid new (Sync ∷ []) → Adds old new (mended (content known))
+mend_all old mid new known end len less is ends cut sync =
+    subst (λ (steps : List Step). Adds old new steps) (sym (is_cut (content known) end len less is ends)) (adds_two old mid new (Cut end ∷ []) (Sync ∷ []) cut sync)
+
+pub mend_cut : (old mid new : Option Life) (known : Life) (end len : ℕ) → end < len → len ≡ length (content known) → end ≡ length (whole (content known)) → Adds old mid (Cut end ∷ []) → new ≡ mid → (count : ℕ) × Adds old new (take count (mended (content known)))
+mend_cut old mid new known end len less is ends cut same =
+    (1, subst (λ (steps : List Step). Adds old new (take 1 steps)) (sym (is_cut (content known) end len less is ends)) (λ life now. same ∙ cut life now))
+
+pub mend_none : (old new : Option Life) (known : Life) → new ≡ old → (count : ℕ) × Adds old new (take count (mended (content known)))
+mend_none old new known same = (0, λ life now. same ∙ adds_none old life now)
+
+pub mend_whole : (old : Option Life) (known : Life) (end len : ℕ) → len ≤ end → end ≤ len → len ≡ length (content known) → end ≡ length (whole (content known)) → Adds old old (mended (content known))
+mend_whole old known end len more within is ends = subst (λ (steps : List Step). Adds old old steps) (sym (is_whole (content known) end len more within is ends)) (adds_none old)
+
+start_by : (head l : List ℕ) → 0 < length l → (if is_none l then head else []) ≡ []
+start_by head [] more = absurd (omega (arith, more))
+start_by head (b ∷ l) more = refl
+
+start_at : (head l : List ℕ) → length l ≡ 0 → (if is_none l then head else []) ≡ head
+start_at head [] none = refl
+start_at head (b ∷ l) none = absurd (omega (arith, none))
+
+-- mended, and nothing more is wanted
+pub opens_whole : (head : List ℕ) (old new : Option Life) (end : ℕ) → 0 < end → ((life : Life) → old ≡ Some life → end ≡ length (whole (content life))) → ((known : Life) → old ≡ Some known → Adds old new (mended (content known))) → Opens head old new
+opens_whole head old new end more ends adds life is = (
+  mended (content life),
+  adds life is life is,
+  record {
+    later = [];
+    split = sym (append-nil (mended (content life)));
+    puts = record { none_cut = refl; all = sym (start_by head (whole (content life)) (omega (arith, more, ends life is))) };
+  },
+)
+
+-- mended, and then these bytes
+pub ran_more : (old mid new : Option Life) (bytes : List ℕ) → ((known : Life) → old ≡ Some known → Adds old mid (mended (content known))) → PutsAll mid new bytes → (life : Life) → old ≡ Some life → (steps : List Step) × (new ≡ Some (later_by steps life)) × Ran (content life) steps bytes
+ran_more old mid new bytes adds puts life is =
+    let second = puts (later_by (mended (content life)) life) (adds life is life is) in (
+      mended (content life) ++ second.0,
+      second.1 ∙ ap (λ (l : Life). Some l) (later_two (mended (content life)) second.0 life),
+      record { later = second.0; split = refl; puts = second.2 },
+    )
+
+pub opens_head : (head : List ℕ) (old mid new : Option Life) (end : ℕ) → end ≤ 0 → ((life : Life) → old ≡ Some life → end ≡ length (whole (content life))) → ((known : Life) → old ≡ Some known → Adds old mid (mended (content known))) → PutsAll mid new head → Opens head old new
+opens_head head old mid new end none ends adds puts life is =
+    let ran = ran_more old mid new head adds puts life is in
+    (ran.0, ran.1, subst (λ (bytes : List ℕ). Ran (content life) ran.0 bytes) (sym (start_at head (whole (content life)) (omega (arith, none, ends life is)))) ran.2)
+
+pub opens_part : (head : List ℕ) (old new : Option Life) → ((known : Life) → old ≡ Some known → (count : ℕ) × Adds old new (take count (mended (content known)))) → OpensInPart head old new
+opens_part head old new part life is =
+    let p = part life is in
+    (take p.0 (mended (content life)), p.1 life is, inl (record { count = p.0; is = refl }))
+
+pub opens_head_part : (head : List ℕ) (old mid new : Option Life) (end : ℕ) → end ≤ 0 → ((life : Life) → old ≡ Some life → end ≡ length (whole (content life))) → ((known : Life) → old ≡ Some known → Adds old mid (mended (content known))) → (front : List ℕ) × IsFront front head × PutsAll mid new front → OpensInPart head old new
+opens_head_part head old mid new end none ends adds part life is =
+    let ran = ran_more old mid new part.0 adds part.2 life is in
+    (ran.0, ran.1, inr (part.0, ran.2, subst (λ (all : List ℕ). IsFront part.0 all) (sym (start_at head (whole (content life)) (omega (arith, none, ends life is)))) part.1))
+
+-- what is known to be there grows by what is appended
+pub content_more : (old new : Option Life) (bytes : List ℕ) → Adds old new (Append bytes ∷ []) → Appends (known_content old) (known_content new) bytes
+content_more None new bytes adds = tt
+content_more (Some life) new bytes adds =
+    subst (λ (now : Option Life). Appends (Some (content life)) (known_content now) bytes) (sym (adds life refl)) (behind_two life.start life.steps (Append bytes ∷ []))

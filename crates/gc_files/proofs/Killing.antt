@@ -1,0 +1,122 @@
+-- Runs that a kill ends, and what the calls of a run do.
+use Rattle.std.proofs.Common.{◌≡◌, inl, inr, ℕ, ◌≤◌, true, false, List, [], ◌∷◌, ◌++◌, length, take, refl, sym, ◌∙◌, ap, subst, arith, append_assoc, Option}
+use Rattle.std.proofs.lemmas.List.{append-nil}
+use Rattle.gc_files.specs.Files.{Step, Append, Cut, Sync, Life, has_sync, behind, content, later_by}
+use Rattle.gc_files.specs.Rows.{table, start_of, mended, cuts_none, appended, Puts, Ran, IsFront, ComesTo}
+use Rattle.gc_files.specs.Runs.{synced, Run, lines, AreRows, IsHead, WereKept, IsRun, life_after, lived, HasRows, IsKilled, AreKilled}
+use Rattle.gc_files.proofs.Adding.{cuts_two, appended_two}
+use Rattle.gc_files.proofs.Lasting.{RunHas, run_moments, has_more}
+use Rattle.gc_files.proofs.Moments.{may_stay, behind_two, two_steps, mend_synced}
+
+-- a sync at the end is one among all
+ends_synced : (steps : List Step) → has_sync (steps ++ Sync ∷ []) ≡ true
+ends_synced [] = refl
+ends_synced (Append bytes ∷ steps) = ends_synced steps
+ends_synced (Cut size ∷ steps) = ends_synced steps
+ends_synced (Sync ∷ steps) = refl
+
+-- it keeps all that was appended
+all_synced : (steps : List Step) → cuts_none steps ≡ true → synced (steps ++ Sync ∷ []) ≡ appended steps
+all_synced [] none = refl
+all_synced (Append bytes ∷ steps) none = rw (ends_synced steps) (ap (λ (l : List ℕ). bytes ++ l) (all_synced steps none))
+all_synced (Sync ∷ steps) none = all_synced steps none
+all_synced (Cut size ∷ steps) none = let wrong : false ≡ true = none in cc
+
+pub ran_synced : (held : List ℕ) (steps : List Step) (bytes : List ℕ) → Ran held steps bytes → synced (steps ++ Sync ∷ []) ≡ bytes
+ran_synced held steps bytes ran =
+    let at : steps ++ Sync ∷ [] ≡ take 2 (mended held) ++ (ran.later ++ Sync ∷ []) =
+    ap (λ (xs : List Step). xs ++ Sync ∷ []) ran.split ∙ append_assoc (mended held) ran.later (Sync ∷ []) ∙ ap (λ (xs : List Step). xs ++ (ran.later ++ Sync ∷ [])) (sym (two_steps held)) in
+    ap synced at ∙ mend_synced held 2 (ran.later ++ Sync ∷ []) ∙ all_synced ran.later ran.puts.none_cut ∙ ran.puts.all
+
+-- an opening and what was put behind it
+pub calls_opened : (head held : List ℕ) (opening later : List Step) (front : List ℕ) (rows : List (List ℕ)) (kept : ℕ) (left : Option (List ℕ))
+    → Ran held opening (start_of head held) → Puts later front → IsFront front (lines rows) → AreRows rows → kept ≤ length rows
+    → WereKept head held rows kept (opening ++ later)
+    → IsRun head held (record { rows = rows; steps = opening ++ later; kept = kept; left = left })
+calls_opened head held opening later front rows kept left ran puts is_front are few were = record {
+  rows = are;
+  steps = inr (
+    start_of head held ++ front,
+    record {
+      later = ran.later ++ later;
+      split = ap (λ (xs : List Step). xs ++ later) ran.split ∙ append_assoc (mended held) ran.later later;
+      puts = record {
+        none_cut = cuts_two ran.later later ran.puts.none_cut puts.none_cut;
+        all = appended_two ran.later later ∙ ap (λ (xs : List ℕ). xs ++ appended later) ran.puts.all ∙ ap (λ (xs : List ℕ). start_of head held ++ xs) puts.all;
+      };
+    },
+    record {
+      rest = is_front.rest;
+      split = ap (λ (xs : List ℕ). start_of head held ++ xs) is_front.split ∙ sym (append_assoc (start_of head held) front is_front.rest);
+    },
+  );
+  few = few;
+  kept = were;
+}
+
+pub calls_failed : (head held : List ℕ) (steps : List Step) (left : Option (List ℕ)) → ComesTo held (start_of head held) steps
+    → IsRun head held (record { rows = []; steps = steps; kept = 0; left = left })
+calls_failed head held steps left comes = record {
+  rows = tt;
+  steps = subst (λ (all : List ℕ). ComesTo held all steps) (sym (append-nil (start_of head held))) comes;
+  few = omega arith;
+  kept = inl refl;
+}
+
+-- the same run, with a sync behind it
+abbrev synced_run : Run → Run
+synced_run run = record run { steps = run.steps ++ Sync ∷ [] }
+
+-- what a run left that was killed
+killed_has : (head held : List ℕ) (run : Run) → IsHead head → IsKilled head held run → RunHas head held run (behind held run.steps)
+killed_has head held run heads one = elim one.written [
+  | inl none ↦ run_moments head held run (behind held run.steps) heads (record { rows = one.rows; steps = one.steps; few = one.few; kept = inl none }) (may_stay held run.steps)
+  | inr whole ↦
+      let bytes = whole.0 in
+      let ran = whole.1 in
+      let with : Run = synced_run run in
+      let is : IsRun head held with = record {
+        rows = one.rows;
+        steps = inr (
+          bytes,
+          record {
+            later = ran.later ++ Sync ∷ [];
+            split = ap (λ (xs : List Step). xs ++ Sync ∷ []) ran.split ∙ append_assoc (mended held) ran.later (Sync ∷ []);
+            puts = record {
+              none_cut = cuts_two ran.later (Sync ∷ []) ran.puts.none_cut refl;
+              all = appended_two ran.later (Sync ∷ []) ∙ append-nil (appended ran.later) ∙ ran.puts.all;
+            };
+          },
+          whole.2,
+        );
+        few = one.few;
+        kept = inr (subst (λ (all : List ℕ). IsFront (start_of head held ++ lines (take run.kept run.rows)) all) (sym (ran_synced held run.steps bytes ran)) whole.3);
+      } in
+      let same : behind held with.steps ≡ behind held run.steps = behind_two held run.steps (Sync ∷ []) in
+      let has = run_moments head held with (behind held with.steps) heads is (may_stay held with.steps) in
+      record {
+        count = has.count;
+        least = has.least;
+        few = has.few;
+        is = ap (table head) (sym same) ∙ has.is;
+      }
+]
+
+-- what is left behind a run is what a read returns
+left_by : (life : Life) (run : Run) → content (later_by run.steps life) ≡ behind (content life) run.steps
+left_by life run = behind_two life.start life.steps run.steps
+
+kills : (head before : List ℕ) → IsHead head → (done runs : List Run) (life : Life) → HasRows head before done (content life) → AreKilled head life runs
+    → HasRows head before (done ++ runs) (content (life_after life runs))
+kills head before heads done [] life has killed = subst (λ (rs : List Run). HasRows head before rs (content life)) (sym (append-nil done)) has
+kills head before heads done (run ∷ runs) life has killed =
+    let one = killed_has head (content life) run heads killed.0 in
+    let left = subst (λ (held : List ℕ). RunHas head (content life) run held) (sym (left_by life run)) one in
+    let more = has_more head before done run (content life) (content (later_by run.steps life)) has left in
+    let all = kills head before heads (done ++ run ∷ []) runs (later_by run.steps life) more killed.1 in
+    subst (λ (rs : List Run). HasRows head before rs (content (life_after life (run ∷ runs)))) (append_assoc done (run ∷ []) runs)
+    (subst (λ (o : Option (List ℕ)). HasRows head before ((done ++ run ∷ []) ++ runs) (content (life_after (lived life run o) runs))) (sym killed.0.killed) all)
+
+pub kills_lose_nothing : (head : List ℕ) → IsHead head → (life : Life) (runs : List Run) → AreKilled head life runs
+    → HasRows head (table head (content life)) runs (content (life_after life runs))
+kills_lose_nothing head heads life runs killed = kills head (table head (content life)) heads [] runs life ([], tt, sym (append-nil (table head (content life)))) killed

@@ -1,0 +1,259 @@
+-- Over runs and crashes a table stays.
+use Rattle.std.proofs.Common.{◌≡◌, ◌⊎◌, inl, inr, ℕ, zero, suc, ◌≤◌, Bool, true, false, List, [], ◌∷◌, ◌++◌, length, take, refl, sym, ◌∙◌, ap, subst, arith, append_assoc, length-append, if◌then◌else◌, Option, Some, None}
+use Rattle.std.proofs.lemmas.Bool.{cases_Bool, cases_lt}
+use Rattle.std.proofs.lemmas.List.{append-nil, take_all, take_at, take-append-le}
+use Rattle.gc_files.specs.Files.{Step, Append, Cut, Sync, Life, has_sync, content, later_by, MayLeave}
+use Rattle.gc_files.specs.Rows.{whole, line, is_none, start_of, table, mended, appended, Ran, IsFront}
+use Rattle.gc_files.specs.Runs.{synced, Run, lines, AreRows, IsHead, IsRun, lived, Ended, Happen, life_after, rows_of, Counts, HasRows}
+use Rattle.gc_files.proofs.Whole.{whole_whole, whole_more, within}
+use Rattle.gc_files.proofs.Moments.{may_stay, leaves_two, no_sync, mends, mend_moments, two_steps, mend_synced, put_moments}
+
+-- so many rows stand behind what was there, and all that end within so many bytes
+pub record Has (head held : List ℕ) (rows : List (List ℕ)) (k : ℕ) (left : List ℕ) : Type 0 where
+  pub count : ℕ
+  pub few : count ≤ length rows
+  pub is : table head left ≡ table head held ++ lines (take count rows)
+  pub least : (m : ℕ) → m ≤ length rows → length (start_of head held ++ lines (take m rows)) ≤ k → m ≤ count
+
+-- a table by what is whole
+table_by : (head left : List ℕ) (rows : List ℕ) → whole left ≡ rows → table head left ≡ rows ++ (if is_none rows then head else [])
+table_by head left rows is = ap (λ (l : List ℕ). l ++ (if is_none l then head else [])) is
+
+-- nothing more is whole: no row ends within no bytes
+pub none_more : (head held : List ℕ) (rows : List (List ℕ)) (left : List ℕ) → AreRows rows → table head left ≡ table head held → Has head held rows 0 left
+none_more head held rows left are same =
+    let w = within rows 0 are in
+    record {
+      count = w.count;
+      few = w.few;
+      is = same ∙ sym (ap (λ (l : List ℕ). table head held ++ l) (sym w.is) ∙ append-nil (table head held));
+      least = λ m few le. w.least m few (omega (arith, le, length-append (start_of head held) (lines (take m rows))));
+    }
+
+-- a table whose rows aren't none
+filled : (head : List ℕ) (b : ℕ) (bs : List ℕ) (left : List ℕ) → whole left ≡ b ∷ bs → table head left ≡ b ∷ bs
+filled head b bs left is = table_by head left (b ∷ bs) is ∙ append-nil (b ∷ bs)
+
+line_first : (row : List ℕ) → (b : ℕ) × (bs : List ℕ) × (line row ≡ b ∷ bs)
+line_first [] = (10, [], refl)
+line_first (b ∷ row) = (b, row ++ 10 ∷ [], refl)
+
+-- behind rows that are there
+behind_rows : (head held : List ℕ) (b : ℕ) (bs : List ℕ) (rows : List (List ℕ)) (k : ℕ) (left : List ℕ) → AreRows rows → whole held ≡ b ∷ bs → left ≡ whole held ++ take k (start_of head held ++ lines rows) → Has head held rows k left
+behind_rows head held b bs rows k left are some is =
+    let w = within rows k are in
+    let start : start_of head held ≡ [] = ap (λ (l : List ℕ). if is_none l then head else []) some in
+    let at : left ≡ whole held ++ take k (lines rows) = is ∙ ap (λ (l : List ℕ). whole held ++ take k (l ++ lines rows)) start in
+    let whole_at : whole left ≡ whole held ++ lines (take w.count rows) = ap whole at ∙ whole_more (whole held) (take k (lines rows)) (whole_whole held) ∙ ap (λ (l : List ℕ). whole held ++ l) w.is in
+    let first : whole left ≡ b ∷ (bs ++ lines (take w.count rows)) = whole_at ∙ ap (λ (l : List ℕ). l ++ lines (take w.count rows)) some in
+    record {
+      count = w.count;
+      few = w.few;
+      is = filled head b (bs ++ lines (take w.count rows)) left first ∙ ap (λ (l : List ℕ). l ++ lines (take w.count rows)) (sym (filled head b bs held some));
+      least = λ m few le. w.least m few (subst (λ (l : List ℕ). length (l ++ lines (take m rows)) ≤ k) start le);
+    }
+
+-- in a file without a whole row and without a head
+behind_nothing : (held : List ℕ) (rows : List (List ℕ)) (k : ℕ) (left : List ℕ) → AreRows rows → whole held ≡ [] → left ≡ whole held ++ take k (start_of [] held ++ lines rows) → Has [] held rows k left
+behind_nothing held rows k left are none is =
+    let w = within rows k are in
+    let start : start_of [] held ≡ [] = ap (λ (l : List ℕ). if is_none l then [] else []) none in
+    let at : left ≡ take k (lines rows) = is ∙ ap (λ (l : List ℕ). l ++ take k (start_of [] held ++ lines rows)) none ∙ ap (λ (l : List ℕ). take k (l ++ lines rows)) start in
+    record {
+      count = w.count;
+      few = w.few;
+      is = plain left ∙ ap whole at ∙ w.is ∙ ap (λ (l : List ℕ). l ++ lines (take w.count rows)) (sym (plain held ∙ none));
+      least = λ m few le. w.least m few (subst (λ (l : List ℕ). length (l ++ lines (take m rows)) ≤ k) start le);
+    }
+  where
+    either_same : (e : List ℕ) (t : Bool) → (if t then e else e) ≡ e
+    either_same e true = refl
+    either_same e false = refl
+
+    plain : (l : List ℕ) → table [] l ≡ whole l
+    plain l = ap (λ (e : List ℕ). whole l ++ e) (either_same [] (is_none (whole l))) ∙ append-nil (whole l)
+
+-- in a file without a whole row, behind a head
+head_first : (row held : List ℕ) (rows : List (List ℕ)) (k : ℕ) (left : List ℕ) → whole held ≡ [] → (count : ℕ) → count ≤ length (row ∷ rows) → whole left ≡ lines (take count (row ∷ rows))
+    → ((m : ℕ) → m ≤ length (row ∷ rows) → length (lines (take m (row ∷ rows))) ≤ k → m ≤ count) → Has (line row) held rows k left
+head_first row held rows k left none zero few is least =
+    let start : start_of (line row) held ≡ line row = ap (λ (l : List ℕ). if is_none l then line row else []) none in
+    record {
+      count = 0;
+      few = omega arith;
+      is = table_by (line row) left [] is ∙ sym (append-nil (table (line row) held) ∙ table_by (line row) held [] none);
+      least = λ m few le. absurd (omega (arith, least (suc m) (omega (arith, few)) (subst (λ (l : List ℕ). length (l ++ lines (take m rows)) ≤ k) start le)));
+    }
+head_first row held rows k left none (suc n) few is least =
+    let start : start_of (line row) held ≡ line row = ap (λ (l : List ℕ). if is_none l then line row else []) none in
+    let f = line_first row in
+    let first : whole left ≡ f.0 ∷ (f.1 ++ lines (take n rows)) = is ∙ ap (λ (l : List ℕ). l ++ lines (take n rows)) f.2 in
+    record {
+      count = n;
+      few = omega (arith, few);
+      is = filled (line row) f.0 (f.1 ++ lines (take n rows)) left first ∙ ap (λ (l : List ℕ). l ++ lines (take n rows)) (sym f.2 ∙ sym (table_by (line row) held [] none));
+      least = λ m few le. omega (arith, least (suc m) (omega (arith, few)) (subst (λ (l : List ℕ). length (l ++ lines (take m rows)) ≤ k) start le));
+    }
+
+list_cases : (xs : List ℕ) → (xs ≡ []) ⊎ ((b : ℕ) × (bs : List ℕ) × (xs ≡ b ∷ bs))
+list_cases [] = inl refl
+list_cases (b ∷ bs) = inr (b, bs, refl)
+
+-- what stands behind so many of a run's bytes
+pub reached : (head held : List ℕ) (rows : List (List ℕ)) (k : ℕ) (left : List ℕ) → IsHead head → AreRows rows → left ≡ whole held ++ take k (start_of head held ++ lines rows) → Has head held rows k left
+reached head held rows k left heads are is = elim (list_cases (whole held)) [
+  | inr some ↦ behind_rows head held some.0 some.1 rows k left are some.2 is
+  | inl none ↦ elim heads [
+    | inl empty ↦ subst (λ (h : List ℕ). Has h held rows k left) (sym empty)
+        (behind_nothing held rows k left are none (subst (λ (h : List ℕ). left ≡ whole held ++ take k (start_of h held ++ lines rows)) empty is))
+    | inr one ↦
+        let row = one.0 in
+        let w = within (row ∷ rows) k (one.1, are) in
+        let start : start_of head held ≡ line row = ap (λ (l : List ℕ). if is_none l then head else []) none ∙ one.2 in
+        let at : left ≡ take k (lines (row ∷ rows)) = is ∙ ap (λ (l : List ℕ). l ++ take k (start_of head held ++ lines rows)) none ∙ ap (λ (l : List ℕ). take k (l ++ lines rows)) start in
+        subst (λ (h : List ℕ). Has h held rows k left) (sym one.2) (head_first row held rows k left none w.count w.few (ap whole at ∙ w.is) w.least)
+  ]
+]
+
+-- a run's rows, at a moment of it
+pub record RunHas (head held : List ℕ) (run : Run) (left : List ℕ) : Type 0 where
+  pub count : ℕ
+  pub least : run.kept ≤ count
+  pub few : count ≤ length run.rows
+  pub is : table head left ≡ table head held ++ lines (take count run.rows)
+
+front_length : (front all : List ℕ) → IsFront front all → length front ≤ length all
+front_length front all f = omega (arith, ap length f.split, length-append front f.rest)
+
+kept_within : (head held : List ℕ) (run : Run) (left : List ℕ) (k : ℕ) → IsRun head held run → length (synced run.steps) ≤ k → Has head held run.rows k left → RunHas head held run left
+kept_within head held run left k one enough has = record {
+  count = has.count;
+  least = elim one.kept [
+    | inl none ↦ omega (arith, none)
+    | inr front ↦ has.least run.kept one.few (omega (arith, enough, front_length _ _ front))
+  ];
+  few = has.few;
+  is = has.is;
+}
+
+-- nothing of a run was synced, and nothing is there of it
+none_of : (head held : List ℕ) (run : Run) (left : List ℕ) → IsRun head held run → synced run.steps ≡ [] → RunHas head left run left
+none_of head held run left one nothing =
+    let w = within run.rows 0 one.rows in
+    record {
+      count = w.count;
+      least = elim one.kept [
+        | inl none ↦ omega (arith, none)
+        | inr front ↦
+            w.least run.kept one.few (omega (arith, front_length _ _ front, ap length nothing, length-append (start_of head held) (lines (take run.kept run.rows))))
+      ];
+      few = w.few;
+      is = sym (ap (λ (l : List ℕ). table head left ++ l) (sym w.is) ∙ append-nil (table head left));
+    }
+
+same_table : (head left held : List ℕ) → whole left ≡ whole held → table head left ≡ table head held
+same_table head left held same = ap (λ (l : List ℕ). l ++ (if is_none l then head else [])) same
+
+front_take : (held all bytes : List ℕ) (k : ℕ) (f : IsFront bytes all) → (count : ℕ) × (k ≤ count ⊎ length bytes ≤ count) × (held ++ take k bytes ≡ held ++ take count all)
+front_take held all bytes k f = elim (cases_lt k (length bytes)) [
+  | inl less ↦ (k, inl (omega arith), ap (λ (l : List ℕ). held ++ l) (sym (take-append-le k bytes f.rest (omega (arith, less))) ∙ ap (take k) (sym f.split)))
+  | inr more ↦ (length bytes, inr (omega arith), ap (λ (l : List ℕ). held ++ l) (take_all k bytes more ∙ sym (take_at bytes f.rest (length bytes) refl) ∙ ap (take (length bytes)) (sym f.split)))
+]
+
+-- no more is synced than was appended
+pub synced_length : (steps : List Step) → length (synced steps) ≤ length (appended steps)
+synced_length [] = omega arith
+synced_length (Append bytes ∷ steps) = elim (cases_Bool (has_sync steps)) [
+  | inl some ↦ rw (some) (omega (arith, synced_length steps, length-append bytes (synced steps), length-append bytes (appended steps)))
+  | inr isnt ↦ rw (isnt) (omega arith)
+]
+synced_length (Sync ∷ steps) = synced_length steps
+synced_length (Cut size ∷ steps) = synced_length steps
+
+-- whatever a crash leaves of a run
+pub run_moments : (head held : List ℕ) (run : Run) (left : List ℕ) → IsHead head → IsRun head held run → MayLeave held run.steps left → RunHas head held run left
+run_moments head held run left heads one may = elim one.steps [
+  | inl mending ↦
+      let here = subst (λ (steps : List Step). MayLeave held steps left) mending.is may in
+      let nothing : synced run.steps ≡ [] = ap synced mending.is ∙ ap synced (sym (append-nil (take mending.count (mended held)))) ∙ mend_synced held mending.count [] in
+      kept_within head held run left 0 one (omega (arith, ap length nothing)) (none_more head held run.rows left one.rows (same_table head left held (mend_moments held mending.count left here)))
+  | inr all ↦ ran_moments all.0 all.1 all.2
+]
+  where
+    ran_moments : (bytes : List ℕ) → Ran held run.steps bytes → IsFront bytes (start_of head held ++ lines run.rows) → RunHas head held run left
+    ran_moments bytes ran front =
+        let steps = mended held ++ ran.later in
+        let here = subst (λ (steps : List Step). MayLeave held steps left) ran.split may in
+        let is_synced : synced run.steps ≡ synced ran.later = ap synced ran.split ∙ whole_mended ran.later in
+        elim (leaves_two held (mended held) ran.later left here) [
+          | inl before ↦
+              let nothing : synced run.steps ≡ [] = is_synced ∙ no_sync ran.later before.0 in
+              let same = mend_moments held 2 left (subst (λ (steps : List Step). MayLeave held steps left) (sym (two_steps held)) before.1) in
+              kept_within head held run left 0 one (omega (arith, ap length nothing)) (none_more head held run.rows left one.rows (same_table head left held same))
+          | inr behind_it ↦
+              let there = subst (λ (h : List ℕ). MayLeave h ran.later left) (mends held) behind_it in
+              let moment = put_moments ran.later (whole held) left ran.puts.none_cut there in
+              let at_bytes : left ≡ whole held ++ take moment.count bytes = moment.is ∙ ap (λ (l : List ℕ). whole held ++ take moment.count l) ran.puts.all in
+              let t = front_take (whole held) (start_of head held ++ lines run.rows) bytes moment.count front in
+              let enough : length (synced run.steps) ≤ t.0 = elim t.1 [
+                | inl more ↦ omega (arith, more, moment.enough, ap length is_synced)
+                | inr more ↦ omega (arith, more, synced_length ran.later, ap length ran.puts.all, ap length is_synced)
+              ] in
+              kept_within head held run left t.0 one enough (reached head held run.rows t.0 left heads one.rows (at_bytes ∙ t.2))
+        ]
+      where
+        whole_mended : (later : List Step) → synced (mended held ++ later) ≡ synced later
+        whole_mended later = ap (λ (steps : List Step). synced (steps ++ later)) (sym (two_steps held)) ∙ mend_synced held 2 later
+
+-- runs that went before
+pub counts_more : (runs : List Run) (counts : List ℕ) (run : Run) (n : ℕ) → Counts runs counts → run.kept ≤ n → n ≤ length run.rows → Counts (runs ++ run ∷ []) (counts ++ n ∷ [])
+counts_more [] [] run n cs least few = (least, few, tt)
+counts_more [] (m ∷ counts) run n cs least few = absurd cs
+counts_more (r ∷ runs) [] run n cs least few = absurd cs
+counts_more (r ∷ runs) (m ∷ counts) run n cs least few = (cs.0, cs.1, counts_more runs counts run n cs.2 least few)
+
+pub rows_more : (runs : List Run) (counts : List ℕ) (run : Run) (n : ℕ) → Counts runs counts → rows_of (runs ++ run ∷ []) (counts ++ n ∷ []) ≡ rows_of runs counts ++ lines (take n run.rows)
+rows_more [] [] run n cs = append-nil (lines (take n run.rows))
+rows_more [] (m ∷ counts) run n cs = absurd cs
+rows_more (r ∷ runs) [] run n cs = absurd cs
+rows_more (r ∷ runs) (m ∷ counts) run n cs = ap (λ (l : List ℕ). lines (take m r.rows) ++ l) (rows_more runs counts run n cs.2) ∙ sym (append_assoc (lines (take m r.rows)) (rows_of runs counts) (lines (take n run.rows)))
+
+-- one run more
+pub has_more : (head before : List ℕ) (runs : List Run) (run : Run) (held left : List ℕ) → HasRows head before runs held → RunHas head held run left → HasRows head before (runs ++ run ∷ []) left
+has_more head before runs run held left has more = (
+  has.0 ++ more.count ∷ [],
+  counts_more runs has.0 run more.count has.1 more.least more.few,
+  more.is ∙ ap (λ (l : List ℕ). l ++ lines (take more.count run.rows)) has.2 ∙ append_assoc before (rows_of runs has.0) (lines (take more.count run.rows))
+      ∙ ap (λ (l : List ℕ). before ++ l) (sym (rows_more runs has.0 run more.count has.1)),
+)
+
+-- whatever a crash leaves of a file, the table has the rows
+abbrev pub Lasts : List ℕ → List ℕ → List Run → Life → Type 0
+Lasts head before runs life = (left : List ℕ) → MayLeave life.start life.steps left → HasRows head before runs left
+
+module _ (head before : List ℕ) (heads : IsHead head) where
+  one_more : (runs : List Run) (life : Life) (run : Run) → Lasts head before runs life → IsRun head (content life) run → Lasts head before (runs ++ run ∷ []) (later_by run.steps life)
+  one_more runs life run lasts one left may = elim (leaves_two life.start life.steps run.steps left may) [
+    | inl old ↦
+        let nothing = no_sync run.steps old.0 in
+        let more = none_of head (content life) run left one nothing in
+        has_more head before runs run left left (lasts left old.1) more
+    | inr new ↦ has_more head before runs run (content life) left (lasts (content life) (may_stay life.start life.steps)) (run_moments head (content life) run left heads one new)
+  ]
+
+  -- what the run's end leaves
+  ended : (runs : List Run) (life : Life) (run : Run) (left : Option (List ℕ)) → Lasts head before runs life → IsRun head (content life) run → Ended life run left → Lasts head before (runs ++ run ∷ []) (lived life run left)
+  ended runs life run None lasts one end = one_more runs life run lasts one
+  ended runs life run (Some there) lasts one end = λ left may. subst (HasRows head before (runs ++ run ∷ [])) (sym may) (one_more runs life run lasts one there end)
+
+  all_runs : (earlier runs : List Run) (life : Life) → Lasts head before earlier life → Happen head life runs → Lasts head before (earlier ++ runs) (life_after life runs)
+  all_runs earlier [] life lasts happen = subst (λ (rs : List Run). Lasts head before rs life) (sym (append-nil earlier)) lasts
+  all_runs earlier (run ∷ runs) life lasts happen =
+      subst (λ (rs : List Run). Lasts head before rs (life_after (lived life run run.left) runs)) (append_assoc earlier (run ∷ []) runs)
+      (all_runs (earlier ++ run ∷ []) runs (lived life run run.left) (ended earlier life run run.left lasts happen.0 happen.1) happen.2)
+
+-- the law
+pub tables_last : (head held : List ℕ) → IsHead head → (runs : List Run) → Happen head (record { start = held; steps = [] }) runs → Lasts head (table head held) runs (life_after (record { start = held; steps = [] }) runs)
+tables_last head held heads runs happen =
+    all_runs head (table head held) heads [] runs (record { start = held; steps = [] })
+    (λ left may. ([], tt, ap (table head) may ∙ sym (append-nil (table head held)))) happen

@@ -1,0 +1,7 @@
+pub mod Whole
+pub mod Moments
+pub mod Lasting
+pub mod Adding
+pub mod Looking
+pub mod Remembering
+pub mod Killing

@@ -1,0 +1,139 @@
+-- What a file holds at each moment of a run.
+use Rattle.std.proofs.Common.{◌≡◌, ◌⊎◌, inl, inr, ℕ, zero, suc, ◌+◌, ◌≤◌, ◌==◌, true, false, List, [], ◌∷◌, ◌++◌, length, take, refl, sym, ◌∙◌, ap, subst, arith, append_assoc, length-append}
+use Rattle.std.proofs.Math.Seq.{take-append-add}
+use Rattle.std.proofs.lemmas.Bool.{cases_Bool, cases_lt, eqb-true}
+use Rattle.std.proofs.lemmas.List.{append-nil, take_all, take_at, take-append-le}
+use Rattle.gc_files.specs.Files.{Step, Append, Cut, Sync, stepped, behind, has_sync, MayLeave}
+use Rattle.gc_files.specs.Rows.{whole, mended, cuts_none, appended}
+use Rattle.gc_files.specs.Runs.{synced}
+use Rattle.gc_files.proofs.Whole.{Torn, torn_of, whole_take}
+
+-- what is there now is among what a crash may leave
+pub may_stay : (held : List ℕ) (steps : List Step) → MayLeave held steps (behind held steps)
+may_stay held [] = refl
+may_stay held (step ∷ steps) = inr (may_stay (stepped held step) steps)
+
+pub behind_two : (held : List ℕ) (xs ys : List Step) → behind held (xs ++ ys) ≡ behind (behind held xs) ys
+behind_two held [] ys = refl
+behind_two held (step ∷ xs) ys = behind_two (stepped held step) xs ys
+
+take_nil : (n : ℕ) → take {A = Step} n [] ≡ []
+take_nil n = take_all n [] (omega arith)
+
+is_not : true ≡ false → ⊥
+is_not e = cc
+
+sync_two : (xs ys : List Step) → has_sync (xs ++ ys) ≡ false → (has_sync xs ≡ false) × (has_sync ys ≡ false)
+sync_two [] ys none = (refl, none)
+sync_two (Append bytes ∷ xs) ys none = sync_two xs ys none
+sync_two (Cut size ∷ xs) ys none = sync_two xs ys none
+sync_two (Sync ∷ xs) ys none = absurd (is_not none)
+
+-- what a crash leaves behind two stretches was left by the first, with no sync in the second, or by the second
+pub leaves_two : (held : List ℕ) (xs ys : List Step) (left : List ℕ) → MayLeave held (xs ++ ys) left → ((has_sync ys ≡ false) × MayLeave held xs left) ⊎ MayLeave (behind held xs) ys left
+leaves_two held [] ys left may = inr may
+leaves_two held (step ∷ xs) ys left (inl now) =
+    let two = sync_two (step ∷ xs) ys now.0 in
+    inl (two.1, inl (two.0, now.1))
+leaves_two held (step ∷ xs) ys left (inr next) = elim (leaves_two (stepped held step) xs ys left next) [
+  | inl first ↦ inl (first.0, inr first.1)
+  | inr second ↦ inr second
+]
+
+pub no_sync : (steps : List Step) → has_sync steps ≡ false → synced steps ≡ []
+no_sync [] none = refl
+no_sync (Append bytes ∷ steps) none = rw (none) refl
+no_sync (Cut size ∷ steps) none = no_sync steps none
+no_sync (Sync ∷ steps) none = absurd (is_not none)
+
+-- mending a file leaves its whole rows, at each moment
+pub mends : (held : List ℕ) → behind held (mended held) ≡ whole held
+mends held = elim (cases_Bool (length (whole held) == length held)) [
+  | inl same ↦
+      let t = torn_of held in
+      let none : mended held ≡ [] = rw (same) refl in
+      ap (behind held) none ∙ all held t (eq_of same)
+  | inr less ↦
+      let two : mended held ≡ Cut (length (whole held)) ∷ Sync ∷ [] = rw (less) refl in
+      let t = torn_of held in
+      ap (behind held) two ∙ ap (take (length (whole held))) t.split ∙ take_at (whole held) t.torn (length (whole held)) refl
+]
+  where
+    eq_of : {a b : ℕ} → (a == b) ≡ true → a ≡ b
+    eq_of e = eqb-true _ _ e
+
+    all : (held : List ℕ) (t : Torn held) → length (whole held) ≡ length held → held ≡ whole held
+    all held t same = sym (take_all (length held) held (omega arith)) ∙ ap (λ n. take n held) (sym same) ∙ ap (take (length (whole held))) t.split ∙ take_at (whole held) t.torn (length (whole held)) refl
+
+cut_moments : (held : List ℕ) (count : ℕ) (left : List ℕ) → MayLeave held (take count (Cut (length (whole held)) ∷ Sync ∷ [])) left → whole left ≡ whole held
+cut_moments held zero left may = ap whole may
+cut_moments held (suc zero) left (inl now) = ap whole now.1.2 ∙ whole_take held now.1.0 now.1.1
+cut_moments held (suc zero) left (inr next) = ap whole next ∙ whole_take held (length (whole held)) (omega arith)
+cut_moments held (suc (suc n)) left (inl now) = absurd (is_not now.0)
+cut_moments held (suc (suc n)) left (inr (inl now)) = absurd (is_not now.0)
+cut_moments held (suc (suc n)) left (inr (inr next)) =
+    ap whole (subst (λ (steps : List Step). MayLeave (take (length (whole held)) held) steps left) (take_nil n) next) ∙ whole_take held (length (whole held)) (omega arith)
+
+pub mend_moments : (held : List ℕ) (count : ℕ) (left : List ℕ) → MayLeave held (take count (mended held)) left → whole left ≡ whole held
+mend_moments held count left may = elim (cases_Bool (length (whole held) == length held)) [
+  | inl same ↦
+      let none : mended held ≡ [] = rw (same) refl in
+      let there : MayLeave held [] left = subst (λ (steps : List Step). MayLeave held steps left) (ap (take count) none ∙ take_nil count) may in
+      ap whole there
+  | inr less ↦
+      let two : mended held ≡ Cut (length (whole held)) ∷ Sync ∷ [] = rw (less) refl in
+      cut_moments held count left (subst (λ (steps : List Step). MayLeave held (take count steps) left) two may)
+]
+
+-- there are no more than two steps
+pub two_steps : (held : List ℕ) → take 2 (mended held) ≡ mended held
+two_steps held = elim (cases_Bool (length (whole held) == length held)) [
+  | inl same ↦ rw (same) (take_nil 2)
+  | inr less ↦ rw (less) refl
+]
+
+pub mend_synced : (held : List ℕ) (count : ℕ) (later : List Step) → synced (take count (mended held) ++ later) ≡ synced later
+mend_synced held count later = elim (cases_Bool (length (whole held) == length held)) [
+  | inl same ↦
+      let none : mended held ≡ [] = rw (same) refl in
+      ap (λ (steps : List Step). synced (take count steps ++ later)) none ∙ ap (λ (steps : List Step). synced (steps ++ later)) (take_nil count)
+  | inr less ↦
+      let two : mended held ≡ Cut (length (whole held)) ∷ Sync ∷ [] = rw (less) refl in
+      ap (λ (steps : List Step). synced (take count steps ++ later)) two ∙ none_in later count
+]
+  where
+    none_in : (later : List Step) (n : ℕ) → synced (take n (Cut (length (whole held)) ∷ Sync ∷ []) ++ later) ≡ synced later
+    none_in later zero = refl
+    none_in later (suc zero) = refl
+    none_in later (suc (suc n)) = ap (λ (steps : List Step). synced (steps ++ later)) (take_nil n)
+
+-- what was appended, at a moment: so much of it, and no less than what was synced
+pub record Reached (held all least left : List ℕ) : Type 0 where
+  pub count : ℕ
+  pub is : left ≡ held ++ take count all
+  pub enough : length least ≤ count
+
+part_of : (held bytes rest : List ℕ) (k : ℕ) → (count : ℕ) × (held ++ take k bytes ≡ held ++ take count (bytes ++ rest))
+part_of held bytes rest k = elim (cases_lt k (length bytes)) [
+  | inl less ↦ (k, ap (λ (l : List ℕ). held ++ l) (sym (take-append-le k bytes rest (omega (arith, less)))))
+  | inr more ↦ (length bytes, ap (λ (l : List ℕ). held ++ l) (take_all k bytes more ∙ sym (take_at bytes rest (length bytes) refl)))
+]
+
+pub put_moments : (steps : List Step) (held left : List ℕ) → cuts_none steps ≡ true → MayLeave held steps left → Reached held (appended steps) (synced steps) left
+put_moments [] held left none may = record { count = 0; is = may ∙ sym (append-nil held); enough = omega arith }
+put_moments (Append bytes ∷ steps) held left none (inl now) =
+    let at = part_of held bytes (appended steps) now.1.0 in
+    record { count = at.0; is = now.1.1 ∙ at.1; enough = subst (λ (l : List ℕ). length l ≤ at.0) (sym (no_sync (Append bytes ∷ steps) now.0)) (omega arith) }
+put_moments (Append bytes ∷ steps) held left none (inr next) =
+    let rest = put_moments steps (held ++ bytes) left none next in
+    record {
+      count = length bytes + rest.count;
+      is = rest.is ∙ append_assoc held bytes (take rest.count (appended steps)) ∙ ap (λ (l : List ℕ). held ++ l) (sym (take-append-add bytes (appended steps) rest.count));
+      enough = elim (cases_Bool (has_sync steps)) [
+        | inl some ↦ rw (some) (omega (arith, rest.enough, length-append bytes (synced steps)))
+        | inr isnt ↦ rw (isnt) (omega arith)
+      ];
+    }
+put_moments (Sync ∷ steps) held left none (inl now) = absurd (is_not now.0)
+put_moments (Sync ∷ steps) held left none (inr next) = put_moments steps held left none next
+put_moments (Cut size ∷ steps) held left none may = absurd (is_not (sym none))

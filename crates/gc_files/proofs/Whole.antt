@@ -1,0 +1,127 @@
+-- What is whole of a file, and of a front of lines.
+use Rattle.std.proofs.Common.{◌≡◌, inl, inr, ℕ, zero, suc, ◌+◌, ◌-◌, ◌≤◌, ◌<◌, ◌==◌, true, false, List, [], ◌∷◌, ◌++◌, length, take, drop, refl, sym, ◌∙◌, ap, subst, arith, length-append, if◌then◌else◌}
+use Rattle.std.proofs.Math.Seq.{take-append-add}
+use Rattle.std.proofs.lemmas.Bool.{cases_Bool, cases_lt}
+use Rattle.std.proofs.lemmas.List.{append-nil, take_all, take-append-le, take-append-drop}
+use Rattle.gc_files.specs.Rows.{has_feed, whole, line}
+use Rattle.gc_files.specs.Runs.{lines, AreRows}
+
+pub feed_front : (xs ys : List ℕ) → has_feed ys ≡ false → has_feed (xs ++ ys) ≡ has_feed xs
+feed_front [] ys none = none
+feed_front (b ∷ xs) ys none = elim (cases_Bool (b == 10)) [
+  | inl e ↦ rw (e) refl
+  | inr e ↦ rw (e) (feed_front xs ys none)
+]
+
+pub feed_behind : (xs ys : List ℕ) → has_feed ys ≡ true → has_feed (xs ++ ys) ≡ true
+feed_behind [] ys some = some
+feed_behind (b ∷ xs) ys some = elim (cases_Bool (b == 10)) [
+  | inl e ↦ rw (e) refl
+  | inr e ↦ rw (e) (feed_behind xs ys some)
+]
+
+pub feed_first : (xs ys : List ℕ) → has_feed (xs ++ ys) ≡ false → has_feed xs ≡ false
+feed_first [] ys none = refl
+feed_first (b ∷ xs) ys none = elim (cases_Bool (b == 10)) [
+  | inl e ↦ let clash : true ≡ false = subst (λ t. (if t then true else has_feed (xs ++ ys)) ≡ false) e none in rw (e) clash
+  | inr e ↦ let rest : has_feed (xs ++ ys) ≡ false = subst (λ t. (if t then true else has_feed (xs ++ ys)) ≡ false) e none in rw (e) (feed_first xs ys rest)
+]
+
+pub whole_none : (xs : List ℕ) → has_feed xs ≡ false → whole xs ≡ []
+whole_none [] none = refl
+whole_none (b ∷ xs) none = rw (none) refl
+
+pub whole_behind : (xs ys : List ℕ) → has_feed ys ≡ true → whole (xs ++ ys) ≡ xs ++ whole ys
+whole_behind [] ys some = refl
+whole_behind (b ∷ xs) ys some = rw (feed_behind (b ∷ xs) ys some) (ap (λ (l : List ℕ). b ∷ l) (whole_behind xs ys some))
+
+pub whole_front : (xs ys : List ℕ) → has_feed ys ≡ false → whole (xs ++ ys) ≡ whole xs
+whole_front [] ys none = whole_none ys none
+whole_front (b ∷ xs) ys none = rw (feed_front (b ∷ xs) ys none, whole_front xs ys none) refl
+
+-- what stands behind the last line feed
+pub record Torn (xs : List ℕ) : Type 0 where
+  pub torn : List ℕ
+  pub none : has_feed torn ≡ false
+  pub split : xs ≡ whole xs ++ torn
+
+pub torn_of : (xs : List ℕ) → Torn xs
+torn_of [] = record { torn = []; none = refl; split = refl }
+torn_of (b ∷ xs) = elim (cases_Bool (has_feed (b ∷ xs))) [
+  | inl e ↦
+      let rest = torn_of xs in
+      let is : whole (b ∷ xs) ≡ b ∷ whole xs = rw (e) refl in
+      record { torn = rest.torn; none = rest.none; split = ap (λ (l : List ℕ). b ∷ l) rest.split ∙ ap (λ (l : List ℕ). l ++ rest.torn) (sym is) }
+  | inr e ↦
+      let is : whole (b ∷ xs) ≡ [] = whole_none (b ∷ xs) e in
+      record { torn = b ∷ xs; none = e; split = ap (λ (l : List ℕ). l ++ (b ∷ xs)) (sym is) }
+]
+
+pub whole_whole : (xs : List ℕ) → whole (whole xs) ≡ whole xs
+whole_whole xs =
+    let t = torn_of xs in
+    sym (ap whole t.split ∙ whole_front (whole xs) t.torn t.none)
+
+-- what is appended behind whole rows
+pub whole_more : (xs ys : List ℕ) → whole xs ≡ xs → whole (xs ++ ys) ≡ xs ++ whole ys
+whole_more xs ys is = elim (cases_Bool (has_feed ys)) [
+  | inl some ↦ whole_behind xs ys some
+  | inr none ↦ whole_front xs ys none ∙ is ∙ sym (ap (λ (l : List ℕ). xs ++ l) (whole_none ys none) ∙ append-nil xs)
+]
+
+pub whole_line : (row : List ℕ) → whole (line row) ≡ line row
+whole_line row = whole_behind row (10 ∷ []) refl
+
+-- a cut behind the last line feed, or farther back
+pub whole_take : (xs : List ℕ) (k : ℕ) → length (whole xs) ≤ k → whole (take k xs) ≡ whole xs
+whole_take xs k far =
+    let t = torn_of xs in
+    let more : k ≡ length (whole xs) + (k - length (whole xs)) = omega (arith, far) in
+    let at : take k xs ≡ whole xs ++ take (k - length (whole xs)) t.torn =
+    ap (take k) t.split ∙ ap (λ n. take n (whole xs ++ t.torn)) more ∙ take-append-add (whole xs) t.torn (k - length (whole xs)) in
+    let none : has_feed (take (k - length (whole xs)) t.torn) ≡ false =
+    feed_first (take (k - length (whole xs)) t.torn) (drop (k - length (whole xs)) t.torn) (ap has_feed (take-append-drop (k - length (whole xs)) t.torn) ∙ t.none) in
+    ap whole at ∙ whole_front (whole xs) (take (k - length (whole xs)) t.torn) none ∙ whole_whole xs
+
+-- so many of these rows are whole in a front of their lines, and all those that end within it
+pub record Within (rows : List (List ℕ)) (k : ℕ) : Type 0 where
+  pub count : ℕ
+  pub few : count ≤ length rows
+  pub is : whole (take k (lines rows)) ≡ lines (take count rows)
+  pub least : (m : ℕ) → m ≤ length rows → length (lines (take m rows)) ≤ k → m ≤ count
+
+length-line : (row : List ℕ) → length (line row) ≡ suc (length row)
+length-line row = length-append row (10 ∷ []) ∙ omega arith
+
+no_more : (row : List ℕ) (rows : List (List ℕ)) (k : ℕ) → k < length (line row) → (m : ℕ) → length (lines (take m (row ∷ rows))) ≤ k → m ≤ 0
+no_more row rows k less zero le = omega arith
+no_more row rows k less (suc m) le = absurd (omega (arith, less, le, length-append (line row) (lines (take m rows))))
+
+pub within : (rows : List (List ℕ)) (k : ℕ) → AreRows rows → Within rows k
+within [] k are = record { count = 0; few = omega arith; is = ap whole (take_all k [] (omega arith)); least = λ m few le. few }
+within (row ∷ rows) k are = elim (cases_lt k (length (line row))) [
+  | inl less ↦
+      let inside : k ≤ length row = omega (arith, less, length-line row) in
+      let at : take k (lines (row ∷ rows)) ≡ take k row =
+      take-append-le k (line row) (lines rows) (omega (arith, less)) ∙ take-append-le k row (10 ∷ []) inside in
+      let none : has_feed (take k row) ≡ false = feed_first (take k row) (drop k row) (ap has_feed (take-append-drop k row) ∙ are.0) in
+      record { count = 0; few = omega arith; is = ap whole at ∙ whole_none (take k row) none; least = λ m few le. no_more row rows k less m le }
+  | inr more ↦
+      let rest = within rows (k - length (line row)) are.1 in
+      let is_k : k ≡ length (line row) + (k - length (line row)) = omega (arith, more) in
+      let at : take k (lines (row ∷ rows)) ≡ line row ++ take (k - length (line row)) (lines rows) =
+      ap (λ n. take n (lines (row ∷ rows))) is_k ∙ take-append-add (line row) (lines rows) (k - length (line row)) in
+      record {
+        count = suc rest.count;
+        few = omega (arith, rest.few);
+        is = ap whole at ∙ whole_more (line row) (take (k - length (line row)) (lines rows)) (whole_line row) ∙ ap (λ (l : List ℕ). line row ++ l) rest.is;
+        least = least_more row rows k rest.count rest.least;
+      }
+]
+  where
+    least_more : (row : List ℕ) (rows : List (List ℕ)) (k count : ℕ) → ((m : ℕ) → m ≤ length rows → length (lines (take m rows)) ≤ k - length (line row) → m ≤ count)
+        → (m : ℕ) → m ≤ length (row ∷ rows) → length (lines (take m (row ∷ rows))) ≤ k → m ≤ suc count
+    least_more row rows k count least zero few le = omega arith
+    least_more row rows k count least (suc m) few le =
+        let one : m ≤ count = least m (omega (arith, few)) (omega (arith, le, length-append (line row) (lines (take m rows)))) in
+        omega (arith, one)

@@ -1,0 +1,13 @@
+use Rattle.std.proofs.Common.{◌≤◌, ◌-◌, length, take}
+use Rattle.gc_files.specs.Rows.{PutsAll}
+use Rattle.gc_files.proofs.opening.append_all.Given as goal
+
+-- so many of the bytes went out
+abbrev pub invariant-loop-done : goal.invariant-loop-done
+invariant-loop-done g l = record {
+  within : l.done ≤ length l.bytes;
+  puts : PutsAll (g.F.Appending.life l.fn.file) (g.F.Appending.life l.file) (take l.done l.bytes);
+}
+
+abbrev pub decreases-loop-done : goal.decreases-loop-done
+decreases-loop-done g l = length l.bytes - l.done

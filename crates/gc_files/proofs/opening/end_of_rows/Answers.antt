@@ -1,0 +1,27 @@
+use Rattle.std.proofs.Common.{rules, ◌≡◌, ◌≤◌, ◌+◌, ◌-◌, length, arith, ◌∙◌, ap}
+use Rattle.gc_files.proofs.Looking.{block_none, block_some, size_of, nothing_whole}
+use Rattle.gc_files.specs.Files.{content}
+use Rattle.gc_files.proofs.opening.end_of_rows.Goals as goal
+
+pub returns-then-rows-gt0-clause-end : goal.returns-then-rows-gt0-clause-end
+returns-then-rows-gt0-clause-end g c known is =
+    let few : c.min-size.result ≤ c.loop-end.end = search rules in
+    let size = size_of c.min-size.result c.loop-end.buf c.read_all.new.buf (search rules) c.read_all.auto.buf in
+    let at = c.loop-end.end - c.min-size.result in
+    let ends : at + length c.read_all.new.buf ≡ c.loop-end.end = omega (arith, few, size) in
+    ap (λ n. at + n) c.whole_len-rows.ensures.len
+    ∙ block_some at (length c.read_all.new.buf) c.loop-end.end (content known) c.read_all.new.buf (c.in-Ok.ensures known is) ends (omega (arith, c.loop-end.invariant.within, c.requires known is)) (c.loop-end.invariant.none known is) (omega (arith, c.if-rows-gt0.true, c.whole_len-rows.ensures.len))
+
+pub loop-end-preserved : goal.loop-end-preserved
+loop-end-preserved g c =
+    let few : c.min-size.result ≤ c.loop-end.end = search rules in
+    let size = size_of c.min-size.result c.loop-end.buf c.read_all.new.buf (search rules) c.read_all.auto.buf in
+    let at = c.loop-end.end - c.min-size.result in
+    let ends : at + length c.read_all.new.buf ≡ c.loop-end.end = omega (arith, few, size) in
+    record {
+      within = omega (arith, c.loop-end.invariant.within);
+      none = λ known is. block_none at (length c.read_all.new.buf) c.loop-end.end (content known) c.read_all.new.buf (c.in-Ok.ensures known is) ends (c.loop-end.invariant.none known is) (omega (arith, c.if-rows-gt0.false, c.whole_len-rows.ensures.len));
+    }
+
+pub returns-clause-end : goal.returns-clause-end
+returns-clause-end g c known is = nothing_whole (content known) c.loop-end.end c.loop-end-test.false (c.loop-end.invariant.none known is)

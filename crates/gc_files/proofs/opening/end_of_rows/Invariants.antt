@@ -1,0 +1,14 @@
+use Rattle.std.proofs.Common.{◌≡◌, ◌≤◌, drop, Some, false}
+use Rattle.gc_files.specs.Files.{Life, content}
+use Rattle.gc_files.specs.Rows.{has_feed}
+use Rattle.gc_files.proofs.opening.end_of_rows.Given as goal
+
+-- no line feed stands behind here
+abbrev pub invariant-loop-end : goal.invariant-loop-end
+invariant-loop-end g l = record {
+  within : l.end ≤ l.len;
+  none : (known : Life) → g.F.Appending.life l.file ≡ Some known → has_feed (drop l.end (content known)) ≡ false;
+}
+
+abbrev pub decreases-loop-end : goal.decreases-loop-end
+decreases-loop-end g l = l.end

@@ -1,0 +1,29 @@
+use Rattle.std.proofs.Common.{rules, ◌≤◌, ◌+◌, length, take, drop, arith, ◌∙◌, ap, sym, refl, length-drop}
+use Rattle.gc_files.proofs.Looking.{looked_on, looked_not, looked_all, size_of}
+use Rattle.gc_files.specs.Files.{content}
+use Rattle.gc_files.proofs.opening.has_sign.Goals as goal
+
+pub returns-then-not-is_front : goal.returns-then-not-is_front
+returns-then-not-is_front g c known is =
+    let size = size_of c.min-size.result c.loop-at.buf c.read_all.new.buf (search rules) c.read_all.auto.buf in
+    let few : c.min-size.result ≤ length c.behind-rest.result.now = search rules in
+    let room : c.loop-at.at + c.min-size.result ≤ c.args.len = search rules in
+    sym (c.loop-at.invariant.same known is
+    ∙ looked_not c.loop-at.at (length c.read_all.new.buf) c.args.sign.now (content known) c.behind-rest.result.now c.behind-rest.ensures (omega (arith, size, few)) (omega (arith, size, room, c.requires known is))
+    (λ same. c.if-not-is_front.ensures.differ refl (same ∙ sym (c.in-Ok.ensures known is))))
+
+pub loop-at-preserved : goal.loop-at-preserved
+loop-at-preserved g c =
+    let size = size_of c.min-size.result c.loop-at.buf c.read_all.new.buf (search rules) c.read_all.auto.buf in
+    let few : c.min-size.result ≤ length c.behind-rest.result.now = search rules in
+    let room : c.loop-at.at + c.min-size.result ≤ c.args.len = search rules in
+    record {
+      sign = omega (arith, few, ap length c.behind-rest.ensures, length-drop c.loop-at.at c.args.sign.now, c.loop-at-test.true);
+      len = room;
+      same = λ known is. c.loop-at.invariant.same known is
+          ∙ looked_on c.loop-at.at c.min-size.result c.args.sign.now (content known) c.behind-rest.result.now c.behind-rest.ensures
+          (ap (λ n. take n c.behind-rest.result.now) (sym size) ∙ c.if-not-is_front.ensures.same refl ∙ c.in-Ok.ensures known is ∙ ap (λ n. take n (drop c.loop-at.at (content known))) size);
+    }
+
+pub returns-else-at-len : goal.returns-else-at-len
+returns-else-at-len g c known is = sym (c.loop-at.invariant.same known is ∙ looked_all c.loop-at.at _ _ (omega (arith, c.if-at-len.false, c.requires known is)))

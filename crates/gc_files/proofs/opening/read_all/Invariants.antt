@@ -1,0 +1,14 @@
+use Rattle.std.proofs.Common.{◌≡◌, ◌≤◌, ◌-◌, length, take, drop, Some}
+use Rattle.gc_files.specs.Files.{Life, content}
+use Rattle.gc_files.proofs.opening.read_all.Given as goal
+
+-- so much of the buffer is what the file has there
+abbrev pub invariant-loop-done : goal.invariant-loop-done
+invariant-loop-done g l = record {
+  within : l.done ≤ length l.buf;
+  size : length l.buf ≡ length l.fn.buf;
+  bytes : (known : Life) → g.F.Appending.life l.file ≡ Some known → take l.done l.buf ≡ take l.done (drop l.at (content known));
+}
+
+abbrev pub decreases-loop-done : goal.decreases-loop-done
+decreases-loop-done g l = length l.initial.buf - l.done

@@ -1,0 +1,68 @@
+-- A file that is only appended to and cut at its end, and what a crash leaves of it: this project's own.
+use Rattle.std.specs.Prelude.{◌≡◌, ◌⊎◌, ℕ, ◌≤◌, Bool, true, false, List, [], ◌∷◌, ◌++◌, length, take, drop, Option, Some, Result, Ok, Err}
+
+-- one call that changed a file, or had it on the disk
+pub data Step : Type 0 where
+  Append : (bytes : List ℕ) → Step
+  Cut : (size : ℕ) → Step
+  Sync : Step
+
+-- what a file held when the machine started, all of it on the disk, and the calls since then
+pub record Life : Type 0 where
+  pub start : List ℕ
+  pub steps : List Step
+
+-- what a file holds behind a step
+abbrev pub stepped : List ℕ → Step → List ℕ
+stepped held (Append bytes) = held ++ bytes
+stepped held (Cut size) = take size held
+stepped held Sync = held
+
+-- what it holds behind these
+abbrev pub behind : List ℕ → List Step → List ℕ
+behind held [] = held
+behind held (step ∷ steps) = behind (stepped held step) steps
+
+-- what a crash in the course of a step finds: a front of what is appended, some length between at a cut
+abbrev pub InPart : List ℕ → Step → List ℕ → Type 0
+InPart held (Append bytes) left = (k : ℕ) × (left ≡ held ++ take k bytes)
+InPart held (Cut size) left = (k : ℕ) × (size ≤ k) × (left ≡ take k held)
+InPart held Sync left = left ≡ held
+
+-- a sync is among them
+abbrev pub has_sync : List Step → Bool
+has_sync [] = false
+has_sync (Sync ∷ steps) = true
+has_sync (Append bytes ∷ steps) = has_sync steps
+has_sync (Cut size ∷ steps) = has_sync steps
+
+-- what a crash may leave behind these steps: what the file held in the course of one behind which there is no sync, or holds now
+abbrev pub MayLeave : List ℕ → List Step → List ℕ → Type 0
+MayLeave held [] left = left ≡ held
+MayLeave held (step ∷ steps) left = ((has_sync (step ∷ steps) ≡ false) × InPart held step left) ⊎ MayLeave (stepped held step) steps left
+
+-- what a read returns
+abbrev pub content : Life → List ℕ
+content life = behind life.start life.steps
+
+-- a crash leaves what a read returns, and nothing else
+abbrev pub IsKept : Life → Type 0
+IsKept life = (left : List ℕ) → MayLeave life.start life.steps left → left ≡ content life
+
+-- the same life, some steps later
+abbrev pub later_by : List Step → Life → Life
+later_by steps life = record { start = life.start; steps = life.steps ++ steps }
+
+-- what is known of a file came to be by these steps
+abbrev pub Adds : Option Life → Option Life → List Step → Type 0
+Adds old new steps = (life : Life) → old ≡ Some life → new ≡ Some (later_by steps life)
+
+-- a call made this step, and none where it failed
+abbrev pub Makes : {X E : Type 0} → Option Life → Option Life → Result X E → (X → Step) → Type 0
+Makes old new (Ok x) step = Adds old new (step x ∷ [])
+Makes old new (Err _) step = new ≡ old
+
+-- the n bytes at the front of buf stand behind the first so many, and there are none only at the end
+pub record ReadsAt (life : Life) (at n : ℕ) (buf : List ℕ) : Type 0 where
+  pub bytes : take n buf ≡ take n (drop at (content life))
+  pub within : n ≡ 0 → length (content life) ≤ at

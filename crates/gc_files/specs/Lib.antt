@@ -1,0 +1,5 @@
+pub mod Files
+pub mod Calls
+pub mod Rows
+pub mod Runs
+pub mod Sinks

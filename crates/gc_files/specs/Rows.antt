@@ -1,0 +1,91 @@
+-- Files of rows, each ended by a line feed: what is whole of one, and what an opening makes of it. This project's own.
+use Rattle.std.specs.Prelude.{◌≡◌, ◌⊎◌, ℕ, ◌==◌, ◌&&◌, Bool, true, false, List, [], ◌∷◌, ◌++◌, length, take, if◌then◌else◌, Option, Some}
+use Rattle.gc_files.specs.Files.{Step, Append, Cut, Sync, Life, content, later_by}
+
+-- a line feed is among them
+abbrev pub has_feed : List ℕ → Bool
+has_feed [] = false
+has_feed (b ∷ bs) = if b == 10 then true else has_feed bs
+
+-- the whole rows: all up to the last line feed
+abbrev pub whole : List ℕ → List ℕ
+whole [] = []
+whole (b ∷ bs) = if has_feed (b ∷ bs) then b ∷ whole bs else []
+
+-- a row's line
+abbrev pub line : List ℕ → List ℕ
+line row = row ++ 10 ∷ []
+
+-- one begins with the other: as far as both go, they are the same
+abbrev pub fits : List ℕ → List ℕ → Bool
+fits [] held = true
+fits (a ∷ sign) [] = true
+fits (a ∷ sign) (b ∷ held) = (a == b) && fits sign held
+
+-- nothing is in it
+abbrev pub is_none : List ℕ → Bool
+is_none [] = true
+is_none (b ∷ bs) = false
+
+-- what an opening writes: the head, where no whole row is there
+abbrev pub start_of : List ℕ → List ℕ → List ℕ
+start_of head held = if is_none (whole held) then head else []
+
+-- what stands in a file once it is opened: its whole rows, or the head where there are none
+abbrev pub table : List ℕ → List ℕ → List ℕ
+table head held = whole held ++ start_of head held
+
+-- how an opening mends a file: what stands behind the last line feed is cut off, and that is on the disk before anything follows
+abbrev pub mended : List ℕ → List Step
+mended held = if length (whole held) == length held then [] else Cut (length (whole held)) ∷ Sync ∷ []
+
+-- nothing is cut
+abbrev pub cuts_none : List Step → Bool
+cuts_none [] = true
+cuts_none (Append bytes ∷ steps) = cuts_none steps
+cuts_none (Sync ∷ steps) = cuts_none steps
+cuts_none (Cut size ∷ steps) = false
+
+-- what they append
+abbrev pub appended : List Step → List ℕ
+appended [] = []
+appended (Append bytes ∷ steps) = bytes ++ appended steps
+appended (Sync ∷ steps) = appended steps
+appended (Cut size ∷ steps) = appended steps
+
+-- these steps append these bytes, and do nothing else but syncs
+pub record Puts (steps : List Step) (bytes : List ℕ) : Type 0 where
+  pub none_cut : cuts_none steps ≡ true
+  pub all : appended steps ≡ bytes
+
+-- a file was mended, and then these bytes were appended
+pub record Ran (held : List ℕ) (steps : List Step) (bytes : List ℕ) : Type 0 where
+  pub later : List Step
+  pub split : steps ≡ mended held ++ later
+  pub puts : Puts later bytes
+
+-- a file was mended in part, and nothing else was done
+pub record Mending (held : List ℕ) (steps : List Step) : Type 0 where
+  pub count : ℕ
+  pub is : steps ≡ take count (mended held)
+
+-- bytes went out as far as these
+pub record IsFront (front all : List ℕ) : Type 0 where
+  pub rest : List ℕ
+  pub split : all ≡ front ++ rest
+
+-- a run, as far as it came, which had these bytes to append behind what it found
+abbrev pub ComesTo : List ℕ → List ℕ → List Step → Type 0
+ComesTo held all steps = Mending held steps ⊎ ((bytes : List ℕ) × Ran held steps bytes × IsFront bytes all)
+
+-- an opening: the file is mended, and has its head
+abbrev pub Opens : List ℕ → Option Life → Option Life → Type 0
+Opens head old new = (life : Life) → old ≡ Some life → (steps : List Step) × (new ≡ Some (later_by steps life)) × Ran (content life) steps (start_of head (content life))
+
+-- an opening that failed, as far as it came
+abbrev pub OpensInPart : List ℕ → Option Life → Option Life → Type 0
+OpensInPart head old new = (life : Life) → old ≡ Some life → (steps : List Step) × (new ≡ Some (later_by steps life)) × ComesTo (content life) (start_of head (content life)) steps
+
+-- bytes were appended, in some pieces
+abbrev pub PutsAll : Option Life → Option Life → List ℕ → Type 0
+PutsAll old new bytes = (life : Life) → old ≡ Some life → (steps : List Step) × (new ≡ Some (later_by steps life)) × Puts steps bytes

@@ -1,0 +1,122 @@
+-- The runs of programs over one file, each ended by itself, by a kill or by a crash of the machine. This project's own.
+use Rattle.std.specs.Prelude.{◌≡◌, ◌⊎◌, ℕ, ◌≤◌, false, List, [], ◌∷◌, ◌++◌, length, take, Option, Some, None, if◌then◌else◌}
+use Rattle.std.specs.List.{AllByRecursion}
+use Rattle.gc_files.specs.Files.{Step, Append, Cut, Sync, Life, has_sync, content, later_by, MayLeave}
+use Rattle.gc_files.specs.Rows.{has_feed, line, table, start_of, Puts, Ran, IsFront, ComesTo}
+
+-- what was appended before the last sync
+abbrev pub synced : List Step → List ℕ
+synced [] = []
+synced (Append bytes ∷ steps) = if has_sync steps then bytes ++ synced steps else []
+synced (Sync ∷ steps) = synced steps
+synced (Cut size ∷ steps) = synced steps
+
+-- a run of a program: its rows without their line feeds, what it did to the file, how many rows it was told that they are
+-- kept, and what the machine's crash left, where one ended it
+pub record Run : Type 0 where
+  pub rows : List (List ℕ)
+  pub steps : List Step
+  pub kept : ℕ
+  pub left : Option (List ℕ)
+
+-- the lines of rows
+abbrev pub lines : List (List ℕ) → List ℕ
+lines [] = []
+lines (row ∷ rows) = line row ++ lines rows
+
+-- no row has a line feed
+abbrev pub AreRows : List (List ℕ) → Type 0
+AreRows rows = AllByRecursion (λ row. has_feed row ≡ false) rows
+
+-- a head is no line or one
+abbrev pub IsHead : List ℕ → Type 0
+IsHead head = (head ≡ []) ⊎ ((row : List ℕ) × (has_feed row ≡ false) × (head ≡ line row))
+
+-- the rows were kept: those stood in the file, the head before them, when a sync was done
+abbrev pub WereKept : List ℕ → List ℕ → List (List ℕ) → ℕ → List Step → Type 0
+WereKept head held rows kept steps = (kept ≡ 0) ⊎ IsFront (start_of head held ++ lines (take kept rows)) (synced steps)
+
+-- a run that found this in the file, as far as it came
+pub record IsRun (head held : List ℕ) (run : Run) : Type 0 where
+  pub rows : AreRows run.rows
+  pub steps : ComesTo held (start_of head held ++ lines run.rows) run.steps
+  pub few : run.kept ≤ length run.rows
+  pub kept : WereKept head held run.rows run.kept run.steps
+
+-- the file's life once the run has ended: a crash of the machine leaves what it may leave, and that is on the disk
+abbrev pub lived : Life → Run → Option (List ℕ) → Life
+lived life run None = later_by run.steps life
+lived life run (Some left) = record { start = left; steps = [] }
+
+abbrev pub Ended : Life → Run → Option (List ℕ) → Type 0
+Ended life run None = Unit {0}
+Ended life run (Some left) = MayLeave life.start (life.steps ++ run.steps) left
+
+-- runs one after the other
+abbrev pub Happen : List ℕ → Life → List Run → Type 0
+Happen head life [] = Unit {0}
+Happen head life (run ∷ runs) = IsRun head (content life) run × Ended life run run.left × Happen head (lived life run run.left) runs
+
+abbrev pub life_after : Life → List Run → Life
+life_after life [] = life
+life_after life (run ∷ runs) = life_after (lived life run run.left) runs
+
+-- of each run's rows the first so many
+abbrev pub rows_of : List Run → List ℕ → List ℕ
+rows_of [] counts = []
+rows_of (run ∷ runs) [] = []
+rows_of (run ∷ runs) (n ∷ counts) = lines (take n run.rows) ++ rows_of runs counts
+
+-- so many of each run, at least those that were kept, and no more than there are
+abbrev pub Counts : List Run → List ℕ → Type 0
+Counts [] [] = Unit {0}
+Counts [] (n ∷ counts) = ⊥
+Counts (run ∷ runs) [] = ⊥
+Counts (run ∷ runs) (n ∷ counts) = (run.kept ≤ n) × (n ≤ length run.rows) × Counts runs counts
+
+-- a file's table is what was there before, and behind it the rows of the runs in order, each once, none in part
+abbrev pub HasRows : List ℕ → List ℕ → List Run → List ℕ → Type 0
+HasRows head before runs held = (counts : List ℕ) × Counts runs counts × (table head held ≡ before ++ rows_of runs counts)
+
+-- Over any runs and crashes the table stays: whatever a crash at any moment leaves, and what a read returns, the next opening
+-- makes of it the table that was there before, and the rows of the runs.
+abbrev pub TablesLast : Type 0
+TablesLast = (head held : List ℕ) → IsHead head → (runs : List Run) → Happen head (record { start = held; steps = [] }) runs
+    → (left : List ℕ) → MayLeave (life_after (record { start = held; steps = [] }) runs).start (life_after (record { start = held; steps = [] }) runs).steps left
+    → HasRows head (table head held) runs left
+
+-- the first so many rows went out whole, the head before them
+abbrev pub WereWritten : List ℕ → List ℕ → List (List ℕ) → ℕ → List Step → Type 0
+WereWritten head held rows count steps =
+    (count ≡ 0)
+    ⊎ ((bytes : List ℕ) × Ran held steps bytes × IsFront bytes (start_of head held ++ lines rows) × IsFront (start_of head held ++ lines (take count rows)) bytes)
+
+-- a run that ended by itself or by a kill, with the machine going on; its rows count as kept where they went out whole
+pub record IsKilled (head held : List ℕ) (run : Run) : Type 0 where
+  pub rows : AreRows run.rows
+  pub steps : ComesTo held (start_of head held ++ lines run.rows) run.steps
+  pub few : run.kept ≤ length run.rows
+  pub written : WereWritten head held run.rows run.kept run.steps
+  pub killed : run.left ≡ None
+
+-- such runs one after the other
+abbrev pub AreKilled : List ℕ → Life → List Run → Type 0
+AreKilled head life [] = Unit {0}
+AreKilled head life (run ∷ runs) = IsKilled head (content life) run × AreKilled head (later_by run.steps life) runs
+
+-- Over any runs and kills, while the machine goes on, no row is lost that went out whole, synced or not: they stand in the table behind
+-- what was there before.
+abbrev pub KillsLoseNothing : Type 0
+KillsLoseNothing = (head : List ℕ) → IsHead head → (life : Life) (runs : List Run) → AreKilled head life runs
+    → HasRows head (table head (content life)) runs (content (life_after life runs))
+
+-- What the calls do to a file is a run: an opening, and behind it writes and syncs of rows as far as they came; or an opening that failed.
+-- A sync behind them keeps all that was appended.
+pub record CallsAreRuns : Type 0 where
+  pub opened : (head held : List ℕ) (opening later : List Step) (front : List ℕ) (rows : List (List ℕ)) (kept : ℕ) (left : Option (List ℕ))
+      → Ran held opening (start_of head held) → Puts later front → IsFront front (lines rows) → AreRows rows → kept ≤ length rows
+      → WereKept head held rows kept (opening ++ later)
+      → IsRun head held (record { rows = rows; steps = opening ++ later; kept = kept; left = left })
+  pub failed : (head held : List ℕ) (steps : List Step) (left : Option (List ℕ)) → ComesTo held (start_of head held) steps
+      → IsRun head held (record { rows = []; steps = steps; kept = 0; left = left })
+  pub kept : (held : List ℕ) (steps : List Step) (bytes : List ℕ) → Ran held steps bytes → synced (steps ++ Sync ∷ []) ≡ bytes

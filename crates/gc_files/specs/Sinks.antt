@@ -1,0 +1,26 @@
+-- What is known of the file behind a sink: this project's own.
+use Rattle.std.specs.Prelude.{◌≡◌, ◌⊎◌, ℕ, List, [], ◌∷◌, Bool, Option, Some, None}
+use Rattle.gc_files.specs.declared.appending.Appending.{Ghosts}
+use Rattle.gc_files.specs.declared.rows_file.RowsFile.{RowsFile}
+use Rattle.gc_files.specs.Files.{Life, Sync, content, Adds}
+
+-- what a read returns, where it is known
+abbrev pub known_content : Option Life → Option (List ℕ)
+known_content None = None
+known_content (Some life) = Some (content life)
+
+-- a sync was made, or nothing
+abbrev pub KeepsAll : Option Life → Option Life → Type 0
+KeepsAll old new = (new ≡ old) ⊎ Adds old new (Sync ∷ [])
+
+-- the life of the file behind a sink
+abbrev pub life_in : {F : Type 0} {D : Ghosts F} → RowsFile F D → Option Life
+life_in {F} {D} sink = D.life sink.file
+
+-- it has failed
+abbrev pub has_failed : {F : Type 0} {D : Ghosts F} → RowsFile F D → Bool
+has_failed sink = sink.broken
+
+-- it was opened so that `keep` syncs
+abbrev pub asks_sync : {F : Type 0} {D : Ghosts F} → RowsFile F D → Bool
+asks_sync sink = sink.sync

@@ -1,0 +1,127 @@
+//! A file in memory, of which all is known that was done to it: for tests, and as a witness that a file can be what
+//! `Appending` asks for.
+
+ghost use Rattle.std.specs.Prelude.{◌≡◌, ℕ, List, Some};
+ghost use Rattle.gc_files.specs.Calls.{step_of, life_by};
+ghost use Rattle.gc_files.specs.Files.{content, stepped, Makes};
+
+use crate::appending::Appending;
+use gc_lines::PortFailed;
+use std::alloc::Global;
+
+/// A call that changed a file, or had it on the disk.
+#[derive(Drop)]
+pub enum Call {
+    /// These bytes were appended.
+    Append(Vec<u8>),
+    /// It was cut to so many bytes.
+    Cut(u64),
+    /// All that it holds was had on the disk.
+    Sync,
+}
+
+/// A file in memory: what it held at first, each call since, and what it holds. It takes so many bytes and no more, as a disk
+/// that is full then.
+#[derive(Drop)]
+pub struct MemoryFile {
+    alloc: Global,
+    start: Vec<u8>,
+    calls: Vec<Call>,
+    bytes: Vec<u8>,
+    room: usize,
+    // What it holds is what the calls made of what it held.
+    ghost same: { bytes.items ≡ content (life_by start.items calls.items) },
+}
+
+impl MemoryFile {
+    /// A file that holds these bytes, all of them on the disk, and takes so many more. `None` where memory is wanting.
+    pub fn new(alloc: Global, start: &[u8], room: usize) -> Option<MemoryFile> {
+        let (Ok(first), Ok(bytes)) = (start.to_vec(alloc), start.to_vec(alloc)) else {
+            return None;
+        };
+        Some(MemoryFile {
+            alloc,
+            start: first,
+            calls: Vec::new(alloc),
+            bytes,
+            room,
+        })
+    }
+
+    /// What it holds.
+    pub fn bytes(&self) -> &[u8] {
+        &self.bytes
+    }
+}
+
+// Notes a call down, and puts what the file holds behind it in the place of what it held.
+fn note(
+    calls: &mut Vec<Call>,
+    bytes: &mut Vec<u8>,
+    call: Call,
+    next: Vec<u8>,
+) -> Result<(), PortFailed>
+    requires { next.items ≡ stepped bytes.old.items (step_of call) }
+    ensures same { (start : List ℕ) → bytes.old.items ≡ content (life_by start calls.old.items) → bytes.new.items ≡ content (life_by start calls.new.items) }
+    ensures step { (start : List ℕ) → Makes (Some (life_by start calls.old.items)) (Some (life_by start calls.new.items)) result (λ _. step_of call) }
+{
+    match calls.push(call) {
+        Ok(()) => {
+            *bytes = next;
+            Ok(())
+        }
+        Err(_) => Err(PortFailed),
+    }
+}
+
+impl Appending for MemoryFile {
+    ghost life = { λ m. Some (life_by m.start.items m.calls.items) };
+
+    fn len(&self) -> Result<u64, PortFailed> {
+        Ok(self.bytes.len() as u64)
+    }
+
+    fn read_at(&self, at: u64, buf: &mut [u8]) -> Result<usize, PortFailed> {
+        let from = (at as usize).min(self.bytes.len());
+        let n = buf.len().min(self.bytes.len() - from);
+        buf[..n].copy_from_slice(&self.bytes[from..from + n]);
+        Ok(n)
+    }
+
+    fn cut(&mut self, len: u64) -> Result<(), PortFailed> {
+        let Ok(next) = self.bytes[..(len as usize).min(self.bytes.len())].to_vec(self.alloc) else {
+            return Err(PortFailed);
+        };
+        note(&mut self.calls, &mut self.bytes, Call::Cut(len), next)
+    }
+
+    fn append(&mut self, bytes: &[u8]) -> Result<usize, PortFailed> {
+        let n = bytes.len().min(self.room);
+        if n == 0 {
+            return Err(PortFailed);
+        }
+        let Ok(piece) = bytes[..n].to_vec(self.alloc) else {
+            return Err(PortFailed);
+        };
+        let Ok(mut next) = self.bytes.to_vec(self.alloc) else {
+            return Err(PortFailed);
+        };
+        let Ok(()) = next.extend_from_slice(&bytes[..n]) else {
+            return Err(PortFailed);
+        };
+        match note(&mut self.calls, &mut self.bytes, Call::Append(piece), next) {
+            Ok(()) => {
+                self.room -= n;
+                Ok(n)
+            }
+            Err(failed) => Err(failed),
+        }
+    }
+
+    fn sync(&mut self) -> Result<(), PortFailed> {
+        let Ok(next) = self.bytes.to_vec(self.alloc) else {
+            return Err(PortFailed);
+        };
+        note(&mut self.calls, &mut self.bytes, Call::Sync, next)
+    }
+}

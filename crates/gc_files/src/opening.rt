@@ -1,0 +1,234 @@
+//! A file of rows is looked at before it is touched: only what begins as such a file is taken, and what a crash left of its
+//! last row is cut off.
+
+ghost use Rattle.std.specs.Prelude.{◌≡◌, ◌<◌, ◌≤◌, ◌+◌, ◌-◌, ◌^◌, ◌++◌, [], List, ℕ, length, take, drop, true, false, Some, IfOk, IfErr, OnOk, OnErr, IsErrOf, IsTrue, IsFalse};
+ghost use Rattle.gc_files.specs.declared.opening.Refused.TheVariants.{Foreign};
+ghost use Rattle.gc_files.specs.Sinks.{life_in, has_failed, asks_sync};
+ghost use Rattle.gc_files.specs.Files.{Life, Step, content, Adds};
+ghost use Rattle.gc_files.specs.Rows.{whole, fits, start_of, mended, table, Mending, Opens, OpensInPart, PutsAll, IsFront};
+
+use crate::appending::Appending;
+use crate::rows_file::RowsFile;
+use gc_lines::PortFailed;
+use memchr::memrchr;
+
+// How many bytes are read at once.
+const BLOCK: usize = 4096;
+
+/// Why a file isn't opened as one of rows.
+#[derive(Clone, Copy, Debug, PartialEq, Eq)]
+pub enum Refused {
+    /// It is no file of such rows: it neither begins with the sign nor is a front of it. It was not touched.
+    Foreign,
+    /// A call of the file failed. The whole rows that it held stand; what stood behind them may be cut off, and of the head, in
+    /// an empty file, a front may be written. The next opening repairs both.
+    Failed,
+}
+
+// What stands behind the first so many bytes.
+fn behind(bytes: &[u8], at: usize) -> &[u8]
+    requires { at ≤ length bytes.now }
+    ensures { result.now ≡ drop at bytes.now }
+{
+    &bytes[at..]
+}
+
+// Whether this piece is the front of a text, which is no shorter.
+fn is_front(text: &[u8], piece: &[u8]) -> bool
+    requires { length piece.now ≤ length text.now }
+    ensures same { IsTrue result → take (length piece.now) text.now ≡ piece.now }
+    ensures differ { IsFalse result → take (length piece.now) text.now ≡ piece.now → ⊥ }
+{
+    &text[..piece.len()] == piece
+}
+
+// Fills the buffer with what stands behind the first `at` bytes.
+fn read_all<F: Appending>(file: &F, at: u64, buf: &mut [u8]) -> Result<(), PortFailed>
+    requires room { at + length buf.old < 2 ^ 64 }
+    requires known { (known : Life) → F.life file.now ≡ Some known → at + length buf.old ≤ length (content known) }
+    ensures { OnOk result ((known : Life) → F.life file.now ≡ Some known → buf.new ≡ take (length buf.new) (drop at (content known))) }
+{
+    let mut done = 0;
+    while done < buf.len() {
+        let from = at + done as u64;
+        let n = match file.read_at(from, &mut buf[done..]) {
+            Ok(n) => n,
+            Err(failed) => return Err(failed),
+        };
+        if n == 0 {
+            return Err(PortFailed);
+        }
+        done += n;
+    }
+    Ok(())
+}
+
+// Whether a file of `len` bytes begins with the sign, or is a front of it.
+fn has_sign<F: Appending>(file: &F, len: u64, sign: &[u8]) -> Result<bool, PortFailed>
+    requires { (known : Life) → F.life file.now ≡ Some known → len ≡ length (content known) }
+    ensures { IfOk result (λ b. (known : Life) → F.life file.now ≡ Some known → b ≡ fits sign.now (content known)) }
+{
+    let mut buf = [0u8; BLOCK];
+    let mut at = 0usize;
+    while at < sign.len() && (at as u64) < len {
+        let rest = behind(sign, at);
+        let most = rest.len().min(BLOCK) as u64;
+        let size = most.min(len - at as u64) as usize;
+        let block = &mut buf[..size];
+        match read_all(file, at as u64, block) {
+            Ok(()) => {}
+            Err(failed) => return Err(failed),
+        }
+        if !is_front(rest, block) {
+            return Ok(false);
+        }
+        at += size;
+    }
+    Ok(true)
+}
+
+// How many bytes of a block stand up to its last line feed, and with it.
+fn whole_len(block: &[u8]) -> usize
+    ensures len { result ≡ length (whole block.now) }
+    ensures within { result ≤ length block.now }
+{
+    match memrchr(b'\n', block) {
+        Some(last) => last + 1,
+        None => 0,
+    }
+}
+
+// Where the last whole row of the first `len` bytes ends: behind their last line feed. The blocks are read from the end.
+fn end_of_rows<F: Appending>(file: &F, len: u64) -> Result<u64, PortFailed>
+    requires { (known : Life) → F.life file.now ≡ Some known → len ≡ length (content known) }
+    ensures within { IfOk result (λ end. end ≤ len) }
+    ensures end { IfOk result (λ end. (known : Life) → F.life file.now ≡ Some known → end ≡ length (whole (content known))) }
+{
+    let mut buf = [0u8; BLOCK];
+    let mut end = len;
+    while end > 0 {
+        let size = end.min(BLOCK as u64);
+        let at = end - size;
+        let block = &mut buf[..size as usize];
+        match read_all(file, at, block) {
+            Ok(()) => {}
+            Err(failed) => return Err(failed),
+        }
+        let rows = whole_len(block);
+        if rows > 0 {
+            return Ok(at + rows as u64);
+        }
+        end = at;
+    }
+    Ok(0)
+}
+
+// Cuts the file to its first `end` bytes where it has more, and has that on the disk before anything is put behind them.
+fn repair<F: Appending>(file: &mut F, len: u64, end: u64) -> Result<(), PortFailed>
+    requires len { (known : Life) → F.life file.old ≡ Some known → len ≡ length (content known) }
+    requires end { (known : Life) → F.life file.old ≡ Some known → end ≡ length (whole (content known)) }
+    requires within { end ≤ len }
+    ensures ok { OnOk result ((known : Life) → F.life file.old ≡ Some known → Adds (F.life file.old) (F.life file.new) (mended (content known))) }
+    ensures err { OnErr result ((known : Life) → F.life file.old ≡ Some known → (count : ℕ) × Adds (F.life file.old) (F.life file.new) (take count (mended (content known)))) }
+{
+    if end < len {
+        file.cut(end)?;
+        file.sync()?;
+    }
+    Ok(())
+}
+
+// Appends all of these bytes.
+fn append_all<F: Appending>(file: &mut F, bytes: &[u8]) -> Result<(), PortFailed>
+    ensures ok { OnOk result (PutsAll (F.life file.old) (F.life file.new) bytes.now) }
+    ensures err { OnErr result ((front : List ℕ) × IsFront front bytes.now × PutsAll (F.life file.old) (F.life file.new) front) }
+{
+    let mut done = 0;
+    while done < bytes.len() {
+        match file.append(behind(bytes, done)) {
+            Ok(n) => done += n,
+            Err(failed) => return Err(failed),
+        }
+    }
+    Ok(())
+}
+
+// Cuts off what stands behind the last whole row, and writes the head where there is none.
+fn mend<F: Appending>(file: &mut F, len: u64, end: u64, head: &[u8]) -> Result<(), PortFailed>
+    requires len { (known : Life) → F.life file.old ≡ Some known → len ≡ length (content known) }
+    requires end { (known : Life) → F.life file.old ≡ Some known → end ≡ length (whole (content known)) }
+    requires within { end ≤ len }
+    ensures ok { OnOk result (Opens head.now (F.life file.old) (F.life file.new)) }
+    ensures err { OnErr result (OpensInPart head.now (F.life file.old) (F.life file.new)) }
+{
+    match repair(file, len, end) {
+        Ok(()) => {}
+        Err(failed) => return Err(failed),
+    }
+    if end > 0 {
+        return Ok(());
+    }
+    match append_all(file, head) {
+        Ok(()) => Ok(()),
+        Err(failed) => Err(failed),
+    }
+}
+
+// Looks, cuts, and writes the head into an empty file. It says how many bytes were cut off.
+fn prepare<F: Appending>(file: &mut F, head: &[u8], sign: &[u8]) -> Result<u64, Refused>
+    ensures opened { OnOk result (Opens head.now (F.life file.old) (F.life file.new)) }
+    ensures torn { IfOk result (λ torn. (known : Life) → F.life file.old ≡ Some known → length (content known) ≡ length (whole (content known)) + torn) }
+    ensures taken { OnOk result ((known : Life) → F.life file.old ≡ Some known → fits sign.now (content known) ≡ true) }
+    ensures foreign { IsErrOf result Refused.Foreign → F.life file.new ≡ F.life file.old }
+    ensures why { IsErrOf result Refused.Foreign → (known : Life) → F.life file.old ≡ Some known → fits sign.now (content known) ≡ false }
+    ensures failed { OnErr result (OpensInPart head.now (F.life file.old) (F.life file.new)) }
+{
+    let Ok(len) = file.len() else {
+        return Err(Refused::Failed);
+    };
+    let Ok(is_one) = has_sign(file, len, sign) else {
+        return Err(Refused::Failed);
+    };
+    if !is_one {
+        return Err(Refused::Foreign);
+    }
+    let Ok(end) = end_of_rows(file, len) else {
+        return Err(Refused::Failed);
+    };
+    match mend(file, len, end, head) {
+        Ok(()) => Ok(len - end),
+        Err(_) => Err(Refused::Failed),
+    }
+}
+
+/// Opens a file of rows: one that begins with `sign`, or that is a front of it, as an empty one is. What stands behind its last
+/// line feed is cut off, and into a file that is empty then `head` is written. It gives the file, and how many bytes were cut
+/// off. An `Err` hands the file back.
+///
+/// For a table both are its header; for rows without one `head` is empty, and `sign` is what each row begins with. With `sync`
+/// what is appended is on the disk after each [`RowsFile::keep`].
+pub fn open_rows<F: Appending>(
+    mut file: F,
+    head: &[u8],
+    sign: &[u8],
+    sync: bool,
+) -> Result<(RowsFile<F>, u64), (Refused, F)>
+    // What was taken has the sign, is mended and has its head.
+    ensures opened { IfOk result (λ all. Opens head.now (F.life file) (life_in all.0)) }
+    ensures taken { OnOk result ((known : Life) → F.life file ≡ Some known → fits sign.now (content known) ≡ true) }
+    ensures torn { IfOk result (λ all. (known : Life) → F.life file ≡ Some known → length (content known) ≡ length (whole (content known)) + all.1) }
+    ensures sound { IfOk result (λ all. has_failed all.0 ≡ false) }
+    ensures sync { IfOk result (λ all. asks_sync all.0 ≡ sync) }
+
+    // What hasn't the sign is refused, and only that; it was not touched.
+    ensures foreign { IfErr result (λ why. why.0 ≡ Foreign → F.life why.1 ≡ F.life file) }
+    ensures why { IfErr result (λ why. why.0 ≡ Foreign → (known : Life) → F.life file ≡ Some known → fits sign.now (content known) ≡ false) }
+
+    // Where a call of the file failed, it is mended as far as that came.
+    ensures failed { IfErr result (λ why. OpensInPart head.now (F.life file) (F.life why.1)) }
+{
+    match prepare(&mut file, head, sign) {
+        Ok(torn) => Ok((RowsFile::new(file, sync), torn)),
+        Err(why) => Err((why, file)),
+    }
+}

@@ -1,0 +1,108 @@
+//! A sink whose bytes stay in a file: a row is appended as it ends, and on the disk where that is asked for.
+
+ghost use Rattle.std.specs.Prelude.{◌≡◌, ◌<◌, true, false, take, length, Some, OnOk, IsTrue};
+ghost use Rattle.gc_files.specs.Files.{Life, Append, IsKept, Makes};
+ghost use Rattle.gc_lines.specs.Ports.{TakesBytes, Fails};
+
+use crate::appending::Appending;
+use gc_lines::{PortFailed, Sink};
+
+/// A file that rows are appended to, as a sink: what it holds counts as taken. After a failure it stays failed, so that no row
+/// stands behind half of another.
+#[derive(Drop)]
+pub struct RowsFile<F: Appending> {
+    file: F,
+    // Whether what is appended is to be on the disk before `keep` ends.
+    sync: bool,
+    // Whether something may not be on the disk.
+    unkept: bool,
+    broken: bool,
+    // What isn't marked is on the disk.
+    ghost durable: { unkept ≡ false → (known : Life) → F.life file ≡ Some known → IsKept known },
+}
+
+impl<F: Appending> RowsFile<F> {
+    ghost use Rattle.gc_files.specs.Sinks.{KeepsAll, life_in, has_failed, asks_sync};
+
+    // A sink over a file that ends in a whole row, or has none. What it holds may not be on the disk yet.
+    pub(crate) fn new(file: F, sync: bool) -> RowsFile<F>
+        ensures life { life_in result ≡ F.life file }
+        ensures failed { has_failed result ≡ false }
+        ensures sync { asks_sync result ≡ sync }
+    {
+        RowsFile {
+            file,
+            sync,
+            unkept: true,
+            broken: false,
+        }
+    }
+
+    /// The file behind it.
+    pub fn file(&self) -> &F
+        ensures { F.life result.now ≡ life_in self.now }
+    {
+        &self.file
+    }
+
+    /// Has what was appended on the disk, where the file was opened so: after `Ok` a crash leaves all that was taken. Where
+    /// nothing was appended since the last time it does nothing, and neither does it where the file was opened without `sync`.
+    ///
+    /// It fails where the file failed in this call or has failed before.
+    pub fn keep(&mut self) -> Result<(), PortFailed>
+        ensures kept { OnOk result (asks_sync self.new ≡ true → (known : Life) → life_in self.new ≡ Some known → IsKept known) }
+        ensures steps { KeepsAll (life_in self.old) (life_in self.new) }
+        ensures sync { asks_sync self.new ≡ asks_sync self.old }
+        ensures fails { Fails (has_failed self.old) (has_failed self.new) result }
+    {
+        if self.broken {
+            return Err(PortFailed);
+        }
+        if !self.sync || !self.unkept {
+            return Ok(());
+        }
+        match self.file.sync() {
+            Ok(()) => {
+                self.unkept = false;
+                Ok(())
+            }
+            Err(failed) => {
+                self.broken = true;
+                Err(failed)
+            }
+        }
+    }
+}
+
+impl<F: Appending> Sink for RowsFile<F> {
+    ghost use Rattle.gc_files.specs.Sinks.{known_content, life_in, has_failed, asks_sync};
+
+    ghost taken = { λ r. known_content (F.life r.file) };
+
+    ghost failed = { λ r. r.broken };
+
+    fn write(&mut self, bytes: &[u8]) -> Result<usize, PortFailed>
+        requires { 0 < length bytes.now }
+        ensures bytes { TakesBytes (known_content (life_in self.old)) (known_content (life_in self.new)) result bytes.now }
+        ensures fails { Fails (has_failed self.old) (has_failed self.new) result }
+        // One piece is appended, and none where it failed.
+        ensures step { Makes (life_in self.old) (life_in self.new) result (λ n. Append (take n bytes.now)) }
+        ensures sync { asks_sync self.new ≡ asks_sync self.old }
+    {
+        if self.broken {
+            return Err(PortFailed);
+        }
+        self.unkept = true;
+        match self.file.append(bytes) {
+            Ok(n) => Ok(n),
+            Err(why) => {
+                self.broken = true;
+                Err(why)
+            }
+        }
+    }
+
+    fn has_failed(&self) -> bool {
+        self.broken
+    }
+}
