@@ -12,7 +12,10 @@
 //! ([`laws::calls_are_runs`]).
 //!
 //! Trusted: that a file of the system is such a file, which holds that a call that fails has changed nothing, that a crash
-//! leaves a front of what was appended since the last sync, and that a sync is kept.
+//! leaves a front of what was appended since the last sync, and that a sync is kept; and that what a file held before the
+//! first run is on the disk. Two things are outside of that: a sync that failed, behind which the system may count bytes as
+//! written that aren't, and a cut that was made and whose sync failed, which a later crash may take back. When a file can be
+//! opened, and which path is refused, is in no clause.
 #![tactic(auto)]
 
 mod appending;

@@ -182,6 +182,7 @@ fn prepare<F: Appending>(file: &mut F, head: &[u8], sign: &[u8]) -> Result<u64, 
     ensures foreign { IsErrOf result Refused.Foreign → F.life file.new ≡ F.life file.old }
     ensures why { IsErrOf result Refused.Foreign → (known : Life) → F.life file.old ≡ Some known → fits sign.now (content known) ≡ false }
     ensures failed { OnErr result (OpensInPart head.now (F.life file.old) (F.life file.new)) }
+    ensures untouched { OnErr result ((known : Life) → F.life file.old ≡ Some known → fits sign.now (content known) ≡ false → F.life file.new ≡ F.life file.old) }
 {
     let Ok(len) = file.len() else {
         return Err(Refused::Failed);
@@ -224,8 +225,9 @@ pub fn open_rows<F: Appending>(
     ensures foreign { IfErr result (λ why. why.0 ≡ Foreign → F.life why.1 ≡ F.life file) }
     ensures why { IfErr result (λ why. why.0 ≡ Foreign → (known : Life) → F.life file ≡ Some known → fits sign.now (content known) ≡ false) }
 
-    // Where a call of the file failed, it is mended as far as that came.
+    // Where a call of the file failed, it is mended as far as that came; but one without the sign was not touched, whatever is told.
     ensures failed { IfErr result (λ why. OpensInPart head.now (F.life file) (F.life why.1)) }
+    ensures untouched { IfErr result (λ why. (known : Life) → F.life file ≡ Some known → fits sign.now (content known) ≡ false → F.life why.1 ≡ F.life file) }
 {
     match prepare(&mut file, head, sign) {
         Ok(torn) => Ok((RowsFile::new(file, sync), torn)),

@@ -52,6 +52,7 @@ impl<F: Appending> RowsFile<F> {
     pub fn keep(&mut self) -> Result<(), PortFailed>
         ensures kept { OnOk result (asks_sync self.new ≡ true → (known : Life) → life_in self.new ≡ Some known → IsKept known) }
         ensures steps { KeepsAll (life_in self.old) (life_in self.new) }
+        ensures idle { asks_sync self.old ≡ false → life_in self.new ≡ life_in self.old }
         ensures sync { asks_sync self.new ≡ asks_sync self.old }
         ensures fails { Fails (has_failed self.old) (has_failed self.new) result }
     {

@@ -1,6 +1,7 @@
 //! The files of the system: opened so that nothing is lost by it, and held against other programs.
 
-ghost use Rattle.std.specs.Prelude.{None};
+ghost use Rattle.std.specs.Prelude.{◌≡◌, None, false, IfOk};
+ghost use Rattle.gc_files.specs.Sinks.{asks_sync, has_failed};
 
 use crate::appending::Appending;
 use crate::opening::{Refused, open_rows};
@@ -133,7 +134,10 @@ pub fn open_at<R: Files<File = File>>(
     head: &[u8],
     sign: &[u8],
     sync: bool,
-) -> Result<(RowsFile<SystemFile>, u64), Unfit> {
+) -> Result<(RowsFile<SystemFile>, u64), Unfit>
+    ensures sync { IfOk result (λ all. asks_sync all.0 ≡ sync) }
+    ensures sound { IfOk result (λ all. has_failed all.0 ≡ false) }
+{
     expect_file(rt, path)?;
     let file = open_held(rt, path)?;
     if sync {
