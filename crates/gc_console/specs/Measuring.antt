@@ -1,5 +1,5 @@
 -- What a station does with the tasks of a text, in front of its records and with them, and what is told of its end: this project's own.
-use Rattle.std.specs.Prelude.{◌≡◌, ℕ, ◌⊎◌, List, ◌++◌, Option, Result, Ok, Err, codes}
+use Rattle.std.specs.Prelude.{◌≡◌, ℕ, Bool, true, ◌⊎◌, List, [], ◌++◌, if◌then◌else◌, Option, Result, Ok, Err, codes}
 use Rattle.std.specs.Fmt.{decimal}
 use Rattle.std.specs.Io.KnownBytes.{Appends}
 use Rattle.gc_ask.specs.AskRuns.{Input}
@@ -9,12 +9,13 @@ use Rattle.gc_console.specs.Choices.{plan_of}
 use Rattle.gc_console.specs.Stops.{stop_text, end_of_run}
 use Rattle.gc_console.specs.TaskTexts.{GivesTasks, RefusesTasks}
 use Rattle.gc_console.specs.declared.choice.Choice.{Choice}
+use Rattle.gc_console.specs.declared.layout.Layout.{Layout}
 use Rattle.gc_console.specs.declared.stop.Stop.{Stop}
 use Rattle.gc_console.specs.declared.stop.Stop.TheVariants.{Text, Line, Run}
 use Rattle.gc_lines.specs.Ports.{TakesFront}
 use Rattle.gc_links.specs.Acts.{Act}
 use Rattle.gc_station.specs.Records.{Record}
-use Rattle.gc_station.specs.Runs.{Ran}
+use Rattle.gc_station.specs.Runs.{Ran, LastsBut}
 use Rattle.gc_station.specs.Scopes.{AreReadings}
 use Rattle.gc_station.specs.declared.tally.Tally.{Tally}
 use Rattle.gc_texts.specs.Names.{name_text}
@@ -29,6 +30,10 @@ use Rattle.gc_texts.specs.declared.tasks.Task.{Task}
 abbrev pub text_in : Form → List Name → Record → List ℕ
 text_in form names r = record_text form r.utc r.cycle r.place (name_text r.command.target names) r.command r.end
 
+-- what is to be written in front of the records
+abbrev pub front_text : Layout → List ℕ
+front_text layout = if layout.headed then [] else head_text layout.form
+
 -- what is seen of where a station works: what the link told, what the sink took, and what stands on the messages, where these are known
 pub record Places : Type 0 where
   pub acts : Option (List Act)
@@ -36,35 +41,41 @@ pub record Places : Type 0 where
   pub messages : Option (List ℕ)
 
 -- the sink failed in front of the records: it took the first bytes of what stands there, which aren't all, and nothing else was done
-pub record FailsInFront (form : Form) (old new : Places) (result : Result Tally Stop) : Type 0 where
+pub record FailsInFront (layout : Layout) (old new : Places) (result : Result Tally Stop) : Type 0 where
   pub is : result ≡ Err (Run Output)
   pub bytes : ℕ
-  pub took : TakesFront old.taken new.taken bytes (head_text form)
+  pub took : TakesFront old.taken new.taken bytes (front_text layout)
   pub acts : new.acts ≡ old.acts
   pub messages : new.messages ≡ old.messages
 
 -- the sink took what stands in front of the records, and then what a run over the link writes down of these tasks, by the plan of a
 -- choice, for whatever function says what each reply says of its call
-pub record RunsBehind (form : Form) (choice : Choice) (names : List Name) (tasks : List Task) (turns : ℕ) (old new : Places) (result : Result Tally Stop) : Type 0 where
+pub record RunsBehind (layout : Layout) (choice : Choice) (names : List Name) (tasks : List Task) (turns : ℕ) (old new : Places) (result : Result Tally Stop) : Type 0 where
   pub between : Option (List ℕ)
-  pub front : Appends old.taken between (head_text form)
+  pub front : Appends old.taken between (front_text layout)
   pub end : Result Tally RunFault
   pub is : result ≡ end_of_run end
   pub ran : (reads : Call → List ℕ → Reading) → AreReadings reads
-      → Ran (plan_of choice tasks) tasks (record { turns = turns; reads = reads }) (text_in form names) old.acts new.acts between new.taken end
+      → Ran (plan_of choice tasks) tasks (record { turns = turns; reads = reads }) (text_in layout.form names) old.acts new.acts between new.taken end
 
 -- the text that a source gave was refused, and then nothing was done over the link, and nothing written; or its tasks were measured
-abbrev pub Measures : List ℕ → Input → Input → Form → Choice → ℕ → Places → Places → Result Tally Stop → Type 0
-Measures given input_old input_new form choice turns old new result =
+abbrev pub Measures : List ℕ → Input → Input → Layout → Choice → ℕ → Places → Places → Result Tally Stop → Type 0
+Measures given input_old input_new layout choice turns old new result =
     ((stop : Stop) × (result ≡ Err stop) × RefusesTasks given input_old input_new stop × (new ≡ old))
     ⊎ ((tasks : List Task) × (names : List Name) × GivesTasks given input_old input_new choice.deadline choice.chained tasks names
-    × (FailsInFront form old new result ⊎ RunsBehind form choice names tasks turns old new result))
+    × (FailsInFront layout old new result ⊎ RunsBehind layout choice names tasks turns old new result))
 
 -- where the text was refused nothing was done over the link, and nothing written
 abbrev pub IsUntouched : Places → Places → Result Tally Stop → Type 0
 IsUntouched old new (Err (Text fault)) = new ≡ old
 IsUntouched old new (Err (Line n trouble)) = new ≡ old
 IsUntouched old new _ = Unit {0}
+
+-- all records last, but where the text was refused or the sink failed
+abbrev pub AllLast : Bool → Result Tally Stop → Type 0
+AllLast lasts (Ok _) = lasts ≡ true
+AllLast lasts (Err (Run fault)) = LastsBut {X = Tally} lasts (Err fault)
+AllLast lasts (Err _) = Unit {0}
 
 -- the line of a cycle that was not done when the next was due
 abbrev pub overrun_line : ℕ → List ℕ

@@ -4,11 +4,11 @@ ghost use Rattle.std.specs.Prelude.{◌≡◌, ◌≤◌, false, IfOk};
 ghost use Rattle.std.specs.Process.{exit_status};
 ghost use Rattle.gc_console.specs.Streams.{are_open, TellsClosed};
 
-use crate::logging::run_logged_at;
 use crate::ports::{ask_place, loop_port};
+use crate::recording::{Recording, append_at, measure_at};
 use crate::standard::Standard;
-use crate::station::{Station, run_station_at};
-use gc_lines::{Sink, Source};
+use crate::station::Station;
+use gc_lines::{Lasting, Source};
 use gc_links::Place;
 use std::alloc::Global;
 use std::fs::File;
@@ -22,18 +22,26 @@ use std::time::Clock;
 #[derive(Drop)]
 pub(crate) enum Asking<'a> {
     // Of the instrument in the file of a scene, where one is named.
-    Loop { scene: Option<&'a str> },
-    Ask { place: Place<'a> },
-    Station(Place<'a>, Station),
-    // With a log, into the file of this path.
-    Logged(Place<'a>, Station, &'a str),
+    Loop {
+        scene: Option<&'a str>,
+    },
+    Ask {
+        place: Place<'a>,
+    },
+    // With its records in a file, and with a log, where these are named.
+    Station {
+        place: Place<'a>,
+        station: Station,
+        recording: Option<Recording<'a>>,
+        log: Option<&'a str>,
+    },
 }
 
 /// Asks, and tells how it ended; or tells that a standard stream is closed. The sink is handed back.
 pub(crate) fn run_asking<
     R: Net<Listener = TcpListener, Stream = TcpStream> + Clock + Files<File = File>,
     S: Source,
-    K: Sink,
+    K: Lasting,
     E: Write,
 >(
     rt: &R,
@@ -63,13 +71,22 @@ pub(crate) fn run_asking<
             let ended = ask_place(rt, alloc, place, source, &mut sink, messages);
             (sink, ended)
         }
-        Asking::Station(place, station) => {
+        Asking::Station {
+            place,
+            station,
+            recording,
+            log,
+        } => {
             let station = station.watched(standard.terminal);
-            run_station_at(rt, alloc, place, station, source, sink, messages)
-        }
-        Asking::Logged(place, station, path) => {
-            let station = station.watched(standard.terminal);
-            run_logged_at(rt, alloc, place, station, path, source, sink, messages)
+            match recording {
+                None => measure_at(rt, alloc, place, station, log, source, sink, messages),
+                Some(recording) => {
+                    let ended = append_at(
+                        rt, alloc, place, station, recording, log, source, messages,
+                    );
+                    (sink, ended)
+                }
+            }
         }
     }
 }

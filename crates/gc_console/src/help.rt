@@ -16,7 +16,7 @@ Exit status: 0 where it is done, 1 after a fault, 2 for a command line that does
 A fault is one line on standard error, `geocom: fault N`:
   41  a scene has more than 32 targets
   42  the input, the connection, or the file of a scene could not be read
-  43  the output, or the connection, could not be written: `reply R byte B` says what went out
+  43  the output, or the connection, could not be written: R whole lines went out, and B bytes of the next
   44  as many reads were made as are allowed, and none was the end
   45  the other end closed the connection before a request was settled
   46  no reply came any more, though the connection stood
@@ -24,13 +24,16 @@ A fault is one line on standard error, `geocom: fault N`:
   51  a line of the schedule, of the commands, or of a scene has no form: `line L` says which, counted from 1
   52  no memory was found
   53  the schedule, the commands, or a scene have more than 65536 bytes
-  54  a port could not be bound, no connection made or accepted, or no device opened
+  54  a port could not be bound, a name not found, no connection made or accepted, or no device opened
   55  the settlements, or this text, could not be written
   56  standard input, output or error is closed: `station`, `ask` and `loop` did nothing
-  57  the log could not be opened
+  57  the log could not be opened, or is held
   58  what has the path of a device is no terminal
   59  another program holds the device
-  60  this program may not read and write the device";
+  60  this program may not read and write the device
+  64  the file of records could not be opened for reading and appending, or is no regular file
+  65  another program holds the file of records
+  66  the file of records holds something else, and stays as it is";
 
 /// What the help of `exec` ends with.
 pub(crate) const REQUESTS: &str =
@@ -47,7 +50,7 @@ pub(crate) const VERDICTS: &str =
   N request RPC ok         a request that reads
   N request RPC fault F    a request of no known procedure (21), or whose parameters don't read (11 to 15)
   N reply RC_COM RC        a reply
-  N fault F                a line that is neither: F is its first bad field, 1 to 5
+  N fault F                a line that reads as neither: F is its first bad field, 1 to 5
   N cleared                a line feed without a CR before it: an instrument drops what came
   N overlong               more than 512 bytes
 Bytes behind the last line feed get none.
@@ -125,6 +128,10 @@ Each is asked once in each cycle, and each gets a line as it ends, which begins 
 A request that is given up keeps its id, and holds up no other. The connection is closed and made anew where it ends or
 fails, and where something waits and no reply came for twice the longest deadline and the quiet time. Ids go on then. At the
 start, and where seven requests are given up, it begins anew: a null procedure has to be answered before any command goes out.
+
+With --append FILE each command gets a row of the file as --csv writes it, behind the file's whole rows. What stands behind
+its last line feed, which a crash left, is cut off and told. A file that begins with something else than the names of the columns
+is refused, and stays.
 
 While it measures it tells on standard error, each at most once a minute, since when there is no connection, the line isn't
 quiet, nothing was heard or commands were skipped, and that a cycle is late. Where that is a terminal, and the output none, a

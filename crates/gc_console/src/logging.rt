@@ -27,13 +27,13 @@ use crate::stop::Stop;
 use crate::streams::tell_end;
 use clap::{Arg, Command};
 use gc_engines::run_check_log;
-use gc_lines::{Sink, Source, ToWriter};
+use gc_lines::{Lasting, Sink, Source, ToWriter};
 use gc_links::{Link, Place, PlacedLink, Telling};
 use gc_station::Logged;
 use gc_texts::RunFault;
 use std::alloc::{AllocError, Global};
 use std::cell::Cell;
-use std::fs::{File, OpenOptions};
+use std::fs::{File, OpenOptions, TryLockError};
 use std::io::{self, Write};
 use std::net::{Net, TcpListener, TcpStream};
 use std::process::ExitCode;
@@ -48,13 +48,24 @@ pub(crate) fn with_log<'a>(alloc: Global, command: Command<'a>) -> Result<Comman
     command.arg(log)
 }
 
+// The file of a log, unless another program, or the records of this one, hold it. Where a file can't be held it is nobody's.
+fn open_log<R: Files<File = File>>(rt: &R, path: &str) -> Option<File> {
+    let Ok(file) = OpenOptions::new().append(true).create(true).open(rt, path) else {
+        return None;
+    };
+    match file.try_lock() {
+        Err(TryLockError::WouldBlock) => None,
+        Ok(()) | Err(TryLockError::Error(_)) => Some(file),
+    }
+}
+
 /// Measures at a place as without a log, and appends what was on the link to a file, which is opened before anything else is
-/// done: where it can't be that is fault 57. Where it can't be written to the end that is told behind the counts, or the
+/// done: where it can't be, or is held, that is fault 57. Where it can't be written to the end that is told behind the counts, or the
 /// fault, and changes no status. The sink is handed back.
 pub(crate) fn run_logged_at<
     R: Net<Listener = TcpListener, Stream = TcpStream> + Clock + Files<File = File>,
     S: Source,
-    K: Sink,
+    K: Lasting,
     E: Write,
 >(
     rt: &R,
@@ -76,7 +87,7 @@ pub(crate) fn run_logged_at<
         × Measures given
         (record { remaining = S.remaining source.old; reads = S.reads source.old; ended = S.ended source.old; failed = S.failed source.old })
         (record { remaining = S.remaining source.new; reads = S.reads source.new; ended = S.ended source.new; failed = S.failed source.new })
-        station.form station.choice 18446744073709551615
+        station.layout station.choice 18446744073709551615
         (record { acts = Some []; taken = K.taken sink; messages = E.contents messages.old })
         (record { acts = Some acts; taken = K.taken result.0; messages = E.contents between })
         end)
@@ -89,13 +100,13 @@ pub(crate) fn run_logged_at<
         (record { remaining = S.remaining source.old; reads = S.reads source.old; ended = S.ended source.old; failed = S.failed source.old })
         (record { remaining = S.remaining source.new; reads = S.reads source.new; ended = S.ended source.new; failed = S.failed source.new })
         station.choice.deadline station.choice.chained tasks names
-        × RunsBehind station.form station.choice names tasks 18446744073709551615
+        × RunsBehind station.layout station.choice names tasks 18446744073709551615
         (record { acts = Some []; taken = K.taken sink; messages = E.contents messages.old })
         (record { acts = Some acts; taken = K.taken result.0; messages = E.contents between })
         (Ok tally))) }
     ensures bound { IfOk result.1 (λ status. exit_status status ≤ 1) }
 {
-    let Ok(file) = OpenOptions::new().append(true).create(true).open(rt, path) else {
+    let Some(file) = open_log(rt, path) else {
         return (sink, tell_counts(Err(Stop::Run(RunFault::Log)), messages));
     };
     let mut link = match PlacedLink::new(rt, place) {

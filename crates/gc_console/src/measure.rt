@@ -1,22 +1,24 @@
 //! A station's text, read from a source, measured over a link, and its records written into a sink, all in one form.
 
-ghost use Rattle.std.specs.Prelude.{◌+◌, ◌≤◌, ℕ, List, length, OnOk};
+ghost use Rattle.std.specs.Prelude.{◌+◌, ◌≤◌, ℕ, List, length, OnOk, IfErr};
 ghost use Rattle.std.specs.Io.KnownBytes.{Consumes, Appends};
 ghost use Rattle.gc_catalogue.specs.declared.answer.Reading.{Reading};
 ghost use Rattle.gc_catalogue.specs.declared.call.Call.{Call};
-ghost use Rattle.gc_console.specs.Measuring.{text_in, Measures, IsUntouched, overrun_line};
+ghost use Rattle.gc_console.specs.Measuring.{text_in, front_text, Measures, IsUntouched, AllLast, overrun_line};
 ghost use Rattle.gc_console.specs.Stops.{with_fault};
-ghost use Rattle.gc_station.specs.Runs.{Ran, FailsAtOutput};
+ghost use Rattle.gc_lines.specs.Ports.{FailsWith, TakesFront};
+ghost use Rattle.gc_station.specs.Runs.{Ran, FailsAtOutput, LastsBut};
 ghost use Rattle.gc_station.specs.Scopes.{AreReadings};
 ghost use Rattle.gc_texts.specs.Texts.{end_reads};
 ghost use Rattle.gc_texts.specs.declared.text.TheConstants.{TEXT_LIMIT};
 
 use crate::choice::Choice;
+use crate::layout::Layout;
 use crate::oddity::Oddities;
 use crate::signs::Signs;
 use crate::stop::Stop;
 use crate::task_text::read_task_text;
-use gc_lines::{PortFailed, Sink, Source};
+use gc_lines::{Lasting, PortFailed, Source, write_whole};
 use gc_links::{Link, Moment};
 use gc_station::{Book, Plan, Sight, Stamp, Tally, run_station};
 use gc_texts::{Command, Ending, Form, RunFault, Task, Tasks, write_head, write_record};
@@ -24,7 +26,7 @@ use std::alloc::Global;
 use std::cell::Cell;
 use std::io::{self, Write};
 
-/// Reads the whole text of a source, writes what stands in front of the records in this form, and measures the commands over a
+/// Reads the whole text of a source, writes what stands in front of the records in this layout, and measures the commands over a
 /// link as the choice has it, in at most `max_turns` acts. The sink is handed back, with how the run ended.
 ///
 /// Before the link is used or anything is written, `Text` comes with `Read` where the source failed, with `InputTooLong` where it
@@ -35,10 +37,10 @@ use std::io::{self, Write};
 /// A quiet time that is shorter than the longest deadline is told on `messages` at the start, and so are signs of life, each at
 /// most once a minute, where the choice has them, and once what is noticed of the line in `oddities`. Where that can't be written
 /// the station measures on.
-pub fn run_station_text<L: Link, S: Source, K: Sink, E: Write>(
+pub fn run_station_text<L: Link, S: Source, K: Lasting, E: Write>(
     alloc: Global,
     link: &mut L,
-    form: Form,
+    layout: Layout,
     choice: &Choice,
     oddities: &Cell<Oddities>,
     source: &mut S,
@@ -52,13 +54,17 @@ pub fn run_station_text<L: Link, S: Source, K: Sink, E: Write>(
         × Measures given
         (record { remaining = S.remaining source.old; reads = S.reads source.old; ended = S.ended source.old; failed = S.failed source.old })
         (record { remaining = S.remaining source.new; reads = S.reads source.new; ended = S.ended source.new; failed = S.failed source.new })
-        form choice.now max_turns
+        layout choice.now max_turns
         (record { acts = L.acts link.old; taken = K.taken sink; messages = E.contents messages.old })
         (record { acts = L.acts link.new; taken = K.taken result.0; messages = E.contents messages.new })
         result.1 }
 
     // The sink failed exactly where that is the fault.
     ensures output { FailsAtOutput (K.failed sink) (K.failed result.0) (with_fault result.1) }
+
+    // At each end but that of the sink all that was written lasts, as far as the sink is meant for it. That it does before each act
+    // is a clause of the private function that makes one.
+    ensures lasts { AllLast (K.lasts result.0) result.1 }
 
     // At most 65,537 reads of the source were answered.
     ensures bounded { S.reads source.new ≤ S.reads source.old + (TEXT_LIMIT + 1) }
@@ -73,7 +79,7 @@ pub fn run_station_text<L: Link, S: Source, K: Sink, E: Write>(
         Ok(tasks) => tasks,
         Err(stop) => return (sink, Err(stop)),
     };
-    let Ok(()) = write_head(&mut sink, form) else {
+    let Ok(()) = write_front(&mut sink, layout) else {
         return (sink, Err(Stop::Run(RunFault::Output)));
     };
     let plan = choice.plan(tasks.tasks.as_slice());
@@ -86,7 +92,7 @@ pub fn run_station_text<L: Link, S: Source, K: Sink, E: Write>(
     };
     let (sink, end, mut signs) = measure(
         link,
-        form,
+        layout.form,
         &plan,
         tasks.as_slice(),
         named,
@@ -117,9 +123,22 @@ fn warn<E: Write>(choice: &Choice, plan: &Plan, messages: &mut E) -> io::Result<
     }
 }
 
+// Writes what stands in front of the records, where it doesn't stand there.
+fn write_front<K: Lasting>(sink: &mut K, layout: Layout) -> Result<(), usize>
+    ensures failed { FailsWith result (K.failed sink.old) (K.failed sink.new) }
+    ensures ok { OnOk result (Appends (K.taken sink.old) (K.taken sink.new) (front_text layout)) }
+    ensures err { IfErr result (λ n. TakesFront (K.taken sink.old) (K.taken sink.new) n (front_text layout)) }
+{
+    if layout.headed {
+        // Nothing, and by its clauses nothing.
+        return write_whole(sink, b"");
+    }
+    write_head(sink, layout.form)
+}
+
 // Measures tasks over a link, and writes their records in this form, with these names, into a sink, which is handed back, as the
 // signs of life are.
-fn measure<L: Link, K: Sink, E: Write>(
+fn measure<L: Link, K: Lasting, E: Write>(
     link: &mut L,
     form: Form,
     plan: &Plan,
@@ -135,6 +154,7 @@ fn measure<L: Link, K: Sink, E: Write>(
         → Ran plan.now tasks.now (record { turns = max_turns; reads = reads }) (text_in form named.names.items)
         (L.acts link.old) (L.acts link.new) (K.taken sink) (K.taken result.0) result.1 }
     ensures output { FailsAtOutput (K.failed sink) (K.failed result.0) result.1 }
+    ensures lasts { LastsBut (K.lasts result.0) result.1 }
 {
     let mut records = Records {
         sink,
@@ -167,12 +187,14 @@ struct Records<'a, K, E> {
     messages: &'a mut E,
 }
 
-impl<'a, K: Sink, E: Write> Book for Records<'a, K, E> {
+impl<'a, K: Lasting, E: Write> Book for Records<'a, K, E> {
     ghost text = { λ book. text_in book.form book.named.names.items };
 
     ghost taken = { λ book. K.taken book.sink };
 
     ghost failed = { λ book. K.failed book.sink };
+
+    ghost lasts = { λ book. K.lasts book.sink };
 
     fn write(
         &mut self,
@@ -194,6 +216,13 @@ impl<'a, K: Sink, E: Write> Book for Records<'a, K, E> {
         match taken {
             Ok(()) => Ok(()),
             Err(_) => Err(PortFailed),
+        }
+    }
+
+    fn keep(&mut self) -> Result<(), PortFailed> {
+        match self.sink.keep() {
+            Ok(()) => Ok(()),
+            Err(failed) => Err(failed),
         }
     }
 

@@ -1,6 +1,6 @@
 //! `geocom station`: its words, and its run over connections to a place.
 
-ghost use Rattle.std.specs.Prelude.{◌≡◌, ◌≤◌, ◌⊎◌, ℕ, List, [], Option, Some, Result, Ok, Err, IfOk, OnOk};
+ghost use Rattle.std.specs.Prelude.{◌≡◌, ◌≤◌, ◌⊎◌, ℕ, true, List, [], Option, Some, Result, Ok, Err, IfOk, OnOk};
 ghost use Rattle.std.specs.Io.KnownBytes.{Consumes, Appends};
 ghost use Rattle.std.specs.Process.{exit_status};
 ghost use Rattle.gc_console.specs.Measuring.{Measures, RunsBehind, TellsCounts, ends_text, others_text, tally_line};
@@ -12,18 +12,21 @@ ghost use Rattle.gc_links.specs.declared.device.Unusable.{Unusable};
 ghost use Rattle.gc_station.specs.Runs.{FailsAtOutput};
 ghost use Rattle.gc_station.specs.declared.tally.Tally.{Tally};
 ghost use Rattle.gc_texts.specs.declared.name.Name.{Name};
+ghost use Rattle.gc_texts.specs.declared.record.Form.TheVariants.{Csv};
 ghost use Rattle.gc_texts.specs.declared.tasks.Task.{Task};
 
 use crate::choice::{Choice, Watch};
 use crate::help::STATION;
+use crate::layout::Layout;
 use crate::logging::with_log;
 use crate::measure::run_station_text;
 use crate::oddity::{Noticing, Oddities};
+use crate::recording::with_recording;
 use crate::stop::Stop;
 use crate::words::{flag_of, place_word};
 use clap::{Arg, ArgMatches, Command, value_parser};
 use gc_ask::fault_of;
-use gc_lines::{Sink, Source};
+use gc_lines::{Lasting, Source};
 use gc_links::{Link, Place, PlacedLink, Telling, Unusable};
 use gc_station::Tally;
 use gc_texts::{Form, RunFault};
@@ -39,7 +42,7 @@ use std::time::Clock;
 /// What the words of `station` ask for, but where.
 #[derive(Clone, Copy)]
 pub(crate) struct Station {
-    form: Form,
+    layout: Layout,
     choice: Choice,
 }
 
@@ -50,6 +53,18 @@ impl Station {
         if at_terminal && self.choice.watch == Watch::Lines {
             station.choice.watch = Watch::Terminal;
         }
+        station
+    }
+
+    /// The same, with rows behind those of a file.
+    pub(crate) fn appended(self) -> Station
+        ensures { result ≡ record self { layout = record { form = Csv; headed = true } } }
+    {
+        let mut station = self;
+        station.layout = Layout {
+            form: Form::Csv,
+            headed: true,
+        };
         station
     }
 }
@@ -66,6 +81,7 @@ pub(crate) fn station_command<'a>(alloc: Global) -> Result<Command<'a>, AllocErr
     let command = with_pace(alloc, command)?;
     let command = with_bounds(alloc, command)?;
     let command = with_flags(alloc, command)?;
+    let command = with_recording(alloc, command)?;
     with_log(alloc, command)
 }
 
@@ -143,10 +159,13 @@ fn time_of<'a>(alloc: Global, name: &'a str, value: &'a str, help: &'a str) -> A
 pub(crate) fn station_of(matches: &ArgMatches) -> Station {
     let number = |name: &str| matches.get_one::<u64>(name).unwrap_or(0);
     Station {
-        form: if matches.get_flag("csv") {
-            Form::Csv
-        } else {
-            Form::Lines
+        layout: Layout {
+            form: if matches.get_flag("csv") {
+                Form::Csv
+            } else {
+                Form::Lines
+            },
+            headed: false,
         },
         choice: Choice {
             width: matches.get_one::<u8>("width").unwrap_or(1),
@@ -188,7 +207,7 @@ fn cycles_of(matches: &ArgMatches) -> u64 {
 pub(crate) fn run_station_at<
     R: Net<Listener = TcpListener, Stream = TcpStream> + Clock + Files<File = File>,
     S: Source,
-    K: Sink,
+    K: Lasting,
     E: Write,
 >(
     rt: &R,
@@ -208,7 +227,7 @@ pub(crate) fn run_station_at<
         × Measures given
         (record { remaining = S.remaining source.old; reads = S.reads source.old; ended = S.ended source.old; failed = S.failed source.old })
         (record { remaining = S.remaining source.new; reads = S.reads source.new; ended = S.ended source.new; failed = S.failed source.new })
-        station.form station.choice 18446744073709551615
+        station.layout station.choice 18446744073709551615
         (record { acts = Some []; taken = K.taken sink; messages = E.contents messages.old })
         (record { acts = Some acts; taken = K.taken result.0; messages = E.contents between })
         end)
@@ -221,7 +240,7 @@ pub(crate) fn run_station_at<
         (record { remaining = S.remaining source.old; reads = S.reads source.old; ended = S.ended source.old; failed = S.failed source.old })
         (record { remaining = S.remaining source.new; reads = S.reads source.new; ended = S.ended source.new; failed = S.failed source.new })
         station.choice.deadline station.choice.chained tasks names
-        × RunsBehind station.form station.choice names tasks 18446744073709551615
+        × RunsBehind station.layout station.choice names tasks 18446744073709551615
         (record { acts = Some []; taken = K.taken sink; messages = E.contents messages.old })
         (record { acts = Some acts; taken = K.taken result.0; messages = E.contents between })
         (Ok tally))) }
@@ -251,7 +270,7 @@ pub(crate) fn without_link(reason: Option<Unusable>) -> RunFault
 }
 
 // Measures over a link, and tells how it ended. The sink is handed back.
-pub(crate) fn measure_over<L: Link, S: Source, K: Sink, E: Write>(
+pub(crate) fn measure_over<L: Link, S: Source, K: Lasting, E: Write>(
     alloc: Global,
     link: &mut L,
     station: Station,
@@ -266,7 +285,7 @@ pub(crate) fn measure_over<L: Link, S: Source, K: Sink, E: Write>(
         × Measures given
         (record { remaining = S.remaining source.old; reads = S.reads source.old; ended = S.ended source.old; failed = S.failed source.old })
         (record { remaining = S.remaining source.new; reads = S.reads source.new; ended = S.ended source.new; failed = S.failed source.new })
-        station.form station.choice 18446744073709551615
+        station.layout station.choice 18446744073709551615
         (record { acts = L.acts link.old; taken = K.taken sink; messages = E.contents messages.old })
         (record { acts = L.acts link.new; taken = K.taken result.0; messages = E.contents between })
         end)
@@ -280,7 +299,7 @@ pub(crate) fn measure_over<L: Link, S: Source, K: Sink, E: Write>(
         (record { remaining = S.remaining source.old; reads = S.reads source.old; ended = S.ended source.old; failed = S.failed source.old })
         (record { remaining = S.remaining source.new; reads = S.reads source.new; ended = S.ended source.new; failed = S.failed source.new })
         station.choice.deadline station.choice.chained tasks names
-        × RunsBehind station.form station.choice names tasks 18446744073709551615
+        × RunsBehind station.layout station.choice names tasks 18446744073709551615
         (record { acts = L.acts link.old; taken = K.taken sink; messages = E.contents messages.old })
         (record { acts = L.acts link.new; taken = K.taken result.0; messages = E.contents between })
         (Ok tally))) }
@@ -289,7 +308,7 @@ pub(crate) fn measure_over<L: Link, S: Source, K: Sink, E: Write>(
     let (sink, end) = run_station_text(
         alloc,
         link,
-        station.form,
+        station.layout,
         &station.choice,
         oddities,
         source,

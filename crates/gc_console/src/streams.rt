@@ -1,7 +1,7 @@
 //! The subcommands that go from standard input to standard output.
 
 ghost use Rattle.std.specs.Prelude.{◌≡◌, ℕ, ◌+◌, ◌<◌, ◌≤◌, ◌↔◌, ◌⊎◌, List, None, Result, IfOk, true, false};
-ghost use Rattle.std.specs.Io.KnownBytes.{Consumes, Appends};
+ghost use Rattle.std.specs.Io.KnownBytes.{Consumes, Appends, IsAtEnd};
 ghost use Rattle.std.specs.Process.{exit_status};
 ghost use Rattle.gc_lines.specs.Answering.{fault_text};
 ghost use Rattle.gc_lines.specs.declared.served.Served.{Served};
@@ -163,6 +163,10 @@ pub(crate) fn drill_scene<R: Files, S: Source, K: Sink, E: Write>(
     ensures done { IfOk result (λ status. exit_status status ≡ 0 → (start : State) × (scene.entry ≡ None → start ≡ simulator_opening)
         × ((given : List ℕ) × Consumes (S.remaining source.old) (S.remaining source.new) given
         × ((events : List Event) × IsSchedule given events × Appends (K.taken sink.old) (K.taken sink.new) (drill_text_on start width events totals)))) }
+
+    // Status 0 only where the last read was the end, and the source has no byte left.
+    ensures whole { IfOk result (λ status. exit_status status ≡ 0
+        → IsAtEnd (S.remaining source.new) × (S.ended source.new ≡ true) × (S.reads source.old < S.reads source.new)) }
     ensures bound { IfOk result (λ status. exit_status status ≤ 2) }
 {
     match instrument_of(rt, alloc, scene) {
@@ -197,6 +201,10 @@ fn drill_within<S: Source, K: Sink, E: Write>(
     // Status 0 only where the sink took the output of the text's events.
     ensures done { IfOk result (λ status. exit_status status ≡ 0 → (given : List ℕ) × Consumes (S.remaining source.old) (S.remaining source.new) given
         × ((events : List Event) × IsSchedule given events × Appends (K.taken sink.old) (K.taken sink.new) (drill_text_on instrument width events totals))) }
+
+    // Status 0 only where the last read was the end, and the source has no byte left.
+    ensures whole { IfOk result (λ status. exit_status status ≡ 0
+        → IsAtEnd (S.remaining source.new) × (S.ended source.new ≡ true) × (S.reads source.old < S.reads source.new)) }
     ensures bound { IfOk result (λ status. exit_status status ≤ 2) }
 {
     if width == 0 {
@@ -231,6 +239,10 @@ fn drill<S: Source, K: Sink, E: Write>(
     // Status 0 only where the sink took the output of the text's events.
     ensures done { IfOk result (λ status. exit_status status ≡ 0 → (given : List ℕ) × Consumes (S.remaining source.old) (S.remaining source.new) given
         × ((events : List Event) × IsSchedule given events × Appends (K.taken sink.old) (K.taken sink.new) (drill_text_on instrument width events totals))) }
+
+    // Status 0 only where the last read was the end, and the source has no byte left.
+    ensures whole { IfOk result (λ status. exit_status status ≡ 0
+        → IsAtEnd (S.remaining source.new) × (S.ended source.new ≡ true) × (S.reads source.old < S.reads source.new)) }
     ensures bound { IfOk result (λ status. exit_status status ≤ 1) }
 {
     end_of(

@@ -2,7 +2,9 @@
 
 use crate::asking::Asking;
 use crate::help::{COMMANDS, EVENTS, KEPT, REQUESTS, SCENES_AND_FAULTS, VERDICTS};
+use crate::recording::recording_of;
 use crate::station::{station_command, station_of};
+use crate::version::VERSION;
 use clap::{Arg, ArgAction, ArgMatches, Command, Error, value_parser};
 use gc_links::{Place, place_of};
 use std::alloc::{AllocError, Global};
@@ -42,7 +44,7 @@ pub(crate) fn subcommand_of<'a>(
     words: &'a [String],
 ) -> Result<Subcommand<'a>, Error> {
     let command = Command::new(alloc, "geocom")
-        .version("0.1.0")
+        .version(VERSION)
         .about("A simulated instrument that speaks GeoCOM's ASCII protocol")
         .after_help(SCENES_AND_FAULTS)
         .subcommand_required(true)
@@ -191,11 +193,13 @@ fn serve_asked_for<'a>(serve: &ArgMatches<'a>) -> Subcommand<'a> {
     }
 }
 
-// A station, with a log where the words name the file of one.
+// A station, with its records and its log in files where the words name them.
 fn measured<'a>(place: Place<'a>, words: &ArgMatches<'a>) -> Asking<'a> {
-    match words.get_str("log") {
-        Some(path) => Asking::Logged(place, station_of(words), path),
-        None => Asking::Station(place, station_of(words)),
+    Asking::Station {
+        place,
+        station: station_of(words),
+        recording: recording_of(words),
+        log: words.get_str("log"),
     }
 }
 

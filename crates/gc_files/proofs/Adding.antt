@@ -2,7 +2,7 @@
 use Rattle.std.proofs.Common.{◌≡◌, inl, inr, ℕ, ◌≤◌, ◌<◌, ◌==◌, true, false, List, [], ◌∷◌, ◌++◌, length, take, refl, sym, ◌∙◌, ap, subst, arith, append_assoc, if◌then◌else◌, Option, Some, None}
 use Rattle.std.proofs.lemmas.Bool.{cases_Bool, eqb-true, eq-eqb}
 use Rattle.std.proofs.lemmas.List.{append-nil}
-use Rattle.std.specs.Io.KnownBytes.{Appends}
+use Rattle.std.specs.Io.KnownBytes.{Appends, Keeps}
 use Rattle.gc_files.specs.Sinks.{known_content}
 use Rattle.gc_files.proofs.Moments.{behind_two}
 use Rattle.gc_files.specs.Files.{Step, Append, Cut, Sync, Life, content, later_by, Adds}
@@ -125,3 +125,9 @@ pub content_more : (old new : Option Life) (bytes : List ℕ) → Adds old new (
 content_more None new bytes adds = tt
 content_more (Some life) new bytes adds =
     subst (λ (now : Option Life). Appends (Some (content life)) (known_content now) bytes) (sym (adds life refl)) (behind_two life.start life.steps (Append bytes ∷ []))
+
+-- and stays at a sync
+pub content_same : (old new : Option Life) → Adds old new (Sync ∷ []) → Keeps (known_content old) (known_content new)
+content_same None new adds = tt
+content_same (Some life) new adds =
+    subst (λ (now : Option Life). Keeps (Some (content life)) (known_content now)) (sym (adds life refl)) (behind_two life.start life.steps (Sync ∷ []))

@@ -1,5 +1,5 @@
 -- What is known of the file behind a sink: this project's own.
-use Rattle.std.specs.Prelude.{◌≡◌, ◌⊎◌, ℕ, List, [], ◌∷◌, Bool, Option, Some, None}
+use Rattle.std.specs.Prelude.{◌≡◌, ◌⊎◌, ℕ, List, [], ◌∷◌, Bool, true, not, if◌then◌else◌, Option, Some, None}
 use Rattle.gc_files.specs.declared.appending.Appending.{Ghosts}
 use Rattle.gc_files.specs.declared.rows_file.RowsFile.{RowsFile}
 use Rattle.gc_files.specs.Files.{Life, Sync, content, Adds}
@@ -24,3 +24,7 @@ has_failed sink = sink.broken
 -- it was opened so that `keep` syncs
 abbrev pub asks_sync : {F : Type 0} {D : Ghosts F} → RowsFile F D → Bool
 asks_sync sink = sink.sync
+
+-- what it took is on the disk, or needs not be
+abbrev pub lasts : {F : Type 0} {D : Ghosts F} → RowsFile F D → Bool
+lasts sink = if sink.sync then not sink.unkept else true

@@ -2,10 +2,11 @@
 
 ghost use Rattle.std.specs.Prelude.{◌≡◌, ◌<◌, true, false, take, length, Some, OnOk, IsTrue};
 ghost use Rattle.gc_files.specs.Files.{Life, Append, IsKept, Makes};
+ghost use Rattle.std.specs.Io.KnownBytes.{Keeps};
 ghost use Rattle.gc_lines.specs.Ports.{TakesBytes, Fails};
 
 use crate::appending::Appending;
-use gc_lines::{PortFailed, Sink};
+use gc_lines::{Lasting, PortFailed, Sink};
 
 /// A file that rows are appended to, as a sink: what it holds counts as taken. After a failure it stays failed, so that no row
 /// stands behind half of another.
@@ -22,7 +23,7 @@ pub struct RowsFile<F: Appending> {
 }
 
 impl<F: Appending> RowsFile<F> {
-    ghost use Rattle.gc_files.specs.Sinks.{KeepsAll, life_in, has_failed, asks_sync};
+    ghost use Rattle.gc_files.specs.Sinks.{life_in, has_failed, asks_sync, lasts};
 
     // A sink over a file that ends in a whole row, or has none. What it holds may not be on the disk yet.
     pub(crate) fn new(file: F, sync: bool) -> RowsFile<F>
@@ -38,40 +39,12 @@ impl<F: Appending> RowsFile<F> {
         }
     }
 
-    /// The file behind it.
+    /// The file behind it. Where the sink lasts and was opened with `sync`, a crash leaves all that was taken.
     pub fn file(&self) -> &F
-        ensures { F.life result.now ≡ life_in self.now }
+        ensures is { F.life result.now ≡ life_in self.now }
+        ensures lasts { lasts self.now ≡ true → asks_sync self.now ≡ true → (known : Life) → life_in self.now ≡ Some known → IsKept known }
     {
         &self.file
-    }
-
-    /// Has what was appended on the disk, where the file was opened so: after `Ok` a crash leaves all that was taken. Where
-    /// nothing was appended since the last time it does nothing, and neither does it where the file was opened without `sync`.
-    ///
-    /// It fails where the file failed in this call or has failed before.
-    pub fn keep(&mut self) -> Result<(), PortFailed>
-        ensures kept { OnOk result (asks_sync self.new ≡ true → (known : Life) → life_in self.new ≡ Some known → IsKept known) }
-        ensures steps { KeepsAll (life_in self.old) (life_in self.new) }
-        ensures idle { asks_sync self.old ≡ false → life_in self.new ≡ life_in self.old }
-        ensures sync { asks_sync self.new ≡ asks_sync self.old }
-        ensures fails { Fails (has_failed self.old) (has_failed self.new) result }
-    {
-        if self.broken {
-            return Err(PortFailed);
-        }
-        if !self.sync || !self.unkept {
-            return Ok(());
-        }
-        match self.file.sync() {
-            Ok(()) => {
-                self.unkept = false;
-                Ok(())
-            }
-            Err(failed) => {
-                self.broken = true;
-                Err(failed)
-            }
-        }
     }
 }
 
@@ -105,5 +78,42 @@ impl<F: Appending> Sink for RowsFile<F> {
 
     fn has_failed(&self) -> bool {
         self.broken
+    }
+}
+
+impl<F: Appending> Lasting for RowsFile<F> {
+    ghost use Rattle.gc_files.specs.Sinks.{KeepsAll, known_content, life_in, has_failed, asks_sync, lasts};
+
+    ghost lasts = { λ r. lasts r };
+
+    /// Has what was appended on the disk, where the file was opened so: after `Ok` a crash leaves all that was taken. Where
+    /// nothing was appended since the last time it does nothing, and neither does it where the file was opened without `sync`.
+    ///
+    /// It fails where the file failed in this call or has failed before.
+    fn keep(&mut self) -> Result<(), PortFailed>
+        ensures lasts { OnOk result (lasts self.new ≡ true) }
+        ensures same { Keeps (known_content (life_in self.old)) (known_content (life_in self.new)) }
+        ensures fails { Fails (has_failed self.old) (has_failed self.new) result }
+        ensures kept { OnOk result (asks_sync self.new ≡ true → (known : Life) → life_in self.new ≡ Some known → IsKept known) }
+        ensures steps { KeepsAll (life_in self.old) (life_in self.new) }
+        ensures idle { asks_sync self.old ≡ false → life_in self.new ≡ life_in self.old }
+        ensures sync { asks_sync self.new ≡ asks_sync self.old }
+    {
+        if self.broken {
+            return Err(PortFailed);
+        }
+        if !self.sync || !self.unkept {
+            return Ok(());
+        }
+        match self.file.sync() {
+            Ok(()) => {
+                self.unkept = false;
+                Ok(())
+            }
+            Err(failed) => {
+                self.broken = true;
+                Err(failed)
+            }
+        }
     }
 }

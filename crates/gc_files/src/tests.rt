@@ -2,7 +2,7 @@
 
 use crate::memory_file::MemoryFile;
 use crate::opening::{Refused, open_rows};
-use gc_lines::Sink;
+use gc_lines::{Lasting, Sink};
 use std::alloc::Global;
 use std::process::Abort;
 

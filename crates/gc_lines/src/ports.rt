@@ -1,7 +1,8 @@
 //! Where bytes come from and where they go. A port that has failed stays failed.
 
-ghost use Rattle.std.specs.Prelude.{◌≡◌, ℕ, List, Option, Some, Bool, ◌<◌, length};
+ghost use Rattle.std.specs.Prelude.{◌≡◌, ℕ, List, Option, Some, Bool, true, ◌<◌, length, OnOk};
 ghost use Rattle.gc_lines.specs.Faults.{port_text};
+ghost use Rattle.std.specs.Io.KnownBytes.{Keeps};
 ghost use Rattle.gc_lines.specs.Ports.{GivesBytes, CountsRead, Fails, TakesBytes};
 
 use std::error::Error;
@@ -75,4 +76,19 @@ pub trait Sink {
     /// Whether a write has failed.
     fn has_failed(&self) -> bool
         ensures { result ≡ failed self.now };
+}
+
+/// A sink whose bytes can be made to last: in a file of which the disk has each byte, where that was asked for.
+///
+/// Who implements it says by `lasts` whether what was taken outlasts all that this sink is meant to outlast. Where that is nothing,
+/// as at the end of a pipe, it always does.
+pub trait Lasting: Sink {
+    /// Whether what was taken outlasts what this sink is meant to outlast.
+    ghost lasts: { Self → Bool };
+
+    /// Makes what was taken last. It takes nothing, and fails exactly where `has_failed` is true after it.
+    fn keep(&mut self) -> Result<(), PortFailed>
+        ensures lasts { OnOk result (lasts self.new ≡ true) }
+        ensures same { Keeps (Self.taken self.old) (Self.taken self.new) }
+        ensures fails { Fails (Self.failed self.old) (Self.failed self.new) result };
 }

@@ -1,8 +1,8 @@
 //! A sink over a writer of std. Each error of the writer, and a write that takes no byte, is a failure.
 
-ghost use Rattle.std.specs.Prelude.{◌≡◌, false};
+ghost use Rattle.std.specs.Prelude.{◌≡◌, true, false};
 
-use crate::ports::{PortFailed, Sink};
+use crate::ports::{Lasting, PortFailed, Sink};
 use std::io::Write;
 
 /// A sink that writes to a writer of std.
@@ -51,5 +51,17 @@ impl<W: Write> Sink for ToWriter<W> {
 
     fn has_failed(&self) -> bool {
         self.broken
+    }
+}
+
+// What a writer of std took is meant to outlast nothing.
+impl<W: Write> Lasting for ToWriter<W> {
+    ghost lasts = { λ _. true };
+
+    fn keep(&mut self) -> Result<(), PortFailed> {
+        if self.broken {
+            return Err(PortFailed);
+        }
+        Ok(())
     }
 }

@@ -1,10 +1,10 @@
 //! A sink that takes a few bytes for each call, and fails at the call that the test names.
 
-ghost use Rattle.std.specs.Prelude.{◌≡◌, ◌<◌, [], Some, false, length};
+ghost use Rattle.std.specs.Prelude.{◌≡◌, ◌<◌, [], Some, true, false, length};
 ghost use Rattle.gc_lines.specs.Ports.{TakesBytes, Fails};
 ghost use Rattle.gc_probes.specs.Seen.{SinkSeen, WritesAsTold};
 
-use gc_lines::{PortFailed, Sink};
+use gc_lines::{Lasting, PortFailed, Sink};
 use std::alloc::Global;
 use std::marker::Model;
 
@@ -96,5 +96,16 @@ impl Sink for PieceSink {
 
     fn has_failed(&self) -> bool {
         self.failed
+    }
+}
+
+impl Lasting for PieceSink {
+    ghost lasts = { λ _. true };
+
+    fn keep(&mut self) -> Result<(), PortFailed> {
+        if self.failed {
+            return Err(PortFailed);
+        }
+        Ok(())
     }
 }

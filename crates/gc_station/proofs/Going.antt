@@ -1,6 +1,7 @@
 -- A run on the way: what was done so far, and one act more.
 use Rattle.std.proofs.Common.{◌≡◌, ℕ, ◌<◌, ◌≤◌, List, [], ◌∷◌, ◌++◌, length, Option, Some, None, Result, Ok, Err, refl, sym, ap, ◌∙◌, subst, append-nil}
-use Rattle.std.specs.Io.KnownBytes.{Appends}
+use Rattle.std.specs.Io.KnownBytes.{Appends, Keeps}
+use Rattle.std.proofs.KnownBytes.{Appends-kept}
 use Rattle.gc_lines.proofs.Known.{Appends-nil}
 use Rattle.gc_client.specs.Rule.{ById}
 use Rattle.gc_texts.specs.declared.tasks.Task.{Task}
@@ -15,7 +16,7 @@ use Rattle.gc_station.specs.declared.station.Station.{Station}
 use Rattle.gc_links.specs.Acts.{Act, Closed, Tells}
 use Rattle.gc_station.specs.Progressing.{turned, loses_all}
 use Rattle.gc_station.specs.Records.{Record, texts_of}
-use Rattle.gc_station.specs.Runs.{stood, BrokeAt}
+use Rattle.gc_station.specs.Runs.{stood, BrokeAt, LeftAt}
 use Rattle.gc_station.specs.Standing.{Standing, opening, order_at, Obeys, after, after_all, moved, ended, Runs, with_progress}
 use Rattle.gc_station.specs.Stations.{waiting_in, IsPaired, Stands, Took, Makes, Breaks, Made, Follows, stepped, OnCall}
 use Rattle.gc_station.specs.Deciding.{order_of}
@@ -167,6 +168,27 @@ went_same plan commands scope text told told' taken taken' taken'' station same 
   runs = w.runs;
   stands = w.stands;
   took = subst (λ (t : Option (List ℕ)). Appends taken t (texts_of text (stood plan commands scope w.acts).records)) (sym same) w.took;
+}
+
+-- a book that took nothing more, as far as that is known
+pub went_kept : (plan : Plan) (commands : List Task) (scope : Scope) (text : Record → List ℕ) (told told' : Option (List Act)) (taken taken' taken'' : Option (List ℕ)) (station : Station) → Keeps taken' taken''
+    → Went plan commands scope text told told' taken taken' station → Went plan commands scope text told told' taken taken'' station
+went_kept plan commands scope text told told' taken taken' taken'' station keeps w = record {
+  acts = w.acts;
+  tells = w.tells;
+  runs = w.runs;
+  stands = w.stands;
+  took = Appends-kept taken taken' taken'' (texts_of text (stood plan commands scope w.acts).records) w.took keeps;
+}
+
+-- a book whose records couldn't be made to last, and the connection was closed
+pub went_left : (plan : Plan) (commands : List Task) (scope : Scope) (text : Record → List ℕ) (told told' told'' : Option (List Act)) (taken taken' : Option (List ℕ)) (station : Station)
+    → Went plan commands scope text told told' taken taken' station → Tells told' told'' (Closed ∷ []) → LeftAt plan commands scope text told told'' taken taken'
+went_left plan commands scope text told told' told'' taken taken' station w closed = record {
+  acts = w.acts;
+  tells = tells_more told told' told'' w.acts (Closed ∷ []) w.tells closed;
+  runs = w.runs;
+  took = w.took;
 }
 
 pub after_all-append : (plan : Plan) (commands : List Task) (s : Standing) (xs ys : List Act) → after_all plan commands s (xs ++ ys) ≡ after_all plan commands (after_all plan commands s xs) ys

@@ -1,6 +1,6 @@
 -- Whole runs of a station, this project's own: each act was the one that was to be made next, and the book has what they write
 -- down.
-use Rattle.std.specs.Prelude.{◌≡◌, ℕ, Bool, true, List, [], ◌∷◌, ◌++◌, Option, Some, Result, Ok, Err}
+use Rattle.std.specs.Prelude.{◌≡◌, ◌⊎◌, ℕ, Bool, true, List, [], ◌∷◌, ◌++◌, Option, Some, Result, Ok, Err}
 use Rattle.std.specs.Io.KnownBytes.{Appends}
 use Rattle.gc_texts.specs.declared.tasks.Task.{Task}
 use Rattle.gc_texts.specs.declared.fault.RunFault.{RunFault}
@@ -39,10 +39,19 @@ pub record BrokeAt (plan : Plan) (commands : List Task) (scope : Scope) (text : 
   pub runs : Runs plan commands (opening plan scope) (acts ++ last ∷ [])
   pub took : WritesPart text (stood plan commands scope acts).records (stood plan commands scope (acts ++ last ∷ [])).records taken taken'
 
+-- a link told these acts, each the one that was to be made next, and behind them that the connection was closed, and nothing else; the
+-- book took the records of all of them, and couldn't make them last
+pub record LeftAt (plan : Plan) (commands : List Task) (scope : Scope) (text : Record → List ℕ) (told told' : Option (List Act)) (taken taken' : Option (List ℕ)) : Type 0 where
+  pub acts : List Act
+  pub tells : Tells told told' (acts ++ Closed ∷ [])
+  pub runs : Runs plan commands (opening plan scope) acts
+  pub took : Appends taken taken' (texts_of text (stood plan commands scope acts).records)
+
 -- a run with this end: it stopped for a cause with this fault, or it is done; or the book failed
 abbrev pub Ran : Plan → List Task → Scope → (Record → List ℕ) → Option (List Act) → Option (List Act) → Option (List ℕ) → Option (List ℕ) → Result Tally RunFault → Type 0
 Ran plan commands scope text told told' taken taken' (Ok tally) = RanTo plan commands scope text told told' taken taken' Done tally
-Ran plan commands scope text told told' taken taken' (Err Output) = BrokeAt plan commands scope text told told' taken taken'
+Ran plan commands scope text told told' taken taken' (Err Output) =
+    BrokeAt plan commands scope text told told' taken taken' ⊎ LeftAt plan commands scope text told told' taken taken'
 Ran plan commands scope text told told' taken taken' (Err fault) =
     (cause : Cause) × (tally : Tally) × RanTo plan commands scope text told told' taken taken' cause tally × (fault_of cause ≡ Some fault)
 
@@ -51,3 +60,9 @@ abbrev pub FailsAtOutput : {X : Type 0} → Bool → Bool → Result X RunFault 
 FailsAtOutput old new (Ok _) = new ≡ old
 FailsAtOutput old new (Err Output) = new ≡ true
 FailsAtOutput old new (Err fault) = new ≡ old
+
+-- all records last, but where the book failed
+abbrev pub LastsBut : {X : Type 0} → Bool → Result X RunFault → Type 0
+LastsBut lasts (Ok _) = lasts ≡ true
+LastsBut lasts (Err Output) = Unit {0}
+LastsBut lasts (Err fault) = lasts ≡ true

@@ -1,6 +1,7 @@
 //! A book: where a station writes how its commands ended.
 
-ghost use Rattle.std.specs.Prelude.{◌≡◌};
+ghost use Rattle.std.specs.Prelude.{◌≡◌, true, OnOk};
+ghost use Rattle.std.specs.Io.KnownBytes.{Keeps};
 ghost use Rattle.gc_station.specs.Records.{record_seen, Writes};
 ghost use Rattle.gc_lines.specs.Ports.{FailsWith};
 
@@ -45,8 +46,11 @@ pub trait Book {
     /// The bytes that were taken, where they are known.
     ghost taken: { Self → Option (List ℕ) };
 
-    /// Whether a write has failed.
+    /// Whether a write, or what is to make it last, has failed.
     ghost failed: { Self → Bool };
+
+    /// Whether the records that were written outlast what this book is meant to outlast.
+    ghost lasts: { Self → Bool };
 
     /// The cycles of which it was told that they overran, where they are known.
     ghost overruns: { Self → Option (List ℕ) } = { λ _. None };
@@ -63,11 +67,21 @@ pub trait Book {
         ensures untold { overruns self.new ≡ overruns self.old }
         ensures form { text self.new ≡ text self.old };
 
+    /// Has what was written outlast what this book is meant to outlast. It is called before each act, and at the end. `Err`: it
+    /// has failed.
+    fn keep(&mut self) -> Result<(), PortFailed>
+        ensures lasts { OnOk result (lasts self.new ≡ true) }
+        ensures same { Keeps (taken self.old) (taken self.new) }
+        ensures fails { FailsWith result (failed self.old) (failed self.new) }
+        ensures untold { overruns self.new ≡ overruns self.old }
+        ensures form { text self.new ≡ text self.old };
+
     /// Is told before each act how things stand, and the moment that was told last.
     fn sees(&mut self, sight: Sight, moment: Moment)
         ensures quiet { overruns self.new ≡ overruns self.old }
         ensures same { taken self.new ≡ taken self.old }
         ensures works { failed self.new ≡ failed self.old }
+        ensures lasts { lasts self.new ≡ lasts self.old }
         ensures form { text self.new ≡ text self.old };
 
     /// Is told that this cycle was not done when the next was due.
@@ -75,5 +89,6 @@ pub trait Book {
         ensures told { Appends (overruns self.old) (overruns self.new) (cycle ∷ []) }
         ensures same { taken self.new ≡ taken self.old }
         ensures works { failed self.new ≡ failed self.old }
+        ensures lasts { lasts self.new ≡ lasts self.old }
         ensures form { text self.new ≡ text self.old };
 }

@@ -142,6 +142,7 @@ impl Station {
         ensures tells { Appends (B.overruns book.old) (B.overruns book.new) (option_to_list (overrun plan.now self.now.progress told)) }
         ensures taken { B.taken book.new ≡ B.taken book.old }
         ensures failed { B.failed book.new ≡ B.failed book.old }
+        ensures lasts { B.lasts book.new ≡ B.lasts book.old }
         ensures form { B.text book.new ≡ B.text book.old }
     {
         book.sees(self.sight(plan), self.progress.moment);

@@ -1,10 +1,10 @@
 //! A whole run of a station: what is next is done, until nothing is.
 
-ghost use Rattle.std.specs.Prelude.{◌≡◌, ℕ, List, MatchResult};
+ghost use Rattle.std.specs.Prelude.{◌≡◌, ◌⊎◌, true, ℕ, List, MatchResult, OnOk};
 ghost use Rattle.gc_catalogue.specs.declared.answer.Reading.{Reading};
 ghost use Rattle.gc_catalogue.specs.declared.call.Call.{Call};
 ghost use Rattle.gc_lines.specs.Ports.{FailsWith};
-ghost use Rattle.gc_station.specs.Runs.{RanTo, BrokeAt, Ran, FailsAtOutput};
+ghost use Rattle.gc_station.specs.Runs.{RanTo, BrokeAt, LeftAt, Ran, FailsAtOutput, LastsBut};
 ghost use Rattle.gc_station.specs.Scopes.{AreReadings};
 
 use crate::book::Book;
@@ -27,7 +27,9 @@ pub(crate) fn run<L: Link, B: Book>(
 ) -> Result<(Cause, Tally), PortFailed>
     ensures ran { (reads : Call → List ℕ → Reading) → AreReadings reads → MatchResult result
         (λ end. RanTo plan.now commands.now (record { turns = max_turns; reads = reads }) (B.text book.old) (L.acts link.old) (L.acts link.new) (B.taken book.old) (B.taken book.new) end.0 end.1)
-        (λ _. BrokeAt plan.now commands.now (record { turns = max_turns; reads = reads }) (B.text book.old) (L.acts link.old) (L.acts link.new) (B.taken book.old) (B.taken book.new)) }
+        (λ _. BrokeAt plan.now commands.now (record { turns = max_turns; reads = reads }) (B.text book.old) (L.acts link.old) (L.acts link.new) (B.taken book.old) (B.taken book.new)
+        ⊎ LeftAt plan.now commands.now (record { turns = max_turns; reads = reads }) (B.text book.old) (L.acts link.old) (L.acts link.new) (B.taken book.old) (B.taken book.new)) }
+    ensures lasts { OnOk result (B.lasts book.new ≡ true) }
     ensures fails { FailsWith result (B.failed book.old) (B.failed book.new) }
     ensures form { B.text book.new ≡ B.text book.old }
 {
@@ -35,6 +37,11 @@ pub(crate) fn run<L: Link, B: Book>(
     // The last cycle of which it was told that it wasn't done when the next was due.
     let mut told = 0;
     loop {
+        // No act is made while a record may be lost with the program, or the machine, that was meant to outlast it.
+        if let Err(unkept) = book.keep() {
+            link.close();
+            return Err(unkept);
+        }
         let order = station.order(plan);
         if let Order::Stop(cause) = order {
             return Ok((cause, station.tally));
@@ -64,14 +71,17 @@ pub(crate) fn run<L: Link, B: Book>(
 /// then all that wait are lost, and the next connection is drained for as many quiet times as waited. Where nothing is left
 /// to be sent then, the run is done in its place. A beginning that was cut begins again.
 ///
-/// `Ok`: each command of each cycle is settled, and the tally counts how. Where the clock can't be read it is over, and
-/// where no try is left: `Read` comes where the clock or a read failed, or the line was quiet or dead, `Write` where a write
-/// was cut, with the cycle's requests that had gone out (0 before the first cycle), `LinkClosed` where the other end closed
-/// the connection, and `Socket` where no connection could be made. `TooManyReads` comes where `max_turns` acts were made; a
-/// connection that stands then is closed by one more. In all of these the connection is closed, and what waited is written
-/// as lost. `Output` comes where the book failed at a record of the last act: it has all records of the acts before, and of
-/// that act's those in front of the one that failed, whole, and a first part of that one. Nothing is sent afterwards: the
-/// link is closed, and what waits isn't written.
+/// `Ok`: each command of each cycle is settled, and the tally counts how. Where the clock can't be read it is over, and where
+/// no try is left: `Clock` comes where the clock can't be read, `Read` where a read failed, `Mute` where the line was quiet
+/// or dead, `Write` where a write was cut, with the cycle's requests that had gone out (0 before the first cycle),
+/// `LinkClosed` where the other end closed the connection, and `Socket` where no connection could be made. `TooManyReads`
+/// comes where `max_turns` acts were made; a connection that stands then is closed by one more. In all of these the
+/// connection is closed, and what waited is written as lost. `Output` comes where the book failed at a record of the last
+/// act: it has all records of the acts before, and of that act's those in front of the one that failed, whole, and a first
+/// part of that one; or where the records couldn't be made to last, and then it has all of them. Nothing is sent afterwards:
+/// the link is closed, and what waits isn't written.
+///
+/// Before each act the records of all acts before it last as far as the book is meant for that.
 pub fn run_station<L: Link, B: Book>(
     link: &mut L,
     book: &mut B,
@@ -82,6 +92,9 @@ pub fn run_station<L: Link, B: Book>(
     // What the link told, what the book took, and why it ended, for whatever function says what each reply says of its call.
     ensures ran { (reads : Call → List ℕ → Reading) → AreReadings reads
         → Ran plan.now commands.now (record { turns = max_turns; reads = reads }) (B.text book.old) (L.acts link.old) (L.acts link.new) (B.taken book.old) (B.taken book.new) result }
+
+    // At each end but that of the book all records last.
+    ensures lasts { LastsBut (B.lasts book.new) result }
 
     // The book failed exactly where that is the fault.
     ensures output { FailsAtOutput (B.failed book.old) (B.failed book.new) result }

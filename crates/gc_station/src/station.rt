@@ -1,6 +1,6 @@
 //! A station's steps: each makes the one call of the link that is next, and does by the client what came of it.
 
-ghost use Rattle.std.specs.Prelude.{◌≡◌, ℕ, ◌<◌, ◌≤◌, ◌++◌, List, [], ◌∷◌, length, drop, map, Option, OnOk, All, false};
+ghost use Rattle.std.specs.Prelude.{◌≡◌, ℕ, ◌<◌, ◌≤◌, ◌++◌, List, [], ◌∷◌, length, drop, map, Option, OnOk, All, true, false};
 ghost use Rattle.std.specs.Option.{option_to_list};
 ghost use Rattle.std.specs.Io.KnownBytes.{Appends};
 ghost use Rattle.gc_lines.specs.Frames.{line_in};
@@ -595,7 +595,8 @@ impl Station {
         self.write(book)
     }
 
-    // Takes a turn: makes the one call of an order, does what comes of it, and writes down what is lost.
+    // Takes a turn: makes the one call of an order, does what comes of it, and writes down what is lost. Until it ends, what was
+    // written before it lasts as far as the book is meant for that.
     pub(crate) fn step<L: Link, B: Book>(
         &mut self,
         link: &mut L,
@@ -604,6 +605,7 @@ impl Station {
         commands: &[Task],
         order: Order,
     ) -> Result<(), PortFailed>
+        requires lasts { B.lasts book.old ≡ true }
         requires width { self.old.client.width ≡ WINDOW }
         requires paired { IsPaired self.old }
         requires within { self.old.progress.unsent ≤ length commands.now }

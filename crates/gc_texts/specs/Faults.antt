@@ -6,7 +6,7 @@ use Rattle.gc_lines.specs.declared.served.Served.{Served}
 use Rattle.gc_lines.specs.declared.served.ServeFault.{ServeFault}
 use Rattle.gc_lines.specs.declared.served.ServeFault.TheVariants as serving
 use Rattle.gc_texts.specs.declared.fault.RunFault.{RunFault}
-use Rattle.gc_texts.specs.declared.fault.RunFault.TheVariants.{SceneFull, Read, Write, TooManyReads, LinkClosed, Mute, Clock, Schedule, Memory, InputTooLong, Socket, Output, StreamClosed, Log, NoTerminal, Held, Forbidden}
+use Rattle.gc_texts.specs.declared.fault.RunFault.TheVariants.{SceneFull, Read, Write, TooManyReads, LinkClosed, Mute, Clock, Schedule, Memory, InputTooLong, Socket, Output, StreamClosed, Log, NoTerminal, Held, Forbidden, RecordsUnopened, RecordsHeld, RecordsForeign}
 
 -- the number of a fault
 abbrev pub run_fault_number : RunFault → ℕ
@@ -27,6 +27,9 @@ run_fault_number Log = 57
 run_fault_number NoTerminal = 58
 run_fault_number Held = 59
 run_fault_number Forbidden = 60
+run_fault_number RecordsUnopened = 64
+run_fault_number RecordsHeld = 65
+run_fault_number RecordsForeign = 66
 
 -- a fault as it is printed
 abbrev pub run_fault_text : RunFault → List ℕ
@@ -47,6 +50,9 @@ run_fault_text Log = codes "fault 57"
 run_fault_text NoTerminal = codes "fault 58"
 run_fault_text Held = codes "fault 59"
 run_fault_text Forbidden = codes "fault 60"
+run_fault_text RecordsUnopened = codes "fault 64"
+run_fault_text RecordsHeld = codes "fault 65"
+run_fault_text RecordsForeign = codes "fault 66"
 
 -- the line that the program writes of a fault with this text
 abbrev pub fault_line : List ℕ → List ℕ

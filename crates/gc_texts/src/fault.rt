@@ -61,10 +61,19 @@ pub enum RunFault {
     /// This program may not read and write the device.
     #[error("fault 60")]
     Forbidden,
+    /// The file of records can't be opened for reading and appending, or is no regular file.
+    #[error("fault 64")]
+    RecordsUnopened,
+    /// Another program holds the file of records.
+    #[error("fault 65")]
+    RecordsHeld,
+    /// The file of records holds something else.
+    #[error("fault 66")]
+    RecordsForeign,
 }
 
 impl RunFault {
-    /// The number of the fault, 41 to 60. This project's own.
+    /// The number of the fault, 41 to 66. This project's own.
     pub fn number(self) -> u8
         ensures { result ≡ run_fault_number self }
     {
@@ -86,6 +95,9 @@ impl RunFault {
             RunFault::NoTerminal => 58,
             RunFault::Held => 59,
             RunFault::Forbidden => 60,
+            RunFault::RecordsUnopened => 64,
+            RunFault::RecordsHeld => 65,
+            RunFault::RecordsForeign => 66,
         }
     }
 
@@ -115,6 +127,9 @@ impl RunFault {
             RunFault::NoTerminal => writeln!(messages, "geocom: fault 58"),
             RunFault::Held => writeln!(messages, "geocom: fault 59"),
             RunFault::Forbidden => writeln!(messages, "geocom: fault 60"),
+            RunFault::RecordsUnopened => writeln!(messages, "geocom: fault 64"),
+            RunFault::RecordsHeld => writeln!(messages, "geocom: fault 65"),
+            RunFault::RecordsForeign => writeln!(messages, "geocom: fault 66"),
         }
     }
 }

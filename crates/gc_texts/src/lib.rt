@@ -28,7 +28,7 @@ pub use log_line::{LogBytes, LogMark, append_escaped, write_log_line};
 pub use log_reading::{LogLine, read_log_line};
 pub use name::Name;
 pub use procedure::{TARGET_MAX, number_of, read_procedure};
-pub use record::{Form, write_head, write_record};
+pub use record::{Form, head, write_head, write_record};
 pub use settled::{append_settlements, write_settlements};
 pub use stamp::{STAMP_ROOM, stamp_text};
 pub use task_line::DEADLINE_MAX;

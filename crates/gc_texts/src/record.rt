@@ -28,6 +28,16 @@ pub enum Form {
     Csv,
 }
 
+/// What stands in front of all records: the names of the columns, or nothing.
+pub fn head(form: Form) -> &'static [u8]
+    ensures { result.now ≡ head_text form }
+{
+    match form {
+        Form::Lines => b"",
+        Form::Csv => b"time,cycle,place,target,name,procedure,outcome,fault,rc_com,rc,values\n",
+    }
+}
+
 /// Writes what stands in front of all records: the names of the columns, or nothing. `Err(n)`: the sink took the first n bytes
 /// of it, which aren't all, and failed.
 pub fn write_head<K: Sink>(sink: &mut K, form: Form) -> Result<(), usize>
@@ -35,13 +45,7 @@ pub fn write_head<K: Sink>(sink: &mut K, form: Form) -> Result<(), usize>
     ensures ok { OnOk result (Appends (K.taken sink.old) (K.taken sink.new) (head_text form)) }
     ensures err { IfErr result (λ n. TakesFront (K.taken sink.old) (K.taken sink.new) n (head_text form)) }
 {
-    match form {
-        Form::Lines => write_whole(sink, b""),
-        Form::Csv => write_whole(
-            sink,
-            b"time,cycle,place,target,name,procedure,outcome,fault,rc_com,rc,values\n",
-        ),
-    }
+    write_whole(sink, head(form))
 }
 
 /// Writes a record: the moment in milliseconds since 1970, UTC, the cycle, the place within it, the target's name, of at most

@@ -98,6 +98,19 @@ fn each_fault_of_what_is_opened_is_told(rt: HostRuntime) -> Result<(), Fail> {
 }
 
 #[test]
+fn each_fault_of_records_is_told(rt: HostRuntime) -> Result<(), Fail> {
+    let rows = [
+        (RunFault::RecordsUnopened, 64, "fault 64"),
+        (RunFault::RecordsHeld, 65, "fault 65"),
+        (RunFault::RecordsForeign, 66, "fault 66"),
+    ];
+    for (fault, number, text) in rows {
+        expect_told(&rt, rt.alloc(), fault, number, text)?;
+    }
+    Ok(())
+}
+
+#[test]
 fn moments_are_told(rt: HostRuntime) -> Result<(), Fail> {
     let alloc = rt.alloc();
     let rows: [(u64, &[u8]); 9] = [

@@ -1,9 +1,9 @@
 //! A text of commands that is measured over a link in one thread: in both forms, and with each read and each write failing.
 
 use gc_console::{
-    Choice, Form, Link, Oddities, RunFault, Stop, Tally, Trouble, Watch, run_station_text,
+    Choice, Form, Layout, Link, Oddities, RunFault, Stop, Tally, Trouble, Watch, run_station_text,
 };
-use gc_lines::PortFailed;
+use gc_lines::{Lasting, PortFailed, Sink};
 use gc_links::{Came, Moment};
 use gc_probes::{PieceSink, PieceSource};
 use std::alloc::Global;
@@ -106,6 +106,14 @@ const CHOICE: Choice = Choice {
     watch: Watch::Nobody,
 };
 
+// Records in this form, behind what stands in front of them.
+fn whole(form: Form) -> Layout {
+    Layout {
+        form,
+        headed: false,
+    }
+}
+
 // A link with these replies, at which nothing was sent yet.
 fn link_with(replies: Replies) -> Answering {
     Answering {
@@ -135,7 +143,7 @@ fn expect_measured(
     let (sink, result) = run_station_text(
         alloc,
         &mut link,
-        form,
+        whole(form),
         &CHOICE,
         &Cell::new(Oddities::none()),
         &mut source,
@@ -215,7 +223,7 @@ fn expect_records(
         let (sink, end) = run_station_text(
             alloc,
             &mut link,
-            form,
+            whole(form),
             &CHOICE,
             &Cell::new(Oddities::none()),
             &mut source,
@@ -271,7 +279,7 @@ fn a_faulty_line_has_its_trouble(rt: HostRuntime) {
     let (sink, end) = run_station_text(
         alloc,
         &mut link,
-        Form::Csv,
+        whole(Form::Csv),
         &CHOICE,
         &Cell::new(Oddities::none()),
         &mut source,
@@ -283,4 +291,96 @@ fn a_faulty_line_has_its_trouble(rt: HostRuntime) {
     assert_eq!(rt; link.sent, 0);
     assert!(rt; sink.taken().is_empty());
     assert!(rt; told.is_empty());
+}
+
+// Holds what it takes, and fails where it is to last for the time after so many.
+#[derive(Drop)]
+struct Ledger {
+    bytes: Vec<u8>,
+    keeps: u64,
+    broken: bool,
+}
+
+impl Sink for Ledger {
+    ghost use Rattle.std.specs.Prelude.{None};
+
+    ghost taken = { λ _. None };
+
+    ghost failed = { λ ledger. ledger.broken };
+
+    fn write(&mut self, bytes: &[u8]) -> Result<usize, PortFailed> {
+        if self.broken || self.bytes.extend_from_slice(bytes).is_err() {
+            self.broken = true;
+            return Err(PortFailed);
+        }
+        Ok(bytes.len())
+    }
+
+    fn has_failed(&self) -> bool {
+        self.broken
+    }
+}
+
+impl Lasting for Ledger {
+    ghost use Rattle.std.specs.Prelude.{true};
+
+    ghost lasts = { λ _. true };
+
+    fn keep(&mut self) -> Result<(), PortFailed> {
+        if self.broken || self.keeps == 0 {
+            self.broken = true;
+            return Err(PortFailed);
+        }
+        self.keeps -= 1;
+        Ok(())
+    }
+}
+
+// Behind the head that stands there, the rows last before the next command goes out: so the row of the first command stands where
+// the second went out, and no row is written behind a keep that failed.
+#[test]
+fn each_keep_fails(rt: HostRuntime) {
+    let alloc = rt.alloc();
+    let (first, both) = (&ROWS[70..70 + 58], &ROWS[70..]);
+    // Whether one failed between the first row and the second command.
+    let mut is_between = false;
+    for keeps in 0..60 {
+        let mut link = link_with(REPLIES);
+        let mut source = PieceSource::new(COMMANDS, &[1; 100], u64::MAX);
+        let ledger = Ledger {
+            bytes: Vec::new(alloc),
+            keeps,
+            broken: false,
+        };
+        let layout = Layout {
+            form: Form::Csv,
+            headed: true,
+        };
+        let (ledger, end) = run_station_text(
+            alloc,
+            &mut link,
+            layout,
+            &CHOICE,
+            &Cell::new(Oddities::none()),
+            &mut source,
+            ledger,
+            &mut Vec::new(alloc),
+            60,
+        );
+        let rows = ledger.bytes.as_slice();
+        if end.is_ok() {
+            assert_eq!(rt; rows, both);
+            assert!(rt; is_between);
+            return;
+        }
+        assert_eq!(rt; end, Err(Stop::Run(RunFault::Output)), "{keeps} keeps");
+        if link.sent == 3 {
+            assert!(rt; rows.starts_with(first), "{keeps} keeps");
+        } else {
+            assert!(rt; rows.is_empty() || rows == first, "{keeps} keeps");
+            assert!(rt; keeps > 0 || link.sent == 0);
+            is_between = is_between || rows == first;
+        }
+    }
+    panic!(rt; "some run is done");
 }

@@ -188,6 +188,23 @@ fn records_are_rows_with_csv(rt: HostRuntime) -> Result<(), Fail> {
     Ok(())
 }
 
+// No file is at the far end, and none can be made.
+#[test]
+fn a_file_of_records_cannot_be_had(rt: HostRuntime) -> Result<(), Fail> {
+    let alloc = rt.alloc();
+    let options = ["--append", "rows.csv"];
+    let ended = measure(&rt, alloc, SOON, &options, ONE)?;
+    assert_eq!(rt; ended.told.as_str(), "geocom: fault 64\n");
+    assert_eq!(rt; ended.written.as_str(), "");
+    assert_eq!(rt; ended.heard.as_str(), "");
+    assert_eq!(rt; ended.opened, 0);
+    assert_eq!(rt; ended.status, ExitCode::from(1));
+    let ended = measure(&rt, alloc, SOON, &["--sync"], ONE)?;
+    assert_eq!(rt; ended.opened, 0);
+    assert_eq!(rt; ended.status, ExitCode::from(2));
+    Ok(())
+}
+
 // Measures commands where nobody answers, silently, and expects these messages and then the fault, so many connections in so
 // many milliseconds, and no record. Gives what came at the far end.
 fn expect_unanswered(

@@ -107,7 +107,7 @@ fn each_engine_runs_with_each_option_on_and_off(rt: HostRuntime) -> Result<(), F
         &["geocom", "--version"],
         b"",
         0,
-        "geocom 0.1.0\n",
+        "geocom 1.0.0\n",
         "",
     )
 }

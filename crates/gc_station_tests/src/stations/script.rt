@@ -286,6 +286,8 @@ impl Book for Ends {
 
     ghost failed = { λ _. true };
 
+    ghost lasts = { λ _. true };
+
     fn write(
         &mut self,
         stamp: Stamp,
@@ -307,6 +309,10 @@ impl Book for Ends {
             Ending::Missed => self.note(b"m"),
         }
         self.note(b" ");
+        Ok(())
+    }
+
+    fn keep(&mut self) -> Result<(), PortFailed> {
         Ok(())
     }
 

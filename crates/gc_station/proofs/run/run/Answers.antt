@@ -1,4 +1,4 @@
-use Rattle.std.proofs.Common.{◌≡◌, ℕ, List, refl, ap, sym, ◌∙◌, arith}
+use Rattle.std.proofs.Common.{◌≡◌, ℕ, List, inl, inr, refl, ap, sym, ◌∙◌, arith}
 use Rattle.gc_catalogue.specs.declared.answer.Reading.{Reading}
 use Rattle.gc_catalogue.specs.declared.answer.Reading.TheVariants.{Refused}
 use Rattle.gc_catalogue.specs.declared.call.Call.{Call}
@@ -7,11 +7,28 @@ use Rattle.gc_station.specs.Runs.{stood}
 use Rattle.gc_station.specs.Scopes.{Scope}
 use Rattle.gc_station.specs.Standing.{opening}
 use Rattle.gc_station.proofs.Readings.{stood_reads, are_same}
-use Rattle.gc_station.proofs.Going.{on_call, went_nothing, went_same, went_on, went_wrong, went_nearer, somewhere_on}
+use Rattle.gc_station.proofs.Going.{on_call, went_nothing, went_same, went_kept, went_left, went_on, went_wrong, went_nearer, somewhere_on}
 use Rattle.gc_station.proofs.run.run.Goals as goal
 
 pub returns-in-Err : goal.returns-in-Err
 returns-in-Err g c =
+    let plan = c.args.plan.now in
+    let commands = c.args.commands.now in
+    let text = g.B.Book.text c.args.book.now in
+    let told = g.L.Link.acts c.args.link.now in
+    let taken = g.B.Book.taken c.args.book.now in
+    record {
+      ran = λ reads are.
+          let scope : Scope = record { turns = c.args.max_turns; reads = reads } in
+          let w = went_kept plan commands scope text told (g.L.Link.acts c.loop-unkept.link) taken (g.B.Book.taken c.loop-unkept.book) (g.B.Book.taken c.keep.new.self) c.loop-unkept.station c.keep.ensures.same (c.loop-unkept.invariant.went reads are) in
+          inr (went_left plan commands scope text told (g.L.Link.acts c.loop-unkept.link) (g.L.Link.acts c.close.new.self) taken (g.B.Book.taken c.keep.new.self) c.loop-unkept.station w c.close.ensures);
+      lasts = tt;
+      fails = c.in-Err.ensures.fails;
+      form = c.keep.ensures.form ∙ c.loop-unkept.invariant.form;
+    }
+
+pub returns-in-Err-step : goal.returns-in-Err-step
+returns-in-Err-step g c =
     let plan = c.args.plan.now in
     let commands = c.args.commands.now in
     let told = g.L.Link.acts c.args.link.now in
@@ -19,52 +36,55 @@ returns-in-Err g c =
     record {
       ran = λ reads are.
           let scope : Scope = record { turns = c.args.max_turns; reads = reads } in
-          let w = went_same plan commands scope (g.B.Book.text c.args.book.now) told (g.L.Link.acts c.loop-cause.link) taken (g.B.Book.taken c.loop-cause.book) (g.B.Book.taken c.tell_overrun-told.new.book) c.loop-cause.station c.tell_overrun-told.ensures.taken (c.loop-cause.invariant.went reads are) in
+          let kept = went_kept plan commands scope (g.B.Book.text c.args.book.now) told (g.L.Link.acts c.loop-unkept.link) taken (g.B.Book.taken c.loop-unkept.book) (g.B.Book.taken c.keep.new.self) c.loop-unkept.station c.keep.ensures.same (c.loop-unkept.invariant.went reads are) in
+          let w = went_same plan commands scope (g.B.Book.text c.args.book.now) told (g.L.Link.acts c.loop-unkept.link) taken (g.B.Book.taken c.keep.new.self) (g.B.Book.taken c.tell_overrun-told.new.book) c.loop-unkept.station c.tell_overrun-told.ensures.taken kept in
           let s = stood plan commands scope w.acts in
           let same = are_same s.reads reads (stood_reads plan commands scope w.acts) are in
-          went_wrong plan commands scope (g.B.Book.text c.args.book.now) told (g.L.Link.acts c.loop-cause.link) (g.L.Link.acts c.step.new.link) (g.L.Link.acts c.close.new.self) taken (g.B.Book.taken c.tell_overrun-told.new.book) (g.B.Book.taken c.step.new.book) c.loop-cause.station c.order-order.result w
+          inl (went_wrong plan commands scope (g.B.Book.text c.args.book.now) told (g.L.Link.acts c.loop-unkept.link) (g.L.Link.acts c.step.new.link) (g.L.Link.acts c.close-in-Err-step.new.self) taken (g.B.Book.taken c.tell_overrun-told.new.book) (g.B.Book.taken c.step.new.book) c.loop-unkept.station c.order-order.result w
           (c.order-order.ensures.order s w.stands same)
-          (on_call c.order-order.result _ c.in_default.not-Stop (rw (c.tell_overrun-told.ensures.form ∙ c.loop-cause.invariant.form) at c.in-Err.ensures.does))
-          c.close.ensures are;
-      fails = c.in-Err.ensures.fails;
-      form = c.in-Err.ensures.form ∙ c.tell_overrun-told.ensures.form ∙ c.loop-cause.invariant.form;
+          (on_call c.order-order.result _ c.in_default-order.not-Stop (rw (c.tell_overrun-told.ensures.form ∙ c.keep.ensures.form ∙ c.loop-unkept.invariant.form) at c.in-Err-step.ensures.does))
+          c.close-in-Err-step.ensures are);
+      lasts = tt;
+      fails = c.in-Err-step.ensures.fails;
+      form = c.in-Err-step.ensures.form ∙ c.tell_overrun-told.ensures.form ∙ c.keep.ensures.form ∙ c.loop-unkept.invariant.form;
     }
 
-pub loop-cause-smaller : goal.loop-cause-smaller
-loop-cause-smaller g c =
+pub loop-unkept-smaller : goal.loop-unkept-smaller
+loop-unkept-smaller g c =
     let plan = c.args.plan.now in
     let commands = c.args.commands.now in
-    (went_nearer plan commands (g.B.Book.text c.args.book.now) (g.L.Link.acts c.loop-cause.link) (g.L.Link.acts c.step.new.link) (g.B.Book.taken c.tell_overrun-told.new.book) (g.B.Book.taken c.step.new.book) c.loop-cause.station c.step.new.self c.order-order.result
-    c.order-order.ensures.is c.loop-cause.invariant.some
-    (on_call c.order-order.result _ c.in_default.not-Stop (rw (c.tell_overrun-told.ensures.form ∙ c.loop-cause.invariant.form) at c.in_default-step.ensures.does))
-    c.loop-cause.invariant.within).less
+    (went_nearer plan commands (g.B.Book.text c.args.book.now) (g.L.Link.acts c.loop-unkept.link) (g.L.Link.acts c.step.new.link) (g.B.Book.taken c.tell_overrun-told.new.book) (g.B.Book.taken c.step.new.book) c.loop-unkept.station c.step.new.self c.order-order.result
+    c.order-order.ensures.is c.loop-unkept.invariant.some
+    (on_call c.order-order.result _ c.in_default-order.not-Stop (rw (c.tell_overrun-told.ensures.form ∙ c.keep.ensures.form ∙ c.loop-unkept.invariant.form) at c.in_default-step.ensures.does))
+    c.loop-unkept.invariant.within).less
 
-pub loop-cause-preserved : goal.loop-cause-preserved
-loop-cause-preserved g c =
+pub loop-unkept-preserved : goal.loop-unkept-preserved
+loop-unkept-preserved g c =
     let plan = c.args.plan.now in
     let commands = c.args.commands.now in
     let told = g.L.Link.acts c.args.link.now in
     let taken = g.B.Book.taken c.args.book.now in
-    let makes = on_call c.order-order.result _ c.in_default.not-Stop (rw (c.tell_overrun-told.ensures.form ∙ c.loop-cause.invariant.form) at c.in_default-step.ensures.does) in
+    let makes = on_call c.order-order.result _ c.in_default-order.not-Stop (rw (c.tell_overrun-told.ensures.form ∙ c.keep.ensures.form ∙ c.loop-unkept.invariant.form) at c.in_default-step.ensures.does) in
     record {
-      within = (went_nearer plan commands (g.B.Book.text c.args.book.now) (g.L.Link.acts c.loop-cause.link) (g.L.Link.acts c.step.new.link) (g.B.Book.taken c.tell_overrun-told.new.book) (g.B.Book.taken c.step.new.book) c.loop-cause.station c.step.new.self c.order-order.result
-          c.order-order.ensures.is c.loop-cause.invariant.some
-          (on_call c.order-order.result _ c.in_default.not-Stop (rw (c.tell_overrun-told.ensures.form ∙ c.loop-cause.invariant.form) at c.in_default-step.ensures.does))
-          c.loop-cause.invariant.within).within;
-      some = somewhere_on plan commands (g.B.Book.text c.args.book.now) (g.L.Link.acts c.loop-cause.link) (g.L.Link.acts c.step.new.link) (g.B.Book.taken c.tell_overrun-told.new.book) (g.B.Book.taken c.step.new.book) c.loop-cause.station c.step.new.self c.order-order.result makes c.loop-cause.invariant.some;
+      within = (went_nearer plan commands (g.B.Book.text c.args.book.now) (g.L.Link.acts c.loop-unkept.link) (g.L.Link.acts c.step.new.link) (g.B.Book.taken c.tell_overrun-told.new.book) (g.B.Book.taken c.step.new.book) c.loop-unkept.station c.step.new.self c.order-order.result
+          c.order-order.ensures.is c.loop-unkept.invariant.some
+          (on_call c.order-order.result _ c.in_default-order.not-Stop (rw (c.tell_overrun-told.ensures.form ∙ c.keep.ensures.form ∙ c.loop-unkept.invariant.form) at c.in_default-step.ensures.does))
+          c.loop-unkept.invariant.within).within;
+      some = somewhere_on plan commands (g.B.Book.text c.args.book.now) (g.L.Link.acts c.loop-unkept.link) (g.L.Link.acts c.step.new.link) (g.B.Book.taken c.tell_overrun-told.new.book) (g.B.Book.taken c.step.new.book) c.loop-unkept.station c.step.new.self c.order-order.result makes c.loop-unkept.invariant.some;
       went = λ reads are.
           let scope : Scope = record { turns = c.args.max_turns; reads = reads } in
-          let w = went_same plan commands scope (g.B.Book.text c.args.book.now) told (g.L.Link.acts c.loop-cause.link) taken (g.B.Book.taken c.loop-cause.book) (g.B.Book.taken c.tell_overrun-told.new.book) c.loop-cause.station c.tell_overrun-told.ensures.taken (c.loop-cause.invariant.went reads are) in
+          let kept = went_kept plan commands scope (g.B.Book.text c.args.book.now) told (g.L.Link.acts c.loop-unkept.link) taken (g.B.Book.taken c.loop-unkept.book) (g.B.Book.taken c.keep.new.self) c.loop-unkept.station c.keep.ensures.same (c.loop-unkept.invariant.went reads are) in
+          let w = went_same plan commands scope (g.B.Book.text c.args.book.now) told (g.L.Link.acts c.loop-unkept.link) taken (g.B.Book.taken c.keep.new.self) (g.B.Book.taken c.tell_overrun-told.new.book) c.loop-unkept.station c.tell_overrun-told.ensures.taken kept in
           let s = stood plan commands scope w.acts in
           let same = are_same s.reads reads (stood_reads plan commands scope w.acts) are in
-          went_on plan commands scope (g.B.Book.text c.args.book.now) told (g.L.Link.acts c.loop-cause.link) (g.L.Link.acts c.step.new.link) taken (g.B.Book.taken c.tell_overrun-told.new.book) (g.B.Book.taken c.step.new.book) c.loop-cause.station c.step.new.self c.order-order.result w
+          went_on plan commands scope (g.B.Book.text c.args.book.now) told (g.L.Link.acts c.loop-unkept.link) (g.L.Link.acts c.step.new.link) taken (g.B.Book.taken c.tell_overrun-told.new.book) (g.B.Book.taken c.step.new.book) c.loop-unkept.station c.step.new.self c.order-order.result w
           (c.order-order.ensures.order s w.stands same) makes are;
-      form = c.in_default-step.ensures.form ∙ c.tell_overrun-told.ensures.form ∙ c.loop-cause.invariant.form;
-      failed = c.in_default-step.ensures.fails ∙ c.tell_overrun-told.ensures.failed ∙ c.loop-cause.invariant.failed;
+      form = c.in_default-step.ensures.form ∙ c.tell_overrun-told.ensures.form ∙ c.keep.ensures.form ∙ c.loop-unkept.invariant.form;
+      failed = c.in_default-step.ensures.fails ∙ c.tell_overrun-told.ensures.failed ∙ c.in_default.ensures.fails ∙ c.loop-unkept.invariant.failed;
     }
 
-pub loop-cause-init : goal.loop-cause-init
-loop-cause-init g c =
+pub loop-unkept-init : goal.loop-unkept-init
+loop-unkept-init g c =
     let plan = c.args.plan.now in
     let commands = c.args.commands.now in
     let any : Call → List ℕ → Reading = λ call line. Refused 0 in
@@ -84,7 +104,7 @@ returns-in-Stop-clause-ran g c reads are =
     let plan = c.args.plan.now in
     let commands = c.args.commands.now in
     let scope : Scope = record { turns = c.args.max_turns; reads = reads } in
-    let w = c.loop-cause.invariant.went reads are in
+    let w = went_kept plan commands scope (g.B.Book.text c.args.book.now) (g.L.Link.acts c.args.link.now) (g.L.Link.acts c.loop-unkept.link) (g.B.Book.taken c.args.book.now) (g.B.Book.taken c.loop-unkept.book) (g.B.Book.taken c.keep.new.self) c.loop-unkept.station c.keep.ensures.same (c.loop-unkept.invariant.went reads are) in
     let s = stood plan commands scope w.acts in
     let same = are_same s.reads reads (stood_reads plan commands scope w.acts) are in
     record {

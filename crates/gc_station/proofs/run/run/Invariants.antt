@@ -6,8 +6,8 @@ use Rattle.gc_station.proofs.Going.{Went, Somewhere}
 use Rattle.gc_station.proofs.Turns.{left_to_do}
 use Rattle.gc_station.proofs.run.run.Given as goal
 
-abbrev pub invariant-loop-cause : goal.invariant-loop-cause
-invariant-loop-cause g l = record {
+abbrev pub invariant-loop-unkept : goal.invariant-loop-unkept
+invariant-loop-unkept g l = record {
   within : l.station.progress.unsent ≤ length l.commands;
   some : Somewhere l.station;
   went : (reads : Call → List ℕ → Reading) → AreReadings reads
@@ -16,5 +16,5 @@ invariant-loop-cause g l = record {
   failed : g.B.Book.failed l.book ≡ g.B.Book.failed l.initial.book;
 }
 
-abbrev pub decreases-loop-cause : goal.decreases-loop-cause
-decreases-loop-cause g l = left_to_do l.station.progress
+abbrev pub decreases-loop-unkept : goal.decreases-loop-unkept
+decreases-loop-unkept g l = left_to_do l.station.progress

@@ -1,0 +1,18 @@
+-- Records in a file: what is told of its opening, this project's own.
+use Rattle.std.specs.Prelude.{ℕ, List, [], ◌++◌, ◌==◌, if◌then◌else◌, codes}
+use Rattle.std.specs.Fmt.{decimal}
+use Rattle.gc_files.specs.declared.system.Unfit.{Unfit}
+use Rattle.gc_files.specs.declared.system.Unfit.TheVariants.{Unopened, Held, Foreign, Failed}
+use Rattle.gc_texts.specs.declared.fault.RunFault.{RunFault}
+use Rattle.gc_texts.specs.declared.fault.RunFault.TheVariants.{RecordsUnopened, RecordsHeld, RecordsForeign, Output}
+
+-- the fault of a path that can't be had as a file of records
+abbrev pub fault_of_unfit : Unfit → RunFault
+fault_of_unfit Unopened = RecordsUnopened
+fault_of_unfit Held = RecordsHeld
+fault_of_unfit Foreign = RecordsForeign
+fault_of_unfit Failed = Output
+
+-- what is told of so many bytes of a torn row that were cut off: nothing where there were none
+abbrev pub torn_line : ℕ → List ℕ
+torn_line torn = if torn == 0 then [] else codes "geocom: " ++ decimal torn ++ codes " bytes of a torn row were cut off\n"
