@@ -1,5 +1,5 @@
 # By systemd: what an operator does behind the page, with two instruments: operator.sh SECONDS
-# The second one stands at a serial line, which is a pseudo terminal.
+# The second one stands at a serial line, which is a pseudo terminal. At the end the package is removed while a station runs.
 set -eu
 set -- "$1" geocom-station@simulator geocom-station@line
 rm -f /var/lib/geocom/*.csv
@@ -23,4 +23,9 @@ systemctl stop "$2" "$3"
 journalctl --no-pager -o cat -u "$2" -u "$3" | grep -v 'Sending signal\|Sent signal'
 stat -c '%U %A %n' /var/lib/geocom /var/lib/geocom/*.csv
 rm /etc/geocom/line.*
+cp /var/lib/geocom/*.csv /try
+systemctl start "$2"
+dpkg --purge geocom
+if systemctl is-active "$2"; then exit 1; fi
+[ -z "$(find /etc/systemd/system -type l -name 'geocom*')" ]
 echo 'all steps done'
