@@ -26,7 +26,7 @@ setup(
     version=os.environ["GEOCOM_VERSION"],
     description="The client of Leica's GeoCOM protocol, proved, over libgeocom",
     long_description="A client that settles each request once: answered, late or lost. It opens no port and reads no clock.\n\n"
-    "It needs Linux with glibc, and a processor of the level x86-64-v2 (SSE4.2).\n",
+    "It needs Linux with glibc, and any x86-64 processor.\n",
     long_description_content_type="text/plain",
     author="the geocom authors",
     license="MIT",
