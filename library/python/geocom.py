@@ -262,7 +262,9 @@ class Client:
         between them, as "5000,1". Raises UnknownProcedure, BadParameters or WindowFull, and then nothing has changed.
         """
         text = params.encode("latin-1") if isinstance(params, str) else bytes(params)
-        _within(target, 32), _within(deadline, 64), _within(procedure, 16)
+        _within(target, 32)
+        _within(deadline, 64)
+        _within(procedure, 16)
         with self._lock:
             line = ctypes.create_string_buffer(LINE_ROOM)
             sent = _library.geocom_client_send(
@@ -323,7 +325,7 @@ class Client:
         with self._lock:
             waiting = _library.geocom_client_waiting(self._state)
         _check(waiting.fault)
-        return waiting.count
+        return int(waiting.count)
 
     def _settled(self, count: int) -> list[Settlement]:
         text = self._text.raw
@@ -355,21 +357,23 @@ class Instrument:
     def __init__(self, program: str | os.PathLike[str] = "geocom", timeout: float = 1.0):
         self.timeout = timeout
         self._process = subprocess.Popen([program, "exec"], stdin=subprocess.PIPE, stdout=subprocess.PIPE, bufsize=0)
+        assert self._process.stdin is not None and self._process.stdout is not None
+        self._input, self._output = self._process.stdin, self._process.stdout
 
     def write(self, data: bytes) -> int:
         left = data
         while left:
-            left = left[self._process.stdin.write(left) :]
+            left = left[self._input.write(left) :]
         return len(data)
 
     def read(self, size: int = 256) -> bytes:
         """What came, at most so many bytes; nothing where nothing comes within the timeout."""
-        ready, _, _ = select.select([self._process.stdout], [], [], self.timeout)
-        return os.read(self._process.stdout.fileno(), size) if ready else b""
+        ready, _, _ = select.select([self._output], [], [], self.timeout)
+        return os.read(self._output.fileno(), size) if ready else b""
 
     def close(self) -> None:
-        self._process.stdin.close()
-        self._process.stdout.close()
+        self._input.close()
+        self._output.close()
         self._process.wait()
 
     def __enter__(self) -> Instrument:

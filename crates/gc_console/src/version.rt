@@ -1,4 +1,5 @@
-//! The version of the program, the library and their documents.
+//! The version: of the program, of the library and of their packages. It stands here alone.
 
-/// What `geocom --version` tells behind its name. `tools/package` reads it here.
+/// What `geocom --version` says behind the name. The first number is that of the library's calls, `GEOCOM_VERSION` of `geocom.h`,
+/// and of its soname.
 pub const VERSION: &str = "1.0.0";

@@ -1,0 +1,42 @@
+# bash completion for geocom(1)
+
+_geocom() {
+    local cur prev words cword
+    _init_completion || return
+    local command=${words[1]:-} given=
+    if [ "$cword" -eq 1 ]; then
+        mapfile -t COMPREPLY < <(compgen -W 'exec check drill loop serve ask station --help --version' -- "$cur")
+        return
+    fi
+    case $prev in
+    --scene | --log | --append)
+        # `check --log` takes no file.
+        if [ "$command" != check ]; then
+            _filedir
+            return
+        fi
+        ;;
+    --width)
+        mapfile -t COMPREPLY < <(compgen -W '1 2 3 4 5 6 7' -- "$cur")
+        return
+        ;;
+    --connections | --idle | --deadline | --every | --cycles | --quiet | --retries) return ;;
+    esac
+    case $command in
+    exec | loop) given='--scene --help' ;;
+    check) given='--log --help' ;;
+    drill) given='--scene --totals --width --help' ;;
+    serve) given='--connections --keep --idle --scene --help' ;;
+    ask) given='--help' ;;
+    station) given='--width --deadline --every --cycles --quiet --retries --csv --append --sync --unchained --silent --log --help' ;;
+    *) return ;;
+    esac
+    case $command:$cur in
+    *:-*) mapfile -t COMPREPLY < <(compgen -W "$given" -- "$cur") ;;
+    serve:* | ask:* | station:*)
+        # A place: the devices that are there.
+        mapfile -t COMPREPLY < <(compgen -W "$(compgen -G '/dev/ttyUSB*') $(compgen -G '/dev/ttyACM*') $(compgen -G '/dev/ttyS*')" -- "$cur")
+        [ "${#COMPREPLY[@]}" -ne 0 ] || _filedir
+        ;;
+    esac
+} && complete -F _geocom geocom
