@@ -7,8 +7,10 @@ that was cut, edited or replaced is told and refused, and nothing is taken from 
 
 import argparse
 import csv
+import glob
 import hashlib
 import os
+import resource
 import sys
 import time
 from dataclasses import dataclass
@@ -44,7 +46,8 @@ class Place:
 
 
 class Sink:
-    """What takes the rows: it has a `place`, and `take(rows, before, behind)` books rows with the place behind them, or neither."""
+    """What takes the rows. `place(source)` is how far it has come in a source, and `take(source, rows, before, behind)` books rows
+    with the place behind them, or neither."""
 
     def look(self):
         """Looks whether it is still there, where that can be known without a row."""
@@ -125,19 +128,21 @@ class Followed:
         self.file.close()
 
     def look(self):
-        """That the file is the one that was opened, and has what was taken."""
-        there, here = os.stat(self.path), os.fstat(self.file.fileno())
+        """How long the file is, which is the one that was opened, and not shorter than what was taken."""
+        try:
+            there, here = os.stat(self.path), os.fstat(self.file.fileno())
+        except FileNotFoundError:
+            raise Refused(f"{self.path} was taken away") from None
         if (there.st_dev, there.st_ino) != (here.st_dev, here.st_ino):
             raise Refused(f"{self.path} was replaced by another file")
         if here.st_size < self.place.bytes:
             raise Refused(f"{self.path} is shorter than the {self.place.bytes} bytes that were taken of it: it was cut")
+        return here.st_size
 
     def next(self):
         """The next rows, at most a batch, and the place behind them. A line without its line feed is left for later."""
-        try:
-            self.look()
-        except FileNotFoundError:
-            raise Refused(f"{self.path} was taken away") from None
+        if self.look() == self.place.bytes:
+            return [], (self.place,)
         begin = self.place.bytes - len(self.last)
         data = os.pread(self.file.fileno(), PIECE, begin)
         if not data.startswith(self.last):
@@ -183,39 +188,91 @@ def tell(text):
     print(f"{os.path.basename(sys.argv[0])}: {text}", file=sys.stderr, flush=True)
 
 
-def hand_over(path, sink, once, rest):
-    """Hands over what is there, and what comes, until the sink is away."""
-    file = None
-    try:
-        waits = False
-        while file is None:
+class Following:
+    """A file, or all files of a folder whose names end in `.csv`, of which new ones are looked for in each round."""
+
+    def __init__(self, said):
+        self.said = said
+        self.is_folder = os.path.isdir(said.file)
+        self.files, self.told = {}, set()
+
+    def paths(self):
+        return sorted(glob.glob(os.path.join(glob.escape(self.said.file), "*.csv"))) if self.is_folder else [self.said.file]
+
+    def source(self, path):
+        """What the sink calls a file. A name for a folder stands in front of each of its files' names."""
+        name = self.said.source
+        return os.path.abspath(path) if name is None else f"{name}/{os.path.basename(path)}" if self.is_folder else name
+
+    def opened(self, path, sink):
+        """The file, compared with what the sink has of it; nothing where it isn't there yet."""
+        try:
+            return Followed(path, sink.place(self.source(path)))
+        except FileNotFoundError:
+            if self.said.once:
+                raise Refused(f"{path} isn't there") from None
+            if path not in self.told:
+                tell(f"{path} isn't there yet")
+            self.told.add(path)
+            return None
+
+    def hand_over(self, path, sink):
+        """Hands a batch of a file over; whether there was one."""
+        file = self.files.get(path) or self.opened(path, sink)
+        if file is None:
+            return False
+        self.files[path] = file
+        rows, come = file.next()
+        if come[0].bytes == file.place.bytes:
+            return False
+        try:
+            sink.take(self.source(path), rows, file.place, come[0])
+        except Moved:
+            # What is there now is read again.
+            self.files.pop(path).close()
+            return True
+        file.took(come)
+        return True
+
+    def round(self, sink):
+        """A batch of each file; whether there was one. In a folder a file that is refused is told, and the others go on."""
+        came = False
+        for path in self.paths():
+            if path in self.told and self.is_folder:
+                continue
             try:
-                file = Followed(path, sink.place)
-            except FileNotFoundError:
-                if once:
-                    raise Refused(f"{path} isn't there") from None
-                if not waits:
-                    tell(f"{path} isn't there yet")
-                waits = True
-                time.sleep(rest)
-        while True:
-            rows, come = file.next()
-            if come[0].bytes != file.place.bytes:
-                sink.take(rows, file.place, come[0])
-                file.took(come)
-            elif once:
-                return
-            else:
+                came |= self.hand_over(path, sink)
+            except Refused as why:
+                if not self.is_folder:
+                    raise
+                tell(why)
+                self.told.add(path)
+                if path in self.files:
+                    self.files.pop(path).close()
+        return came
+
+    def until_away(self, sink):
+        """Hands over what is there, and what comes, until the sink is away."""
+        try:
+            while True:
+                if self.round(sink):
+                    continue
+                if self.said.once:
+                    if self.is_folder and self.told:
+                        sys.exit(1)
+                    return
                 sink.look()
-                time.sleep(rest)
-    finally:
-        if file:
-            file.close()
+                time.sleep(self.said.rest)
+        finally:
+            for file in self.files.values():
+                file.close()
+            self.files = {}
 
 
-def follow(path, connect, once=False, rest=1.0):
-    """Hands each row over once, over restarts of this program and of the station. A sink that is away is told once, and tried again
-    every `rest` seconds; with `once` it is the end."""
+def follow(said, connect):
+    """Hands each row over once, over restarts of this program and of the station. A sink that is away is told once, and tried again;
+    with `once` it is the end."""
+    following = Following(said)
     is_away = False
     while True:
         sink = None
@@ -224,16 +281,14 @@ def follow(path, connect, once=False, rest=1.0):
             if is_away:
                 tell("the sink is there again")
             is_away = False
-            return hand_over(path, sink, once, rest)
-        except Moved:
-            continue
+            return following.until_away(sink)
         except Away as why:
-            if once:
+            if said.once:
                 raise Refused(f"the sink is away: {why}") from None
             if not is_away:
                 tell(f"the sink is away: {why}")
             is_away = True
-            time.sleep(rest)
+            time.sleep(said.rest)
         finally:
             if sink:
                 sink.close()
@@ -242,7 +297,7 @@ def follow(path, connect, once=False, rest=1.0):
 def words(does, *others):
     """The words that all followers have, and the others as `argparse` has them: names and help."""
     said = argparse.ArgumentParser(description=does)
-    said.add_argument("file", help="the file of rows")
+    said.add_argument("file", help="the file of rows, or a folder of such files, each NAME.csv")
     for name, help_text in others:
         said.add_argument(name, help=help_text)
     said.add_argument("--as", dest="source", metavar="NAME", help="what the sink calls this file; its full path where nothing is said")
@@ -251,14 +306,12 @@ def words(does, *others):
     return said
 
 
-def source_of(said):
-    return said.source or os.path.abspath(said.file)
-
-
 def main(said, connect):
     """Follows as it was said; what is refused is told in one line, with status 1."""
+    # A folder may have more files than a program may have open at first.
+    resource.setrlimit(resource.RLIMIT_NOFILE, [resource.getrlimit(resource.RLIMIT_NOFILE)[1]] * 2)
     try:
-        follow(said.file, connect, said.once, said.rest)
+        follow(said, connect)
     except Refused as why:
         tell(why)
         sys.exit(1)
