@@ -79,7 +79,8 @@ def stations(program, pairs, seconds):
             paths.append(path)
             rows = ["--append", str(path)] if appends else ["--csv"]
             with commands.open("rb") as given, open(os.devnull if appends else path, "wb") as taken:
-                clients.append(subprocess.Popen([program, "station", str(port), *words, *rows], stdin=given, stdout=taken, stderr=subprocess.DEVNULL))
+                clients.append(subprocess.Popen(
+                    [program, "station", str(port), *words, *rows], stdin=given, stdout=taken, stderr=subprocess.DEVNULL))
         time.sleep(max(1, seconds - 4))
         took, wall = of_all(clients + instruments, seconds_of), time.monotonic() - begin
         memory = of_all(clients + instruments, memory_of)
@@ -133,7 +134,8 @@ def files(count, seconds, where):
             run.kill()
             run.wait()
             left = subprocess.run(list(map(str, [TOOLS / name, rows, *runs[name], "--once"])), check=False).returncode
-            print(f"{name}, {count} files, {taken(name, runs[name])} of {added} rows in {wall:.0f} s: {100 * took / wall:.1f} % of a processor, {memory / 1000:.0f} MB"
+            rows_taken = f"{taken(name, runs[name])} of {added} rows in {wall:.0f} s"
+            print(f"{name}, {count} files, {rows_taken}: {100 * took / wall:.1f} % of a processor, {memory / 1000:.0f} MB"
                   + (f"; it ended with {told}" if told is not None else "") + (f"; at the end {left}" if left else ""))
 
 
