@@ -195,6 +195,7 @@ class Following:
         self.said = said
         self.is_folder = os.path.isdir(said.file)
         self.files, self.told = {}, set()
+        self.is_away = False
 
     def paths(self):
         return sorted(glob.glob(os.path.join(glob.escape(self.said.file), "*.csv"))) if self.is_folder else [self.said.file]
@@ -255,7 +256,11 @@ class Following:
         """Hands over what is there, and what comes, until the sink is away."""
         try:
             while True:
-                if self.round(sink):
+                came = self.round(sink)
+                if self.is_away:
+                    tell("the sink is there again")
+                self.is_away = False
+                if came:
                     continue
                 if self.said.once:
                     if self.is_folder and self.told:
@@ -273,21 +278,17 @@ def follow(said, connect):
     """Hands each row over once, over restarts of this program and of the station. A sink that is away is told once, and tried again;
     with `once` it is the end."""
     following = Following(said)
-    is_away = False
     while True:
         sink = None
         try:
             sink = connect()
-            if is_away:
-                tell("the sink is there again")
-            is_away = False
             return following.until_away(sink)
         except Away as why:
             if said.once:
                 raise Refused(f"the sink is away: {why}") from None
-            if not is_away:
+            if not following.is_away:
                 tell(f"the sink is away: {why}")
-            is_away = True
+            following.is_away = True
             time.sleep(said.rest)
         finally:
             if sink:
