@@ -173,10 +173,10 @@ class Followed:
             raise Refused(f"{self.path}: the line that ends at byte {end} is no row of {len(self.names)} columns")
         row = Row(number, dict(zip(self.names, fields)))
         try:
-            for column in COLUMNS:
-                row.known(column)
+            if any(abs(row.known(column) or 0) >= 1 << 63 for column in NUMBERS):
+                raise ValueError
         except ValueError:
-            raise Refused(f"{self.path}: the line that ends at byte {end} has no number in {column}") from None
+            raise Refused(f"{self.path}: the line that ends at byte {end} has no number where one is to be") from None
         return row
 
     def took(self, come):

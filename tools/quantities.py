@@ -3,6 +3,10 @@
 They are there where a row was answered with both codes 0 and its values read, and nowhere else.
 """
 
+import re
+
+# How a number is spelt, for python and for PostgreSQL. What isn't spelt so is no quantity.
+NUMBER = r"^[-+]?(?:[0-9]+\.?[0-9]*|\.[0-9]+)(?:[eE][-+]?[0-9]{1,3})?$"
 POINT = ["hz_rad", "v_rad", "distance_m"]
 # Of each procedure that measures or tells a quantity, what stands at each place of its values.
 QUANTITIES = {
@@ -26,7 +30,8 @@ def has_values(fields):
 def quantities(fields):
     """The quantities of a row, each as the text that came."""
     names = QUANTITIES.get(int(fields["procedure"]), []) if has_values(fields) else []
-    return dict(zip(names, (item.strip(" ") for item in fields["values"].split(","))))
+    items = [item.strip(" ") for item in fields["values"].split(",")]
+    return {name: item for name, item in zip(names, items) if re.match(NUMBER, item)}
 
 
 def view(item, cast):
