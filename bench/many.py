@@ -1,0 +1,152 @@
+#!/usr/bin/python3
+"""Measures many instruments on one machine.
+
+many.py stations GEOCOM [PAIRS] [SECONDS]   so many stations and as many simulators at once, 50 and 60 where nothing is said. Each asks
+                                            three commands every two seconds. With a program that knows --append, to a file each
+many.py files [FILES] [SECONDS] [WHERE]     one follower for so many files, 1000 and 60: each gets three rows every ten seconds. It is
+                                            to-sqlite, and to-postgres where a database is named as libpq has it
+
+It tells what was answered, how much of a processor all of them took, and their memory, in which shared pages are counted once.
+"""
+
+import os
+import sys
+
+sys.dont_write_bytecode = True
+# In place of this folder, whose `random.py` is another than python's.
+sys.path[0] = os.path.join(os.path.dirname(os.path.realpath(__file__)), "../tools")
+
+import csv
+import random
+import socket
+import sqlite3
+import subprocess
+import tempfile
+import time
+from contextlib import closing
+from pathlib import Path
+
+import growing
+
+TOOLS = Path(sys.path[0])
+
+COMMANDS = b"7 5003\n8 2011\n9 2107 0\n"
+EVERY = 2
+FILES_EVERY = 10
+
+
+def seconds_of(pid):
+    """How long a process has kept a processor busy."""
+    fields = Path(f"/proc/{pid}/stat").read_text(encoding="ascii").rsplit(")", 1)[1].split()
+    return (int(fields[11]) + int(fields[12])) / os.sysconf("SC_CLK_TCK")
+
+
+def memory_of(pid):
+    """The kB of a process, its share of the shared pages counted."""
+    lines = Path(f"/proc/{pid}/smaps_rollup").read_text(encoding="ascii").splitlines()
+    return next(int(line.split()[1]) for line in lines if line.startswith("Pss:"))
+
+
+def of_all(runs, count):
+    return sum(count(run.pid) for run in runs)
+
+
+def free_ports(count):
+    """Ports that nothing listens on, each another."""
+    probes = [socket.create_server(("127.0.0.1", 0)) for _ in range(count)]
+    ports = [probe.getsockname()[1] for probe in probes]
+    for probe in probes:
+        probe.close()
+    return ports
+
+
+def stations(program, pairs, seconds):
+    """The pairs, measured from their beginning until two seconds before their end."""
+    help_text = subprocess.run([program, "station", "--help"], capture_output=True, text=True, check=False)
+    appends = "--append" in help_text.stdout + help_text.stderr
+    cycles = seconds // EVERY
+    words = f"--every {EVERY} --cycles {cycles} --quiet 200 --deadline 1000 --silent".split()
+    with tempfile.TemporaryDirectory() as folder:
+        commands = Path(folder, "commands")
+        commands.write_bytes(COMMANDS)
+        ports = free_ports(pairs)
+        begin = time.monotonic()
+        instruments = [subprocess.Popen([program, "serve", str(port)], stderr=subprocess.DEVNULL) for port in ports]
+        time.sleep(1)
+        clients, paths = [], []
+        for port in ports:
+            path = Path(folder, f"{port}.csv")
+            paths.append(path)
+            rows = ["--append", str(path)] if appends else ["--csv"]
+            with commands.open("rb") as given, open(os.devnull if appends else path, "wb") as taken:
+                clients.append(subprocess.Popen(
+                    [program, "station", str(port), *words, *rows], stdin=given, stdout=taken, stderr=subprocess.DEVNULL))
+        time.sleep(max(1, seconds - 4))
+        took, wall = of_all(clients + instruments, seconds_of), time.monotonic() - begin
+        memory = of_all(clients + instruments, memory_of)
+        statuses = [run.wait(60) for run in clients] + [run.wait(60) for run in instruments]
+        answered = total = 0
+        for path in paths:
+            with path.open(newline="", encoding="latin-1") as file:
+                outcomes = [row["outcome"] for row in csv.DictReader(file)]
+            total += len(outcomes)
+            answered += outcomes.count("answered")
+        print(f"{pairs} stations and {pairs} simulators, {'--append' if appends else '--csv'}: {answered} of {pairs * cycles * 3} answered, "
+              f"{total} rows, {sum(map(bool, statuses))} with another status than 0; "
+              f"{100 * took / wall:.1f} % of a processor over {wall:.0f} s, {memory / 1000:.0f} MB together")
+
+
+def taken(name, words):
+    """How many rows the sink has of this run."""
+    if name == "to-sqlite":
+        with closing(sqlite3.connect(words[0])) as base:
+            return base.execute("SELECT sum(rows) FROM followed").fetchone()[0]
+    query = f"SELECT sum(rows) FROM followed WHERE source LIKE '{words[2]}/%'"
+    return int(subprocess.run(["psql", "-AtX", words[0], "-c", query], capture_output=True, check=True).stdout)
+
+
+def files(count, seconds, where):
+    """One follower of a folder of so many files."""
+    chance = random.Random(count)
+    with tempfile.TemporaryDirectory() as folder:
+        rows = Path(folder, "rows")
+        rows.mkdir()
+        paths = [rows / f"s{number:04}.csv" for number in range(count)]
+        for path in paths:
+            path.write_bytes(growing.HEAD)
+        runs = {"to-sqlite": [Path(folder, "values.db")], **({"to-postgres": [where, "--as", f"many {time.time()}"]} if where else {})}
+        followers = {name: subprocess.Popen(list(map(str, [TOOLS / name, rows, *words]))) for name, words in runs.items()}
+        time.sleep(5)
+        before = {name: seconds_of(run.pid) for name, run in followers.items()}
+        begin, added = time.monotonic(), 0
+        while time.monotonic() - begin < seconds:
+            # A tenth of the files each second, as stations that began at different moments.
+            turn = int(time.monotonic() - begin)
+            for path in paths[turn % FILES_EVERY :: FILES_EVERY]:
+                with path.open("ab") as file:
+                    file.write(b"".join(growing.row(chance, added + place) for place in range(3)))
+                added += 3
+            time.sleep(max(0, begin + turn + 1 - time.monotonic()))
+        wall = time.monotonic() - begin
+        for name, run in followers.items():
+            took, memory = seconds_of(run.pid) - before[name], memory_of(run.pid)
+            told = run.poll()
+            run.kill()
+            run.wait()
+            left = subprocess.run(list(map(str, [TOOLS / name, rows, *runs[name], "--once"])), check=False).returncode
+            rows_taken = f"{taken(name, runs[name])} of {added} rows in {wall:.0f} s"
+            print(f"{name}, {count} files, {rows_taken}: {100 * took / wall:.1f} % of a processor, {memory / 1000:.0f} MB"
+                  + (f"; it ended with {told}" if told is not None else "") + (f"; at the end {left}" if left else ""))
+
+
+def main():
+    words = dict(enumerate(sys.argv[1:]))
+    if words.get(0) == "stations" and 1 in words:
+        stations(os.path.abspath(words[1]), int(words.get(2, 50)), int(words.get(3, 60)))
+    elif words.get(0) == "files":
+        files(int(words.get(1, 1000)), int(words.get(2, 60)), words.get(3))
+    else:
+        sys.exit(__doc__)
+
+
+main()

@@ -1,0 +1,82 @@
+"""A file of rows that grows as a station's does, for trials: whole rows and rows in pieces, torn ones that are cut off again, and
+every outcome. Rows differ from one another, and some have quotes, commas and bytes that are no ASCII.
+"""
+
+import datetime
+import os
+import random
+import threading
+
+HEAD = b"time,cycle,place,target,name,procedure,outcome,fault,rc_com,rc,values\n"
+TARGETS = [(7, b"pier 4", 2.25, 1.625, 110.0625), (8, b"", 0.5, 1.5, 25.125), (9, b"a/b+c #1", 4.0, 1.5, 48.5)]
+COMMANDS = [b"9027", b"2008", b"2108", b"2107", b"5004"]
+BEGIN = datetime.datetime(2026, 11, 24, 20, 0, tzinfo=datetime.timezone.utc)
+
+
+def row(chance, number):
+    """A row: its number, counted from 0, stands in its time and its cycle."""
+    moment = BEGIN + datetime.timedelta(milliseconds=number * 20_000)
+    target, name, hz, v, distance = TARGETS[number // len(COMMANDS) % len(TARGETS)]
+    place = number % (len(COMMANDS) * len(TARGETS))
+    procedure = COMMANDS[number % len(COMMANDS)]
+    outcome = chance.choices([b"answered", b"late", b"lost", b"skipped", b"unreadable", b"missed"], [80, 3, 3, 6, 1, 2])[0]
+    fault = codes = values = b""
+    if outcome == b"answered":
+        codes = b"0,0"
+        sway = chance.gauss(0, 1)
+        if procedure == b"2108" and chance.random() < 0.05:
+            codes = b"0,1285"
+        elif procedure == b"2108":
+            values = b'"%.9f,%.9f,%.5f"' % (hz + sway * 4e-6, v + chance.gauss(0, 3e-6), distance + chance.gauss(0, 8e-4))
+        elif procedure == b"2107":
+            values = b'"%.9f,%.9f"' % (hz + sway * 4e-6, v + chance.gauss(0, 3e-6))
+        elif procedure == b"5004":
+            values = b'"""SIM %d"""' % number
+    elif outcome == b"unreadable":
+        fault, codes, values = b"11", b"0,0", b'"x,\xff\x00%d"' % number
+    stamp = moment.strftime("%Y-%m-%dT%H:%M:%S.").encode() + b"%03dZ" % (moment.microsecond // 1000)
+    cycle = number // (len(COMMANDS) * len(TARGETS)) + 1
+    return b"%s,%d,%d,%d,%s,%s,%s,%s,%s,%s\n" % (stamp, cycle, place, target, name, procedure, outcome, fault, codes or b",", values)
+
+
+class Growing:
+    """A file that grows at random until it is ended. It counts its rows, and how often one was torn and cut off."""
+
+    def __init__(self, path, seed, rest=0.02, most=20, head=HEAD, line=row):
+        self.path, self.rest, self.most, self.head, self.line = path, rest, most, head, line
+        self.chance = random.Random(seed)
+        self.rows = self.torn = 0
+        self.ending = threading.Event()
+        self.thread = threading.Thread(target=self.grow, daemon=True)
+        self.thread.start()
+
+    def grow(self):
+        with open(self.path, "ab", buffering=0) as file:
+            file.write(self.head[:9])
+            self.ending.wait(self.rest)
+            file.write(self.head[9:])
+            while not self.ending.wait(self.chance.uniform(0, 2 * self.rest)):
+                for _ in range(self.chance.randint(1, self.most)):
+                    self.add(file)
+
+    def add(self, file):
+        """Adds a row: in one piece, in two, or torn first, as behind a crash, and cut off at the next start."""
+        line = self.line(self.chance, self.rows)
+        how = self.chance.random()
+        cut = self.chance.randint(1, len(line) - 1)
+        if how < 0.02:
+            whole = os.fstat(file.fileno()).st_size
+            file.write(line[:cut])
+            self.ending.wait(self.chance.uniform(0, 0.02))
+            os.ftruncate(file.fileno(), whole)
+            self.torn += 1
+        if how < 0.05:
+            file.write(line[:cut])
+            self.ending.wait(self.chance.uniform(0, 0.02))
+            line = line[cut:]
+        file.write(line)
+        self.rows += 1
+
+    def end(self):
+        self.ending.set()
+        self.thread.join()

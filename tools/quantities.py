@@ -1,0 +1,47 @@
+"""What the values of a row are, by the table of procedures in `docs/PROTOCOL.md`: the names of its quantities, with their units.
+
+They are there where a row was answered with both codes 0 and its values read, and nowhere else.
+"""
+
+import re
+
+# How a number is spelt, for python and for PostgreSQL. What isn't spelt so is no quantity.
+NUMBER = r"^[-+]?(?:[0-9]+\.?[0-9]*|\.[0-9]+)(?:[eE][-+]?[0-9]{1,3})?$"
+POINT = ["hz_rad", "v_rad", "distance_m"]
+# Of each procedure that measures or tells a quantity, what stands at each place of its values.
+QUANTITIES = {
+    2107: ["hz_rad", "v_rad"],
+    2108: POINT,
+    2117: POINT,
+    17017: POINT,
+    2009: ["easting_m", "northing_m", "height_m", "instrument_height_m"],
+    2011: ["reflector_height_m"],
+    2026: ["face"],
+    5011: ["temperature_c"],
+}
+NAMES = list(dict.fromkeys(name for names in QUANTITIES.values() for name in names))
+
+
+def has_values(fields):
+    """Whether a row was answered well, so that its values read."""
+    return fields["outcome"] == "answered" and fields["rc_com"] == "0" and fields["rc"] == "0"
+
+
+def quantities(fields):
+    """The quantities of a row, each as the text that came."""
+    names = QUANTITIES.get(int(fields["procedure"]), []) if has_values(fields) else []
+    items = [item.strip(" ") for item in fields["values"].split(",")]
+    return {name: item for name, item in zip(names, items) if re.match(NUMBER, item)}
+
+
+def view(item, cast):
+    """The columns of a view, a column a quantity. `item` gives the SQL of the value at a place, and `cast` that of its number."""
+    columns = []
+    for name in NAMES:
+        cases = {}
+        for procedure, names in QUANTITIES.items():
+            if name in names:
+                cases.setdefault(names.index(name), []).append(str(procedure))
+        whens = " ".join(f"WHEN procedure IN ({', '.join(of)}) THEN {cast(item(place))}" for place, of in cases.items())
+        columns.append(f"CASE {whens} END AS {name}")
+    return ",\n    ".join(columns)
