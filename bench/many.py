@@ -10,6 +10,7 @@ It tells what was answered, how much of a processor all of them took, and their 
 """
 
 import os
+import resource
 import sys
 
 sys.dont_write_bytecode = True
@@ -41,6 +42,12 @@ def seconds_of(pid):
     return (int(fields[11]) + int(fields[12])) / os.sysconf("SC_CLK_TCK")
 
 
+def ended_seconds():
+    """How long the processes that have ended kept a processor busy."""
+    used = resource.getrusage(resource.RUSAGE_CHILDREN)
+    return used.ru_utime + used.ru_stime
+
+
 def memory_of(pid):
     """The kB of a process, its share of the shared pages counted."""
     lines = Path(f"/proc/{pid}/smaps_rollup").read_text(encoding="ascii").splitlines()
@@ -61,7 +68,7 @@ def free_ports(count):
 
 
 def stations(program, pairs, seconds):
-    """The pairs, measured from their beginning until two seconds before their end."""
+    """The pairs, measured from their beginning to their end."""
     help_text = subprocess.run([program, "station", "--help"], capture_output=True, text=True, check=False)
     appends = "--append" in help_text.stdout + help_text.stderr
     cycles = seconds // EVERY
@@ -70,7 +77,7 @@ def stations(program, pairs, seconds):
         commands = Path(folder, "commands")
         commands.write_bytes(COMMANDS)
         ports = free_ports(pairs)
-        begin = time.monotonic()
+        begin, ended_before = time.monotonic(), ended_seconds()
         instruments = [subprocess.Popen([program, "serve", str(port)], stderr=subprocess.DEVNULL) for port in ports]
         time.sleep(1)
         clients, paths = [], []
@@ -82,9 +89,10 @@ def stations(program, pairs, seconds):
                 clients.append(subprocess.Popen(
                     [program, "station", str(port), *words, *rows], stdin=given, stdout=taken, stderr=subprocess.DEVNULL))
         time.sleep(max(1, seconds - 4))
-        took, wall = of_all(clients + instruments, seconds_of), time.monotonic() - begin
         memory = of_all(clients + instruments, memory_of)
         statuses = [run.wait(60) for run in clients] + [run.wait(60) for run in instruments]
+        # A process takes less than a tick of /proc, so what counts is what the system adds up of those that ended.
+        took, wall = ended_seconds() - ended_before, time.monotonic() - begin
         answered = total = 0
         for path in paths:
             with path.open(newline="", encoding="latin-1") as file:
