@@ -73,7 +73,7 @@ pub enum RunFault {
 }
 
 impl RunFault {
-    /// The number of the fault, 41 to 66. This project's own.
+    /// The number of the fault, 41 to 60 and 64 to 66. This project's own.
     pub fn number(self) -> u8
         ensures { result ≡ run_fault_number self }
     {
