@@ -1,7 +1,7 @@
 -- A run on the way: what was done so far, and one act more.
 use Rattle.std.proofs.Common.{◌≡◌, ℕ, ◌<◌, ◌≤◌, List, [], ◌∷◌, ◌++◌, length, Option, Some, None, Result, Ok, Err, refl, sym, ap, ◌∙◌, subst, append-nil}
 use Rattle.std.specs.Io.KnownBytes.{Appends, Keeps}
-use Rattle.std.proofs.KnownBytes.{Appends-kept}
+use Rattle.std.proofs.KnownBytes.{Appends-kept, Keeps-refl}
 use Rattle.gc_lines.proofs.Known.{Appends-nil}
 use Rattle.gc_client.specs.Rule.{ById}
 use Rattle.gc_texts.specs.declared.tasks.Task.{Task}
@@ -159,17 +159,6 @@ went_nothing plan commands scope text told taken station stands = record {
   took = Appends-nil taken;
 }
 
--- a book that took nothing more
-pub went_same : (plan : Plan) (commands : List Task) (scope : Scope) (text : Record → List ℕ) (told told' : Option (List Act)) (taken taken' taken'' : Option (List ℕ)) (station : Station) → taken'' ≡ taken'
-    → Went plan commands scope text told told' taken taken' station → Went plan commands scope text told told' taken taken'' station
-went_same plan commands scope text told told' taken taken' taken'' station same w = record {
-  acts = w.acts;
-  tells = w.tells;
-  runs = w.runs;
-  stands = w.stands;
-  took = subst (λ (t : Option (List ℕ)). Appends taken t (texts_of text (stood plan commands scope w.acts).records)) (sym same) w.took;
-}
-
 -- a book that took nothing more, as far as that is known
 pub went_kept : (plan : Plan) (commands : List Task) (scope : Scope) (text : Record → List ℕ) (told told' : Option (List Act)) (taken taken' taken'' : Option (List ℕ)) (station : Station) → Keeps taken' taken''
     → Went plan commands scope text told told' taken taken' station → Went plan commands scope text told told' taken taken'' station
@@ -180,6 +169,12 @@ went_kept plan commands scope text told told' taken taken' taken'' station keeps
   stands = w.stands;
   took = Appends-kept taken taken' taken'' (texts_of text (stood plan commands scope w.acts).records) w.took keeps;
 }
+
+-- a book that took nothing more
+pub went_same : (plan : Plan) (commands : List Task) (scope : Scope) (text : Record → List ℕ) (told told' : Option (List Act)) (taken taken' taken'' : Option (List ℕ)) (station : Station) → taken'' ≡ taken'
+    → Went plan commands scope text told told' taken taken' station → Went plan commands scope text told told' taken taken'' station
+went_same plan commands scope text told told' taken taken' taken'' station same w =
+    went_kept plan commands scope text told told' taken taken' taken'' station (subst (λ (t : Option (List ℕ)). Keeps taken' t) (sym same) (Keeps-refl taken')) w
 
 -- a book whose records couldn't be made to last, and the connection was closed
 pub went_left : (plan : Plan) (commands : List Task) (scope : Scope) (text : Record → List ℕ) (told told' told'' : Option (List Act)) (taken taken' : Option (List ℕ)) (station : Station)
