@@ -106,7 +106,7 @@ def chains_rows_alone(program):
 # What comes in place of two angles, behind the colon, with the outcome, the fault and the values of its row.
 ANGLES = [
     (b"0,2.25,1.6?", "unreadable", "11", "2.25,1.6?"),
-    (b"0,2.25,1.6\xff", "unreadable", "11", "2.25,1.6\xff"),
+    (b"0,2.25,1.6\xff", "unreadable", "11", "2.25,1.6\\xff"),
     (b"0,2.25", "unreadable", "15", "2.25"),
     (b"0,2.25,1.6,0", "unreadable", "15", "2.25,1.6,0"),
     (b'0,2.25,"1.6', "unreadable", "13", '2.25,"1.6'),

@@ -15,8 +15,11 @@ import sys
 import time
 from dataclasses import dataclass
 
-# What every reader of such a file needs. Further columns are handed on under their names.
-COLUMNS = ["time", "cycle", "place", "target", "name", "procedure", "outcome", "fault", "rc_com", "rc", "values"]
+# The columns of a station's rows. Further ones are handed on under their names.
+COLUMNS = ["run", "sent", "time", "cycle", "place", "target", "name", "procedure", "outcome", "fault", "rc_com", "rc", "values"]
+MOMENTS = ["run", "sent", "time"]
+# What every reader of such a file needs. A file of an earlier version has no other columns.
+NEEDED = [column for column in COLUMNS if column not in ("run", "sent")]
 NUMBERS = {"cycle", "place", "target", "procedure", "fault", "rc_com", "rc"}
 # How many rows go into one transaction at most, and how many bytes are read for them.
 BATCH = 1000
@@ -65,12 +68,12 @@ class Row:
 
     def known(self, column):
         """A field of the known columns: nothing where it is empty, and a number where it is one."""
-        field = self.fields[column]
+        field = self.fields.get(column, "")
         return None if field == "" else int(field) if column in NUMBERS else field
 
     def more(self):
-        """The fields of further columns, which a later version may write."""
-        return {name: field for name, field in self.fields.items() if name not in COLUMNS}
+        """The fields of further columns that aren't empty: those of `--columns`, and what a later version may write."""
+        return {name: field for name, field in self.fields.items() if name not in COLUMNS and field}
 
 
 def printable(data):
@@ -83,7 +86,7 @@ def fields_of(line):
     return next(csv.reader([printable(line)], strict=True), [])
 
 
-def header_of(line, path, needed=COLUMNS):
+def header_of(line, path, needed=NEEDED):
     """The names of the columns. That one is missing which is needed is told."""
     names = fields_of(line)
     for column in needed:

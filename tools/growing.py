@@ -1,5 +1,5 @@
 """A file of rows that grows as a station's does, for trials: whole rows and rows in pieces, torn ones that are cut off again, and
-every outcome. Rows differ from one another, and some have quotes, commas and bytes that are no ASCII.
+every outcome. Rows differ from one another, and some have quotes, commas and bytes that were no ASCII.
 """
 
 import datetime
@@ -7,10 +7,16 @@ import os
 import random
 import threading
 
-HEAD = b"time,cycle,place,target,name,procedure,outcome,fault,rc_com,rc,values\n"
+HEAD = b"run,sent,time,cycle,place,target,name,procedure,outcome,fault,rc_com,rc,values\n"
 TARGETS = [(7, b"pier 4", 2.25, 1.625, 110.0625), (8, b"", 0.5, 1.5, 25.125), (9, b"a/b+c #1", 4.0, 1.5, 48.5)]
 COMMANDS = [b"9027", b"2008", b"2108", b"2107", b"5004"]
 BEGIN = datetime.datetime(2026, 11, 24, 20, 0, tzinfo=datetime.timezone.utc)
+RUN = b"2026-11-24T19:59:50.000Z"
+
+
+def told(moment):
+    """A moment as a station writes it."""
+    return moment.strftime("%Y-%m-%dT%H:%M:%S.").encode() + b"%03dZ" % (moment.microsecond // 1000)
 
 
 def row(chance, number):
@@ -33,10 +39,11 @@ def row(chance, number):
         elif procedure == b"5004":
             values = b'"""SIM %d"""' % number
     elif outcome == b"unreadable":
-        fault, codes, values = b"11", b"0,0", b'"x,\xff\x00%d"' % number
-    stamp = moment.strftime("%Y-%m-%dT%H:%M:%S.").encode() + b"%03dZ" % (moment.microsecond // 1000)
+        fault, codes, values = b"11", b"0,0", rb'"x,\xff\x00%d"' % number
+    sent = b"" if outcome in (b"skipped", b"missed") else told(moment - datetime.timedelta(milliseconds=1_234))
     cycle = number // (len(COMMANDS) * len(TARGETS)) + 1
-    return b"%s,%d,%d,%d,%s,%s,%s,%s,%s,%s\n" % (stamp, cycle, place, target, name, procedure, outcome, fault, codes or b",", values)
+    fields = [RUN, sent, told(moment), b"%d" % cycle, b"%d" % place, b"%d" % target, name, procedure, outcome, fault, codes or b",", values]
+    return b",".join(fields) + b"\n"
 
 
 class Growing:

@@ -1,8 +1,9 @@
 """Judges what `geocom station --csv` wrote over a bad line: each command of a cycle has one row, in order; every answer is the
 right one for its request; none came past its deadline; each first reply that came well in time is answered; no command of a chain
 went out behind one that wasn't answered well, or over another connection, and else it did; a cycle is missed whole, and only where
-the next was due before it could begin; the counts at the end are those of the rows; and what is told besides has the form and the
-rests that it has to have: a cycle that wasn't done in time is told once, in order.
+the next was due before it could begin; the counts at the end are those of the rows; all rows have the beginning
+of one run, and a command that was sent has its moment, between that beginning and its end; and what is told besides has the form and
+the rests that it has to have: a cycle that wasn't done in time is told once, in order.
 
     judge.py WRITTEN MESSAGES LOG plain|tag DEADLINE QUIET EVERY CYCLES COMMANDS VALUES
 
@@ -32,14 +33,16 @@ chained = [place > 0 and targets[place - 1] == target for place, target in enume
 right = [line.rstrip("\n") for line in open(values)]
 WHILE = 50
 OUTCOMES = ["answered", "late", "lost", "skipped", "unreadable", "missed"]
-COLUMNS = ["time", "cycle", "place", "target", "name", "procedure", "outcome", "fault", "rc_com", "rc", "values"]
+COLUMNS = ["run", "sent", "time", "cycle", "place", "target", "name", "procedure", "outcome", "fault", "rc_com", "rc", "values"]
+# What a row has of a reply.
+OF_REPLY = ["fault", "rc_com", "rc", "values"]
 ECHOES = "the line sends back what goes out"
 STAMP = r"\d{4}-\d\d-\d\dT\d\d:\d\d:\d\d\.\d{3}Z"
 
 
-def milliseconds(row):
-    """The moment of a row, in milliseconds since 1970."""
-    return round(1000 * datetime.datetime.fromisoformat(row["time"].replace("Z", "+00:00")).timestamp())
+def milliseconds(row, column="time"):
+    """A moment of a row, in milliseconds since 1970."""
+    return round(1000 * datetime.datetime.fromisoformat(row[column].replace("Z", "+00:00")).timestamp())
 
 
 faults = []
@@ -50,6 +53,8 @@ if reader.fieldnames != COLUMNS:
     sys.exit(f"the columns are {reader.fieldnames}")
 if len(rows) != cycles * len(targets):
     faults.append(f"{len(rows)} rows for {cycles} cycles of {len(targets)} commands")
+if len({row["run"] for row in rows}) > 1:
+    faults.append(f"one run, which began at {sorted({row['run'] for row in rows})}")
 # The cycles of which anything was sent: the line counts no others.
 begun = sorted({int(row["cycle"]) for row in rows if row["outcome"] not in ("skipped", "missed")})
 
@@ -114,12 +119,16 @@ for n, row in enumerate(rows):
     wanted = (cycle, place, targets[place], procedures[place])
     if tuple(int(row[k]) for k in ("cycle", "place", "target", "procedure")) != wanted or row["name"] != "":
         faults.append(f"{where}: {row}")
-    if row["outcome"] not in OUTCOMES or (row["outcome"] != "answered" and any(row[k] for k in COLUMNS[7:])):
+    if row["outcome"] not in OUTCOMES or (row["outcome"] != "answered" and any(row[k] for k in OF_REPLY)):
         faults.append(f"{where}: {row}")
     count[row["outcome"]] += 1
     number = numbers.get((cycle, place))
     if row["outcome"] in ("skipped", "missed") and number:
         faults.append(f"{where}: {row['outcome']}, and it was sent")
+    if (row["sent"] == "") != (row["outcome"] in ("skipped", "missed")):
+        faults.append(f"{where}: {row['outcome']}, and it was sent at {row['sent']!r}")
+    elif row["sent"] and not milliseconds(row, "run") <= milliseconds(row, "sent") <= milliseconds(row):
+        faults.append(f"{where}: it wasn't sent between the beginning of its run and its end: {row}")
     if row["outcome"] == "skipped" and not chained[place]:
         faults.append(f"{where}: skipped, and it is the first of its row")
     if chained[place]:

@@ -8,7 +8,7 @@ from contextlib import contextmanager
 
 from operating import PATIENCE, expect, expect_same, started
 
-HEAD = b"time,cycle,place,target,name,procedure,outcome,fault,rc_com,rc,values\n"
+HEAD = b"run,sent,time,cycle,place,target,name,procedure,outcome,fault,rc_com,rc,values\n"
 STAMP = r"\d{4}-\d\d-\d\dT\d\d:\d\d:\d\d\.\d{3}Z"
 OUTCOMES = ["answered", "late", "lost", "skipped", "unreadable", "missed"]
 
@@ -42,6 +42,9 @@ def rows_of(written):
         expect((row["fault"] != "") == (row["outcome"] == "unreadable"), row)
         expect(all((row[name] != "") == came for name in ("rc_com", "rc")), row)
         expect(came or row["values"] == "", row)
+        expect((row["sent"] == "") == (row["outcome"] in ("skipped", "missed")), row)
+        expect(row["run"] <= (row["sent"] or row["run"]) and row["sent"] <= row["time"], row)
+    expect(len({row["run"] for row in rows}) <= 1, f"one run began at {sorted({row['run'] for row in rows})}")
     return rows
 
 

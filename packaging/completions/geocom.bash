@@ -28,7 +28,7 @@ _geocom() {
     drill) given='--scene --totals --width --help' ;;
     serve) given='--connections --keep --idle --scene --help' ;;
     ask) given='--help' ;;
-    station) given='--width --deadline --every --cycles --quiet --retries --csv --append --sync --unchained --silent --log --help' ;;
+    station) given='--width --deadline --every --cycles --quiet --retries --csv --columns --json --append --sync --unchained --silent --log --help' ;;
     *) return ;;
     esac
     case $command:$cur in

@@ -27,6 +27,8 @@ complete -c geocom -n '__fish_seen_subcommand_from station' -l cycles -x -d 'how
 complete -c geocom -n '__fish_seen_subcommand_from station' -l quiet -x -d 'milliseconds, and then the line is quiet'
 complete -c geocom -n '__fish_seen_subcommand_from station' -l retries -x -d 'how many connections in a row, 0 without end'
 complete -c geocom -n '__fish_seen_subcommand_from station' -l csv -d 'writes comma-separated values'
+complete -c geocom -n '__fish_seen_subcommand_from station' -l columns -d 'the same, with a column for each quantity'
+complete -c geocom -n '__fish_seen_subcommand_from station' -l json -d 'writes an object of JSON a line'
 complete -c geocom -n '__fish_seen_subcommand_from station' -l append -r -F -d 'appends each record to a file'
 complete -c geocom -n '__fish_seen_subcommand_from station' -l sync -d 'has each row on the disk'
 complete -c geocom -n '__fish_seen_subcommand_from station' -l unchained -d 'sends each command by itself'

@@ -24,11 +24,24 @@ use Rattle.gc_texts.specs.declared.fault.RunFault.{RunFault}
 use Rattle.gc_texts.specs.declared.fault.RunFault.TheVariants.{Output}
 use Rattle.gc_texts.specs.declared.name.Name.{Name}
 use Rattle.gc_texts.specs.declared.record.Form.{Form}
+use Rattle.gc_texts.specs.declared.record.Form.TheVariants.{Lines, Csv, Columns, Json}
 use Rattle.gc_texts.specs.declared.tasks.Task.{Task}
+use Rattle.gc_texts.specs.declared.when.When.{When}
 
--- the text of a record in a form, where targets have these names
-abbrev pub text_in : Form → List Name → Record → List ℕ
-text_in form names r = record_text form r.utc r.cycle r.place (name_text r.command.target names) r.command r.end
+-- the moments of a record of a run that began then
+abbrev pub when_of : ℕ → Record → When
+when_of run r = record { run = run; sent = r.sent; utc = r.utc; cycle = r.cycle; place = r.place }
+
+-- the text of a record in a layout, where targets have these names
+abbrev pub text_in : Layout → List Name → Record → List ℕ
+text_in layout names r = record_text layout.form (when_of layout.run r) (name_text r.command.target names) r.command r.end
+
+-- the form of rows that go into a file: the one that was asked for, or comma-separated values
+abbrev pub form_of_rows : Form → Form
+form_of_rows Lines = Csv
+form_of_rows Csv = Csv
+form_of_rows Columns = Columns
+form_of_rows Json = Json
 
 -- what is to be written in front of the records
 abbrev pub front_text : Layout → List ℕ
@@ -56,7 +69,7 @@ pub record RunsBehind (layout : Layout) (choice : Choice) (names : List Name) (t
   pub end : Result Tally RunFault
   pub is : result ≡ end_of_run end
   pub ran : (reads : Call → List ℕ → Reading) → AreReadings reads
-      → Ran (plan_of choice tasks) tasks (record { turns = turns; reads = reads }) (text_in layout.form names) old.acts new.acts between new.taken end
+      → Ran (plan_of choice tasks) tasks (record { turns = turns; reads = reads }) (text_in layout names) old.acts new.acts between new.taken end
 
 -- the text that a source gave was refused, and then nothing was done over the link, and nothing written; or its tasks were measured
 abbrev pub Measures : List ℕ → Input → Input → Layout → Choice → ℕ → Places → Places → Result Tally Stop → Type 0

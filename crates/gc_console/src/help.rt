@@ -130,8 +130,9 @@ fails, and where something waits and no reply came for twice the longest deadlin
 start, and where seven requests are given up, it begins anew: a null procedure has to be answered before any command goes out.
 
 With --append FILE each command gets a row of the file as --csv writes it, behind the file's whole rows. What stands behind
-its last line feed, which a crash left, is cut off and told. A file that begins with something else than the names of the columns
-is refused, and stays.
+its last line feed, which a crash left, is cut off and told. A file that begins with something else than the names of its columns
+is refused, and stays. With --columns a row has a column for each quantity of its answer, too, as hz_rad or serial; with --json
+it is an object of JSON, and a file of those is known by its first one.
 
 While it measures it tells on standard error, each at most once a minute, since when there is no connection, the line isn't
 quiet, nothing was heard or commands were skipped, and that a cycle is late. Where that is a terminal, and the output none, a

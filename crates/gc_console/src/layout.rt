@@ -1,4 +1,4 @@
-//! The layout of records: in which form, and whether what stands in front of them stands there already.
+//! The layout of records: in which form, whether what stands in front of them stands there already, and of which run they are.
 
 use gc_texts::Form;
 
@@ -9,4 +9,6 @@ pub struct Layout {
     pub form: Form,
     /// Whether what stands in front of them stands there already, as in a file that has rows.
     pub headed: bool,
+    /// When the run began, in milliseconds since 1970-01-01, UTC.
+    pub run: u64,
 }

@@ -83,11 +83,11 @@ pub(crate) fn run_logged_at<
         × TellsCounts end (exit_status status) (E.contents between) (E.contents behind)
         × TellsLoss is_lost (E.contents behind) (E.contents messages.new)
         × FailsAtOutput (K.failed sink) (K.failed result.0) (with_fault end)
-        × (((acts : List Act) × (given : List ℕ) × Consumes (S.remaining source.old) (S.remaining source.new) given
+        × (((acts : List Act) × (run : ℕ) × (given : List ℕ) × Consumes (S.remaining source.old) (S.remaining source.new) given
         × Measures given
         (record { remaining = S.remaining source.old; reads = S.reads source.old; ended = S.ended source.old; failed = S.failed source.old })
         (record { remaining = S.remaining source.new; reads = S.reads source.new; ended = S.ended source.new; failed = S.failed source.new })
-        station.layout station.choice 18446744073709551615
+        (record station.layout { run = run }) station.choice 18446744073709551615
         (record { acts = Some []; taken = K.taken sink; messages = E.contents messages.old })
         (record { acts = Some acts; taken = K.taken result.0; messages = E.contents between })
         end)
@@ -95,12 +95,12 @@ pub(crate) fn run_logged_at<
 
     // Status 0 only where the source gave a text to its end, and the run over its commands is done.
     ensures done { IfOk result.1 (λ status. exit_status status ≡ 0 → (given : List ℕ) × Consumes (S.remaining source.old) (S.remaining source.new) given
-        × ((tasks : List Task) × (names : List Name) × (tally : Tally) × (between : E) × (acts : List Act)
+        × ((tasks : List Task) × (names : List Name) × (tally : Tally) × (between : E) × (acts : List Act) × (run : ℕ)
         × GivesTasks given
         (record { remaining = S.remaining source.old; reads = S.reads source.old; ended = S.ended source.old; failed = S.failed source.old })
         (record { remaining = S.remaining source.new; reads = S.reads source.new; ended = S.ended source.new; failed = S.failed source.new })
         station.choice.deadline station.choice.chained tasks names
-        × RunsBehind station.layout station.choice names tasks 18446744073709551615
+        × RunsBehind (record station.layout { run = run }) station.choice names tasks 18446744073709551615
         (record { acts = Some []; taken = K.taken sink; messages = E.contents messages.old })
         (record { acts = Some acts; taken = K.taken result.0; messages = E.contents between })
         (Ok tally))) }
@@ -119,6 +119,7 @@ pub(crate) fn run_logged_at<
     let Ok(moment) = link.now() else {
         return (sink, tell_counts(Err(Stop::Run(RunFault::Clock)), messages));
     };
+    let station = station.begun(moment);
     let seen = Cell::new(Oddities::none());
     let told = Telling::new(link);
     let noticing = Noticing::new(told, &seen);

@@ -21,7 +21,7 @@ use crate::task_text::read_task_text;
 use gc_lines::{Lasting, PortFailed, Source, write_whole};
 use gc_links::{Link, Moment};
 use gc_station::{Book, Plan, Sight, Stamp, Tally, run_station};
-use gc_texts::{Command, Ending, Form, RunFault, Task, Tasks, write_head, write_record};
+use gc_texts::{Command, Ending, RunFault, Task, Tasks, When, write_head, write_record};
 use std::alloc::Global;
 use std::cell::Cell;
 use std::io::{self, Write};
@@ -92,7 +92,7 @@ pub fn run_station_text<L: Link, S: Source, K: Lasting, E: Write>(
     };
     let (sink, end, mut signs) = measure(
         link,
-        layout.form,
+        layout,
         &plan,
         tasks.as_slice(),
         named,
@@ -136,11 +136,11 @@ fn write_front<K: Lasting>(sink: &mut K, layout: Layout) -> Result<(), usize>
     write_head(sink, layout.form)
 }
 
-// Measures tasks over a link, and writes their records in this form, with these names, into a sink, which is handed back, as the
+// Measures tasks over a link, and writes their records in this layout, with these names, into a sink, which is handed back, as the
 // signs of life are.
 fn measure<L: Link, K: Lasting, E: Write>(
     link: &mut L,
-    form: Form,
+    layout: Layout,
     plan: &Plan,
     tasks: &[Task],
     named: Tasks,
@@ -151,14 +151,14 @@ fn measure<L: Link, K: Lasting, E: Write>(
     max_turns: u64,
 ) -> (K, Result<Tally, RunFault>, Signs)
     ensures ran { (reads : Call → List ℕ → Reading) → AreReadings reads
-        → Ran plan.now tasks.now (record { turns = max_turns; reads = reads }) (text_in form named.names.items)
+        → Ran plan.now tasks.now (record { turns = max_turns; reads = reads }) (text_in layout named.names.items)
         (L.acts link.old) (L.acts link.new) (K.taken sink) (K.taken result.0) result.1 }
     ensures output { FailsAtOutput (K.failed sink) (K.failed result.0) result.1 }
     ensures lasts { LastsBut (K.lasts result.0) result.1 }
 {
     let mut records = Records {
         sink,
-        form,
+        layout,
         named,
         oddities,
         signs,
@@ -167,7 +167,7 @@ fn measure<L: Link, K: Lasting, E: Write>(
     let end = run_station(link, &mut records, tasks, plan, max_turns);
     let Records {
         sink,
-        form: _,
+        layout: _,
         named: _,
         oddities: _,
         signs,
@@ -176,10 +176,10 @@ fn measure<L: Link, K: Lasting, E: Write>(
     (sink, end, signs)
 }
 
-// A book of records in one form, with the names of targets, and where signs of life are told.
+// A book of records in one layout, with the names of targets, and where signs of life are told.
 struct Records<'a, K, E> {
     sink: K,
-    form: Form,
+    layout: Layout,
     // The names, beside no tasks.
     named: Tasks,
     oddities: &'a Cell<Oddities>,
@@ -188,7 +188,7 @@ struct Records<'a, K, E> {
 }
 
 impl<'a, K: Lasting, E: Write> Book for Records<'a, K, E> {
-    ghost text = { λ book. text_in book.form book.named.names.items };
+    ghost text = { λ book. text_in book.layout book.named.names.items };
 
     ghost taken = { λ book. K.taken book.sink };
 
@@ -203,12 +203,17 @@ impl<'a, K: Lasting, E: Write> Book for Records<'a, K, E> {
         ending: Ending<'_>,
     ) -> Result<(), PortFailed> {
         self.signs.count(stamp, ending);
+        let when = When {
+            run: self.layout.run,
+            sent: stamp.sent,
+            utc: stamp.utc,
+            cycle: stamp.cycle,
+            place: stamp.place,
+        };
         let taken = write_record(
             &mut self.sink,
-            self.form,
-            stamp.utc,
-            stamp.cycle,
-            stamp.place,
+            self.layout.form,
+            &when,
             self.named.name_of(command.target),
             command,
             ending,

@@ -4,14 +4,13 @@ ghost use Rattle.std.specs.Prelude.{◌≡◌, ◌≤◌, ◌⊎◌, ℕ, true, 
 ghost use Rattle.std.specs.Io.KnownBytes.{Appends, Consumes};
 ghost use Rattle.std.specs.Process.{exit_status};
 ghost use Rattle.gc_console.specs.Recording.{fault_of_unfit, torn_line};
-ghost use Rattle.gc_console.specs.Measuring.{RunsBehind};
+ghost use Rattle.gc_console.specs.Measuring.{form_of_rows, RunsBehind};
 ghost use Rattle.gc_console.specs.TaskTexts.{GivesTasks};
 ghost use Rattle.gc_files.specs.Sinks.{asks_sync};
 ghost use Rattle.gc_files.specs.declared.system.Unfit.{Unfit};
 ghost use Rattle.gc_links.specs.Acts.{Act};
 ghost use Rattle.gc_station.specs.declared.tally.Tally.{Tally};
 ghost use Rattle.gc_texts.specs.declared.name.Name.{Name};
-ghost use Rattle.gc_texts.specs.declared.record.Form.TheVariants.{Csv};
 ghost use Rattle.gc_texts.specs.declared.tasks.Task.{Task};
 ghost use Rattle.gc_texts.specs.Faults.{run_fault_text, fault_line};
 
@@ -23,7 +22,7 @@ use clap::{Arg, ArgMatches, Command};
 use gc_files::{RowsFile, SystemFile, Unfit, open_at};
 use gc_lines::{Lasting, Source};
 use gc_links::Place;
-use gc_texts::{Form, RunFault, head};
+use gc_texts::{Form, RunFault, head, sign};
 use std::alloc::{AllocError, Global};
 use std::fs::File;
 use std::io::{self, Write};
@@ -93,16 +92,16 @@ fn tell_torn<E: Write>(torn: u64, messages: &mut E) -> io::Result<()>
     writeln!(messages, "geocom: {torn} bytes of a torn row were cut off")
 }
 
-// Opens the file of records, which then syncs as it was asked to. It gives how many bytes of a torn row were cut off, too.
+// Opens the file of records in this form, which then syncs as it was asked to. It gives how many bytes of a torn row were cut off, too.
 fn open_records<R: Files<File = File>>(
     rt: &R,
     path: &str,
+    form: Form,
     sync: bool,
 ) -> Result<(RowsFile<SystemFile>, u64), Unfit>
     ensures sync { IfOk result (λ opened. asks_sync opened.0 ≡ sync) }
 {
-    let names = head(Form::Csv);
-    open_at(rt, path, names, names, sync)
+    open_at(rt, path, head(form), sign(form), sync)
 }
 
 /// Measures at a place, with a log where the file of one is named. The sink is handed back.
@@ -123,12 +122,12 @@ pub(crate) fn measure_at<
 ) -> (K, io::Result<ExitCode>)
     // Status 0 only where the source gave a text to its end, and the run over its commands is done.
     ensures done { IfOk result.1 (λ status. exit_status status ≡ 0 → (given : List ℕ) × Consumes (S.remaining source.old) (S.remaining source.new) given
-        × ((tasks : List Task) × (names : List Name) × (tally : Tally) × (between : E) × (acts : List Act)
+        × ((tasks : List Task) × (names : List Name) × (tally : Tally) × (between : E) × (acts : List Act) × (run : ℕ)
         × GivesTasks given
         (record { remaining = S.remaining source.old; reads = S.reads source.old; ended = S.ended source.old; failed = S.failed source.old })
         (record { remaining = S.remaining source.new; reads = S.reads source.new; ended = S.ended source.new; failed = S.failed source.new })
         station.choice.deadline station.choice.chained tasks names
-        × RunsBehind station.layout station.choice names tasks 18446744073709551615
+        × RunsBehind (record station.layout { run = run }) station.choice names tasks 18446744073709551615
         (record { acts = Some []; taken = K.taken sink; messages = E.contents messages.old })
         (record { acts = Some acts; taken = K.taken result.0; messages = E.contents between })
         (Ok tally))) }
@@ -163,18 +162,18 @@ pub(crate) fn append_at<
         ((why : Unfit) × (exit_status status ≡ 1) × Appends (E.contents messages.old) (E.contents messages.new) (fault_line (run_fault_text (fault_of_unfit why)))
         × (S.remaining source.new ≡ S.remaining source.old) × (S.reads source.new ≡ S.reads source.old))
         ⊎ (exit_status status ≡ 0 → (given : List ℕ) × Consumes (S.remaining source.old) (S.remaining source.new) given
-        × ((tasks : List Task) × (names : List Name) × (tally : Tally) × (begun between : E) × (acts : List Act)
+        × ((tasks : List Task) × (names : List Name) × (tally : Tally) × (begun between : E) × (acts : List Act) × (run : ℕ)
         × GivesTasks given
         (record { remaining = S.remaining source.old; reads = S.reads source.old; ended = S.ended source.old; failed = S.failed source.old })
         (record { remaining = S.remaining source.new; reads = S.reads source.new; ended = S.ended source.new; failed = S.failed source.new })
         station.choice.deadline station.choice.chained tasks names
-        × RunsBehind (record { form = Csv; headed = true }) station.choice names tasks 18446744073709551615
+        × RunsBehind (record { form = form_of_rows station.layout.form; headed = true; run = run }) station.choice names tasks 18446744073709551615
         (record { acts = Some []; taken = None; messages = E.contents begun })
         (record { acts = Some acts; taken = None; messages = E.contents between })
         (Ok tally)))) }
     ensures bound { IfOk result (λ status. exit_status status ≤ 1) }
 {
-    match open_records(rt, recording.path, recording.sync) {
+    match open_records(rt, recording.path, station.form_of_rows(), recording.sync) {
         Ok((rows, torn)) => {
             // Where that can't be written the station measures all the same.
             let _ = tell_torn(torn, messages);

@@ -105,7 +105,7 @@ impl Signs {
         self.cycle = stamp.cycle;
         let counts = &mut self.counts;
         match ending {
-            Ending::Answered(_) => {
+            Ending::Answered(..) => {
                 counts.answered = counts.answered.saturating_add(1);
                 self.answered = Some(self.elapsed);
             }

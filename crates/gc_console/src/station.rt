@@ -3,7 +3,7 @@
 ghost use Rattle.std.specs.Prelude.{◌≡◌, ◌≤◌, ◌⊎◌, ℕ, true, List, [], Option, Some, Result, Ok, Err, IfOk, OnOk};
 ghost use Rattle.std.specs.Io.KnownBytes.{Consumes, Appends};
 ghost use Rattle.std.specs.Process.{exit_status};
-ghost use Rattle.gc_console.specs.Measuring.{Measures, RunsBehind, TellsCounts, ends_text, others_text, tally_line};
+ghost use Rattle.gc_console.specs.Measuring.{form_of_rows, Measures, RunsBehind, TellsCounts, ends_text, others_text, tally_line};
 ghost use Rattle.gc_console.specs.Stops.{with_fault, fault_without_link};
 ghost use Rattle.gc_console.specs.TaskTexts.{GivesTasks};
 ghost use Rattle.gc_console.specs.declared.stop.Stop.{Stop};
@@ -12,7 +12,6 @@ ghost use Rattle.gc_links.specs.declared.device.Unusable.{Unusable};
 ghost use Rattle.gc_station.specs.Runs.{FailsAtOutput};
 ghost use Rattle.gc_station.specs.declared.tally.Tally.{Tally};
 ghost use Rattle.gc_texts.specs.declared.name.Name.{Name};
-ghost use Rattle.gc_texts.specs.declared.record.Form.TheVariants.{Csv};
 ghost use Rattle.gc_texts.specs.declared.tasks.Task.{Task};
 
 use crate::choice::{Choice, Watch};
@@ -27,7 +26,7 @@ use crate::words::{flag_of, place_word};
 use clap::{Arg, ArgMatches, Command, value_parser};
 use gc_ask::fault_of;
 use gc_lines::{Lasting, Source};
-use gc_links::{Link, Place, PlacedLink, Telling, Unusable};
+use gc_links::{Link, Moment, Place, PlacedLink, Telling, Unusable};
 use gc_station::Tally;
 use gc_texts::{Form, RunFault};
 use std::alloc::{AllocError, Global};
@@ -56,15 +55,33 @@ impl Station {
         station
     }
 
+    /// The form of the rows that go into a file: the one that was asked for, or comma-separated values.
+    pub(crate) fn form_of_rows(self) -> Form
+        ensures { result ≡ form_of_rows self.layout.form }
+    {
+        match self.layout.form {
+            Form::Lines | Form::Csv => Form::Csv,
+            Form::Columns => Form::Columns,
+            Form::Json => Form::Json,
+        }
+    }
+
     /// The same, with rows behind those of a file.
     pub(crate) fn appended(self) -> Station
-        ensures { result ≡ record self { layout = record { form = Csv; headed = true } } }
+        ensures { result ≡ record self { layout = record self.layout { form = form_of_rows self.layout.form; headed = true } } }
     {
         let mut station = self;
-        station.layout = Layout {
-            form: Form::Csv,
-            headed: true,
-        };
+        station.layout.form = self.form_of_rows();
+        station.layout.headed = true;
+        station
+    }
+
+    /// The same, as a run that begins at this moment.
+    pub(crate) fn begun(self, moment: Moment) -> Station
+        ensures { result ≡ record self { layout = record self.layout { run = moment.utc } } }
+    {
+        let mut station = self;
+        station.layout.run = moment.utc;
         station
     }
 }
@@ -80,6 +97,7 @@ pub(crate) fn station_command<'a>(alloc: Global) -> Result<Command<'a>, AllocErr
         .arg(place_word(alloc))?;
     let command = with_pace(alloc, command)?;
     let command = with_bounds(alloc, command)?;
+    let command = with_forms(alloc, command)?;
     let command = with_flags(alloc, command)?;
     let command = with_recording(alloc, command)?;
     with_log(alloc, command)
@@ -134,16 +152,33 @@ fn with_bounds<'a>(alloc: Global, command: Command<'a>) -> Result<Command<'a>, A
     command.arg(cycles)?.arg(quiet)?.arg(retries)
 }
 
-// What is there or not: rows, chains, and signs of life.
-fn with_flags<'a>(alloc: Global, command: Command<'a>) -> Result<Command<'a>, AllocError> {
+// How records are written.
+fn with_forms<'a>(alloc: Global, command: Command<'a>) -> Result<Command<'a>, AllocError> {
     let csv = flag_of(alloc, "csv", "Writes comma-separated values, with a header");
+    let columns = flag_of(
+        alloc,
+        "columns",
+        "Writes comma-separated values, with a column for each quantity, too",
+    );
+    let json = flag_of(
+        alloc,
+        "json",
+        "Writes each record as an object of JSON on a line of its own",
+    )
+    .conflicts_with("csv")?
+    .conflicts_with("columns")?;
+    command.arg(csv)?.arg(columns)?.arg(json)
+}
+
+// What is there or not: chains, and signs of life.
+fn with_flags<'a>(alloc: Global, command: Command<'a>) -> Result<Command<'a>, AllocError> {
     let unchained = flag_of(
         alloc,
         "unchained",
         "Sends each command by itself, until a line `chained` says otherwise",
     );
     let silent = flag_of(alloc, "silent", "Leaves out the signs of life");
-    command.arg(csv)?.arg(unchained)?.arg(silent)
+    command.arg(unchained)?.arg(silent)
 }
 
 // A time, as a word.
@@ -160,12 +195,9 @@ pub(crate) fn station_of(matches: &ArgMatches) -> Station {
     let number = |name: &str| matches.get_one::<u64>(name).unwrap_or(0);
     Station {
         layout: Layout {
-            form: if matches.get_flag("csv") {
-                Form::Csv
-            } else {
-                Form::Lines
-            },
+            form: form_of(matches),
             headed: false,
+            run: 0,
         },
         choice: Choice {
             width: matches.get_one::<u8>("width").unwrap_or(1),
@@ -181,6 +213,19 @@ pub(crate) fn station_of(matches: &ArgMatches) -> Station {
                 Watch::Lines
             },
         },
+    }
+}
+
+// How records are written.
+fn form_of(matches: &ArgMatches) -> Form {
+    if matches.get_flag("json") {
+        Form::Json
+    } else if matches.get_flag("columns") {
+        Form::Columns
+    } else if matches.get_flag("csv") {
+        Form::Csv
+    } else {
+        Form::Lines
     }
 }
 
@@ -223,11 +268,11 @@ pub(crate) fn run_station_at<
     ensures told { IfOk result.1 (λ status. (end : Result Tally Stop) × (between : E)
         × TellsCounts end (exit_status status) (E.contents between) (E.contents messages.new)
         × FailsAtOutput (K.failed sink) (K.failed result.0) (with_fault end)
-        × (((acts : List Act) × (given : List ℕ) × Consumes (S.remaining source.old) (S.remaining source.new) given
+        × (((acts : List Act) × (run : ℕ) × (given : List ℕ) × Consumes (S.remaining source.old) (S.remaining source.new) given
         × Measures given
         (record { remaining = S.remaining source.old; reads = S.reads source.old; ended = S.ended source.old; failed = S.failed source.old })
         (record { remaining = S.remaining source.new; reads = S.reads source.new; ended = S.ended source.new; failed = S.failed source.new })
-        station.layout station.choice 18446744073709551615
+        (record station.layout { run = run }) station.choice 18446744073709551615
         (record { acts = Some []; taken = K.taken sink; messages = E.contents messages.old })
         (record { acts = Some acts; taken = K.taken result.0; messages = E.contents between })
         end)
@@ -235,24 +280,28 @@ pub(crate) fn run_station_at<
 
     // Status 0 only where the source gave a text to its end, and the run over its commands is done.
     ensures done { IfOk result.1 (λ status. exit_status status ≡ 0 → (given : List ℕ) × Consumes (S.remaining source.old) (S.remaining source.new) given
-        × ((tasks : List Task) × (names : List Name) × (tally : Tally) × (between : E) × (acts : List Act)
+        × ((tasks : List Task) × (names : List Name) × (tally : Tally) × (between : E) × (acts : List Act) × (run : ℕ)
         × GivesTasks given
         (record { remaining = S.remaining source.old; reads = S.reads source.old; ended = S.ended source.old; failed = S.failed source.old })
         (record { remaining = S.remaining source.new; reads = S.reads source.new; ended = S.ended source.new; failed = S.failed source.new })
         station.choice.deadline station.choice.chained tasks names
-        × RunsBehind station.layout station.choice names tasks 18446744073709551615
+        × RunsBehind (record station.layout { run = run }) station.choice names tasks 18446744073709551615
         (record { acts = Some []; taken = K.taken sink; messages = E.contents messages.old })
         (record { acts = Some acts; taken = K.taken result.0; messages = E.contents between })
         (Ok tally))) }
     ensures bound { IfOk result.1 (λ status. exit_status status ≤ 1) }
 {
-    let link = match PlacedLink::new(rt, place) {
+    let mut link = match PlacedLink::new(rt, place) {
         Ok(link) => link,
         Err(reason) => {
             let stop = Stop::Run(without_link(reason));
             return (sink, tell_counts(Err(stop), messages));
         }
     };
+    let Ok(moment) = link.now() else {
+        return (sink, tell_counts(Err(Stop::Run(RunFault::Clock)), messages));
+    };
+    let station = station.begun(moment);
     let seen = Cell::new(Oddities::none());
     let told = Telling::new(link);
     let mut link = Noticing::new(told, &seen);

@@ -283,7 +283,7 @@ own_all reads commands (p ∷ q ∷ ps) (s ∷ t ∷ ss) f h =
 unsent_own : (commands : List Task) (ps : List Part) (ss : List (Stretch State)) (r : Record) → went_out r.end ≡ false → IsOwnAnswer commands ps ss r
 unsent_own commands ps ss r out line answered = absurd (none r.end out answered) where
   none : (e : End) → went_out e ≡ false → answer_of e ≡ Some line → ⊥
-  none (end.Answered l) out answered = cc
+  none (end.Answered said l) out answered = cc
   none (end.Unreadable l fault) out answered = cc
   none end.Late out answered = cc
   none end.Lost out answered = cc

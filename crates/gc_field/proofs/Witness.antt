@@ -1,5 +1,5 @@
 -- A run of one command, in the field.
-use Rattle.std.proofs.Common.{◌≡◌, ℕ, ◌<◌, List, [], ◌∷◌, Some, refl, arith, lit<}
+use Rattle.std.proofs.Common.{ℕ, ◌<◌, [], refl, arith, lit<}
 use Rattle.std.proofs.lemmas.Int.{ints}
 use Rattle.std.specs.Prelude.{codes}
 use Rattle.std.specs.Fmt.{digits}

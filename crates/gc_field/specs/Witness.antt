@@ -1,8 +1,8 @@
 -- Some run is one in the field, this project's own: a command, asked over one connection and answered. So what is said of all such runs
 -- is said of some.
-use Rattle.std.specs.Prelude.{◌≡◌, ℕ, true, false, List, [], ◌∷◌, codes}
+use Rattle.std.specs.Prelude.{◌≡◌, ℕ, true, false, List, [], ◌∷◌, codes, pos, Some}
 use Rattle.gc_lines.specs.Lines.{with_end}
-use Rattle.gc_catalogue.specs.declared.answer.Answer.TheVariants.{Nothing}
+use Rattle.gc_catalogue.specs.declared.answer.Answer.TheVariants.{Long}
 use Rattle.gc_catalogue.specs.declared.answer.Reading.TheVariants.{Value}
 use Rattle.gc_catalogue.specs.declared.call.Call.TheVariants.{NullProc, InstrumentNo}
 use Rattle.gc_instrument.specs.State.{State, simulator_opening}
@@ -27,9 +27,9 @@ plan = record { width = 1; deadline = 100; every = 0; cycles = 1; quiet = 10; re
 abbrev pub commands : List Task
 commands = record { command = record { target = 7; call = InstrumentNo }; deadline = 100; chained = false } ∷ []
 
--- at most twenty acts; what the replies say doesn't count here, since nothing waits for it
+-- at most twenty acts; what a reply says is this, as that to the command does, and of the other nothing is written
 abbrev pub scope : Scope
-scope = record { turns = 20; reads = λ call line. Value Nothing }
+scope = record { turns = 20; reads = λ call line. Value (Long (pos 123456)) }
 
 abbrev pub at : ℕ → Moment
 at now = record { elapsed = now; utc = now }
@@ -86,7 +86,7 @@ pub record IsAnsweredInField : Type 0 where
   pub over : is_over (stood plan commands scope acts).progress ≡ true
   pub records :
       (stood plan commands scope acts).records
-      ≡ record { utc = 20; cycle = 1; place = 0; command = record { target = 7; call = InstrumentNo }; end = end.Answered answer } ∷ []
+      ≡ record { sent = Some 15; utc = 20; cycle = 1; place = 0; command = record { target = 7; call = InstrumentNo }; end = end.Answered (Some (Long (pos 123456))) answer } ∷ []
 
 abbrev pub SomeRunIsInField : Type 0
 SomeRunIsInField = IsAnsweredInField

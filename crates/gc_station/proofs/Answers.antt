@@ -129,7 +129,7 @@ command_honest plan commands scope acts act target call fine h is room puts =
     let c = s.client in
     sent_honest plan commands scope acts act c s.marks s.records target call (deadline_behind plan commands scope acts) (Some (mark_next plan commands s.progress)) (puts_still _ act puts) fine.digit room fine.paired
     (asked_here plan commands scope acts act target call (deadline_behind plan commands scope acts) (Some (mark_next plan commands s.progress)) fine room (λ above. is_asking _ (inl is))
-    (λ m its. let same : mark_next plan commands s.progress ≡ m = cc in record { sends = is; cycle = ap (λ (x : Mark). x.cycle) (sym same); place = ap (λ (x : Mark). x.place) (sym same) }) (λ m its. refl) puts) h
+    (λ m its. let same : mark_next plan commands s.progress ≡ m = cc in record { sends = is; cycle = ap (λ (x : Mark). x.cycle) (sym same); place = ap (λ (x : Mark). x.place) (sym same); sent = ap (λ (x : Mark). x.sent) (sym same) }) (λ m its. refl) puts) h
 
 first_honest : (plan : Plan) (commands : List Task) (scope : Scope) (acts : List Act) (act : Act) (bound : Bool) (left : List Task) → Fine plan commands (stood plan commands scope acts) → IsHonest plan commands scope acts (acts ++ act ∷ []) (stood plan commands scope acts)
     → order_at plan (stood plan commands scope acts) ≡ orders.Send → length (stood plan commands scope acts).client.waiting < 7
@@ -179,7 +179,7 @@ put_honest plan commands scope acts requests f t Unopened h = h
 -- A command that isn't sent is neither answered nor late nor lost.
 
 unsent_true : (plan : Plan) (commands : List Task) (scope : Scope) (all : List Act) (b : Bool) (utc : ℕ) (mark : Mark) (command : Command)
-    → IsTrue plan commands scope all (record { utc = utc; cycle = mark.cycle; place = mark.place; command = command; end = if b then Missed else Skipped })
+    → IsTrue plan commands scope all (record { sent = None; utc = utc; cycle = mark.cycle; place = mark.place; command = command; end = if b then Missed else Skipped })
 unsent_true plan commands scope all true utc mark command = record { answered = λ line e. cc; late = λ e. cc; lost = λ e. cc }
 unsent_true plan commands scope all false utc mark command = record { answered = λ line e. cc; late = λ e. cc; lost = λ e. cc }
 

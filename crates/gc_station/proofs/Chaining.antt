@@ -1,8 +1,9 @@
 -- A command of a chain goes out only behind the answer of the one before it.
-use Rattle.std.proofs.Common.{◌≡◌, ◌⊎◌, inl, inr, ℕ, zero, suc, ◌+◌, ◌-◌, ◌<◌, ◌≤◌, ◌||◌, Bool, true, false, if◌then◌else◌, List, [], ◌∷◌, ◌++◌, length, drop, map, Option, Some, None, refl, sym, ap, ◌∙◌, subst, arith, append_assoc}
+use Rattle.std.proofs.Common.{◌≡◌, ◌⊎◌, inl, inr, ℕ, ◌+◌, ◌-◌, ◌<◌, ◌≤◌, ◌||◌, Bool, true, false, if◌then◌else◌, List, [], ◌∷◌, ◌++◌, length, drop, map, Option, Some, None, refl, sym, ap, ◌∙◌, subst, arith, append_assoc}
 use Rattle.std.specs.List.{AllByRecursion}
 use Rattle.std.proofs.lemmas.List.{length-drop, map-append}
 use Rattle.gc_lines.specs.Frames.{rest_behind}
+use Rattle.gc_catalogue.specs.declared.answer.Answer.{Answer}
 use Rattle.gc_catalogue.specs.declared.answer.Reading.{Reading}
 use Rattle.gc_catalogue.specs.declared.call.Call.{Call}
 use Rattle.gc_texts.specs.declared.tasks.Task.{Task}
@@ -17,7 +18,7 @@ use Rattle.gc_station.specs.declared.progress.Phase.{Phase}
 use Rattle.gc_station.specs.declared.progress.Phase.TheVariants as phase
 use Rattle.gc_station.specs.declared.progress.Progress.{Progress}
 use Rattle.gc_station.specs.declared.progress.Waiting.{Waiting}
-use Rattle.gc_links.specs.Acts.{Act, Told, Untold, Put, Cut, Gave, Silent, Ended, Broke, Closed, Opened, Unopened}
+use Rattle.gc_links.specs.Acts.{Act, Told, Cut, Gave, Silent, Ended, Broke, Closed, Opened}
 use Rattle.gc_station.specs.Answers.{IsTrueRecord, answer_of}
 use Rattle.gc_station.specs.Chains.{IsChained, IsLinked}
 use Rattle.gc_station.specs.Deciding.{is_past, drain_of}
@@ -29,7 +30,7 @@ use Rattle.gc_station.specs.Reasons.{IsFor, MayGo}
 use Rattle.gc_station.specs.Records.{Record}
 use Rattle.gc_station.specs.Runs.{stood}
 use Rattle.gc_station.specs.Scopes.{Scope}
-use Rattle.gc_station.specs.Standing.{Standing, Obeys, IsTelling, IsOpening, IsReading, Puts, Runs, opening, order_at, waiting_of, place_next, cycles_begun, mark_next, is_chained, bound_next, with_progress, with_moment, with_rest, with_records, skips, asks_null, asks_first, asks_next, line_came, lines_came, lines_behind, came, is_heard, after_tell, after_put, after_open, after_read, moved, after}
+use Rattle.gc_station.specs.Standing.{Standing, Obeys, IsTelling, IsOpening, IsReading, Puts, Runs, opening, order_at, waiting_of, place_next, cycles_begun, mark_next, is_chained, bound_next, with_progress, with_moment, with_rest, with_records, skips, asks_null, asks_first, asks_next, line_came, lines_came, lines_behind, came, is_heard, after_tell, after_put, after_open, after_read, moved}
 use Rattle.gc_station.proofs.Answers.{answers_true}
 use Rattle.gc_station.proofs.Counts.{ended_progress}
 use Rattle.gc_station.proofs.Each.{each_settled, sent_next}
@@ -318,11 +319,12 @@ record Last (reads : Call → List ℕ → Reading) (records : List Record) : Ty
   answer : Record
   last : records ≡ earlier ++ answer ∷ []
   line : List ℕ
-  answered : answer.end ≡ Answered line
+  said : Option Answer
+  answered : answer.end ≡ Answered said line
   well : is_value (reads answer.command.call line) ≡ true
 
-well_end : (reads : Call → List ℕ → Reading) (call : Call) (end : End) → is_well reads call end ≡ true → (line : List ℕ) × (end ≡ Answered line) × (is_value (reads call line) ≡ true)
-well_end reads call (Answered line) e = (line, refl, e)
+well_end : (reads : Call → List ℕ → Reading) (call : Call) (end : End) → is_well reads call end ≡ true → (said : Option Answer) × (line : List ℕ) × (end ≡ Answered said line) × (is_value (reads call line) ≡ true)
+well_end reads call (Answered said line) e = (said, line, refl, e)
 well_end reads call (Unreadable line fault) e = cc
 well_end reads call Late e = cc
 well_end reads call Lost e = cc
@@ -330,10 +332,10 @@ well_end reads call Skipped e = cc
 well_end reads call Missed e = cc
 
 last_one : (reads : Call → List ℕ → Reading) (r : Record) (rs : List Record) → last_well reads (is_well reads r.command.call r.end) rs ≡ true → Last reads (r ∷ rs)
-last_one reads r [] e = let it = well_end reads r.command.call r.end e in record { earlier = []; answer = r; last = refl; line = it.0; answered = it.1; well = it.2 }
+last_one reads r [] e = let it = well_end reads r.command.call r.end e in record { earlier = []; answer = r; last = refl; said = it.0; line = it.1; answered = it.2; well = it.3 }
 last_one reads r (x ∷ rs) e =
     let l = last_one reads x rs e in
-    record { earlier = r ∷ l.earlier; answer = l.answer; last = ap (λ xs. r ∷ xs) l.last; line = l.line; answered = l.answered; well = l.well }
+    record { earlier = r ∷ l.earlier; answer = l.answer; last = ap (λ xs. r ∷ xs) l.last; said = l.said; line = l.line; answered = l.answered; well = l.well }
 
 last_of : (reads : Call → List ℕ → Reading) (rs : List Record) → last_well reads false rs ≡ true → Last reads rs
 last_of reads [] e = cc
@@ -415,6 +417,7 @@ chain_kept plan commands scope acts runs is chained = of_may needs.4 where
         own_cycle = ap (λ (r : Request). r.cycle) own;
         own_place = ap (λ (r : Request). r.place) own;
         line = l.line;
+        said = l.said;
         answered = l.answered;
         well = l.well;
         in_time = true_one l.line (ap answer_of l.answered);

@@ -149,12 +149,12 @@ sent_next commands (suc n) place task others at some =
     ∙ ap (λ xs. cycles ++ requests (suc n) 0 xs) (sym (map-append of_task (take place commands) (task ∷ [])) ∙ ap (map of_task) (sym (take_next commands place task others at)))
 
 -- a command is sent
-pub each_sent : (commands : List Task) (begun place : ℕ) (ms : List (Option Mark)) (ws : List Pending) (p : Pending) (rs : List Record) (task : Task) (others : List Task)
+pub each_sent : (commands : List Task) (begun place utc : ℕ) (ms : List (Option Mark)) (ws : List Pending) (p : Pending) (rs : List Record) (task : Task) (others : List Task)
     → length ms ≡ length ws → drop place commands ≡ task ∷ others → of_pending p ≡ of_task task → 0 < begun
-    → EachIs ms ws rs (sent_by commands begun place) → EachIs (ms ++ Some (record { cycle = begun; place = place }) ∷ []) (ws ++ p ∷ []) rs (sent_by commands begun (place + 1))
-each_sent commands begun place ms ws p rs task others paired at is some h =
+    → EachIs ms ws rs (sent_by commands begun place) → EachIs (ms ++ Some (record { cycle = begun; place = place; sent = utc }) ∷ []) (ws ++ p ∷ []) rs (sent_by commands begun (place + 1))
+each_sent commands begun place utc ms ws p rs task others paired at is some h =
     let front = map of_record rs in
-    let mark : Mark = record { cycle = begun; place = place } in
+    let mark : Mark = record { cycle = begun; place = place; sent = utc } in
     ap (λ xs. front ++ xs) (more_waiting ms ws (Some mark) p paired ∙ ap (λ a. still_waiting ms ws ++ requests begun place (a ∷ [])) is)
     ∙ sym (append_assoc front (still_waiting ms ws) (requests begun place (of_task task ∷ [])))
     ∙ ap (λ xs. xs ++ requests begun place (of_task task ∷ [])) h

@@ -110,7 +110,7 @@ mid_first plan commands bound s [] at is single some room mid =
 mid_first plan commands bound s (task ∷ others) at is single some room mid =
     let p = s.progress in
     let t = asks_first (mark_next plan commands p) (task ∷ others) s in (
-      sound_sent plan commands p.left p.unsent s.client s.marks s.records (later p.moment.elapsed task.deadline) task others room some at mid.0,
+      sound_sent plan commands p.left p.unsent s.client s.marks s.records p.moment.utc (later p.moment.elapsed task.deadline) task others room some at mid.0,
       going_placed p.phase p.anew p.alone p.left (p.unsent - 1) s.rest t.client.next t.marks is (mid.1.ready is) single,
     )
 

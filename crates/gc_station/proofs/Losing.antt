@@ -274,7 +274,7 @@ pub record LostOf (plan : Plan) (commands : List Task) (scope : Scope) (acts : L
   pub asked : Asked plan commands scope acts Stayed number at id pending mark
 
 abbrev IsLostRecord : Plan → List Task → Scope → List Act → Record → Type 0
-IsLostRecord plan commands scope acts r = (mark : Mark) × (y : Settlement) × (r.cycle ≡ mark.cycle) × (r.place ≡ mark.place) × IsRecordOf r y × LostOf plan commands scope acts y (Some mark)
+IsLostRecord plan commands scope acts r = (mark : Mark) × (y : Settlement) × (r.cycle ≡ mark.cycle) × (r.place ≡ mark.place) × (r.sent ≡ Some mark.sent) × IsRecordOf r y × LostOf plan commands scope acts y (Some mark)
 
 lost_true : (plan : Plan) (commands : List Task) (scope : Scope) (acts : List Act) (act : Act) (r : Record) (news earlier later : List Record) → Fine plan commands (stood plan commands scope acts)
     → loses_all (moved plan commands (order_at plan (stood plan commands scope acts)) (with_progress turned (stood plan commands scope acts)) act).progress ≡ true
@@ -282,12 +282,12 @@ lost_true : (plan : Plan) (commands : List Task) (scope : Scope) (acts : List Ac
     → (stood plan commands scope (acts ++ act ∷ [])).records ≡ ((stood plan commands scope acts).records ++ news) ++ (earlier ++ r ∷ later)
     → IsLostRecord plan commands scope (acts ++ act ∷ []) r → IsTrue plan commands scope (acts ++ act ∷ []) r
 lost_true plan commands scope acts act r news earlier later fine loses why ends it = record {
-  answered = λ line e. absurd (not_answered line (sym outcome ∙ was_answered r it.1 it.4 line e));
-  late = λ e. absurd (not_late (sym outcome ∙ was_late r it.1 it.4 e));
+  answered = λ line e. absurd (not_answered line (sym outcome ∙ was_answered r it.1 it.5 line e));
+  late = λ e. absurd (not_late (sym outcome ∙ was_late r it.1 it.5 e));
   lost = λ e. on (cut_at acts a.before a.between act a.request a.order);
 } where
   x : LostOf plan commands scope (acts ++ act ∷ []) it.1 (Some it.0)
-  x = it.5
+  x = it.6
 
   a : Asked plan commands scope (acts ++ act ∷ []) Stayed x.number x.at x.id x.pending (Some it.0)
   a = x.asked
@@ -327,7 +327,8 @@ lost_true plan commands scope acts act r news earlier later fine loses why ends 
           sends = its.sends;
           cycle = it.2 ∙ its.cycle;
           place = it.3 ∙ its.place;
-          put = subst (λ (y : Call). Puts (request_text (stood plan commands scope a.before).client y) a.request) (sym (ap (λ (y : Command). y.call) it.4.command ∙ ap (λ (y : Settlement). y.call) x.is)) a.put;
+          sent = it.4 ∙ ap Some its.sent;
+          put = subst (λ (y : Call). Puts (request_text (stood plan commands scope a.before).client y) a.request) (sym (ap (λ (y : Command). y.call) it.5.command ∙ ap (λ (y : Settlement). y.call) x.is)) a.put;
         };
         written = subst (λ (xs : List Act). IsWrittenAt plan commands scope xs act r) at here;
         shown = inr (subst (λ (xs : List Act). BeginsAnew plan commands scope xs act ⊎ IsLast plan commands scope xs act []) at why);
@@ -358,7 +359,7 @@ losing_honest plan commands scope acts act fine obeys h = by_test (loses_all t.p
   of_lost : AllByRecursion (IsLostRecord plan commands scope all) written
   of_lost =
       records_all (λ (k : ℕ). LostOf plan commands scope all) (IsLostRecord plan commands scope all) t.reads t.progress.moment.utc 0 (map lost t.client.waiting) t.marks
-      (λ i x mark is. (mark, x, refl, refl, record { reads = t.reads; command = refl; ended = refl }, is))
+      (λ i x mark is. (mark, x, refl, refl, refl, record { reads = t.reads; command = refl; ended = refl }, is))
       (rows_all (Waits plan commands scope all t.client.next (length t.client.waiting)) (λ (k : ℕ). LostOf plan commands scope all) lost 0 0 t.client.waiting t.marks
       (λ n j p mark w. record { number = n; at = j; id = id_at t.client.next (length t.client.waiting) j; pending = p; is = refl; asked = w }) h.waiting)
 

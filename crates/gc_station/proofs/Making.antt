@@ -1,5 +1,5 @@
 -- What the calls of a station make: where it stands behind one act more.
-use Rattle.std.proofs.Common.{◌≡◌, ℕ, zero, suc, ◌+◌, ◌<◌, Bool, true, false, List, [], ◌∷◌, ◌++◌, length, drop, get_or, if◌then◌else◌, nat_eq, Option, Some, Result, Ok, Err, refl, sym, ap, ◌∙◌, subst, append-nil, arith}
+use Rattle.std.proofs.Common.{◌≡◌, ℕ, zero, suc, ◌+◌, ◌<◌, Bool, true, false, List, [], ◌∷◌, ◌++◌, length, drop, get_or, if◌then◌else◌, nat_eq, Option, Some, None, Result, Ok, Err, refl, sym, ap, ◌∙◌, subst, append-nil, arith}
 use Rattle.std.proofs.lemmas.Bool.{ne_eqb}
 use Rattle.std.proofs.lemmas.List.{length-append}
 use Rattle.gc_lines.specs.Assembler.{StandsFor}
@@ -116,11 +116,11 @@ first_took text start taken s mark (task ∷ others) so = so
 
 -- its record
 pub skips_as : (p : Progress) (m : Moment) (mark mark' : Mark) (utc : ℕ) (end : End) (list : List Task) (task : Task) (others : List Task) → list ≡ task ∷ others → mark ≡ mark' → utc ≡ skipped_at m p → end ≡ (if p.missed then Missed else Skipped)
-    → record { utc = utc; cycle = mark.cycle; place = mark.place; command = task.command; end = end } ∷ [] ≡ skips_first p m mark' list
+    → record { sent = None; utc = utc; cycle = mark.cycle; place = mark.place; command = task.command; end = end } ∷ [] ≡ skips_first p m mark' list
 skips_as p m mark mark' utc end list task others is e at ends =
-    ap (λ (u : ℕ). record { utc = u; cycle = mark.cycle; place = mark.place; command = task.command; end = end } ∷ []) at
-    ∙ ap (λ (x : Mark). record { utc = skipped_at m p; cycle = x.cycle; place = x.place; command = task.command; end = end } ∷ []) e
-    ∙ ap (λ (x : End). record { utc = skipped_at m p; cycle = mark'.cycle; place = mark'.place; command = task.command; end = x } ∷ []) ends
+    ap (λ (u : ℕ). record { sent = None; utc = u; cycle = mark.cycle; place = mark.place; command = task.command; end = end } ∷ []) at
+    ∙ ap (λ (x : Mark). record { sent = None; utc = skipped_at m p; cycle = x.cycle; place = x.place; command = task.command; end = end } ∷ []) e
+    ∙ ap (λ (x : End). record { sent = None; utc = skipped_at m p; cycle = mark'.cycle; place = mark'.place; command = task.command; end = x } ∷ []) ends
     ∙ sym (ap (skips_first p m mark') is)
 
 unwell_end : (reads : Call → List ℕ → Reading) (call : Call) (b : Bool) → is_well reads call (if b then Missed else Skipped) ≡ false

@@ -149,19 +149,19 @@ sound_null plan commands left unsent client marks records target call deadline r
     })
 
 -- a command is sent
-pub sound_sent : (plan : Plan) (commands : List Task) (left unsent : ℕ) (client : ById) (marks : List (Option Mark)) (records : List Record) (deadline : ℕ) (task : Task) (others : List Task)
+pub sound_sent : (plan : Plan) (commands : List Task) (left unsent : ℕ) (client : ById) (marks : List (Option Mark)) (records : List Record) (utc deadline : ℕ) (task : Task) (others : List Task)
     → length client.waiting < 7 → 0 < unsent → drop (length commands - unsent) commands ≡ task ∷ others → Sound plan commands left unsent client marks records
-    → Sound plan commands left (unsent - 1) (client_sent client (sends WINDOW client task.command.target task.command.call deadline)) (marks ++ Some (record { cycle = plan.cycles - left; place = length commands - unsent }) ∷ []) records
-sound_sent plan commands left unsent client marks records deadline task others room some at sound =
+    → Sound plan commands left (unsent - 1) (client_sent client (sends WINDOW client task.command.target task.command.call deadline)) (marks ++ Some (record { cycle = plan.cycles - left; place = length commands - unsent; sent = utc }) ∷ []) records
+sound_sent plan commands left unsent client marks records utc deadline task others room some at sound =
     let p = pending_of task.command.target task.command.call deadline in
     let begun = plan.cycles - left in
     let place = length commands - unsent in
-    let mark : Mark = record { cycle = begun; place = place } in
+    let mark : Mark = record { cycle = begun; place = place; sent = utc } in
     let more : length (client.waiting ++ p ∷ []) ≡ length client.waiting + 1 = length-append client.waiting (p ∷ []) in
     let below = sound.begun some in
     let many : 0 < begun = omega (arith, below) in
     let place_is : length commands - (unsent - 1) ≡ place + 1 = omega (arith, some, sound.unsents) in
-    let each = each_sent commands begun place marks client.waiting p records task others sound.paired at refl many sound.each in
+    let each = each_sent commands begun place utc marks client.waiting p records task others sound.paired at refl many sound.each in
     subst (λ (c : ById). Sound plan commands left (unsent - 1) c (marks ++ Some mark ∷ []) records) (sym (client_behind client task.command.target task.command.call deadline room)) (record {
       unsents = omega (arith, sound.unsents);
       lefts = sound.lefts;
@@ -175,11 +175,11 @@ sound_sent plan commands left unsent client marks records deadline task others r
 -- a command isn't sent
 pub sound_skipped : (plan : Plan) (commands : List Task) (left unsent : ℕ) (client : ById) (marks : List (Option Mark)) (records : List Record) (utc : ℕ) (end : End) (task : Task) (others : List Task)
     → commands_in marks ≡ 0 → 0 < unsent → drop (length commands - unsent) commands ≡ task ∷ others → Sound plan commands left unsent client marks records
-    → Sound plan commands left (unsent - 1) client marks (records ++ record { utc = utc; cycle = plan.cycles - left; place = length commands - unsent; command = task.command; end = end } ∷ [])
+    → Sound plan commands left (unsent - 1) client marks (records ++ record { sent = None; utc = utc; cycle = plan.cycles - left; place = length commands - unsent; command = task.command; end = end } ∷ [])
 sound_skipped plan commands left unsent client marks records utc end task others none some at sound =
     let begun = plan.cycles - left in
     let place = length commands - unsent in
-    let r : Record = record { utc = utc; cycle = begun; place = place; command = task.command; end = end } in
+    let r : Record = record { sent = None; utc = utc; cycle = begun; place = place; command = task.command; end = end } in
     let below = sound.begun some in
     let many : 0 < begun = omega (arith, below) in
     let place_is : length commands - (unsent - 1) ≡ place + 1 = omega (arith, some, sound.unsents) in

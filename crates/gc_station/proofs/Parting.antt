@@ -1,5 +1,5 @@
 -- What each act is to the client, and what is written down at it.
-use Rattle.std.proofs.Common.{◌≡◌, ℕ, zero, suc, ◌-◌, ◌<◌, Bool, true, false, List, [], ◌∷◌, length, map, drop, Some, None, refl, sym, ap, ◌∙◌, ◌++◌, subst, arith, append-nil, if◌then◌else◌, Option, length-drop}
+use Rattle.std.proofs.Common.{◌≡◌, ℕ, zero, suc, ◌-◌, ◌<◌, Bool, true, false, List, [], ◌∷◌, length, map, drop, Some, None, refl, sym, ap, ◌∙◌, ◌++◌, subst, arith, append-nil, if◌then◌else◌, length-drop}
 use Rattle.std.specs.Prelude.{slice_get}
 use Rattle.std.proofs.lemmas.List.{length-map}
 use Rattle.gc_lines.specs.Frames.{rest_behind}
@@ -147,7 +147,7 @@ module _ (plan : Plan) (commands : List Task) where
   skips_first_unsent : (p : Progress) (m : Moment) (mark : Mark) (left : List Task) → sent_of (skips_first p m mark left) ≡ []
   skips_first_unsent p m mark [] = refl
   skips_first_unsent p m mark (task ∷ others) = by_case p.missed where
-    by_case : (b : Bool) → sent_of (record { utc = skipped_at m p; cycle = mark.cycle; place = mark.place; command = task.command; end = if b then Missed else Skipped } ∷ []) ≡ []
+    by_case : (b : Bool) → sent_of (record { sent = None; utc = skipped_at m p; cycle = mark.cycle; place = mark.place; command = task.command; end = if b then Missed else Skipped } ∷ []) ≡ []
     by_case true = refl
     by_case false = refl
 

@@ -55,11 +55,11 @@ pub record WrittenDown (plan : Plan) (commands : List Task) (scope : Scope) (act
   pub written : IsWrittenAt plan commands scope (before ++ request ∷ between) (Gave piece m) r
 
 written_down : (plan : Plan) (commands : List Task) (scope : Scope) (acts : List Act) (piece : List ℕ) (m : Moment) (number at id : ℕ) (p : Pending) (mark : Mark) (r : Record) (news earlier later more : List Record)
-    → r.cycle ≡ mark.cycle → r.place ≡ mark.place → p.call ≡ r.command.call
+    → r.cycle ≡ mark.cycle → r.place ≡ mark.place → r.sent ≡ Some mark.sent → p.call ≡ r.command.call
     → (s : Asked plan commands scope acts (StayedAt m.elapsed) number at id p (Some mark))
     → (stood plan commands scope (acts ++ Gave piece m ∷ [])).records ≡ (((stood plan commands scope acts).records ++ news) ++ (earlier ++ r ∷ later)) ++ more
     → WrittenDown plan commands scope acts piece m s.before s.request s.between r
-written_down plan commands scope acts piece m number at id p mark r news earlier later more cycle place asks s ends =
+written_down plan commands scope acts piece m number at id p mark r news earlier later more cycle place sent asks s ends =
     let its = s.its mark refl in
     record {
       order = ap (λ xs. xs ++ Gave piece m ∷ []) s.order ∙ append_assoc s.before (s.request ∷ s.between) (Gave piece m ∷ []);
@@ -67,6 +67,7 @@ written_down plan commands scope acts piece m number at id p mark r news earlier
         sends = its.sends;
         cycle = cycle ∙ its.cycle;
         place = place ∙ its.place;
+        sent = sent ∙ ap Some its.sent;
         put = subst (λ (y : Call). Puts (request_text (stood plan commands scope s.before).client y) s.request) asks s.put;
       };
       written = record {
@@ -125,6 +126,7 @@ answered plan commands scope acts piece m c front others line l number at p mark
       sends = down.own.sends;
       cycle = down.own.cycle;
       place = down.own.place;
+      sent = down.own.sent;
       put = down.own.put;
       waits = subst (λ (d : ℕ). AllByRecursion (IsBefore d) s.between) (s.deadline mark refl) both.0;
       in_time = subst (λ (d : ℕ). m.elapsed < d) (s.deadline mark refl) both.1;
@@ -191,7 +193,7 @@ overtaken plan commands scope acts piece m c front others line number at there p
 -- what a record of a line says
 abbrev pub IsRecorded : Plan → List Task → Scope → List Act → ℕ → ById → List ℕ → Record → Type 0
 IsRecorded plan commands scope acts now c line r =
-    (at : ℕ) × (mark : Mark) × (x : Settlement) × (r.cycle ≡ mark.cycle) × (r.place ≡ mark.place) × IsRecordOf r x
+    (at : ℕ) × (mark : Mark) × (x : Settlement) × (r.cycle ≡ mark.cycle) × (r.place ≡ mark.place) × (r.sent ≡ Some mark.sent) × IsRecordOf r x
     × EndedBy (WaitsAt plan commands scope acts (stood plan commands scope acts).client now c.next (length c.waiting)) c (heard line) line at x (Some mark)
 
 pub line_written : (plan : Plan) (commands : List Task) (scope : Scope) (acts : List Act) (reads : Call → List ℕ → Reading) (now utc : ℕ) (c : ById) (marks : List (Option Mark)) (line : List ℕ)
@@ -200,7 +202,7 @@ pub line_written : (plan : Plan) (commands : List Task) (scope : Scope) (acts : 
 line_written plan commands scope acts reads now utc c marks line waits =
     let W = WaitsAt plan commands scope acts (stood plan commands scope acts).client now c.next (length c.waiting) in
     records_all (EndedBy W c (heard line) line) (IsRecorded plan commands scope acts now c line) reads utc 0 (hears c line (heard line)).settlements marks
-    (λ i y mark ended. (i, mark, y, refl, refl, record { reads = reads; command = refl; ended = refl }, ended)) (heard_ended W c marks line (heard line) waits)
+    (λ i y mark ended. (i, mark, y, refl, refl, refl, record { reads = reads; command = refl; ended = refl }, ended)) (heard_ended W c marks line (heard line) waits)
 
 -- it is true
 line_true : (plan : Plan) (commands : List Task) (scope : Scope) (acts : List Act) (piece : List ℕ) (m : Moment) (c : ById) (front others : List (List ℕ)) (line : List ℕ) (r : Record) (news earlier later more : List Record)
@@ -210,10 +212,10 @@ line_true : (plan : Plan) (commands : List Task) (scope : Scope) (acts : List Ac
 line_true plan commands scope acts piece m c front others line r news earlier later more split w ends it =
     let at = it.0 in
     let mark = it.1 in
-    let of_it = it.5 in
-    let x = it.6 in
+    let of_it = it.6 in
+    let x = it.7 in
     let s = x.holds.0 in
-    let down = written_down plan commands scope acts piece m x.number at _ x.pending mark r news earlier later more it.3 it.4 (x.asks ∙ sym (ap (λ (y : Command). y.call) of_it.command)) s ends in
+    let down = written_down plan commands scope acts piece m x.number at _ x.pending mark r news earlier later more it.3 it.4 it.5 (x.asks ∙ sym (ap (λ (y : Command). y.call) of_it.command)) s ends in
     record {
       answered = λ l e. let a = x.answered l (was_answered r it.2 of_it l e) in answered plan commands scope acts piece m c front others line l x.number at x.pending mark r split w s down a.0 a.1 a.2;
       late = λ e. let a = x.late (was_late r it.2 of_it e) in late plan commands scope acts piece m c front others line x.number at x.pending mark r split w s down a.0 a.1;

@@ -166,7 +166,7 @@ last_more reads a b c front one next so more is = more ∙ ap (λ x. last_well r
 
 -- a record by how its command ended
 abbrev pub record_as : ℕ → Mark → Rule.Settlement → End → Record
-record_as utc mark settlement end = record { utc = utc; cycle = mark.cycle; place = mark.place; command = command_of settlement; end = end }
+record_as utc mark settlement end = record { sent = Some mark.sent; utc = utc; cycle = mark.cycle; place = mark.place; command = command_of settlement; end = end }
 
 pub record_same : (reads : Call → List ℕ → Reading) (utc : ℕ) (mark : Mark) (x : Rule.Settlement) (end : End) → end ≡ end_of reads x.call x.outcome → record_as utc mark x end ≡ record_of reads utc mark x
 record_same reads utc mark x end is = ap (record_as utc mark x) is

@@ -27,6 +27,7 @@ pub record Marked (plan : Plan) (commands : List Task) (scope : Scope) (acts : L
   pub sends : order_at plan (stood plan commands scope acts) ≡ orders.Send
   pub cycle : mark.cycle ≡ cycles_begun plan (stood plan commands scope acts).progress
   pub place : mark.place ≡ place_next commands (stood plan commands scope acts).progress
+  pub sent : mark.sent ≡ (stood plan commands scope acts).progress.moment.utc
 
 -- the request at a place, with this id, was put among these acts, behind so many; of those behind it this holds
 pub record Asked (plan : Plan) (commands : List Task) (scope : Scope) (acts : List Act) (Stays : Bool → ℕ → List Act → Type 0) (number at with_id : ℕ) (p : Pending) (mark : Option Mark) : Type 0 where
@@ -146,6 +147,7 @@ true_more plan commands scope acts act r obeys is = record { answered = answered
         sends = a.sends;
         cycle = a.cycle;
         place = a.place;
+        sent = a.sent;
         put = a.put;
         waits = a.waits;
         in_time = a.in_time;

@@ -33,7 +33,7 @@ deadline_behind plan commands scope acts =
     let p = (stood plan commands scope acts).progress in
     later p.moment.elapsed (first_deadline (drop (place_next commands p) commands))
 
--- among these acts the request of a record, of its cycle and place, was put; then none told a moment at or
+-- among these acts the request of a record, of its cycle and place, was put, behind the moment that the record has for it; then none told a moment at or
 -- past its deadline; then a piece came, also before that, and with it this line with the request's id; and this act wrote the record down
 pub record IsAnsweredIn (plan : Plan) (commands : List Task) (scope : Scope) (acts : List Act) (r : Record) (line : List ℕ) : Type 0 where
   pub before : List Act
@@ -46,6 +46,7 @@ pub record IsAnsweredIn (plan : Plan) (commands : List Task) (scope : Scope) (ac
   pub sends : order_at plan (stood plan commands scope before) ≡ Send
   pub cycle : r.cycle ≡ cycles_begun plan (stood plan commands scope before).progress
   pub place : r.place ≡ place_next commands (stood plan commands scope before).progress
+  pub sent : r.sent ≡ Some (stood plan commands scope before).progress.moment.utc
   pub put : Puts (request_text (stood plan commands scope before).client r.command.call) request
   pub waits : AllByRecursion (IsBefore (deadline_behind plan commands scope before)) between
   pub in_time : moment.elapsed < deadline_behind plan commands scope before
@@ -60,7 +61,7 @@ pub record IsAnsweredIn (plan : Plan) (commands : List Task) (scope : Scope) (ac
 
 -- the line that answered a command, where it ended so; its values read or don't
 abbrev pub answer_of : End → Option (List ℕ)
-answer_of (Answered line) = Some line
+answer_of (Answered answer line) = Some line
 answer_of (Unreadable line fault) = Some line
 answer_of Late = None
 answer_of Lost = None

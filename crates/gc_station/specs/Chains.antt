@@ -1,14 +1,14 @@
 -- Chains, this project's own: a command of a chain goes out only once the one before it in its cycle was answered well, on the connection
 -- on which that went out.
-use Rattle.std.specs.Prelude.{◌≡◌, ℕ, ◌+◌, ◌<◌, true, List, [], ◌∷◌, ◌++◌, drop, Some}
+use Rattle.std.specs.Prelude.{◌≡◌, ℕ, ◌+◌, ◌<◌, true, List, [], ◌∷◌, ◌++◌, drop, Option}
 use Rattle.std.specs.List.{AllByRecursion}
+use Rattle.gc_catalogue.specs.declared.answer.Answer.{Answer}
 use Rattle.gc_texts.specs.Endings.{Answered}
 use Rattle.gc_texts.specs.declared.tasks.Task.{Task}
 use Rattle.gc_station.specs.declared.plan.Plan.{Plan}
 use Rattle.gc_station.specs.declared.progress.Order.TheVariants.{Send}
 use Rattle.gc_links.specs.Acts.{Act}
 use Rattle.gc_station.specs.Answers.{IsAnsweredIn}
-use Rattle.gc_station.specs.Ends.{IsOwnRequest}
 use Rattle.gc_station.specs.Marks.{is_value}
 use Rattle.gc_station.specs.Probing.{KeepsOpen}
 use Rattle.gc_station.specs.Records.{Record}
@@ -37,6 +37,7 @@ pub record IsLinked (plan : Plan) (commands : List Task) (scope : Scope) (acts :
   pub own_cycle : answer.cycle ≡ cycles_begun plan (stood plan commands scope before).progress
   pub own_place : answer.place ≡ place_next commands (stood plan commands scope before).progress
   pub line : List ℕ
-  pub answered : answer.end ≡ Answered line
+  pub said : Option Answer
+  pub answered : answer.end ≡ Answered said line
   pub well : is_value (scope.reads answer.command.call line) ≡ true
   pub in_time : IsAnsweredIn plan commands scope acts answer line

@@ -37,11 +37,13 @@ pub record TellsPast (deadline : ℕ) (acts : List Act) : Type 0 where
   pub at : acts ≡ earlier ++ telling ∷ later
   pub past : IsPast deadline telling
 
--- behind these acts, this act puts the very request of a record: of its cycle and place, and for its call
+-- behind these acts, this act puts the very request of a record: of its cycle and place, behind the moment that the record has for it, and
+-- for its call
 pub record IsOwnRequest (plan : Plan) (commands : List Task) (scope : Scope) (acts : List Act) (act : Act) (r : Record) : Type 0 where
   pub sends : order_at plan (stood plan commands scope acts) ≡ Send
   pub cycle : r.cycle ≡ cycles_begun plan (stood plan commands scope acts).progress
   pub place : r.place ≡ place_next commands (stood plan commands scope acts).progress
+  pub sent : r.sent ≡ Some (stood plan commands scope acts).progress.moment.utc
   pub put : Puts (request_text (stood plan commands scope acts).client r.command.call) act
 
 -- behind these acts, with this piece a line comes with this id

@@ -17,10 +17,12 @@ commands_in [] = 0
 commands_in (None ∷ marks) = commands_in marks
 commands_in (Some mark ∷ marks) = suc (commands_in marks)
 
--- how an answer ends a command of which its line says this: its values don't read, or it is answered
+-- how an answer ends a command of which its line says this: its values don't read, or it is answered, and where both codes are 0 with
+-- this answer
 abbrev pub answer_as : Reading → List ℕ → End
 answer_as (reading.Unreadable fault) line = end.Unreadable line fault
-answer_as _ line = end.Answered line
+answer_as (reading.Value answer) line = end.Answered (Some answer) line
+answer_as _ line = end.Answered None line
 
 -- how a command ended whose request ended so
 abbrev pub end_of : (Call → List ℕ → Reading) → Call → Outcome → End
@@ -35,6 +37,7 @@ command_of settlement = record { target = settlement.target; call = settlement.c
 -- the record of a command that was settled
 abbrev pub record_of : (Call → List ℕ → Reading) → ℕ → Mark → Settlement → Record
 record_of reads utc mark settlement = record {
+  sent = Some mark.sent;
   utc = utc;
   cycle = mark.cycle;
   place = mark.place;
@@ -58,7 +61,7 @@ is_value (reading.Unreadable fault) = false
 
 -- whether a command that ended so was answered well
 abbrev pub is_well : (Call → List ℕ → Reading) → Call → End → Bool
-is_well reads call (end.Answered line) = is_value (reads call line)
+is_well reads call (end.Answered answer line) = is_value (reads call line)
 is_well reads call (end.Unreadable line fault) = false
 is_well reads call end.Late = false
 is_well reads call end.Lost = false

@@ -1,6 +1,6 @@
 -- What a run of a station is to its client, this project's own: the client's steps, apart at each beginning, and of each request that
 -- goes out which command it is.
-use Rattle.std.specs.Prelude.{◌≡◌, ℕ, ◌&&◌, Bool, true, false, not, List, [], ◌∷◌, ◌++◌, drop, map, Option, Some, None, slice_get}
+use Rattle.std.specs.Prelude.{◌≡◌, ℕ, ◌&&◌, Bool, true, false, not, List, [], ◌∷◌, ◌++◌, drop, map, Option, Some, None, slice_get, unwrap_or}
 use Rattle.gc_catalogue.specs.declared.call.Call.{Call}
 use Rattle.gc_catalogue.specs.declared.call.Call.TheVariants.{NullProc}
 use Rattle.gc_client.specs.OneForOne.{Asked, Step, Send, Hear, Expire}
@@ -94,7 +94,7 @@ AreOf commands _ _ = ⊥
 
 -- whether it went out
 abbrev pub went_out : End → Bool
-went_out (Answered line) = true
+went_out (Answered answer line) = true
 went_out (Unreadable line fault) = true
 went_out Late = true
 went_out Lost = true
@@ -112,7 +112,7 @@ sent_of (r ∷ rs) = sent_with (went_out r.end) r (sent_of rs)
 
 -- the command that a record is of; and the record without its moment
 abbrev pub mark_of : Record → Mark
-mark_of r = record { cycle = r.cycle; place = r.place }
+mark_of r = record { cycle = r.cycle; place = r.place; sent = unwrap_or r.sent 0 }
 
 abbrev pub timeless : Record → Record
 timeless r = record r { utc = 0 }

@@ -7,8 +7,10 @@ use Rattle.gc_texts.specs.declared.commands.Command.{Command}
 use Rattle.gc_texts.specs.declared.ending.Ending.{Ending}
 use Rattle.gc_texts.specs.Endings.{End, ending_seen}
 
--- the end of a command: when it was told, of which cycle and place it was, what it asked and whom, and how it ended
+-- the end of a command: the moment told last before its request went out, where it did; when its end was told, of which cycle and place it
+-- was, what it asked and whom, and how it ended
 pub record Record : Type 0 where
+  pub sent : Option ℕ
   pub utc : ℕ
   pub cycle : ℕ
   pub place : ℕ
@@ -17,7 +19,7 @@ pub record Record : Type 0 where
 
 -- a record by its bytes
 abbrev pub record_seen : Stamp → Command → Ending → Record
-record_seen stamp command ending = record { utc = stamp.utc; cycle = stamp.cycle; place = stamp.place; command = command; end = ending_seen ending }
+record_seen stamp command ending = record { sent = stamp.sent; utc = stamp.utc; cycle = stamp.cycle; place = stamp.place; command = command; end = ending_seen ending }
 
 -- a text was written whole, or a first part of it, which isn't all
 abbrev pub Writes : {X E : Type 0} → Option (List ℕ) → Option (List ℕ) → List ℕ → Result X E → Type 0

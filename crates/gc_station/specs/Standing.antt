@@ -73,9 +73,9 @@ place_next commands p = length commands - p.unsent
 abbrev pub cycles_begun : Plan → Progress → ℕ
 cycles_begun plan p = plan.cycles - p.left
 
--- the next command, and the cycle that it is of
+-- the next command, the cycle that it is of, and the moment told last
 abbrev pub mark_next : Plan → List Task → Progress → Mark
-mark_next plan commands p = record { cycle = cycles_begun plan p; place = place_next commands p }
+mark_next plan commands p = record { cycle = cycles_begun plan p; place = place_next commands p; sent = p.moment.utc }
 
 -- how many requests of the cycle went out: none before the first cycle
 abbrev pub requests_out : Plan → List Task → Progress → ℕ
@@ -181,7 +181,7 @@ with_client client s = record s { client = client }
 abbrev pub skips_first : Progress → Moment → Mark → List Task → List Record
 skips_first p m mark [] = []
 skips_first p m mark (task ∷ others) =
-    record { utc = skipped_at m p; cycle = mark.cycle; place = mark.place; command = task.command; end = if p.missed then Missed else Skipped } ∷ []
+    record { sent = None; utc = skipped_at m p; cycle = mark.cycle; place = mark.place; command = task.command; end = if p.missed then Missed else Skipped } ∷ []
 
 -- the record of the next command, where the clock was read
 abbrev pub skips : Plan → List Task → Progress → Act → List Record

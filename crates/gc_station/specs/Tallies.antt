@@ -14,7 +14,7 @@ one_more n = later n 1
 
 -- with one more that ended so
 abbrev pub counted : End → Tally → Tally
-counted (Answered line) t = record t { answered = one_more t.answered }
+counted (Answered answer line) t = record t { answered = one_more t.answered }
 counted Late t = record t { late = one_more t.late }
 counted Lost t = record t { lost = one_more t.lost }
 counted Skipped t = record t { skipped = one_more t.skipped }

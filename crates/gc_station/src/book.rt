@@ -9,11 +9,12 @@ use gc_lines::PortFailed;
 use gc_links::Moment;
 use gc_texts::{Command, Ending};
 
-/// When a command's end was told, and which one it was.
+/// When a command was sent and its end was told, and which one it was.
 #[derive(Clone, Copy, Debug, PartialEq, Eq)]
 pub struct Stamp {
-    /// The moment that was told last, in milliseconds since 1970-01-01, UTC. Of a command of a missed cycle, the one at which that
-    /// cycle was due.
+    /// The moment that was told last before its request went out, in milliseconds since 1970-01-01, UTC. None: it was never sent.
+    pub sent: Option<u64>,
+    /// The moment that was told last. Of a command of a missed cycle, the one at which that cycle was due.
     pub utc: u64,
     /// The cycle, counted from 1.
     pub cycle: u64,

@@ -3,13 +3,15 @@
 ghost use Rattle.std.specs.Prelude.{◌≡◌};
 ghost use Rattle.gc_station.specs.Marks.{commands_in};
 
-/// The cycle, counted from 1, and the place among its commands, counted from 0, of a command that was sent.
+/// Which command of which cycle was sent, and when.
 #[derive(Clone, Copy, Debug, PartialEq, Eq)]
 pub(crate) struct Mark {
     /// The cycle, counted from 1.
     pub cycle: u64,
     /// The command's place among the commands of a cycle, counted from 0.
     pub place: usize,
+    /// The moment that was told last before it was sent, in milliseconds since 1970-01-01, UTC.
+    pub sent: u64,
 }
 
 // How many of these are commands. The others are null procedures.

@@ -132,6 +132,7 @@ impl Station {
         Mark {
             cycle: plan.cycles.saturating_sub(self.progress.left),
             place: self.place(commands),
+            sent: self.progress.moment.utc,
         }
     }
 
@@ -338,6 +339,7 @@ impl Station {
         let mark = self.mark(plan, commands);
         let task = &commands[self.place(commands)];
         let stamp = Stamp {
+            sent: None,
             utc: self.progress.skipped_at(moment),
             cycle: mark.cycle,
             place: mark.place,

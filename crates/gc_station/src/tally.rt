@@ -41,7 +41,7 @@ impl Tally {
         ensures { self.new ≡ counted (ending_seen ending.entry) self.old }
     {
         match ending {
-            Ending::Answered(_) => self.answered = self.answered.saturating_add(1),
+            Ending::Answered(..) => self.answered = self.answered.saturating_add(1),
             Ending::Unreadable(_, _) => self.unreadable = self.unreadable.saturating_add(1),
             Ending::Late => self.late = self.late.saturating_add(1),
             Ending::Lost => self.lost = self.lost.saturating_add(1),

@@ -41,7 +41,8 @@ fn ending_of(outcome: &Outcome) -> Ending<'_>
 {
     match outcome {
         Outcome::Answered(Reading::Unreadable(fault), line) => Ending::Unreadable(line, *fault),
-        Outcome::Answered(_, line) => Ending::Answered(line),
+        Outcome::Answered(Reading::Value(answer), line) => Ending::Answered(Some(answer), line),
+        Outcome::Answered(_, line) => Ending::Answered(None, line),
         Outcome::Late => Ending::Late,
         Outcome::Lost => Ending::Lost,
     }
@@ -79,6 +80,7 @@ fn write_one<B: Book>(
         return Ok(());
     };
     let stamp = Stamp {
+        sent: Some(mark.sent),
         utc,
         cycle: mark.cycle,
         place: mark.place,

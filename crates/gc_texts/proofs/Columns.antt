@@ -16,7 +16,7 @@ use Rattle.gc_lines.specs.Headers.{id_text}
 use Rattle.gc_lines.specs.Numbers.{IsNumber}
 use Rattle.gc_lines.specs.Replies.{EndsCode}
 use Rattle.gc_texts.specs.Laws.{ColumnsAreFields}
-use Rattle.gc_texts.specs.Records.{before, behind, com_of}
+use Rattle.gc_texts.specs.Rows.{before, behind, com_of}
 
 -- a byte that isn't the mark
 not_mark : (b mark : ℕ) → b ≢ mark → (b == mark) ≡ false

@@ -11,6 +11,9 @@ mod TaskLaws
 pub mod SettlementLines
 mod Telling
 mod Columns
+mod Rows
+mod JsonLines
+mod Members
 mod Wanted
 mod Asked
 mod Dates

@@ -25,7 +25,7 @@ record IsInk (b : ℕ) : Type 0 where
   below : b ≤ 126
 
 -- a byte of a line
-abbrev IsShown : ℕ → Type 0
+abbrev pub IsShown : ℕ → Type 0
 IsShown b = (32 ≤ b) × (b ≤ 126)
 
 ink : (b : ℕ) → 32 < b → b ≤ 126 → IsInk b
@@ -141,7 +141,7 @@ escape_prints b h =
     (λ _. All-from_recursion IsShown (92 ∷ 120 ∷ hex_digit (b / 16) ∷ hex_digit (b % 16) ∷ [])
     ((omega arith, omega arith), ((omega arith, omega arith), (digit_ink (b / 16) (high_digit b h), (digit_ink (b % 16) (omega arith), tt)))))
 
-escaped_prints : (bs : List ℕ) → AllByRecursion (λ b. b < 256) bs → All IsShown (escaped bs)
+pub escaped_prints : (bs : List ℕ) → AllByRecursion (λ b. b < 256) bs → All IsShown (escaped bs)
 escaped_prints [] h = All-from_recursion IsShown [] tt
 escaped_prints (b ∷ bs) h = All-append IsShown (escape b) (escaped bs) (escape_prints b h.0) (escaped_prints bs h.1)
 
@@ -156,7 +156,7 @@ space_prints : (bs : List ℕ) → All IsShown bs → All IsShown (32 ∷ bs)
 space_prints bs h = All-append IsShown (32 ∷ []) bs (All-from_recursion IsShown (32 ∷ []) ((omega arith, omega arith), tt)) h
 
 -- so a moment may be shown
-stamp_shown : (utc : ℕ) → utc < 2 ^ 64 → All IsShown (stamp_text utc)
+pub stamp_shown : (utc : ℕ) → utc < 2 ^ 64 → All IsShown (stamp_text utc)
 stamp_shown utc h = All-from_recursion IsShown (stamp_text utc) (ink_prints (stamp_text utc) (recursion_from_All IsInk (stamp_text utc) (stamp_ink utc h)))
 
 pub read_back : LogLinesReadBack

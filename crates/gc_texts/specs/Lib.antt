@@ -10,6 +10,9 @@ pub mod Settlements
 pub mod Faults
 pub mod Stamps
 pub mod Endings
+pub mod Quantities
+pub mod Rows
+pub mod JsonLines
 pub mod Records
 pub mod Troubles
 pub mod Logs

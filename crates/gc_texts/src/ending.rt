@@ -1,13 +1,14 @@
 //! Endings: how a command of a station's cycle ended.
 
+use gc_catalogue::Answer;
 use gc_lines::Line;
 use gc_values::ValueFault;
 
 /// How a command of a station's cycle ended.
 #[derive(Clone, Copy, Debug, PartialEq, Eq)]
 pub enum Ending<'a> {
-    /// Its reply came in time, with this line. Where both codes are 0, its values read.
-    Answered(&'a Line),
+    /// Its reply came in time, with this line. Where both codes are 0, its values read, as this answer.
+    Answered(Option<&'a Answer>, &'a Line),
     /// Its reply came in time, with this line, whose codes are 0, and whose values don't read.
     Unreadable(&'a Line, ValueFault),
     /// A reply to it came after it was given up.

@@ -1,6 +1,6 @@
 //! What is proved of the definitions themselves. The functions have no effect: their contracts are the laws.
 
-ghost use Rattle.gc_texts.specs.Laws.{OneCommandList, OneTaskList, CommandsAreTasks, CommandsArePlain, ChainsAreRows, ColumnsAreFields, WantedIsTheCatalogues, LogLinesReadBack, LogLinesArePrintable};
+ghost use Rattle.gc_texts.specs.Laws.{OneCommandList, OneTaskList, CommandsAreTasks, CommandsArePlain, ChainsAreRows, ColumnsAreFields, WantedIsTheCatalogues, LogLinesReadBack, LogLinesArePrintable, RowsReadBack, RowsArePrintable, JsonLinesReadBack, RecordsAreMembers};
 
 /// A text gives one list of commands at most.
 pub fn commands_have_one_reading()
@@ -41,4 +41,25 @@ pub fn log_lines_read_back()
 /// A line of a log has no byte below 32 nor above 126 before its line feed.
 pub fn log_lines_are_printable()
     ensures { LogLinesArePrintable }
+{}
+
+/// A reader of comma-separated values gives each row back as its fields, and a table as its rows, whatever bytes a reply had; and
+/// a field was written of no other bytes.
+pub fn rows_read_back()
+    ensures { RowsReadBack }
+{}
+
+/// A row has no byte below 32 nor above 126 before its line feed.
+pub fn rows_are_printable()
+    ensures { RowsArePrintable }
+{}
+
+/// A line of JSON reads as an object of its members, in their order, whatever bytes they hold.
+pub fn json_lines_read_back()
+    ensures { JsonLinesReadBack }
+{}
+
+/// The members of a record's line are such that it reads back: plain names, texts of bytes, and numbers of JSON.
+pub fn records_are_members()
+    ensures { RecordsAreMembers }
 {}

@@ -5,7 +5,7 @@ ghost use Rattle.std.specs.Io.KnownBytes.{Appends};
 ghost use Rattle.gc_texts.specs.Troubles.{wanted, list_trouble, IsCallTrouble, IsTrouble, trouble_text, trouble_line};
 
 use crate::procedure::{TARGET_MAX, number_of};
-use crate::record::{before, behind};
+use crate::row::{before, behind};
 use crate::task_line::is_word;
 use gc_catalogue::{CallFault, decode_call};
 use gc_lines::Request;

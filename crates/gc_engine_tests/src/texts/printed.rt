@@ -2,10 +2,10 @@
 
 ghost use Rattle.std.specs.Prelude.{◌≤◌, length};
 
-use gc_catalogue::Call;
+use gc_catalogue::{Answer, Call, DateTime};
 use gc_lines::{Line, ToWriter};
-use gc_texts::{Command, Ending, Form, RunFault, read_commands, write_head, write_record};
-use gc_values::ValueFault;
+use gc_texts::{Command, Ending, Form, RunFault, When, read_commands, write_head, write_record};
+use gc_values::{Decimal, Text, ValueFault};
 use std::alloc::Global;
 use std::process::Abort;
 use std::test::Fail;
@@ -129,12 +129,17 @@ fn moments_are_told(rt: HostRuntime) -> Result<(), Fail> {
         line.extend_from_slice(b" 3 0 lost\n")?;
         let mut written = Vec::new(alloc);
         let mut sink = ToWriter::new(&mut written);
+        let when = When {
+            run: 0,
+            sent: None,
+            utc,
+            cycle: 2,
+            place: 3,
+        };
         let taken = write_record(
             &mut sink,
             Form::Lines,
-            utc,
-            2,
-            3,
+            &when,
             b"",
             &Command {
                 target: 0,
@@ -148,40 +153,41 @@ fn moments_are_told(rt: HostRuntime) -> Result<(), Fail> {
     Ok(())
 }
 
-// A record of target 7 in the second cycle, in both forms.
-fn written(
+// When a command of the second cycle was sent, or None, in a run that began 27 seconds before it ended.
+fn second_cycle(sent: Option<u64>) -> When {
+    When {
+        run: 1795388880000,
+        sent,
+        utc: 1795388907123,
+        cycle: 2,
+        place: 3,
+    }
+}
+
+// When a request of it went out.
+const SENT: Option<u64> = Some(1795388907103);
+
+// A record of target 7 in the second cycle, in this form.
+fn record_in(
     alloc: Global,
+    form: Form,
+    sent: Option<u64>,
     name: &[u8],
     call: Call,
     ending: Ending<'_>,
-) -> Result<(Vec<u8>, Vec<u8>), Fail>
+) -> Vec<u8>
     requires { length name.now ≤ 64 }
 {
-    let mut lines = Vec::new(alloc);
-    let mut rows = Vec::new(alloc);
-    let moment = 1795388907123;
-    let command = Command { target: 7, call };
+    let mut record = Vec::new(alloc);
     let _ = write_record(
-        &mut ToWriter::new(&mut lines),
-        Form::Lines,
-        moment,
-        2,
-        3,
+        &mut ToWriter::new(&mut record),
+        form,
+        &second_cycle(sent),
         name,
-        &command,
+        &Command { target: 7, call },
         ending,
     );
-    let _ = write_record(
-        &mut ToWriter::new(&mut rows),
-        Form::Csv,
-        moment,
-        2,
-        3,
-        name,
-        &command,
-        ending,
-    );
-    Ok((lines, rows))
+    record
 }
 
 // A reply's line.
@@ -192,8 +198,26 @@ fn line_of(reply: &[u8]) -> Line {
 }
 
 #[test]
-fn records_are_written(rt: HostRuntime) -> Result<(), Fail> {
-    let rows: [(Call, &[u8], &[u8]); 4] = [
+fn answers_are_lines(rt: HostRuntime) {
+    let rows: [(Call, &[u8]); 3] = [
+        (Call::InstrumentNo, b"%R1P,0,0:0,123456"),
+        (Call::GetAngle { mode: 1 }, b"%R1P,0,0:0,2.25,1.625"),
+        (Call::NullProc, b"%R1P,3080,0:0"),
+    ];
+    for (call, reply) in rows {
+        let answer = line_of(reply);
+        let ending = Ending::Answered(None, &answer);
+        let line = record_in(rt.alloc(), Form::Lines, SENT, b"pier 4", call, ending);
+        let wanted = line
+            .strip_prefix(b"2026-11-22T23:08:27.123Z 3 7 answered ")
+            .and_then(|rest| rest.strip_suffix(b"\n"));
+        assert_eq!(rt; wanted, Some(reply));
+    }
+}
+
+#[test]
+fn answers_are_rows(rt: HostRuntime) {
+    let rows: [(Call, &[u8], &[u8]); 5] = [
         (
             Call::InstrumentNo,
             b"%R1P,0,0:0,123456",
@@ -203,6 +227,11 @@ fn records_are_written(rt: HostRuntime) -> Result<(), Fail> {
             Call::InstrumentName,
             b"%R1P,0,0:0,\"GEOCOM SIM\"",
             b"pier 4,5004,answered,,0,0,\"\"\"GEOCOM SIM\"\"\"",
+        ),
+        (
+            Call::InstrumentName,
+            b"%R1P,0,0:0,\"A\\\xe9\"",
+            b"pier 4,5004,answered,,0,0,\"\"\"A\\x5c\\xe9\"\"\"",
         ),
         (
             Call::GetAngle { mode: 1 },
@@ -217,13 +246,138 @@ fn records_are_written(rt: HostRuntime) -> Result<(), Fail> {
     ];
     for (call, reply, columns) in rows {
         let answer = line_of(reply);
-        let (line, row) = written(rt.alloc(), b"pier 4", call, Ending::Answered(&answer))?;
-        let wanted = line
-            .strip_prefix(b"2026-11-22T23:08:27.123Z 3 7 answered ")
-            .and_then(|rest| rest.strip_suffix(b"\n"));
-        assert_eq!(rt; wanted, Some(reply));
+        let ending = Ending::Answered(None, &answer);
+        let row = record_in(rt.alloc(), Form::Csv, SENT, b"pier 4", call, ending);
         let wanted = row
-            .strip_prefix(b"2026-11-22T23:08:27.123Z,2,3,7,")
+            .strip_prefix(
+                b"2026-11-22T23:08:00.000Z,2026-11-22T23:08:27.103Z,2026-11-22T23:08:27.123Z,2,3,7,",
+            )
+            .and_then(|rest| rest.strip_suffix(b"\n"));
+        assert_eq!(rt; wanted, Some(columns));
+    }
+}
+
+#[test]
+fn endings_are_lines(rt: HostRuntime) {
+    let answer = line_of(b"%R1P,0,0:0,12x");
+    let rows: [(Ending<'_>, &[u8]); 5] = [
+        (
+            Ending::Unreadable(&answer, ValueFault::Spelling),
+            b"unreadable 11 %R1P,0,0:0,12x",
+        ),
+        (Ending::Late, b"late"),
+        (Ending::Lost, b"lost"),
+        (Ending::Skipped, b"skipped"),
+        (Ending::Missed, b"missed"),
+    ];
+    for (ending, words) in rows {
+        let call = Call::InstrumentNo;
+        let line = record_in(rt.alloc(), Form::Lines, SENT, b"", call, ending);
+        let wanted = line
+            .strip_prefix(b"2026-11-22T23:08:27.123Z 3 7 ")
+            .and_then(|rest| rest.strip_suffix(b"\n"));
+        assert_eq!(rt; wanted, Some(words));
+    }
+}
+
+// A command that is skipped or missed was never sent.
+#[test]
+fn endings_are_rows(rt: HostRuntime) {
+    let answer = line_of(b"%R1P,0,0:0,12x");
+    let rows: [(Option<u64>, Ending<'_>, &[u8]); 5] = [
+        (
+            SENT,
+            Ending::Unreadable(&answer, ValueFault::Spelling),
+            b"2026-11-22T23:08:27.103Z,2026-11-22T23:08:27.123Z,2,3,7,,5003,unreadable,11,0,0,12x",
+        ),
+        (
+            SENT,
+            Ending::Late,
+            b"2026-11-22T23:08:27.103Z,2026-11-22T23:08:27.123Z,2,3,7,,5003,late,,,,",
+        ),
+        (
+            SENT,
+            Ending::Lost,
+            b"2026-11-22T23:08:27.103Z,2026-11-22T23:08:27.123Z,2,3,7,,5003,lost,,,,",
+        ),
+        (
+            None,
+            Ending::Skipped,
+            b",2026-11-22T23:08:27.123Z,2,3,7,,5003,skipped,,,,",
+        ),
+        (
+            None,
+            Ending::Missed,
+            b",2026-11-22T23:08:27.123Z,2,3,7,,5003,missed,,,,",
+        ),
+    ];
+    for (sent, ending, columns) in rows {
+        let row = record_in(rt.alloc(), Form::Csv, sent, b"", Call::InstrumentNo, ending);
+        let wanted = row
+            .strip_prefix(b"2026-11-22T23:08:00.000Z,")
+            .and_then(|rest| rest.strip_suffix(b"\n"));
+        assert_eq!(rt; wanted, Some(columns));
+    }
+}
+
+// An answer with a column for each of its quantities: the numbers in their one written form, the bytes of a date as numbers, and a
+// name without its quotes.
+#[test]
+fn quantities_have_columns(rt: HostRuntime) -> Result<(), Fail> {
+    let date = Answer::Date(DateTime {
+        year: 2026,
+        month: 11,
+        day: 22,
+        hour: 23,
+        minute: 8,
+        second: 27,
+    });
+    let measured = Answer::Measured {
+        hz: Decimal::new(5, 1)?,
+        v: Decimal::new(2, 0)?,
+        distance: Decimal::new(-125, 1)?,
+    };
+    let name = Answer::Name(Text::new(b"A\\\xe9")?);
+    let rows: [(Call, Option<Answer>, &[u8], &[u8]); 5] = [
+        (
+            Call::GetDate,
+            Some(date),
+            b"%R1P,0,0:0,2026,'0b','16','17','08','1b'",
+            b"5008,answered,,0,0,\"2026,'0b','16','17','08','1b'\",,,,,,,,,,,,,,,,,,,2026,11,22,23,8,27",
+        ),
+        (
+            Call::QuickDist,
+            Some(measured),
+            b"%R1P,0,0:0,0.50,2,-12.500",
+            b"2117,answered,,0,0,\"0.50,2,-12.500\",0.5,2.0,-12.5,,,,,,,,,,,,,,,,,,,,,",
+        ),
+        (
+            Call::InstrumentName,
+            Some(name),
+            b"%R1P,0,0:0,\"A\\\xe9\"",
+            b"5004,answered,,0,0,\"\"\"A\\x5c\\xe9\"\"\",,,,,,,,,,,,,,,,,,A\\x5c\\xe9,,,,,,",
+        ),
+        (
+            Call::GetFace,
+            Some(Answer::Long(1)),
+            b"%R1P,0,0:0,1",
+            b"2026,answered,,0,0,1,,,,,,,,,,1,,,,,,,,,,,,,,",
+        ),
+        (
+            Call::QuickDist,
+            None,
+            b"%R1P,0,0:1285",
+            b"2117,answered,,0,1285,,,,,,,,,,,,,,,,,,,,,,,,,",
+        ),
+    ];
+    for (call, answer, reply, columns) in rows {
+        let line = line_of(reply);
+        let ending = Ending::Answered(answer.as_ref(), &line);
+        let row = record_in(rt.alloc(), Form::Columns, SENT, b"pier 4", call, ending);
+        let wanted = row
+            .strip_prefix(
+                b"2026-11-22T23:08:00.000Z,2026-11-22T23:08:27.103Z,2026-11-22T23:08:27.123Z,2,3,7,pier 4,",
+            )
             .and_then(|rest| rest.strip_suffix(b"\n"));
         assert_eq!(rt; wanted, Some(columns));
     }
@@ -231,35 +385,22 @@ fn records_are_written(rt: HostRuntime) -> Result<(), Fail> {
 }
 
 #[test]
-fn endings_are_written(rt: HostRuntime) -> Result<(), Fail> {
-    let answer = line_of(b"%R1P,0,0:0,12x");
-    let rows: [(Ending<'_>, &[u8], &[u8]); 5] = [
+fn columns_have_names(rt: HostRuntime) {
+    let rows: [(Form, &[u8]); 3] = [
+        (Form::Lines, b""),
         (
-            Ending::Unreadable(&answer, ValueFault::Spelling),
-            b"unreadable 11 %R1P,0,0:0,12x",
-            b"unreadable,11,0,0,12x",
+            Form::Csv,
+            b"run,sent,time,cycle,place,target,name,procedure,outcome,fault,rc_com,rc,values\n",
         ),
-        (Ending::Late, b"late", b"late,,,,"),
-        (Ending::Lost, b"lost", b"lost,,,,"),
-        (Ending::Skipped, b"skipped", b"skipped,,,,"),
-        (Ending::Missed, b"missed", b"missed,,,,"),
+        (
+            Form::Columns,
+            b"run,sent,time,cycle,place,target,name,procedure,outcome,fault,rc_com,rc,values,hz_rad,v_rad,distance_m,mode,easting_m,northing_m,height_m,instrument_height_m,reflector_height_m,face,prism_type,temperature_c,places,release,version,subversion,serial,instrument,year,month,day,hour,minute,second\n",
+        ),
     ];
-    for (ending, words, columns) in rows {
-        let (line, row) = written(rt.alloc(), b"", Call::InstrumentNo, ending)?;
-        let wanted = line
-            .strip_prefix(b"2026-11-22T23:08:27.123Z 3 7 ")
-            .and_then(|rest| rest.strip_suffix(b"\n"));
-        assert_eq!(rt; wanted, Some(words));
-        let wanted = row
-            .strip_prefix(b"2026-11-22T23:08:27.123Z,2,3,7,,5003,")
-            .and_then(|rest| rest.strip_suffix(b"\n"));
-        assert_eq!(rt; wanted, Some(columns));
+    for (form, names) in rows {
+        let mut head = Vec::new(rt.alloc());
+        let taken = write_head(&mut ToWriter::new(&mut head), form);
+        assert_eq!(rt; taken, Ok(()));
+        assert_eq!(rt; head.as_slice(), names);
     }
-    let mut head = Vec::new(rt.alloc());
-    let _ = write_head(&mut ToWriter::new(&mut head), Form::Csv);
-    assert_eq!(rt;
-        head.as_slice(),
-        b"time,cycle,place,target,name,procedure,outcome,fault,rc_com,rc,values\n".as_slice()
-    );
-    Ok(())
 }

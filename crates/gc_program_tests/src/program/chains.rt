@@ -7,10 +7,10 @@ use std::test::Fail;
 const TEXT: &[u8] = b"name 7 pier 4\n7 2117\ndeadline 500\n# the distance\n7 2108 5000,1\n8 0\n";
 
 const CHAINED: &str =
-    "time,cycle,place,target,name,procedure,outcome,fault,rc_com,rc,values\n2026-11-22T23:08:10.040Z,1,0,7,pier 4,2117,answered,,0,1285,\n2026-11-22T23:08:10.040Z,1,1,7,pier 4,2108,skipped,,,,\n2026-11-22T23:08:10.060Z,1,2,8,,0,answered,,0,0,\n";
+    "run,sent,time,cycle,place,target,name,procedure,outcome,fault,rc_com,rc,values\n2026-11-22T23:08:00.000Z,2026-11-22T23:08:10.020Z,2026-11-22T23:08:10.040Z,1,0,7,pier 4,2117,answered,,0,1285,\n2026-11-22T23:08:00.000Z,,2026-11-22T23:08:10.040Z,1,1,7,pier 4,2108,skipped,,,,\n2026-11-22T23:08:00.000Z,2026-11-22T23:08:10.040Z,2026-11-22T23:08:10.060Z,1,2,8,,0,answered,,0,0,\n";
 
 const UNCHAINED: &str =
-    "time,cycle,place,target,name,procedure,outcome,fault,rc_com,rc,values\n2026-11-22T23:08:10.040Z,1,0,7,pier 4,2117,answered,,0,1285,\n2026-11-22T23:08:10.060Z,1,1,7,pier 4,2108,answered,,0,1285,\n2026-11-22T23:08:10.080Z,1,2,8,,0,answered,,0,0,\n";
+    "run,sent,time,cycle,place,target,name,procedure,outcome,fault,rc_com,rc,values\n2026-11-22T23:08:00.000Z,2026-11-22T23:08:10.020Z,2026-11-22T23:08:10.040Z,1,0,7,pier 4,2117,answered,,0,1285,\n2026-11-22T23:08:00.000Z,2026-11-22T23:08:10.040Z,2026-11-22T23:08:10.060Z,1,1,7,pier 4,2108,answered,,0,1285,\n2026-11-22T23:08:00.000Z,2026-11-22T23:08:10.060Z,2026-11-22T23:08:10.080Z,1,2,8,,0,answered,,0,0,\n";
 
 const ALL_SENT: &str = "answered 3 late 0 lost 0 skipped 0 unreadable 0 missed 0\n";
 

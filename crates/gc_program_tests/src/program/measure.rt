@@ -25,7 +25,7 @@ const LINES: &[u8] =
     b"2026-11-22T23:08:27.123Z 0 7 answered %R1P,0,1:0,123456\n2026-11-22T23:08:27.123Z 1 8 answered %R1P,0,2:0\n";
 
 const ROWS: &[u8] =
-    b"time,cycle,place,target,name,procedure,outcome,fault,rc_com,rc,values\n2026-11-22T23:08:27.123Z,1,0,7,,5003,answered,,0,0,123456\n2026-11-22T23:08:27.123Z,1,1,8,,0,answered,,0,0,\n";
+    b"run,sent,time,cycle,place,target,name,procedure,outcome,fault,rc_com,rc,values\n2026-11-22T23:08:00.000Z,2026-11-22T23:08:27.123Z,2026-11-22T23:08:27.123Z,1,0,7,,5003,answered,,0,0,123456\n2026-11-22T23:08:00.000Z,2026-11-22T23:08:27.123Z,2026-11-22T23:08:27.123Z,1,1,8,,0,answered,,0,0,\n";
 
 // A link at whose other end the null procedure and the two requests are answered at once. By its second clock it is always the same moment.
 #[derive(Drop)]
@@ -106,11 +106,12 @@ const CHOICE: Choice = Choice {
     watch: Watch::Nobody,
 };
 
-// Records in this form, behind what stands in front of them.
+// Records in this form, behind what stands in front of them, of a run that began at 23:08.
 fn whole(form: Form) -> Layout {
     Layout {
         form,
         headed: false,
+        run: 1795388880000,
     }
 }
 
@@ -180,14 +181,14 @@ fn each_read_of_the_text_fails(rt: HostRuntime) {
     }
 }
 
-// The head has 70 bytes, and the first row 58.
+// The head has 79 bytes, and the first row 108.
 #[test]
 fn each_write_of_a_record_fails(rt: HostRuntime) {
     let (end, all) = (Err(Stop::Run(RunFault::Output)), u64::MAX);
     for k in 0..ROWS.len() {
-        let sent = if k < 70 {
+        let sent = if k < 79 {
             0
-        } else if k < 70 + 58 {
+        } else if k < 79 + 108 {
             2
         } else {
             3
@@ -247,7 +248,7 @@ fn a_refused_positioning(rt: HostRuntime) {
         [b"%R1P,0,0:0\r\n", b"%R1P,0,1:8704\r\n", b""],
         2,
         b"2026-11-22T23:08:27.123Z 0 7 answered %R1P,0,1:8704\n2026-11-22T23:08:27.123Z 1 7 skipped\n",
-        b"time,cycle,place,target,name,procedure,outcome,fault,rc_com,rc,values\n2026-11-22T23:08:27.123Z,1,0,7,pier,9027,answered,,0,8704,\n2026-11-22T23:08:27.123Z,1,1,7,pier,2108,skipped,,,,\n",
+        b"run,sent,time,cycle,place,target,name,procedure,outcome,fault,rc_com,rc,values\n2026-11-22T23:08:00.000Z,2026-11-22T23:08:27.123Z,2026-11-22T23:08:27.123Z,1,0,7,pier,9027,answered,,0,8704,\n2026-11-22T23:08:00.000Z,,2026-11-22T23:08:27.123Z,1,1,7,pier,2108,skipped,,,,\n",
     );
 }
 
@@ -265,7 +266,7 @@ fn an_unreadable_answer(rt: HostRuntime) {
         ],
         3,
         b"2026-11-22T23:08:27.123Z 0 7 unreadable 12 %R1P,0,1:0,123456789012\n2026-11-22T23:08:27.123Z 1 8 answered %R1P,0,2:0\n",
-        b"time,cycle,place,target,name,procedure,outcome,fault,rc_com,rc,values\n2026-11-22T23:08:27.123Z,1,0,7,,5003,unreadable,12,0,0,123456789012\n2026-11-22T23:08:27.123Z,1,1,8,,0,answered,,0,0,\n",
+        b"run,sent,time,cycle,place,target,name,procedure,outcome,fault,rc_com,rc,values\n2026-11-22T23:08:00.000Z,2026-11-22T23:08:27.123Z,2026-11-22T23:08:27.123Z,1,0,7,,5003,unreadable,12,0,0,123456789012\n2026-11-22T23:08:00.000Z,2026-11-22T23:08:27.123Z,2026-11-22T23:08:27.123Z,1,1,8,,0,answered,,0,0,\n",
     );
 }
 
@@ -341,7 +342,7 @@ impl Lasting for Ledger {
 #[test]
 fn each_keep_fails(rt: HostRuntime) {
     let alloc = rt.alloc();
-    let (first, both) = (&ROWS[70..70 + 58], &ROWS[70..]);
+    let (first, both) = (&ROWS[79..79 + 108], &ROWS[79..]);
     // Whether one failed between the first row and the second command.
     let mut is_between = false;
     for keeps in 0..60 {
@@ -355,6 +356,7 @@ fn each_keep_fails(rt: HostRuntime) {
         let layout = Layout {
             form: Form::Csv,
             headed: true,
+            run: 1795388880000,
         };
         let (ledger, end) = run_station_text(
             alloc,

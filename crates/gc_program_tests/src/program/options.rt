@@ -182,9 +182,25 @@ fn records_are_rows_with_csv(rt: HostRuntime) -> Result<(), Fail> {
     let line = "2026-11-22T23:08:10.040Z 0 7 answered %R1P,0,1:0,123456\n";
     expect_answered(&rt, alloc, SOON, &[], commands, line, counted)?;
     let rows =
-        "time,cycle,place,target,name,procedure,outcome,fault,rc_com,rc,values\n2026-11-22T23:08:10.040Z,1,0,7,,5003,answered,,0,0,123456\n";
+        "run,sent,time,cycle,place,target,name,procedure,outcome,fault,rc_com,rc,values\n2026-11-22T23:08:00.000Z,2026-11-22T23:08:10.020Z,2026-11-22T23:08:10.040Z,1,0,7,,5003,answered,,0,0,123456\n";
     let options = ["--csv"];
     expect_answered(&rt, alloc, SOON, &options, commands, rows, counted)?;
+    Ok(())
+}
+
+// The serial number has a column of its own, the 17th behind the values.
+#[test]
+fn quantities_have_columns(rt: HostRuntime) -> Result<(), Fail> {
+    let alloc = rt.alloc();
+    let counted = "answered 1 late 0 lost 0 skipped 0 unreadable 0 missed 0\n";
+    let rows =
+        "run,sent,time,cycle,place,target,name,procedure,outcome,fault,rc_com,rc,values,hz_rad,v_rad,distance_m,mode,easting_m,northing_m,height_m,instrument_height_m,reflector_height_m,face,prism_type,temperature_c,places,release,version,subversion,serial,instrument,year,month,day,hour,minute,second\n2026-11-22T23:08:00.000Z,2026-11-22T23:08:10.020Z,2026-11-22T23:08:10.040Z,1,0,7,,5003,answered,,0,0,123456,,,,,,,,,,,,,,,,,123456,,,,,,,\n";
+    for options in [
+        &["--columns"].as_slice(),
+        &["--csv", "--columns"].as_slice(),
+    ] {
+        expect_answered(&rt, alloc, SOON, options, b"7 5003\n", rows, counted)?;
+    }
     Ok(())
 }
 

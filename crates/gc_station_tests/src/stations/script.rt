@@ -301,7 +301,7 @@ impl Book for Ends {
         self.digit(stamp.cycle);
         self.digit(stamp.place as u64);
         match ending {
-            Ending::Answered(line) => self.note_values(b"a", line),
+            Ending::Answered(_, line) => self.note_values(b"a", line),
             Ending::Unreadable(line, _) => self.note_values(b"u", line),
             Ending::Late => self.note(b"l"),
             Ending::Lost => self.note(b"x"),

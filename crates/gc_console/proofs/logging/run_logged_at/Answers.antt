@@ -24,19 +24,19 @@ returns-in_default-now-clause-told g c =
 
 pub returns-clause-told : goal.returns-clause-told
 returns-clause-told g c =
-    let measured = rw (c.new-logged.ensures, c.new-noticing.ensures, c.new-told.ensures) at c.measure_over-sink.ensures.told in
+    let measured = rw (c.new-logged.ensures, c.new-noticing.ensures, c.new-told.ensures, c.begun-station.ensures) at c.measure_over-sink.ensures.told in
     IfOk-weaker c.tell_loss.result _ _
     (λ status loss.
     let t = IfOk-at_ok _ loss.0 measured in
-    (t.0, t.1, c.measure_over-sink.new.messages, c.has_lost_its_log.result, t.4, loss.1, t.3, inl (c.measure_over-sink.new.link.link.link.history.acts, t.2.0, t.2.1, t.2.2)))
+    (t.0, t.1, c.measure_over-sink.new.messages, c.has_lost_its_log.result, t.4, loss.1, t.3, inl (c.measure_over-sink.new.link.link.link.history.acts, c.in-Ok-now.moment.utc, t.2.0, t.2.1, t.2.2)))
     c.tell_loss.ensures.told
 
 pub returns-clause-done : goal.returns-clause-done
 returns-clause-done g c =
-    let measured = rw (c.new-logged.ensures, c.new-noticing.ensures, c.new-told.ensures) at c.measure_over-sink.ensures.done in
+    let measured = rw (c.new-logged.ensures, c.new-noticing.ensures, c.new-told.ensures, c.begun-station.ensures) at c.measure_over-sink.ensures.done in
     IfOk-weaker c.tell_loss.result _ _
     (λ status loss zero.
     let done : exit_status status ≡ 0 → _ = IfOk-at_ok _ loss.0 measured in
     let r = done zero in
-    (r.0, r.1, (r.2.0, r.2.1, r.2.2, r.2.3, c.measure_over-sink.new.link.link.link.history.acts, r.2.4, r.2.5)))
+    (r.0, r.1, (r.2.0, r.2.1, r.2.2, r.2.3, c.measure_over-sink.new.link.link.link.history.acts, c.in-Ok-now.moment.utc, r.2.4, r.2.5)))
     c.tell_loss.ensures.told

@@ -1,7 +1,7 @@
 use Rattle.std.proofs.Common.{◌++◌, ap, ◌∙◌}
-use Rattle.gc_texts.specs.Records.{before, behind}
+use Rattle.gc_texts.specs.Rows.{before, behind}
 use Rattle.gc_texts.proofs.Columns.{number_column}
-use Rattle.gc_texts.proofs.record.procedure.Goals as goal
+use Rattle.gc_texts.proofs.row.procedure.Goals as goal
 
 pub returns : goal.returns
 returns c =

@@ -1,8 +1,8 @@
 use Rattle.std.proofs.Common.{◌≡◌, ◌+◌, ◌*◌, ◌≤◌, ◌++◌, take}
 use Rattle.std.specs.List.{flat_map}
 use Rattle.arrayvec.specs.ArrayVec.{array_vec_len}
-use Rattle.gc_texts.specs.Records.{within_quotes}
-use Rattle.gc_texts.proofs.record.append_doubled.Given as goal
+use Rattle.gc_texts.specs.Rows.{within_quotes}
+use Rattle.gc_texts.proofs.row.append_doubled.Given as goal
 
 abbrev pub invariant-loop-b : goal.invariant-loop-b
 invariant-loop-b g l = record {

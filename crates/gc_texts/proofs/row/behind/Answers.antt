@@ -1,7 +1,7 @@
 use Rattle.std.proofs.Common.{sym, ap, ◌∙◌}
 use Rattle.std.specs.Option.{option_copied}
 use Rattle.gc_texts.proofs.Columns.{cut_behind, unwrapped}
-use Rattle.gc_texts.proofs.record.behind.Goals as goal
+use Rattle.gc_texts.proofs.row.behind.Goals as goal
 
 pub returns-in-Some-clause-is : goal.returns-in-Some-clause-is
 returns-in-Some-clause-is c =
