@@ -1,6 +1,6 @@
 -- Why a request names no call: the numbers and the texts of the faults, which are this project's own.
 use Rattle.std.specs.Prelude.{ℕ, List, codes}
-use Rattle.gc_values.specs.ValueFault.{fault_text}
+use Rattle.gc_values.specs.ValueFault.{fault_number, fault_text}
 use Rattle.gc_catalogue.specs.declared.fault.CallFault.{CallFault}
 use Rattle.gc_catalogue.specs.declared.fault.CallFault.TheVariants.{Unknown, Parameters}
 
@@ -8,6 +8,11 @@ use Rattle.gc_catalogue.specs.declared.fault.CallFault.TheVariants.{Unknown, Par
 abbrev pub call_fault_number : CallFault → ℕ
 call_fault_number Unknown = 21
 call_fault_number (Parameters e) = 22
+
+-- the number that users see: of no procedure the fault's own, else that of the parameters' fault, 11 to 15
+abbrev pub refusal_number : CallFault → ℕ
+refusal_number Unknown = call_fault_number Unknown
+refusal_number (Parameters e) = fault_number e
 
 -- the text of each fault: that of the parameters is their own fault's
 abbrev pub call_fault_text : CallFault → List ℕ

@@ -1,7 +1,7 @@
 //! Why a request names no call: the faults, their numbers and their texts.
 
 ghost use Rattle.std.specs.Prelude.{◌≡◌, Some};
-ghost use Rattle.gc_catalogue.specs.CallFault.{call_fault_number, call_fault_text};
+ghost use Rattle.gc_catalogue.specs.CallFault.{call_fault_number, refusal_number, call_fault_text};
 
 use gc_values::ValueFault;
 use std::error::Error;
@@ -24,6 +24,16 @@ impl CallFault {
         match self {
             CallFault::Unknown => 21,
             CallFault::Parameters(_) => 22,
+        }
+    }
+
+    /// The number that users of the program and of the library see: 21, or that of the parameters' fault, 11 to 15.
+    pub fn refusal_number(self) -> u8
+        ensures { result ≡ refusal_number self }
+    {
+        match self {
+            CallFault::Unknown => self.number(),
+            CallFault::Parameters(fault) => fault.number(),
         }
     }
 }

@@ -1,4 +1,5 @@
-//! What the number of a call and the values of a call or an answer are handed to, one by one: bytes that are written, or nothing.
+//! What the number of a call and the values of a call or an answer are handed to, one by one: bytes that are written,
+//! or the number alone.
 
 ghost use Rattle.std.specs.Prelude.{◌≡◌, ◌+◌, ◌-◌, ◌/◌, ◌<◌, ◌≤◌, ◌++◌, ◌∷◌, [], ℕ, List, Option, length, suc};
 ghost use Rattle.std.specs.Option.{ForSome};
@@ -71,18 +72,22 @@ pub(crate) trait Taker {
         ensures takes { (vs : List Value) (t : Self) → takes self.new vs t → takes self.old (Value.Text v.now ∷ vs) t };
 }
 
-/// Takes everything and keeps nothing.
+/// Takes everything, and keeps the number alone.
 #[derive(Drop)]
-pub(crate) struct Unwritten;
+pub(crate) struct NumberAlone {
+    pub(crate) rpc: u16,
+}
 
-impl Taker for Unwritten {
-    ghost room = { λ t. 7 };
+impl Taker for NumberAlone {
+    ghost room = { λ s. 7 };
 
-    ghost takes = { λ s vs t. Unit {0} };
+    ghost takes = { λ s vs t. t ≡ s };
 
-    ghost begins = { λ s id rpc vs t. Unit {0} };
+    ghost begins = { λ s id rpc vs t. t.rpc ≡ rpc };
 
-    fn number(&mut self, _rpc: u16, _id: Option<u8>) {}
+    fn number(&mut self, rpc: u16, _id: Option<u8>) {
+        self.rpc = rpc;
+    }
 
     fn double(&mut self, _v: &Decimal) {}
 

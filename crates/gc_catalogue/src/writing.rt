@@ -10,7 +10,7 @@ ghost use Rattle.gc_catalogue.specs.Structs.{date_values, station_values};
 
 use crate::answer::{Answer, Shape};
 use crate::call::{Call, DateTime, Station};
-use crate::taking::{Taker, Unwritten};
+use crate::taking::{NumberAlone, Taker};
 
 impl Call {
     /// Hands over the call's number and then its values, in their order on the line, and answers the shape of the
@@ -190,7 +190,16 @@ impl Call {
     pub(crate) fn shape(&self) -> Shape
         ensures { result ≡ (call_fields self.now).answer }
     {
-        self.write_row(None, &mut Unwritten)
+        self.write_row(None, &mut NumberAlone { rpc: 0 })
+    }
+
+    /// The number of the call's procedure.
+    pub fn number(&self) -> u16
+        ensures { result ≡ (call_fields self.now).number }
+    {
+        let mut alone = NumberAlone { rpc: 0 };
+        self.write_row(None, &mut alone);
+        alone.rpc
     }
 }
 

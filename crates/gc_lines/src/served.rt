@@ -6,6 +6,15 @@ ghost use Rattle.gc_lines.specs.Answering.{fault_number, fault_text};
 use std::error::Error;
 use std::fmt;
 
+/// The number of a read that failed, wherever it is told. This project's own, as the two behind it.
+pub const READ_FAILED: u8 = 42;
+
+/// The number of a write that failed.
+pub const WRITE_FAILED: u8 = 43;
+
+/// The number of a run that made all the reads that it was allowed.
+pub const READS_SPENT: u8 = 44;
+
 /// The input was answered to its end.
 #[derive(Clone, Copy, Debug, PartialEq, Eq)]
 pub struct Served {
@@ -25,14 +34,14 @@ pub enum ServeFault {
 }
 
 impl ServeFault {
-    /// The number of the fault: 42, 43 or 44, in the order above. This project's own.
+    /// The number of the fault: 42, 43 or 44, in the order above.
     pub fn number(self) -> u8
         ensures { result ≡ fault_number self }
     {
         match self {
-            ServeFault::Read { .. } => 42,
-            ServeFault::Write { .. } => 43,
-            ServeFault::TooManyReads { .. } => 44,
+            ServeFault::Read { .. } => READ_FAILED,
+            ServeFault::Write { .. } => WRITE_FAILED,
+            ServeFault::TooManyReads { .. } => READS_SPENT,
         }
     }
 }
@@ -44,10 +53,9 @@ impl fmt::Display for ServeFault {
         match self {
             ServeFault::Write { replies, bytes } => write!(
                 f,
-                "fault 43 reply {replies} byte {bytes}"
+                "fault {WRITE_FAILED} reply {replies} byte {bytes}"
             ),
-            ServeFault::Read { .. } => f.write_str("fault 42"),
-            ServeFault::TooManyReads { .. } => f.write_str("fault 44"),
+            _ => write!(f, "fault {}", self.number()),
         }
     }
 }

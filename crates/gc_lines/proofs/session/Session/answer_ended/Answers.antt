@@ -1,4 +1,4 @@
-use Rattle.std.proofs.Common.{◌≡◌, ℕ, ◌-◌, List, [], ◌∷◌, ◌++◌, length, ap, ◌∙◌, arith, length-append, rules}
+use Rattle.std.proofs.Common.{◌≡◌, ℕ, ◌-◌, List, [], ◌∷◌, ◌++◌, length, ap, ◌∙◌, arith, length-append}
 use Rattle.gc_lines.proofs.Gathering.{gathering_silent, gathering_more, gathering_start, gathering_written, answered_part}
 use Rattle.gc_lines.proofs.session.Session.answer_ended.Goals as goal
 
