@@ -21,14 +21,14 @@ fault_number (TooManyReads _) = READS_SPENT
 abbrev pub numbered : ℕ → List ℕ
 numbered number = codes "fault " ++ decimal number
 
--- a write that failed behind so many replies and bytes, as it is printed
-abbrev pub write_text : (replies bytes : ℕ) → List ℕ
-write_text replies bytes = numbered WRITE_FAILED ++ codes " reply " ++ decimal replies ++ codes " byte " ++ decimal bytes
+-- how far a write came that failed, as it is printed behind the number
+abbrev pub how_far : (replies bytes : ℕ) → List ℕ
+how_far replies bytes = codes " reply " ++ (decimal replies ++ (codes " byte " ++ decimal bytes))
 
 -- a fault as it is printed
 abbrev pub fault_text : ServeFault → List ℕ
 fault_text (Read _) = numbered READ_FAILED
-fault_text (Write replies bytes) = write_text replies bytes
+fault_text (Write replies bytes) = numbered WRITE_FAILED ++ how_far replies bytes
 fault_text (TooManyReads _) = numbered READS_SPENT
 
 -- what answering may do: the state before a frame, the frame, the state after it, and the text that is written for it, if there is one

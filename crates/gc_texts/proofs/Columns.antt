@@ -1,16 +1,10 @@
 -- The columns of a record: what stands before a mark and behind it, and what that is in the lines of requests and replies.
 use Rattle.std.proofs.Common.{◌≡◌, ◌≢◌, ℕ, ◌+◌, ◌<◌, ◌==◌, List, [], ◌∷◌, ◌++◌, Option, Some, None, false, inl, inr, ◌⊎◌, IfSome, refl, sym, ap, subst, ◌∙◌, arith, append_assoc, append-nil}
-use Rattle.std.specs.Fmt.{decimal}
 use Rattle.std.specs.Str.Parse.{AllDigits}
 use Rattle.std.proofs.lemmas.Bool.{cond-true, cond-false, eq-eqb}
 use Rattle.std.proofs.lemmas.Bool.Decides.{eqb_tells}
 use Rattle.std.specs.Int.{IsInRange}
-use Rattle.std.proofs.lemmas.Fmt.{decimal_is_IsNumeral}
 use Rattle.std.proofs.lemmas.Str.Parse.{digit_from_value}
-use Rattle.gc_catalogue.proofs.Table.{number_fits}
-use Rattle.gc_catalogue.specs.Calls.{call_fields}
-use Rattle.gc_catalogue.specs.Texts.{request_line}
-use Rattle.gc_catalogue.specs.declared.call.Call.{Call}
 use Rattle.gc_texts.specs.Cuts.{Lacks, Cuts}
 use Rattle.gc_lines.specs.Headers.{id_text}
 use Rattle.gc_lines.specs.Numbers.{IsNumber}
@@ -66,10 +60,6 @@ no_digit d mark e range (inr high) = omega (arith, e, range.1, high)
 pub digits_lack : (mark : ℕ) (ds : List ℕ) → AllDigits 10 ds → mark < 48 ⊎ 57 < mark → Lacks mark ds
 digits_lack mark [] digits other = tt
 digits_lack mark (d ∷ ds) digits other = ((λ e. no_digit d mark e (digit_from_value d digits.0) other), digits_lack mark ds digits.1 other)
-
--- the number of a call, where its request has it
-pub number_column : (call : Call) → before 58 (behind 44 (request_line None call)) ≡ decimal (call_fields call).number
-number_column call = before_mark 58 (decimal (call_fields call).number) _ (digits_lack 58 _ (decimal_is_IsNumeral (call_fields call).number (omega (arith, number_fits call))).0.1 (inr (omega arith)))
 
 -- a text lacks a mark that both its parts lack
 lacks_both : (mark : ℕ) (xs ys : List ℕ) → Lacks mark xs → Lacks mark ys → Lacks mark (xs ++ ys)

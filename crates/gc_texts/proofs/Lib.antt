@@ -17,5 +17,6 @@ mod Members
 mod Wanted
 mod Asked
 mod Dates
+mod FaultLines
 pub mod Logs
 mod LogStamps

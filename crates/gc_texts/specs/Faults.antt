@@ -1,7 +1,9 @@
 -- The faults of the engines, and what the program tells of an end: numbers, texts and statuses are this project's own.
-use Rattle.std.specs.Prelude.{◌≡◌, ℕ, List, ◌++◌, Option, Result, Ok, Err, codes}
+use Rattle.std.specs.Prelude.{◌≡◌, ℕ, List, [], ◌++◌, Option, Result, Ok, Err, codes}
 use Rattle.std.specs.Fmt.{decimal}
 use Rattle.std.specs.Io.KnownBytes.{Appends}
+use Rattle.gc_lines.specs.Answering.{numbered, how_far}
+use Rattle.gc_lines.specs.declared.served.TheConstants.{READ_FAILED, WRITE_FAILED, READS_SPENT}
 use Rattle.gc_lines.specs.declared.served.Served.{Served}
 use Rattle.gc_lines.specs.declared.served.ServeFault.{ServeFault}
 use Rattle.gc_lines.specs.declared.served.ServeFault.TheVariants as serving
@@ -11,9 +13,9 @@ use Rattle.gc_texts.specs.declared.fault.RunFault.TheVariants.{SceneFull, Read, 
 -- the number of a fault
 abbrev pub run_fault_number : RunFault → ℕ
 run_fault_number SceneFull = 41
-run_fault_number Read = 42
-run_fault_number (Write _ _) = 43
-run_fault_number TooManyReads = 44
+run_fault_number Read = READ_FAILED
+run_fault_number (Write _ _) = WRITE_FAILED
+run_fault_number TooManyReads = READS_SPENT
 run_fault_number LinkClosed = 45
 run_fault_number Mute = 46
 run_fault_number Clock = 47
@@ -31,28 +33,15 @@ run_fault_number RecordsUnopened = 64
 run_fault_number RecordsHeld = 65
 run_fault_number RecordsForeign = 66
 
+-- what is told of a fault behind its number: how far a write came, or which line it is
+abbrev pub fault_detail : RunFault → List ℕ
+fault_detail (Write replies bytes) = how_far replies bytes
+fault_detail (Schedule line) = codes " line " ++ decimal line
+fault_detail _ = []
+
 -- a fault as it is printed
 abbrev pub run_fault_text : RunFault → List ℕ
-run_fault_text SceneFull = codes "fault 41"
-run_fault_text Read = codes "fault 42"
-run_fault_text (Write count bytes) = codes "fault 43 reply " ++ decimal count ++ codes " byte " ++ decimal bytes
-run_fault_text TooManyReads = codes "fault 44"
-run_fault_text LinkClosed = codes "fault 45"
-run_fault_text Mute = codes "fault 46"
-run_fault_text Clock = codes "fault 47"
-run_fault_text (Schedule n) = codes "fault 51 line " ++ decimal n
-run_fault_text Memory = codes "fault 52"
-run_fault_text InputTooLong = codes "fault 53"
-run_fault_text Socket = codes "fault 54"
-run_fault_text Output = codes "fault 55"
-run_fault_text StreamClosed = codes "fault 56"
-run_fault_text Log = codes "fault 57"
-run_fault_text NoTerminal = codes "fault 58"
-run_fault_text Held = codes "fault 59"
-run_fault_text Forbidden = codes "fault 60"
-run_fault_text RecordsUnopened = codes "fault 64"
-run_fault_text RecordsHeld = codes "fault 65"
-run_fault_text RecordsForeign = codes "fault 66"
+run_fault_text fault = numbered (run_fault_number fault) ++ fault_detail fault
 
 -- the line that the program writes of a fault with this text
 abbrev pub fault_line : List ℕ → List ℕ

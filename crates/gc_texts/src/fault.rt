@@ -4,6 +4,7 @@ ghost use Rattle.std.specs.Prelude.{◌≡◌, OnOk};
 ghost use Rattle.std.specs.Io.KnownBytes.{Appends};
 ghost use Rattle.gc_texts.specs.Faults.{run_fault_number, run_fault_text, fault_line};
 
+use gc_lines::{READ_FAILED, READS_SPENT, WRITE_FAILED};
 use std::io::{self, Write};
 use thiserror::Error;
 
@@ -11,64 +12,64 @@ use thiserror::Error;
 #[derive(Clone, Copy, Debug, PartialEq, Eq, Error)]
 pub enum RunFault {
     /// The scene has more than 32 targets.
-    #[error("fault 41")]
+    #[error("fault {}", self.number())]
     SceneFull,
     /// A read of the input, or of the link, failed.
-    #[error("fault 42")]
+    #[error("fault {}", self.number())]
     Read,
     /// A write to the link failed: so many lines went out whole, and so many bytes of the next.
-    #[error("fault 43 reply {replies} byte {bytes}")]
+    #[error("fault {} reply {replies} byte {bytes}", self.number())]
     Write { replies: u64, bytes: usize },
     /// As many reads were made as are allowed.
-    #[error("fault 44")]
+    #[error("fault {}", self.number())]
     TooManyReads,
     /// The other end of the link closed it.
-    #[error("fault 45")]
+    #[error("fault {}", self.number())]
     LinkClosed,
     /// No reply came any more, though the link stood.
-    #[error("fault 46")]
+    #[error("fault {}", self.number())]
     Mute,
     /// The clock can't be read, or stands before 1970.
-    #[error("fault 47")]
+    #[error("fault {}", self.number())]
     Clock,
     /// A line of the text, counted from 1, has no form.
-    #[error("fault 51 line {line}")]
+    #[error("fault {} line {line}", self.number())]
     Schedule { line: u32 },
     /// No memory was found.
-    #[error("fault 52")]
+    #[error("fault {}", self.number())]
     Memory,
     /// The text has more than 65,536 bytes.
-    #[error("fault 53")]
+    #[error("fault {}", self.number())]
     InputTooLong,
     /// A bind, connect or accept failed.
-    #[error("fault 54")]
+    #[error("fault {}", self.number())]
     Socket,
     /// The output failed.
-    #[error("fault 55")]
+    #[error("fault {}", self.number())]
     Output,
     /// Standard input, output or error is closed.
-    #[error("fault 56")]
+    #[error("fault {}", self.number())]
     StreamClosed,
     /// The log could not be opened.
-    #[error("fault 57")]
+    #[error("fault {}", self.number())]
     Log,
     /// What has the path of a device is no terminal.
-    #[error("fault 58")]
+    #[error("fault {}", self.number())]
     NoTerminal,
     /// Another program holds the device.
-    #[error("fault 59")]
+    #[error("fault {}", self.number())]
     Held,
     /// This program may not read and write the device.
-    #[error("fault 60")]
+    #[error("fault {}", self.number())]
     Forbidden,
     /// The file of records can't be opened for reading and appending, or is no regular file.
-    #[error("fault 64")]
+    #[error("fault {}", self.number())]
     RecordsUnopened,
     /// Another program holds the file of records.
-    #[error("fault 65")]
+    #[error("fault {}", self.number())]
     RecordsHeld,
     /// The file of records holds something else.
-    #[error("fault 66")]
+    #[error("fault {}", self.number())]
     RecordsForeign,
 }
 
@@ -79,9 +80,9 @@ impl RunFault {
     {
         match self {
             RunFault::SceneFull => 41,
-            RunFault::Read => 42,
-            RunFault::Write { .. } => 43,
-            RunFault::TooManyReads => 44,
+            RunFault::Read => READ_FAILED,
+            RunFault::Write { .. } => WRITE_FAILED,
+            RunFault::TooManyReads => READS_SPENT,
             RunFault::LinkClosed => 45,
             RunFault::Mute => 46,
             RunFault::Clock => 47,
@@ -107,29 +108,17 @@ impl RunFault {
         ensures { OnOk result (Appends (E.contents messages.old) (E.contents messages.new) (fault_line (run_fault_text self))) }
     {
         match self {
-            RunFault::SceneFull => writeln!(messages, "geocom: fault 41"),
-            RunFault::Read => writeln!(messages, "geocom: fault 42"),
             RunFault::Write { replies, bytes } => writeln!(
                 messages,
-                "geocom: fault 43 reply {replies} byte {bytes}"
+                "geocom: fault {} reply {replies} byte {bytes}",
+                self.number()
             ),
-            RunFault::TooManyReads => writeln!(messages, "geocom: fault 44"),
-            RunFault::LinkClosed => writeln!(messages, "geocom: fault 45"),
-            RunFault::Mute => writeln!(messages, "geocom: fault 46"),
-            RunFault::Clock => writeln!(messages, "geocom: fault 47"),
-            RunFault::Schedule { line } => writeln!(messages, "geocom: fault 51 line {line}"),
-            RunFault::Memory => writeln!(messages, "geocom: fault 52"),
-            RunFault::InputTooLong => writeln!(messages, "geocom: fault 53"),
-            RunFault::Socket => writeln!(messages, "geocom: fault 54"),
-            RunFault::Output => writeln!(messages, "geocom: fault 55"),
-            RunFault::StreamClosed => writeln!(messages, "geocom: fault 56"),
-            RunFault::Log => writeln!(messages, "geocom: fault 57"),
-            RunFault::NoTerminal => writeln!(messages, "geocom: fault 58"),
-            RunFault::Held => writeln!(messages, "geocom: fault 59"),
-            RunFault::Forbidden => writeln!(messages, "geocom: fault 60"),
-            RunFault::RecordsUnopened => writeln!(messages, "geocom: fault 64"),
-            RunFault::RecordsHeld => writeln!(messages, "geocom: fault 65"),
-            RunFault::RecordsForeign => writeln!(messages, "geocom: fault 66"),
+            RunFault::Schedule { line } => writeln!(
+                messages,
+                "geocom: fault {} line {line}",
+                self.number()
+            ),
+            _ => writeln!(messages, "geocom: fault {}", self.number()),
         }
     }
 }

@@ -9,9 +9,9 @@ ghost use Rattle.gc_texts.specs.JsonLines.{behind_backslash, in_quotes, named, s
 
 use crate::commands::Command;
 use crate::ending::Ending;
-use crate::log_line::append_escaped;
+use crate::log_line::escaped;
 use crate::quantity::{answer_values, column_of, quantity_text};
-use crate::row::{before, behind, code_of, com_of, procedure, values_of};
+use crate::row::{before, behind, code_of, com_of, values_of};
 use crate::stamp::stamp_text;
 use crate::when::When;
 use arrayvec::ArrayVec;
@@ -78,10 +78,8 @@ fn append_string<const N: usize>(line: &mut ArrayVec<u8, N>, bytes: &[u8])
     ensures text { line.new.items ≡ line.old.items ++ string_text bytes.now }
     ensures room { array_vec_len line.new ≤ array_vec_len line.old + 8 * length bytes.now + 2 }
 {
-    let mut text = ArrayVec::<u8, 2056>::new();
-    append_escaped(&mut text, bytes);
     append(line, b"\"");
-    append_behind_backslashes(line, &text);
+    append_behind_backslashes(line, &escaped(bytes));
     append(line, b"\"");
 }
 
@@ -166,13 +164,14 @@ fn append_what<const N: usize>(line: &mut ArrayVec<u8, N>, command: &Command, na
     ensures text { line.new.items ≡ line.old.items ++ members_text (what_members command.now name.now) }
     ensures room { array_vec_len line.new ≤ array_vec_len line.old + 1408 }
 {
+    let mut digits = Buffer::new();
+    append_number(line, b"target", digits.format(command.target).as_bytes());
+    append_called(line, name);
     append_number(
         line,
-        b"target",
-        Buffer::new().format(command.target).as_bytes(),
+        b"procedure",
+        digits.format(command.call.number()).as_bytes(),
     );
-    append_called(line, name);
-    append_number(line, b"procedure", &procedure(&command.call));
 }
 
 // Digits without the zeros before them, but for the last digit.

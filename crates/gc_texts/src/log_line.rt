@@ -91,6 +91,17 @@ pub fn append_escaped<const N: usize>(to: &mut ArrayVec<u8, N>, bytes: &[u8])
     }
 }
 
+// Bytes in the form of a log line, for what quotes them.
+pub(crate) fn escaped(bytes: &[u8]) -> ArrayVec<u8, 2056>
+    requires { length bytes.now ≤ 514 }
+    ensures is { result.items ≡ escaped bytes.now }
+    ensures short { array_vec_len result ≤ 4 * length bytes.now }
+{
+    let mut text = ArrayVec::new();
+    append_escaped(&mut text, bytes);
+    text
+}
+
 // Appends a byte, as it is or as `\x` and two digits.
 fn append_escape<const N: usize>(to: &mut ArrayVec<u8, N>, b: u8)
     requires { array_vec_len to.old + 4 ≤ N }

@@ -40,6 +40,7 @@ pub fn read_procedure(text: &[u8]) -> Option<Call>
     read_call(rpc as u16, params)
 }
 
+// The call of a number and parameters, if they are one.
 fn read_call(rpc: u16, params: &[u8]) -> Option<Call>
     ensures { MatchOption result ((call : Call) → IsCall rpc params.now call → ⊥) (λ call. IsCall rpc params.now call) }
 {

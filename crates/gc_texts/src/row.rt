@@ -2,21 +2,19 @@
 
 ghost use Rattle.std.specs.Prelude.{◌≡◌, ℕ, ◌+◌, ◌*◌, ◌≤◌, ◌++◌, ◌∷◌, [], length, replicate, codes};
 ghost use Rattle.std.specs.List.{flat_map, list_any};
-ghost use Rattle.std.specs.Fmt.{decimal};
 ghost use Rattle.arrayvec.specs.ArrayVec.{array_vec_len};
-ghost use Rattle.gc_catalogue.specs.Calls.{call_fields};
 ghost use Rattle.gc_texts.specs.Endings.{ending_seen};
 ghost use Rattle.gc_texts.specs.Rows.{before, behind, com_of, code_of, values_of, is_special, within_quotes, csv_field, field_text, behind_comma, behind_commas, reply_fields, ending_fields, moment_text, when_fields, what_fields, quantity_fields, more_fields, value_text, row_of, row_fields};
 
 use crate::commands::Command;
 use crate::cuts::cut_at;
 use crate::ending::Ending;
-use crate::log_line::append_escaped;
+use crate::log_line::escaped;
 use crate::quantity::{QUANTITIES, answer_values, column_of, quantity_text};
 use crate::stamp::{STAMP_ROOM, stamp_text};
 use crate::when::When;
 use arrayvec::ArrayVec;
-use gc_catalogue::{Call, encode_call};
+use gc_catalogue::Call;
 use gc_lines::{Line, append};
 use gc_values::Value;
 use itoa::Buffer;
@@ -115,9 +113,7 @@ fn append_field<const N: usize>(row: &mut ArrayVec<u8, N>, bytes: &[u8])
     ensures text { row.new.items ≡ row.old.items ++ field_text bytes.now }
     ensures room { array_vec_len row.new ≤ array_vec_len row.old + 8 * length bytes.now + 2 }
 {
-    let mut text = ArrayVec::<u8, 2056>::new();
-    append_escaped(&mut text, bytes);
-    append_quoted(row, &text);
+    append_quoted(row, &escaped(bytes));
 }
 
 // Appends a field that holds these bytes, behind a comma.
@@ -171,19 +167,10 @@ fn append_what<const N: usize>(row: &mut ArrayVec<u8, N>, command: &Command, nam
     ensures text { row.new.items ≡ row.old.items ++ behind_commas (what_fields command.now name.now) }
     ensures room { array_vec_len row.new ≤ array_vec_len row.old + 5120 }
 {
-    append_next(row, Buffer::new().format(command.target).as_bytes());
+    let mut digits = Buffer::new();
+    append_next(row, digits.format(command.target).as_bytes());
     append_next(row, name);
-    append_next(row, &procedure(&command.call));
-}
-
-// The number of the procedure that a call asks for.
-pub(crate) fn procedure(call: &Call) -> ArrayVec<u8, 512>
-    ensures { result.items ≡ decimal (call_fields call.now).number }
-{
-    let line = encode_call(None, call);
-    let mut number = ArrayVec::new();
-    append(&mut number, before(b':', behind(b',', &line)));
-    number
+    append_next(row, digits.format(command.call.number()).as_bytes());
 }
 
 // What a reply's line says: its communication code, its return code, and its values.

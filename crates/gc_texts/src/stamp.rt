@@ -37,6 +37,7 @@ fn year_days(year: u64) -> u64
     if is_leap(year) { 366 } else { 365 }
 }
 
+// Whether a year of the Gregorian calendar has 366 days.
 fn is_leap(year: u64) -> bool
     ensures { result ≡ is_leap year }
 {
