@@ -7,8 +7,8 @@ use Rattle.gc_lines.specs.Assembler.{Kept, StandsFor}
 use Rattle.gc_lines.specs.Frames.{frames, rest_behind}
 use Rattle.gc_lines.specs.Passing.{frames_behind, GathersPart}
 use Rattle.gc_lines.specs.declared.frame.Frame.{Frame}
-use Rattle.gc_lines.proofs.Known.{Consumes-append, Consumes-nil}
-use Rattle.gc_lines.proofs.InOrder.{all_none, all_then, part_then}
+use Rattle.gc_lines.proofs.Known.{Consumes-append}
+use Rattle.gc_lines.proofs.InOrder.{all_then, part_then}
 use Rattle.gc_lines.proofs.Passing.{frames-append, rest_behind-append}
 
 pub record Given {State : Type 0} (rule : AnswerRule State) (source_old source_new sink_old sink_new : Option (List ℕ)) (kept : Kept) (from to : State) (reads count : ℕ) : Type 0 where
@@ -17,9 +17,6 @@ pub record Given {State : Type 0} (rule : AnswerRule State) (source_old source_n
   pub few : length given ≤ 256 * reads
   pub stands : StandsFor kept (rest_behind [] given)
   pub all : AnswersAll rule from to (frames given) sink_old sink_new 0 count
-
-pub given_start : {State : Type 0} (rule : AnswerRule State) (a b : Option (List ℕ)) (kept : Kept) (state : State) → StandsFor kept [] → Given rule a a b b kept state state 0 0
-given_start rule a b kept state s = record { given = []; gave = Consumes-nil a; few = omega arith; stands = s; all = all_none rule state b 0 }
 
 -- one more piece, whose frames were all answered
 pub given_more : {State : Type 0} (rule : AnswerRule State) (a a' a'' b b' b'' : Option (List ℕ)) (kept kept' : Kept) (s t u : State) (reads n n' : ℕ) (piece : List ℕ) → Given rule a a' b b' kept s t reads n → Consumes a' a'' piece → length piece ≤ 256

@@ -108,37 +108,9 @@ impl Session {
             → GathersPart A.answers from answerer.new (seen ++ completed (lent_seen frame.entry)) old (K.taken sink.new) before
             self.new.replies bytes self.old.gathers) }
     {
-        match frame {
-            Lent::More => Ok(()),
-            Lent::Line(_) | Lent::Cleared | Lent::Overlong => self.answer_ended(
-                answerer, sink, frame,
-            ),
+        if let Lent::More = frame {
+            return Ok(());
         }
-    }
-
-    // Answers a frame that a line feed has ended.
-    fn answer_ended<A: Answers, K: Sink>(
-        &mut self,
-        answerer: &mut A,
-        sink: &mut K,
-        frame: Lent<'_>,
-    ) -> Result<(), usize>
-        requires count { self.old.replies + length self.old.lengths + 1 < 2 ^ 64 }
-        requires room { HasRoom self.old.text.items self.old.lengths self.old.gathers }
-        ensures few { self.new.replies ≤ self.old.replies + length self.old.lengths + 1 }
-        ensures bound { OnOk result (self.new.replies + length self.new.lengths ≤ self.old.replies + length self.old.lengths + 1) }
-        ensures room { OnOk result (HasRoom self.new.text.items self.new.lengths self.new.gathers) }
-        ensures same { (self.new.assembler ≡ self.old.assembler) × (self.new.gathers ≡ self.old.gathers) }
-        ensures failed { FailsWith result (K.failed sink.old) (K.failed sink.new) }
-        ensures ok { OnOk result ((from : A) (seen : List Frame) (old : Option (List ℕ)) (before : ℕ)
-            → Gathering A.answers from answerer.old seen old (K.taken sink.old) before self.old.replies self.old.text.items self.old.lengths
-            → Gathering A.answers from answerer.new (seen ++ lent_seen frame.entry ∷ []) old (K.taken sink.new) before
-            self.new.replies self.new.text.items self.new.lengths) }
-        ensures err { IfErr result (λ bytes. (from : A) (seen : List Frame) (old : Option (List ℕ)) (before : ℕ)
-            → Gathering A.answers from answerer.old seen old (K.taken sink.old) before self.old.replies self.old.text.items self.old.lengths
-            → GathersPart A.answers from answerer.new (seen ++ lent_seen frame.entry ∷ []) old (K.taken sink.new) before
-            self.new.replies bytes self.old.gathers) }
-    {
         let before = self.text.len();
         if !answerer.answer(frame, &mut self.text) {
             return Ok(());

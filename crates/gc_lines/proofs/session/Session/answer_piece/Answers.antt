@@ -1,10 +1,9 @@
-use Rattle.std.proofs.Common.{◌≡◌, ◌<◌, ◌++◌, [], sym, ap, ◌∙◌, arith, length-drop, rules, length}
+use Rattle.std.proofs.Common.{◌≡◌, ◌<◌, [], sym, ap, ◌∙◌, arith, length-drop, rules, length}
 use Rattle.std.proofs.lemmas.List.{take_rest, nil_from_length}
 use Rattle.std.proofs.lemmas.Bool.{eqb-true}
 use Rattle.gc_lines.proofs.Gathering.{gathering_written, rest_part}
 use Rattle.gc_lines.proofs.Passing.{Takes, takes, not_empty, going_start, going_on, going_part, going_end}
 use Rattle.gc_lines.specs.Lent.{lent_seen}
-use Rattle.gc_lines.specs.Passing.{completed}
 use Rattle.gc_lines.proofs.session.Session.answer_piece.Goals as goal
 
 pub loop-left-init : goal.loop-left-init
