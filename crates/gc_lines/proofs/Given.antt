@@ -44,17 +44,17 @@ given_end rule a a' a'' b b' kept s t reads n so gave = (
 
 -- one more piece, of which a text went out in part
 pub given_part : {State : Type 0} (rule : AnswerRule State) (a a' a'' b b' b'' : Option (List ℕ)) (kept : Kept) (s t u : State) (reads n n' bytes : ℕ) (piece : List ℕ) (gathers : Bool) → Given rule a a' b b' kept s t reads n → Consumes a' a'' piece → length piece ≤ 256
-    → ((rest : List ℕ) → StandsFor kept rest → GathersPart rule t u (frames_behind rest piece) b' b'' n n' bytes gathers)
+    → ((rest : List ℕ) → StandsFor kept rest → GathersPart rule (record { state = t; taken = b'; whole = n }) (record { state = u; taken = b''; whole = n' }) (frames_behind rest piece) bytes gathers)
     → (reached : State) × ((given : List ℕ) × Consumes a a'' given × (length given ≤ 256 * (reads + 1)) × AnswersPart rule s reached (frames given) b b'' 0 n' bytes) × (gathers ≡ false → reached ≡ u)
 given_part rule a a' a'' b b' b'' kept s t u reads n n' bytes piece gathers so gave short answered =
     let it = answered (rest_behind [] so.given) so.stands in (
-      it.0,
+      it.reached,
       (
         so.given ++ piece,
         Consumes-append a a' a'' so.given piece so.gave gave,
         omega (arith, so.few, length-append so.given piece),
-        subst (λ (seen : List Frame). AnswersPart rule s it.0 seen b b'' 0 n' bytes) (sym (frames-append so.given piece))
-            (part_then rule s t it.0 (frames so.given) (frames_behind (rest_behind [] so.given) piece) b b' b'' 0 n n' bytes so.all it.1),
+        subst (λ (seen : List Frame). AnswersPart rule s it.reached seen b b'' 0 n' bytes) (sym (frames-append so.given piece))
+            (part_then rule s t it.reached (frames so.given) (frames_behind (rest_behind [] so.given) piece) b b' b'' 0 n n' bytes so.all it.part),
       ),
-      it.2,
+      it.alone,
     )

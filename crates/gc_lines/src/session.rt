@@ -7,7 +7,7 @@ ghost use Rattle.gc_lines.specs.Answering.{AnswersAll};
 ghost use Rattle.gc_lines.specs.Assembler.{StandsFor};
 ghost use Rattle.gc_lines.specs.Frames.{rest_behind};
 ghost use Rattle.gc_lines.specs.Lent.{lent_seen};
-ghost use Rattle.gc_lines.specs.Passing.{completed, frames_behind, Gathering, GathersPart, HasRoom, parted};
+ghost use Rattle.gc_lines.specs.Passing.{completed, frames_behind, Gathering, GathersPart, HasRoom, parted, Progress};
 ghost use Rattle.gc_lines.specs.Ports.{FailsWith, TakesFront};
 ghost use Rattle.gc_lines.specs.declared.frame.Frame.{Frame};
 
@@ -68,8 +68,9 @@ impl Session {
             × AnswersAll A.answers answerer.old answerer.new (frames_behind rest piece.now)
             (K.taken sink.old) (K.taken sink.new) self.old.replies self.new.replies) }
         ensures err { IfErr result (λ bytes. (rest : List ℕ) → StandsFor self.old.assembler rest
-            → GathersPart A.answers answerer.old answerer.new (frames_behind rest piece.now)
-            (K.taken sink.old) (K.taken sink.new) self.old.replies self.new.replies bytes self.old.gathers) }
+            → GathersPart A.answers (record { state = answerer.old; taken = K.taken sink.old; whole = self.old.replies })
+            (record { state = answerer.new; taken = K.taken sink.new; whole = self.new.replies })
+            (frames_behind rest piece.now) bytes self.old.gathers) }
     {
         let mut left = piece;
         while !left.is_empty() {
@@ -99,14 +100,16 @@ impl Session {
         ensures room { OnOk result (HasRoom self.new.text.items self.new.lengths self.new.gathers) }
         ensures same { (self.new.assembler ≡ self.old.assembler) × (self.new.gathers ≡ self.old.gathers) }
         ensures failed { FailsWith result (K.failed sink.old) (K.failed sink.new) }
-        ensures ok { OnOk result ((from : A) (seen : List Frame) (old : Option (List ℕ)) (before : ℕ)
-            → Gathering A.answers from answerer.old seen old (K.taken sink.old) before self.old.replies self.old.text.items self.old.lengths
-            → Gathering A.answers from answerer.new (seen ++ completed (lent_seen frame.entry)) old (K.taken sink.new) before
-            self.new.replies self.new.text.items self.new.lengths) }
-        ensures err { IfErr result (λ bytes. (from : A) (seen : List Frame) (old : Option (List ℕ)) (before : ℕ)
-            → Gathering A.answers from answerer.old seen old (K.taken sink.old) before self.old.replies self.old.text.items self.old.lengths
-            → GathersPart A.answers from answerer.new (seen ++ completed (lent_seen frame.entry)) old (K.taken sink.new) before
-            self.new.replies bytes self.old.gathers) }
+        ensures ok { OnOk result ((from : Progress A) (seen : List Frame)
+            → Gathering A.answers from (record { state = answerer.old; taken = K.taken sink.old; whole = self.old.replies })
+            seen self.old.text.items self.old.lengths
+            → Gathering A.answers from (record { state = answerer.new; taken = K.taken sink.new; whole = self.new.replies })
+            (seen ++ completed (lent_seen frame.entry)) self.new.text.items self.new.lengths) }
+        ensures err { IfErr result (λ bytes. (from : Progress A) (seen : List Frame)
+            → Gathering A.answers from (record { state = answerer.old; taken = K.taken sink.old; whole = self.old.replies })
+            seen self.old.text.items self.old.lengths
+            → GathersPart A.answers from (record { state = answerer.new; taken = K.taken sink.new; whole = self.new.replies })
+            (seen ++ completed (lent_seen frame.entry)) bytes self.old.gathers) }
     {
         if let Lent::More = frame {
             return Ok(());

@@ -21,28 +21,28 @@ kept old new more lengths lengths' before now at to is pushed =
     pushed ∙ ap (λ (k : ℕ). lengths ++ k ∷ []) same
 
 pub returns-then-not-answer-clause-ok : goal.returns-then-not-answer-clause-ok
-returns-then-not-answer-clause-ok g c from seen old before h =
+returns-then-not-answer-clause-ok g c from seen h =
     let answered = c.if-not-answer.ensures.answered in
-    rw (ended c.args.frame c.in_default.not-More, answered.1) (gathering_silent _ from c.args.answerer.now _ seen _ old _ before _ _ _ answered.0 h)
+    rw (ended c.args.frame c.in_default.not-More, answered.1) (gathering_silent _ from _ _ seen _ _ _ answered.0 h)
 
 pub returns-then-may_wait-clause-ok : goal.returns-then-may_wait-clause-ok
-returns-then-may_wait-clause-ok g c from seen old before h =
+returns-then-may_wait-clause-ok g c from seen h =
     let answered = c.if-not-answer.ensures.answered in
-    rw (ended c.args.frame c.in_default.not-More) (gathering_more _ from c.args.answerer.now _ seen _ old _ before _ _ _ answered.0 _ _ answered.1 h answered.2
+    rw (ended c.args.frame c.in_default.not-More) (gathering_more _ from _ _ seen _ _ _ answered.0 _ _ answered.1 h answered.2
     (kept _ _ _ _ _ _ _ c.len-before.ensures.value c.len.ensures.value answered.2 c.push.ensures))
 
 pub returns-in-Err-clause-err : goal.returns-in-Err-clause-err
-returns-in-Err-clause-err g c from seen old before h =
+returns-in-Err-clause-err g c from seen h =
     let answered = c.if-not-answer.ensures.answered in
     let failed = c.in-Err.ensures.err in
-    rw (ended c.args.frame c.in_default.not-More) (answered_part _ from c.args.answerer.now _ seen _ old _ _ before _ _ _ failed.0 _ _ answered.0 _ _ c.args.self.now.gathers c.requires.room.alone answered.1 h answered.2
+    rw (ended c.args.frame c.in_default.not-More) (answered_part _ from _ _ seen _ _ _ answered.0 _ _ _ failed.0 c.args.self.now.gathers c.requires.room.alone answered.1 h answered.2
     (kept _ _ _ _ _ _ _ c.len-before.ensures.value c.len.ensures.value answered.2 c.push.ensures) failed.1 failed.2)
 
 pub returns-clause-ok : goal.returns-clause-ok
-returns-clause-ok g c from seen old before h =
+returns-clause-ok g c from seen h =
     let answered = c.if-not-answer.ensures.answered in
     let written = c.in_default-write_texts.ensures.ok in
-    let more = gathering_more _ from c.args.answerer.now _ seen _ old _ before _ _ _ answered.0 _ _ answered.1 h answered.2
+    let more = gathering_more _ from _ _ seen _ _ _ answered.0 _ _ answered.1 h answered.2
     (kept _ _ _ _ _ _ _ c.len-before.ensures.value c.len.ensures.value answered.2 c.push.ensures) in
     rw (ended c.args.frame c.in_default.not-More, c.in_default-write_texts.ensures.nothing.0, c.in_default-write_texts.ensures.nothing.1)
-    (gathering_start _ from _ _ old _ before _ (gathering_written _ from _ _ old _ _ before _ _ _ _ more written.0 written.1))
+    (gathering_start _ from _ _ (gathering_written _ from _ _ _ _ _ _ more written.0 written.1))
