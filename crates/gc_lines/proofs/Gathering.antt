@@ -226,9 +226,11 @@ gathering_part rule from to seen text lengths after total bytes n g took counts 
       counts = ap (λ (p : ℕ × ℕ). p.0) same;
       not_all = rw (ap (λ (p : ℕ × ℕ). p.1) same) k.not_all;
       took = Appends-is to.taken after _ _ (ap (λ (xs : List ℕ). take n xs) g.text_is ∙ k.front ∙ ap (λ (b : ℕ). all_of k.out ++ take b k.text) (sym (ap (λ (p : ℕ × ℕ). p.1) same))) took.1;
-    } in
-    (k.reached, subst (λ (fs : List Frame). AnswersPart rule from.state k.reached fs from.taken after from.whole total bytes) (sym g.order)
-    (part_then rule from.state g.state k.reached g.done g.held from.taken to.taken after from.whole to.whole total bytes g.all out))
+    } in (
+      k.reached,
+      subst (λ (fs : List Frame). AnswersPart rule from.state k.reached fs from.taken after from.whole total bytes) (sym g.order)
+          (part_then rule from.state g.state k.reached g.done g.held from.taken to.taken after from.whole to.whole total bytes g.all out),
+    )
 
 lt_is : (m n : ℕ) → m < n → nat_lt m n ≡ true
 lt_is m n e = grind (arith, nat_tests)
@@ -248,7 +250,7 @@ answered_part rule from to last seen frame text lengths more text' lengths' byte
     let took_more : TakesFront to.taken last.taken n more = subst (λ (xs : List ℕ). TakesFront to.taken last.taken n xs) (longer ∙ ap (λ (xs : List ℕ). xs ++ more) nothing) took in
     let less : nat_lt n (length more) ≡ true = lt_is n (length more) took_more.0 in
     let same : (last.whole, bytes) ≡ (to.whole, n) = counts ∙ ap (λ (ns : List ℕ). parted to.whole n ns) (counted ∙ ap (λ (ns : List ℕ). ns ++ length more ∷ []) none)
-        ∙ ap (λ (b : Bool). cond b (to.whole, n) (to.whole + 1, n - length more)) less in
+    ∙ ap (λ (b : Bool). cond b (to.whole, n) (to.whole + 1, n - length more)) less in
     let part : AnswersPart rule to.state last.state (frame ∷ []) to.taken last.taken to.whole to.whole n = one_part rule to.state last.state frame more to.taken last.taken to.whole n draws took_more in
     let all = gathering_end rule from to seen text lengths none g in
     let told = part_then rule from.state to.state last.state seen (frame ∷ []) from.taken to.taken last.taken from.whole to.whole to.whole n all part in

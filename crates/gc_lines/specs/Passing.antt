@@ -46,7 +46,7 @@ pub record HasRoom (text lengths : List ℕ) (gathers : Bool) : Type 0 where
   pub for_length : length lengths < 256
   pub alone : gathers ≡ false → lengths ≡ []
 
--- how many texts of these lengths the first left bytes hold whole, behind whole others, and how many bytes of the next
+-- how many texts of these lengths are whole in the first left bytes, the whole ones before them counted, and how many bytes of the next
 abbrev pub parted : ℕ → ℕ → List ℕ → ℕ × ℕ
 parted whole left [] = (whole, left)
 parted whole left (n ∷ ns) = if nat_lt left n then (whole, left) else parted (whole + 1) (left - n) ns

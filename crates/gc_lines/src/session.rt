@@ -33,6 +33,7 @@ pub(crate) struct Session {
 }
 
 impl Session {
+    // A session at the start of a stream.
     pub(crate) fn new(gathers: bool) -> Session
         ensures assembler { StandsFor result.assembler [] }
         ensures gathers { result.gathers ≡ gathers }
@@ -160,8 +161,8 @@ impl Session {
         }
     }
 
-    // Of the texts that wait the first `taken` bytes went out: counts those that did whole, and says how many bytes of the
-    // next did.
+    // Of the texts that wait the first `taken` bytes went out. It counts the texts that went out whole, and returns how many
+    // bytes of the next one did.
     #[inline(never)]
     fn count_part(&mut self, taken: usize) -> usize
         requires { self.old.replies + length self.old.lengths < 2 ^ 64 }
@@ -175,7 +176,8 @@ impl Session {
     }
 }
 
-// Of texts of these lengths, behind `whole` others, how many went out whole where `taken` bytes did, and how many bytes of the next.
+// Of texts of these lengths the first `taken` bytes went out. It returns how many texts went out whole, the `whole` ones before
+// them counted, and how many bytes of the next one did.
 fn parted(whole: u64, taken: usize, lengths: &[usize]) -> (u64, usize)
     requires { whole + length lengths.now < 2 ^ 64 }
     ensures parts { result ≡ parted whole taken lengths.now }
