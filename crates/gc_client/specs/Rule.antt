@@ -9,7 +9,7 @@ use Rattle.gc_catalogue.specs.declared.call.Call.{Call}
 use Rattle.gc_client.specs.declared.window.TheConstants.{WINDOW, IDS}
 use Rattle.gc_client.specs.declared.pending.Pending.{Pending}
 
--- how a request ended: a reply line met it, which is its bytes; one met it after it was given up; or none will
+-- how a request ended: by a reply line, which is its bytes; by one that came after it was given up; or without one
 pub data Outcome : Type 0 where
   Answered : (line : List ℕ) → Outcome
   Late : Outcome

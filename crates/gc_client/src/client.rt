@@ -50,25 +50,28 @@ impl fmt::Display for WindowFull {
 
 impl Error for WindowFull {}
 
-/// A client over any window: it settles each request once, in the order of sending, on a connection that keeps its
-/// lines in order, however many of them it loses, delays or repeats in place.
+/// A client over any window. It settles each request once, in the order of sending. The connection has to keep its
+/// lines in order; it may lose, delay or repeat any of them in place.
 ///
-/// Its width is how many requests it lets wait, from one to seven; it is chosen once, and no call changes it.
+/// Its width is how many requests it lets wait, from one to seven. It is chosen once, and no call changes it.
 ///
-/// The caller has a clock and a connection, and no call takes memory, also where it refuses a send or knows no request
-/// for a line:
+/// No call takes memory, also where it refuses a send or knows no request for a line. The caller has a clock and a
+/// connection:
 ///
 /// 1. `send` each request, and write its line, with CR LF, on the connection, while fewer wait than the width.
 /// 2. Read, waiting until [`next_deadline`](Client::next_deadline) at most.
-/// 3. Hand the moment after the read to `expire`, on the clock that the deadlines are of, and then each line that came,
-///    without its CR LF, to `on_line`: so a reply that came past its deadline is late. Go on at 1.
+/// 3. Hand the moment after the read to `expire`, on the clock of the deadlines. Then hand each line that came, without
+///    its CR LF, to `on_line`. So a reply that came past its deadline is late. Go on at 1.
 /// 4. Where the connection fails, or all that wait were given up and nothing comes any more, close it, open it anew and
-///    `restart`: ids begin at 0 again, so no line may be under way, and an instrument that keeps its last reply has to
-///    restart too; by that call the caller vouches for both.
+///    `restart`. Ids then begin at 0 again. So no line may be under way, and an instrument that keeps its last reply has
+///    to restart too. By that call the caller vouches for both.
 ///
-/// At `Answered` take the reading, which may be a refusal or a fault; at `Late` the instrument has dealt with the
-/// request, and nothing may rest on what it said; at `Lost` it isn't known whether it acted: look at it before a call
-/// that moves it is sent again, while a call that only asks may be sent again at once.
+/// What to do at each outcome:
+///
+/// - `Answered`: take the reading, which may be a refusal or a fault.
+/// - `Late`: the instrument has dealt with the request. Nothing may rest on what it said.
+/// - `Lost`: it isn't known whether the instrument acted. Look at it before you send a call again that moves it. A call
+///   that only asks may be sent again at once.
 #[derive(Drop)]
 pub struct Client<W: Window> {
     window: W,
@@ -97,8 +100,8 @@ impl<W: Window> Client<W> {
         Client::with_width(window, WINDOW as u8)
     }
 
-    /// Makes a client as `new` does, but one that lets so many requests wait. One is wise where the instrument buffers one
-    /// request, and seven where it takes them all.
+    /// Makes a client as `new` does, but one that lets so many requests wait. Take 1 where the instrument buffers one
+    /// request, and 7 where it takes them all.
     pub fn with_width(mut window: W, width: u8) -> Client<W>
         requires least { 1 ≤ width }
         requires most { width ≤ WINDOW }
@@ -197,9 +200,10 @@ impl<W: Window> Client<W> {
 
     /// Takes a line that came, without its CR LF.
     ///
-    /// A reply settles the request that waits with its id, and each that was sent before that one: those are lost, and
-    /// it is late where it was given up, and else answered. A reply that no request waits for is a stray, also where it
-    /// has no id; a line that is no reply is unread. After both the client is unchanged.
+    /// A reply settles the request that waits with its id, and each one that was sent before it. The earlier ones are
+    /// lost. The request itself is late where it was given up, and else answered. A reply that no request waits for is
+    /// a stray, also where it has no id. A line that is no reply is unread. After a stray and an unread line the client
+    /// is unchanged.
     pub fn on_line(&mut self, line: &Line) -> Heard
         ensures heard { HearsAs self.old.ids line.now.items result self.new.ids }
         ensures settled { AreSettlements (settlements_in result)
@@ -216,9 +220,9 @@ impl<W: Window> Client<W> {
 
     /// Takes a line as `on_line` does, from any bytes, and settles into a list that is handed in.
     ///
-    /// What the list held goes: afterwards it holds this line's settlements, and none after a stray or an unread line.
-    /// Its places are written over, so one list that is kept for all lines costs least.
-    /// More than 512 bytes are no line, so they are unread, by `LineFault::TooLong`.
+    /// Afterwards the list holds this line's settlements alone: none after a stray or an unread line. Its places are
+    /// written over, so one list that is kept for all lines costs least. More than 512 bytes are no line, and unread by
+    /// `LineFault::TooLong`.
     pub fn hear(&mut self, line: &[u8], settled: &mut ArrayVec<Settlement, WINDOW>) -> Hearing
         ensures heard { length line.now ≤ 512 → HearsInto self.old.ids line.now result settled.new.items self.new.ids }
         ensures settled { length line.now ≤ 512
@@ -240,8 +244,8 @@ impl<W: Window> Client<W> {
         }
     }
 
-    /// Gives up each request that waits and whose deadline is at most this moment, and answers the targets of those
-    /// that weren't given up before, in order.
+    /// Gives up each waiting request whose deadline is at most this moment. It returns the targets of those that
+    /// weren't given up before, in order.
     ///
     /// A request that was given up goes on waiting, and a reply that comes for it settles it as late. The moment may
     /// lie before an earlier one; nothing is taken back then.
@@ -266,8 +270,8 @@ impl<W: Window> Client<W> {
     /// Sends a request to be answered before the deadline, and gives its line, without CR LF. The target comes back with
     /// the settlement.
     ///
-    /// It is refused exactly where as many requests wait as the window is wide, those that were given up included, and
-    /// then changes nothing.
+    /// It is refused exactly where as many requests wait as the window is wide, those that were given up included. A
+    /// refusal changes nothing.
     pub fn send(&mut self, target: u32, call: Call, deadline: u64) -> Result<Line, WindowFull>
         ensures rule { let ruled = sends self.old.width self.old.ids target call deadline in MatchResult result
             (λ line. (ruled ≡ Some (record { id = self.old.ids.next; client = self.new.ids }))
@@ -286,7 +290,7 @@ impl<W: Window> Client<W> {
 
     /// Sends a request as `send` does, and writes its line, without CR LF, into the one that is handed in.
     ///
-    /// What that one held goes, so one line serves for all sends. A refusal leaves it as it was.
+    /// The line is written over, so one line serves for all sends. A refusal leaves it as it was.
     pub fn send_into(
         &mut self,
         target: u32,
@@ -403,7 +407,7 @@ fn place_of(next: u8, waiting: usize, id: Option<u8>) -> Option<usize>
     if k < waiting { Some(k) } else { None }
 }
 
-// The earliest deadline, with this one behind those so far.
+// The earlier of the earliest deadline so far, if there is one, and this one.
 #[inline]
 fn earlier(earliest: Option<u64>, deadline: u64) -> u64
     ensures { (ds : List ℕ) → IsEarliest ds earliest → IsEarliest (ds ++ deadline ∷ []) (Some result) }

@@ -42,7 +42,8 @@ fn push_place(settled: &mut ArrayVec<Settlement, WINDOW>)
     });
 }
 
-/// Takes the first `count` out of a window: the first `count` of a list say that they are lost.
+/// Takes the first `count` requests out of a window, and writes into the first `count` places of a list that they are
+/// lost.
 #[inline]
 pub(crate) fn lose<W: Window>(
     window: &mut W,

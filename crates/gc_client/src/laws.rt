@@ -29,7 +29,7 @@ pub fn ids_tell_requests_apart()
     ensures fits { (c : ById) (id : ℕ) → IsWindow c → id < IDS → (fits c (Some id) ≡ true) ↔ Waits c id }
 {}
 
-/// The id that is heard in a line is that of the reply that the line is by the grammar, and in other lines none is heard.
+/// The id that is heard in a line is that of the reply that the line is by the grammar. In other lines none is heard.
 pub fn ids_are_heard()
     ensures { (line : List ℕ) → HearsByGrammar line }
 {}

@@ -10,8 +10,8 @@ use std::marker::Model;
 // A place for each id.
 const PLACES: usize = IDS as usize;
 
-/// A window in eight fixed places, for a station that must never ask for memory.
-/// `clear` begins again at place 0, as a client does with its ids, so the request with id i stands at place i.
+/// A window in eight fixed places, for a station that must never ask for memory. `clear` begins again at place 0, as a
+/// client's ids begin at 0, so the request with id i stands at place i.
 #[derive(Drop)]
 pub struct Slots {
     places: [Pending; PLACES],
@@ -54,6 +54,7 @@ impl Slots {
     }
 }
 
+// An empty window, as `new` makes it.
 impl Default for Slots {
     ghost is_default = { λ slots. slots ≡ [] };
 

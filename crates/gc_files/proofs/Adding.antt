@@ -17,9 +17,6 @@ later_none life = ap (λ (steps : List Step). record { start = life.start; steps
 pub adds_two : (old mid new : Option Life) (xs ys : List Step) → Adds old mid xs → Adds mid new ys → Adds old new (xs ++ ys)
 adds_two old mid new xs ys first second life is = second (later_by xs life) (first life is) ∙ ap (λ (l : Life). Some l) (later_two xs ys life)
 
-pub adds_none : (old : Option Life) → Adds old old []
-adds_none old life is = is ∙ ap (λ (l : Life). Some l) (later_none life)
-
 pub cuts_two : (xs ys : List Step) → cuts_none xs ≡ true → cuts_none ys ≡ true → cuts_none (xs ++ ys) ≡ true
 cuts_two [] ys one two = two
 cuts_two (Append bytes ∷ xs) ys one two = cuts_two xs ys one two
@@ -31,9 +28,6 @@ appended_two [] ys = refl
 appended_two (Append bytes ∷ xs) ys = ap (λ (l : List ℕ). bytes ++ l) (appended_two xs ys) ∙ sym (append_assoc bytes (appended xs) (appended ys))
 appended_two (Sync ∷ xs) ys = appended_two xs ys
 appended_two (Cut size ∷ xs) ys = appended_two xs ys
-
-pub puts_none : (old : Option Life) → PutsAll old old []
-puts_none old life is = ([], adds_none old life is, record { none_cut = refl; all = refl })
 
 pub puts_more : (old mid new : Option Life) (done bytes : List ℕ) → PutsAll old mid done → Adds mid new (Append bytes ∷ []) → PutsAll old new (done ++ bytes)
 puts_more old mid new done bytes puts adds life is =
@@ -65,16 +59,6 @@ is_whole held end len more within is ends = elim (cases_Bool (length (whole held
 pub mend_all : (old mid new : Option Life) (known : Life) (end len : ℕ) → end < len → len ≡ length (content known) → end ≡ length (whole (content known)) → Adds old mid (Cut end ∷ []) → Adds mid new (Sync ∷ []) → Adds old new (mended (content known))
 mend_all old mid new known end len less is ends cut sync =
     subst (λ (steps : List Step). Adds old new steps) (sym (is_cut (content known) end len less is ends)) (adds_two old mid new (Cut end ∷ []) (Sync ∷ []) cut sync)
-
-pub mend_cut : (old mid new : Option Life) (known : Life) (end len : ℕ) → end < len → len ≡ length (content known) → end ≡ length (whole (content known)) → Adds old mid (Cut end ∷ []) → new ≡ mid → (count : ℕ) × Adds old new (take count (mended (content known)))
-mend_cut old mid new known end len less is ends cut same =
-    (1, subst (λ (steps : List Step). Adds old new (take 1 steps)) (sym (is_cut (content known) end len less is ends)) (λ life now. same ∙ cut life now))
-
-pub mend_none : (old new : Option Life) (known : Life) → new ≡ old → (count : ℕ) × Adds old new (take count (mended (content known)))
-mend_none old new known same = (0, λ life now. same ∙ adds_none old life now)
-
-pub mend_whole : (old : Option Life) (known : Life) (end len : ℕ) → len ≤ end → end ≤ len → len ≡ length (content known) → end ≡ length (whole (content known)) → Adds old old (mended (content known))
-mend_whole old known end len more within is ends = subst (λ (steps : List Step). Adds old old steps) (sym (is_whole (content known) end len more within is ends)) (adds_none old)
 
 start_by : (head l : List ℕ) → 0 < length l → (if is_none l then head else []) ≡ []
 start_by head [] more = absurd (omega (arith, more))

@@ -2,7 +2,7 @@
 use Rattle.std.proofs.Common.{◌≡◌, inl, inr, ℕ, zero, suc, ◌+◌, ◌-◌, ◌≤◌, ◌<◌, ◌==◌, ◌&&◌, true, false, List, [], ◌∷◌, ◌++◌, length, take, drop, refl, sym, ◌∙◌, ap, subst, arith, append_assoc, length-append, length-drop, slice_index, Option, Some, None}
 use Rattle.std.proofs.Math.Seq.{take-add, take-append-add}
 use Rattle.std.proofs.lemmas.Bool.{cases_Bool, eqb-true, eq-eqb}
-use Rattle.std.proofs.lemmas.List.{take_all, drop_all, take-append-drop, take-append-le, length-take-le, drop-drop}
+use Rattle.std.proofs.lemmas.List.{drop_all, take-append-drop, take-append-le, length-take-le, drop-drop}
 use borrow.Rule.Slice.PartMut.{put_mid}
 use Rattle.memchr.specs.Find.{IsLastByte, is_byte}
 use Rattle.gc_files.specs.Files.{Append, Life, Adds}
@@ -135,9 +135,6 @@ block_some at size end held block is ends within none rows =
 pub put_more : (old mid new : Option Life) (bytes piece : List ℕ) (done n : ℕ) → piece ≡ drop done bytes → PutsAll old mid (take done bytes) → Adds mid new (Append (take n piece) ∷ []) → PutsAll old new (take (done + n) bytes)
 put_more old mid new bytes piece done n is puts adds =
     subst (PutsAll old new) (ap (λ (l : List ℕ). take done bytes ++ take n l) is ∙ sym (take-add done n bytes)) (puts_more old mid new (take done bytes) (take n piece) puts adds)
-
-pub put_all : (old new : Option Life) (bytes : List ℕ) (done : ℕ) → length bytes ≤ done → PutsAll old new (take done bytes) → PutsAll old new bytes
-put_all old new bytes done past puts = subst (PutsAll old new) (take_all done bytes past) puts
 
 pub put_part : (old mid new : Option Life) (bytes : List ℕ) (done : ℕ) → PutsAll old mid (take done bytes) → new ≡ mid → (front : List ℕ) × IsFront front bytes × PutsAll old new front
 put_part old mid new bytes done puts same = (take done bytes, record { rest = drop done bytes; split = sym (take-append-drop done bytes) }, subst (λ (life : Option Life). PutsAll old life (take done bytes)) (sym same) puts)

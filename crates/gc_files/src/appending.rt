@@ -7,7 +7,7 @@ use gc_lines::PortFailed;
 
 /// A file that is only appended to, and cut at its end.
 ///
-/// Who implements it says by `life` what it held and what was done to it, or `None` where that isn't known, as of a file of the
+/// An implementor says with `life` what it held and what was done to it, or `None` where that isn't known, as of a file of the
 /// system. A call that fails has changed nothing.
 pub trait Appending {
     /// What it held when the machine started, and the calls since then.
@@ -17,25 +17,25 @@ pub trait Appending {
     fn len(&self) -> Result<u64, PortFailed>
         ensures { IfOk result (λ n. (known : Life) → life self.now ≡ Some known → n ≡ length (content known)) };
 
-    /// Reads some of the bytes behind the first `at` into the front of `buf`, which is not empty, and says how many: none only
+    /// Reads some of the bytes behind the first `at` into the front of `buf`, which is not empty, and returns how many: 0 only
     /// where there are none.
     fn read_at(&self, at: u64, buf: &mut [u8]) -> Result<usize, PortFailed>
         requires { 0 < length buf.old }
         ensures room { IfOk result (λ n. n ≤ length buf.new) }
         ensures bytes { IfOk result (λ n. (known : Life) → life self.now ≡ Some known → ReadsAt known at n buf.new) };
 
-    /// Cuts it to its first `len` bytes, no more than it holds.
+    /// Cuts it to its first `len` bytes. It holds at least so many.
     fn cut(&mut self, len: u64) -> Result<(), PortFailed>
         requires { (known : Life) → life self.old ≡ Some known → len ≤ length (content known) }
         ensures { Makes (life self.old) (life self.new) result (λ _. Cut len) };
 
-    /// Puts the first of these bytes, of which there are some, behind what it holds, and says how many: at least one.
+    /// Appends bytes from the front of `bytes`, which is not empty, and returns how many: at least one.
     fn append(&mut self, bytes: &[u8]) -> Result<usize, PortFailed>
         requires { 0 < length bytes.now }
         ensures count { IfOk result (λ n. (0 < n) × (n ≤ length bytes.now)) }
         ensures step { Makes (life self.old) (life self.new) result (λ n. Append (take n bytes.now)) };
 
-    /// Has all that it holds on the disk: after `Ok` a crash leaves it.
+    /// Syncs all that it holds: after `Ok` a crash leaves it.
     fn sync(&mut self) -> Result<(), PortFailed>
         ensures durable { OnOk result ((known : Life) → life self.new ≡ Some known → IsKept known) }
         ensures step { Makes (life self.old) (life self.new) result (λ _. Sync) };

@@ -1,21 +1,26 @@
-//! Files of records that outlast the program: they are only appended to, what a crash left of a row is cut off at the next
-//! opening, and a file of another kind is refused.
+//! Files of rows that outlast the program. They are only appended to. The next opening cuts off what a crash left of a row. A
+//! file of another kind is refused.
 //!
-//! Proved, over any file that meets [`Appending`]: only a file that begins with the sign, or is a front of it, is touched
-//! ([`open_rows`]); a torn last row is cut off, and its bytes are counted; the head is written where no whole row stands, and
-//! nowhere else; what `write` acknowledged is in the file, in order; after [`RowsFile::keep`] a crash leaves it, where the file
-//! was opened with `sync`. Over any runs and crashes ([`laws::tables_last`]) the next opening makes of the file the table that
-//! was there before and, for each run in order, the first so many of its rows: at least those that were kept, each once, none in
-//! part. Without `sync` a crash of the machine may take the last rows of a run, and those behind them, but never one in between.
-//! Where only programs end, by themselves or by a kill, each row that went out whole is there, synced or not
-//! ([`laws::kills_lose_nothing`]). An opening, and what is written and synced behind it, is such a run
-//! ([`laws::calls_are_runs`]).
+//! Proved, over any file that meets [`Appending`]:
 //!
-//! Trusted: that a file of the system is such a file, which holds that a call that fails has changed nothing, that a crash
-//! leaves a front of what was appended since the last sync, and that a sync is kept; and that what a file held before the
-//! first run is on the disk. Two things are outside of that: a sync that failed, behind which the system may count bytes as
-//! written that aren't, and a cut that was made and whose sync failed, which a later crash may take back. When a file can be
-//! opened, and which path is refused, is in no clause.
+//! - [`open_rows`] touches only a file that begins with the sign, or is a front of it. It cuts off a torn last row, and counts
+//!   its bytes. It writes the head where no whole row stands, and nowhere else.
+//! - What `write` acknowledged is in the file, in order. After [`RowsFile::keep`] a crash leaves it, where the file was opened
+//!   with `sync`.
+//! - Over any runs and crashes ([`laws::tables_last`]) the next opening makes of the file the table that was there before and,
+//!   for each run in order, the first so many of its rows: at least those that were kept, each once, none in part. Without
+//!   `sync` a crash of the machine may take the last rows of a run, and those behind them, but never one in between.
+//! - Where only programs end, by themselves or by a kill, each row that went out whole is there, synced or not
+//!   ([`laws::kills_lose_nothing`]).
+//! - An opening, and what is written and synced behind it, is such a run ([`laws::calls_are_runs`]).
+//!
+//! Trusted, of a file of the system:
+//!
+//! - A call that fails has changed nothing. A crash leaves a front of what was appended since the last sync. A sync is kept.
+//! - What the file held before the first run is on the disk.
+//!
+//! Two things are outside of that. Behind a sync that failed the system may count bytes as written that aren't. A cut whose
+//! sync failed may be taken back by a later crash. No clause says when a file can be opened, and which path is refused.
 #![tactic(auto)]
 
 mod appending;

@@ -1,4 +1,4 @@
-//! A file in memory, of which all is known that was done to it: for tests, and as a witness that a file can be what
+//! A file in memory, of which all is known that was done to it. It is for tests, and a witness that a file can be what
 //! `Appending` asks for.
 
 ghost use Rattle.std.specs.Prelude.{◌≡◌, ℕ, List, Some};
@@ -9,19 +9,19 @@ use crate::appending::Appending;
 use gc_lines::PortFailed;
 use std::alloc::Global;
 
-/// A call that changed a file, or had it on the disk.
+/// A call that changed a file, or synced it.
 #[derive(Drop)]
 pub enum Call {
     /// These bytes were appended.
     Append(Vec<u8>),
     /// It was cut to so many bytes.
     Cut(u64),
-    /// All that it holds was had on the disk.
+    /// All that it holds was synced.
     Sync,
 }
 
 /// A file in memory: what it held at first, each call since, and what it holds. It takes so many bytes and no more, as a disk
-/// that is full then.
+/// does that is full then.
 #[derive(Drop)]
 pub struct MemoryFile {
     alloc: Global,
@@ -54,7 +54,7 @@ impl MemoryFile {
     }
 }
 
-// Notes a call down, and puts what the file holds behind it in the place of what it held.
+// Notes a call, and replaces what the file held by what it holds then.
 fn note(
     calls: &mut Vec<Call>,
     bytes: &mut Vec<u8>,

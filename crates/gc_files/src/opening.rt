@@ -15,13 +15,13 @@ use memchr::memrchr;
 // How many bytes are read at once.
 const BLOCK: usize = 4096;
 
-/// Why a file isn't opened as one of rows.
+/// Why a file isn't opened as a file of rows.
 #[derive(Clone, Copy, Debug, PartialEq, Eq)]
 pub enum Refused {
     /// It is no file of such rows: it neither begins with the sign nor is a front of it. It was not touched.
     Foreign,
-    /// A call of the file failed. The whole rows that it held stand; what stood behind them may be cut off, and of the head, in
-    /// an empty file, a front may be written. The next opening repairs both.
+    /// A call of the file failed. The whole rows that it held stand. What stood behind them may be cut off. In an empty file a
+    /// front of the head may be written. The next opening repairs both.
     Failed,
 }
 
@@ -33,7 +33,7 @@ fn behind(bytes: &[u8], at: usize) -> &[u8]
     &bytes[at..]
 }
 
-// Whether this piece is the front of a text, which is no shorter.
+// Whether this piece is the front of a text.
 fn is_front(text: &[u8], piece: &[u8]) -> bool
     requires { length piece.now ≤ length text.now }
     ensures same { IsTrue result → take (length piece.now) text.now ≡ piece.now }
@@ -87,7 +87,7 @@ fn has_sign<F: Appending>(file: &F, len: u64, sign: &[u8]) -> Result<bool, PortF
     Ok(true)
 }
 
-// How many bytes of a block stand up to its last line feed, and with it.
+// How many bytes of a block stand through its last line feed.
 fn whole_len(block: &[u8]) -> usize
     ensures len { result ≡ length (whole block.now) }
     ensures within { result ≤ length block.now }
@@ -123,7 +123,7 @@ fn end_of_rows<F: Appending>(file: &F, len: u64) -> Result<u64, PortFailed>
     Ok(0)
 }
 
-// Cuts the file to its first `end` bytes where it has more, and has that on the disk before anything is put behind them.
+// Cuts the file to its first `end` bytes where it has more, and syncs that before anything is appended.
 fn repair<F: Appending>(file: &mut F, len: u64, end: u64) -> Result<(), PortFailed>
     requires len { (known : Life) → F.life file.old ≡ Some known → len ≡ length (content known) }
     requires end { (known : Life) → F.life file.old ≡ Some known → end ≡ length (whole (content known)) }
@@ -174,7 +174,7 @@ fn mend<F: Appending>(file: &mut F, len: u64, end: u64, head: &[u8]) -> Result<(
     }
 }
 
-// Looks, cuts, and writes the head into an empty file. It says how many bytes were cut off.
+// Looks at the file, cuts it, and writes the head into an empty one. It returns how many bytes were cut off.
 fn prepare<F: Appending>(file: &mut F, head: &[u8], sign: &[u8]) -> Result<u64, Refused>
     ensures opened { OnOk result (Opens head.now (F.life file.old) (F.life file.new)) }
     ensures torn { IfOk result (λ torn. (known : Life) → F.life file.old ≡ Some known → length (content known) ≡ length (whole (content known)) + torn) }
@@ -202,12 +202,12 @@ fn prepare<F: Appending>(file: &mut F, head: &[u8], sign: &[u8]) -> Result<u64, 
     }
 }
 
-/// Opens a file of rows: one that begins with `sign`, or that is a front of it, as an empty one is. What stands behind its last
-/// line feed is cut off, and into a file that is empty then `head` is written. It gives the file, and how many bytes were cut
-/// off. An `Err` hands the file back.
+/// Opens a file of rows: one that begins with `sign`, or that is a front of it, as an empty one is. It cuts off what stands
+/// behind the last line feed, and writes `head` into a file that is empty then. It returns the file, and how many bytes were
+/// cut off. An `Err` hands the file back.
 ///
-/// For a table both are its header; for rows without one `head` is empty, and `sign` is what each row begins with. With `sync`
-/// what is appended is on the disk after each [`RowsFile::keep`].
+/// For a table, `head` and `sign` are its header. For rows without a header, `head` is empty, and `sign` is what each row
+/// begins with. With `sync` what is appended is on the disk after each [`RowsFile::keep`].
 pub fn open_rows<F: Appending>(
     mut file: F,
     head: &[u8],

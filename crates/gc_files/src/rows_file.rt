@@ -1,4 +1,4 @@
-//! A sink whose bytes stay in a file: a row is appended as it ends, and on the disk where that is asked for.
+//! A sink whose bytes stay in a file: a row is appended as it ends, and synced where that is asked for.
 
 ghost use Rattle.std.specs.Prelude.{◌≡◌, ◌<◌, true, false, take, length, Some, OnOk, IsTrue};
 ghost use Rattle.gc_files.specs.Files.{Life, Append, IsKept, Makes};
@@ -8,8 +8,8 @@ ghost use Rattle.gc_lines.specs.Ports.{TakesBytes, Fails};
 use crate::appending::Appending;
 use gc_lines::{Lasting, PortFailed, Sink};
 
-/// A file that rows are appended to, as a sink: what it holds counts as taken. After a failure it stays failed, so that no row
-/// stands behind half of another.
+/// A file that rows are appended to, as a sink. What the file holds counts as taken. After a failure it stays failed, so that
+/// no row stands behind half of another.
 #[derive(Drop)]
 pub struct RowsFile<F: Appending> {
     file: F,
@@ -86,8 +86,8 @@ impl<F: Appending> Lasting for RowsFile<F> {
 
     ghost lasts = { λ r. lasts r };
 
-    /// Has what was appended on the disk, where the file was opened so: after `Ok` a crash leaves all that was taken. Where
-    /// nothing was appended since the last time it does nothing, and neither does it where the file was opened without `sync`.
+    /// Syncs what was appended, where the file was opened with `sync`: after `Ok` a crash leaves all that was taken. It does
+    /// nothing where nothing was appended since the last time, or where the file was opened without `sync`.
     ///
     /// It fails where the file failed in this call or has failed before.
     fn keep(&mut self) -> Result<(), PortFailed>

@@ -16,18 +16,19 @@ use std::rt::Files;
 /// Why a path can't be had as a file of rows. In each case what stood in the file stays.
 #[derive(Clone, Copy, Debug, PartialEq, Eq)]
 pub enum Unfit {
-    /// It can't be opened for reading and appending: a folder or another thing that is no regular file, a path that isn't
-    /// there, or one that the system doesn't let this program use. Nothing was touched; where the path was free, an empty
-    /// file may stand there.
+    /// It can't be opened for reading and appending: it is a folder or another thing that is no regular file, the path isn't
+    /// there, or the system doesn't let this program use it. Nothing was touched. Where the path was free, an empty file may
+    /// stand there.
     Unopened,
     /// Another program holds it. Nothing was touched.
     Held,
     /// It holds something else than such rows. It was not touched.
     Foreign,
-    /// A call of the system failed: it could not be looked at, cut, written or had on the disk. Each whole row stands.
+    /// A call of the system failed: the file could not be read, cut, written or synced. Each whole row stands.
     Failed,
 }
 
+// Why a file isn't one of rows is also why its path can't be had.
 impl From<Refused> for Unfit {
     fn from(why: Refused) -> Unfit {
         match why {
@@ -43,10 +44,12 @@ pub struct SystemFile {
     file: File,
 }
 
+// Every error of the system is a failure of the file.
 fn failed<T>(answer: io::Result<T>) -> Result<T, PortFailed> {
     answer.map_err(|_| PortFailed)
 }
 
+// Each call is one of the system. An interruption is a failure, too.
 impl Appending for SystemFile {
     ghost life = { λ _. None };
 
@@ -77,7 +80,8 @@ impl Appending for SystemFile {
     }
 }
 
-// That the path names a regular file, or none yet. It is looked at before it is opened: a pipe would wait for its writer.
+// Refuses a path that names something else than a regular file. It looks before the opening, since a pipe would wait for its
+// writer.
 fn expect_file<R: Files<File = File>>(rt: &R, path: &str) -> Result<(), Unfit> {
     match fs::metadata(rt, path) {
         Ok(found) if found.is_file() => Ok(()),
@@ -108,7 +112,7 @@ fn open_held<R: Files<File = File>>(rt: &R, path: &str) -> Result<File, Unfit> {
     }
 }
 
-// Has a name on the disk: the folder that it stands in.
+// Syncs the folder of a path, so that the file's name is on the disk.
 fn sync_folder<R: Files<File = File>>(rt: &R, path: &str) -> Result<(), Unfit> {
     let folder = match Path::new(path).parent() {
         Some(parent) if !parent.as_os_str().is_empty() => parent,
@@ -123,11 +127,11 @@ fn sync_folder<R: Files<File = File>>(rt: &R, path: &str) -> Result<(), Unfit> {
     }
 }
 
-/// Opens a file of rows by its path, as [`open_rows`] does, and holds it against other programs of this kind until it is
-/// dropped. A path that is free becomes a file. It gives the file, and how many bytes of a torn last row were cut off.
+/// Opens a file of rows by its path, as [`open_rows`] does, and locks it against other programs of this kind until it is
+/// dropped. Where the path is free, it makes the file. It returns the file, and how many bytes of a torn last row were cut off.
 ///
-/// With `sync` its name is on the disk too, before anything is written into it: also of a file that stood there, since who made
-/// it may not have asked for that.
+/// With `sync` the file's name is on the disk, too, before anything is written into it. That holds also for a file that stood
+/// there, since who made it may not have synced its name.
 pub fn open_at<R: Files<File = File>>(
     rt: &R,
     path: &str,

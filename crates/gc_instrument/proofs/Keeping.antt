@@ -137,21 +137,3 @@ kept_anew before after id number call old new line kept same none h line_is kept
       answers = executes none (ap (λ k. with_kept k after) all ∙ ap (with_kept (kept_after before.kept id h.text)) state) (h.line ∙ ap (λ n. executed_line n (exec before call)) same);
       says = λ new_id. subst (λ n. IsAnswered before n call h.text) same h.says;
     }
-
--- a repeat
-pub kept_again : (before : State) (id : Option ℕ) (call : Call) (old new line : List ℕ) → kept_line before.kept id ≡ Some line → IsPlainKept before.kept → new ≡ old ++ line → AppendsCall before id call before old new
-kept_again before id call old new line is plain appended = record {
-  text = line;
-  appended = appended;
-  plain = of_kept before.kept id line is plain;
-  answers = repeats is refl;
-  says = λ none. let wrong : ◌≡◌ {A = Option (List ℕ)} (Some line) None = sym is ∙ none in let never : ⊥ = cc in absurd never;
-} where
-  of_test : (b : Bool) (own line : List ℕ) → cond b (Some own) None ≡ Some line → IsPlain own → IsPlain line
-  of_test true own line is plain = let same : own ≡ line = cc in subst IsPlain same plain
-  of_test false own line is plain = let never : ⊥ = cc in absurd never
-
-  of_kept : (kept : Option KeptReply) (id : Option ℕ) (line : List ℕ) → kept_line kept id ≡ Some line → IsPlainKept kept → IsPlain line
-  of_kept None id line is plain = let never : ⊥ = cc in absurd never
-  of_kept (Some k) None line is plain = let never : ⊥ = cc in absurd never
-  of_kept (Some k) (Some n) line is plain = of_test (eqb k.id n) k.line line is plain

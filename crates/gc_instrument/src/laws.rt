@@ -35,9 +35,9 @@ pub fn answers_in_turn()
     ensures { AnswersInTurn }
 {}
 
-/// Noise, other programs' lines and halves of lines change nothing: where lines that are no requests
-/// stand between line feeds, what is written for the stream and the state after it are those without
-/// them.
+/// Noise, other programs' lines and halves of lines change nothing. Where lines that are no
+/// requests stand between line feeds, the output of the stream and the state after it are those
+/// without them.
 pub fn foreign_lines_are_silent()
     ensures { ForeignLinesAreSilent }
 {}

@@ -5,6 +5,7 @@ ghost use Rattle.gc_instrument.specs.Serving.{IsServing};
 use crate::instrument::Instrument;
 use gc_lines::{Answers, Lent, Outgoing, ServeFault, Served, Sink, Source, answer_frames, append};
 
+// An instrument answers a line by its reply, where the line is a request, and every other frame by nothing.
 impl Answers for Instrument {
     ghost use Rattle.gc_instrument.specs.Serving.{AnswersFrame};
 
@@ -27,12 +28,13 @@ impl Answers for Instrument {
 /// Serves the requests of a source with an instrument until its end, in at most `max_reads` reads
 /// of at most 256 bytes, and writes the replies into a sink, each with its CR LF.
 ///
-/// A rest without a line feed at the end of the input is dropped. The instrument is then in the
-/// state after all lines that were read, and after a failed write in that after the line whose
-/// reply was on its way: later lines weren't handed to it. Takes no memory.
+/// Bytes without a line feed at the end of the input are dropped. The instrument has then got all
+/// lines that were read; after a failed write it has got none behind the line whose reply was on
+/// its way. It takes no memory.
 ///
-/// [`Served`] exactly where the last read was the end, 42 exactly where the source failed, 43
-/// exactly where the sink did, and 44 exactly where all reads were answered and none was the end.
+/// It returns [`Served`] exactly where the last read was the end. It fails with 42 exactly where
+/// the source failed, with 43 exactly where the sink did, and with 44 exactly where all reads were
+/// answered and none was the end.
 pub fn serve<S: Source, K: Sink>(
     instrument: &mut Instrument,
     source: &mut S,

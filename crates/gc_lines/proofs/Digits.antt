@@ -11,7 +11,7 @@ use Rattle.std.specs.List.{prefix_len}
 use Rattle.std.specs.Char.{is_ascii_digit, digit_value}
 use Rattle.std.proofs.Math.Numerals.{one-add}
 use Rattle.std.proofs.lemmas.Bool.Decides.{nat_tests}
-use Rattle.std.proofs.lemmas.Str.Parse.{IsNumeralModel, numerals_by_value, tells_digits, digits_value_short, digits_value-take-le, digit_at, digit_from_value}
+use Rattle.std.proofs.lemmas.Str.Parse.{IsNumeralModel, numerals_by_value, tells_digits, digits_value_short, digit_from_value}
 use Rattle.std.proofs.lemmas.Int.Digits.{digits_value_more, digits_more}
 use Rattle.std.proofs.lemmas.Str.{digit_value_digit}
 use Rattle.std.proofs.lemmas.List.Folds.{length-prefix_len}
@@ -20,15 +20,6 @@ use Rattle.gc_lines.specs.Readers.{digits_len, number_at}
 
 pub plain : IsNumeralModel (AllDigits 10) (digits_value 10)
 plain = numerals_by_value _ tells_digits
-
-pub value_below : (ds : List ℕ) (i : ℕ) → AllDigits 10 ds → length ds ≤ 5 → digits_value 10 (take i ds) < 100000
-value_below ds i all few = omega (arith, digits_value-take-le 10 ds i (omega arith), digits_value_short plain ds 5 all few)
-
-pub digit_low : (ds : List ℕ) (i : ℕ) → AllDigits 10 ds → i < length ds → 48 ≤ get_or ds i 0
-digit_low ds i all in_bounds = omega (arith, digit_at ds i all in_bounds)
-
-pub value_more : (ds : List ℕ) (i : ℕ) → AllDigits 10 ds → i < length ds → digits_value 10 (take (i + 1) ds) ≡ digits_value 10 (take i ds) * 10 + (get_or ds i 0 - 48)
-value_more ds i all in_bounds = omega (arith, digits_value_more 10 ds i in_bounds, digit_value_digit _ (digit_at ds i all in_bounds))
 
 digit_value_of : (b : ℕ) → is_ascii_digit b ≡ true → digit_value b < 10
 digit_value_of b e = let r : (48 ≤ b) × (b ≤ 57) = grind (arith, nat_tests) in omega (arith, digit_value_digit b r)

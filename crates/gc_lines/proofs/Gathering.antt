@@ -6,17 +6,17 @@ use Rattle.std.proofs.lemmas.Bool.Decides.{nat_tests}
 use Rattle.std.proofs.lemmas.List.{append-nil, map-append, take-append-le}
 use Rattle.std.proofs.Math.Seq.{take-append-add}
 use Rattle.gc_lines.specs.Answering.{AnswerRule, AnswersInOrder, AnswersAll, AnswersPart, all_of}
-use Rattle.gc_lines.specs.Passing.{Gathering, GathersPart, parted}
+use Rattle.gc_lines.specs.Passing.{Gathering, GathersPart, parted, Progress}
 use Rattle.gc_lines.specs.Ports.{TakesFront}
 use Rattle.gc_lines.specs.declared.frame.Frame.{Frame}
 use Rattle.gc_lines.proofs.InOrder.{in_order_then, in_order_one, all_of-append, all_then, part_then, one_part}
 use Rattle.gc_lines.proofs.Known.{Appends-nil, Appends-is}
 
 -- nothing waits
-pub gathering_start : {State : Type 0} (rule : AnswerRule State) (from to : State) (seen : List Frame) (old now : Option (List ℕ)) (before count : ℕ)
-    → AnswersAll rule from to seen old now before count → Gathering rule from to seen old now before count [] []
-gathering_start rule from to seen old now before count all = record {
-  state = to;
+pub gathering_start : {State : Type 0} (rule : AnswerRule State) (from to : Progress State) (seen : List Frame)
+    → AnswersAll rule from.state to.state seen from.taken to.taken from.whole to.whole → Gathering rule from to seen [] []
+gathering_start rule from to seen all = record {
+  state = to.state;
   done = seen;
   held = [];
   texts = [];
@@ -32,22 +32,24 @@ no_texts [] e = refl
 no_texts (t ∷ ts) e = cc
 
 -- where no text waits, all went out
-pub gathering_end : {State : Type 0} (rule : AnswerRule State) (from to : State) (seen : List Frame) (old now : Option (List ℕ)) (before count : ℕ) (text lengths : List ℕ)
-    → lengths ≡ [] → Gathering rule from to seen old now before count text lengths → AnswersAll rule from to seen old now before count
-gathering_end {State} rule from to seen old now before count text lengths none g =
+pub gathering_end : {State : Type 0} (rule : AnswerRule State) (from to : Progress State) (seen : List Frame) (text lengths : List ℕ)
+    → lengths ≡ [] → Gathering rule from to seen text lengths → AnswersAll rule from.state to.state seen from.taken to.taken from.whole to.whole
+gathering_end {State} rule from to seen text lengths none g =
     let nothing : g.texts ≡ [] = no_texts g.texts (sym none ∙ g.lengths_are) in
-    let silent : AnswersAll rule g.state to g.held now now count count = record {
+    let silent : AnswersAll rule g.state to.state g.held to.taken to.taken to.whole to.whole = record {
       texts = [];
-      answers = subst (λ (ts : List (List ℕ)). AnswersInOrder State rule g.state g.held to ts) nothing g.holds;
+      answers = subst (λ (ts : List (List ℕ)). AnswersInOrder State rule g.state g.held to.state ts) nothing g.holds;
       counts = omega arith;
-      took = Appends-nil now;
+      took = Appends-nil to.taken;
     } in
-    subst (λ (fs : List Frame). AnswersAll rule from to fs old now before count) (sym g.order) (all_then rule from g.state to g.done g.held old now now before count count g.all silent)
+    subst (λ (fs : List Frame). AnswersAll rule from.state to.state fs from.taken to.taken from.whole to.whole) (sym g.order)
+    (all_then rule from.state g.state to.state g.done g.held from.taken to.taken to.taken from.whole to.whole to.whole g.all silent)
 
 -- a frame without a text
-pub gathering_silent : {State : Type 0} (rule : AnswerRule State) (from to next : State) (seen : List Frame) (frame : Frame) (old now : Option (List ℕ)) (before count : ℕ) (text lengths : List ℕ)
-    → rule to frame next None → Gathering rule from to seen old now before count text lengths → Gathering rule from next (seen ++ frame ∷ []) old now before count text lengths
-gathering_silent rule from to next seen frame old now before count text lengths draws g =
+pub gathering_silent : {State : Type 0} (rule : AnswerRule State) (from to : Progress State) (next : State) (seen : List Frame) (frame : Frame) (text lengths : List ℕ)
+    → rule to.state frame next None → Gathering rule from to seen text lengths
+    → Gathering rule from (record { state = next; taken = to.taken; whole = to.whole }) (seen ++ frame ∷ []) text lengths
+gathering_silent rule from to next seen frame text lengths draws g =
     let same = append-nil g.texts in
     record {
       state = g.state;
@@ -56,23 +58,23 @@ gathering_silent rule from to next seen frame old now before count text lengths 
       texts = g.texts ++ [];
       order = ap (λ (fs : List Frame). fs ++ frame ∷ []) g.order ∙ append_assoc g.done g.held (frame ∷ []);
       all = g.all;
-      holds = in_order_then rule g.state to next g.held (frame ∷ []) g.texts [] g.holds (in_order_one rule to next frame None draws);
+      holds = in_order_then rule g.state to.state next g.held (frame ∷ []) g.texts [] g.holds (in_order_one rule to.state next frame None draws);
       text_is = g.text_is ∙ sym (ap all_of same);
       lengths_are = g.lengths_are ∙ sym (ap (λ (ts : List (List ℕ)). map length ts) same);
     }
 
 -- one more text
-pub gathering_more : {State : Type 0} (rule : AnswerRule State) (from to next : State) (seen : List Frame) (frame : Frame) (old now : Option (List ℕ)) (before count : ℕ) (text lengths more text' lengths' : List ℕ)
-    → rule to frame next (Some more) → Gathering rule from to seen old now before count text lengths
-    → text' ≡ text ++ more → lengths' ≡ lengths ++ length more ∷ [] → Gathering rule from next (seen ++ frame ∷ []) old now before count text' lengths'
-gathering_more rule from to next seen frame old now before count text lengths more text' lengths' draws g longer counted = record {
+pub gathering_more : {State : Type 0} (rule : AnswerRule State) (from to : Progress State) (next : State) (seen : List Frame) (frame : Frame) (text lengths more text' lengths' : List ℕ)
+    → rule to.state frame next (Some more) → Gathering rule from to seen text lengths → text' ≡ text ++ more → lengths' ≡ lengths ++ length more ∷ []
+    → Gathering rule from (record { state = next; taken = to.taken; whole = to.whole }) (seen ++ frame ∷ []) text' lengths'
+gathering_more rule from to next seen frame text lengths more text' lengths' draws g longer counted = record {
   state = g.state;
   done = g.done;
   held = g.held ++ frame ∷ [];
   texts = g.texts ++ more ∷ [];
   order = ap (λ (fs : List Frame). fs ++ frame ∷ []) g.order ∙ append_assoc g.done g.held (frame ∷ []);
   all = g.all;
-  holds = in_order_then rule g.state to next g.held (frame ∷ []) g.texts (more ∷ []) g.holds (in_order_one rule to next frame (Some more) draws);
+  holds = in_order_then rule g.state to.state next g.held (frame ∷ []) g.texts (more ∷ []) g.holds (in_order_one rule to.state next frame (Some more) draws);
   text_is = longer ∙ ap (λ (xs : List ℕ). xs ++ more) g.text_is ∙ ap (λ (xs : List ℕ). all_of g.texts ++ xs) (sym (append-nil more)) ∙ sym (all_of-append g.texts (more ∷ []));
   lengths_are = counted ∙ ap (λ (ns : List ℕ). ns ++ length more ∷ []) g.lengths_are ∙ sym (map-append length g.texts (more ∷ []));
 }
@@ -82,17 +84,18 @@ length-texts [] = refl
 length-texts (t ∷ ts) = ap suc (length-texts ts)
 
 -- all that waited went out
-pub gathering_written : {State : Type 0} (rule : AnswerRule State) (from to : State) (seen : List Frame) (old now after : Option (List ℕ)) (before count total : ℕ) (text lengths : List ℕ)
-    → Gathering rule from to seen old now before count text lengths → Appends now after text → total ≡ count + length lengths
-    → AnswersAll rule from to seen old after before total
-gathering_written rule from to seen old now after before count total text lengths g took counts =
-    let out : AnswersAll rule g.state to g.held now after count total = record {
+pub gathering_written : {State : Type 0} (rule : AnswerRule State) (from to : Progress State) (seen : List Frame) (text lengths : List ℕ) (after : Option (List ℕ)) (total : ℕ)
+    → Gathering rule from to seen text lengths → Appends to.taken after text → total ≡ to.whole + length lengths
+    → AnswersAll rule from.state to.state seen from.taken after from.whole total
+gathering_written rule from to seen text lengths after total g took counts =
+    let out : AnswersAll rule g.state to.state g.held to.taken after to.whole total = record {
       texts = g.texts;
       answers = g.holds;
-      counts = counts ∙ ap (λ (ns : List ℕ). count + length ns) g.lengths_are ∙ ap (λ n. count + n) (length-texts g.texts);
-      took = Appends-is now after text (all_of g.texts) g.text_is took;
+      counts = counts ∙ ap (λ (ns : List ℕ). to.whole + length ns) g.lengths_are ∙ ap (λ n. to.whole + n) (length-texts g.texts);
+      took = Appends-is to.taken after text (all_of g.texts) g.text_is took;
     } in
-    subst (λ (fs : List Frame). AnswersAll rule from to fs old after before total) (sym g.order) (all_then rule from g.state to g.done g.held old now after before count total g.all out)
+    subst (λ (fs : List Frame). AnswersAll rule from.state to.state fs from.taken after from.whole total) (sym g.order)
+    (all_then rule from.state g.state to.state g.done g.held from.taken to.taken after from.whole to.whole total g.all out)
 
 -- the first n bytes of the texts end within one of them
 record Cut {State : Type 0} (rule : AnswerRule State) (from : State) (seen : List Frame) (texts : List (List ℕ)) (whole n : ℕ) : Type 0 where
@@ -204,13 +207,13 @@ cut rule from to (frame ∷ later) texts whole n h less =
     (cut_text rule from h.0 frame later h.1 h.2 whole n h.3 (subst (λ (ts : List (List ℕ)). n < length (all_of ts)) h.5 less) (λ w m fewer. cut rule h.0 to later h.2 w m h.4 fewer))
 
 -- a part of what waited went out
-pub gathering_part : {State : Type 0} (rule : AnswerRule State) (from to : State) (seen : List Frame) (old now after : Option (List ℕ)) (before count total bytes n : ℕ) (text lengths : List ℕ)
-    → Gathering rule from to seen old now before count text lengths → TakesFront now after n text → (total, bytes) ≡ parted count n lengths
-    → (reached : State) × AnswersPart rule from reached seen old after before total bytes
-gathering_part rule from to seen old now after before count total bytes n text lengths g took counts =
-    let k = cut rule g.state to g.held g.texts count n g.holds (subst (λ (xs : List ℕ). n < length xs) g.text_is took.0) in
-    let same : (total, bytes) ≡ (count + length k.out, k.bytes) = counts ∙ ap (λ (ns : List ℕ). parted count n ns) g.lengths_are ∙ k.counts in
-    let out : AnswersPart rule g.state k.reached g.held now after count total bytes = record {
+pub gathering_part : {State : Type 0} (rule : AnswerRule State) (from to : Progress State) (seen : List Frame) (text lengths : List ℕ) (after : Option (List ℕ)) (total bytes n : ℕ)
+    → Gathering rule from to seen text lengths → TakesFront to.taken after n text → (total, bytes) ≡ parted to.whole n lengths
+    → (reached : State) × AnswersPart rule from.state reached seen from.taken after from.whole total bytes
+gathering_part rule from to seen text lengths after total bytes n g took counts =
+    let k = cut rule g.state to.state g.held g.texts to.whole n g.holds (subst (λ (xs : List ℕ). n < length xs) g.text_is took.0) in
+    let same : (total, bytes) ≡ (to.whole + length k.out, k.bytes) = counts ∙ ap (λ (ns : List ℕ). parted to.whole n ns) g.lengths_are ∙ k.counts in
+    let out : AnswersPart rule g.state k.reached g.held to.taken after to.whole total bytes = record {
       earlier = k.earlier;
       frame = k.frame;
       later = k.later;
@@ -222,40 +225,49 @@ gathering_part rule from to seen old now after before count total bytes n text l
       draws = k.draws;
       counts = ap (λ (p : ℕ × ℕ). p.0) same;
       not_all = rw (ap (λ (p : ℕ × ℕ). p.1) same) k.not_all;
-      took = Appends-is now after _ _ (ap (λ (xs : List ℕ). take n xs) g.text_is ∙ k.front ∙ ap (λ (b : ℕ). all_of k.out ++ take b k.text) (sym (ap (λ (p : ℕ × ℕ). p.1) same))) took.1;
-    } in
-    (k.reached, subst (λ (fs : List Frame). AnswersPart rule from k.reached fs old after before total bytes) (sym g.order) (part_then rule from g.state k.reached g.done g.held old now after before count total bytes g.all out))
+      took = Appends-is to.taken after _ _ (ap (λ (xs : List ℕ). take n xs) g.text_is ∙ k.front ∙ ap (λ (b : ℕ). all_of k.out ++ take b k.text) (sym (ap (λ (p : ℕ × ℕ). p.1) same))) took.1;
+    } in (
+      k.reached,
+      subst (λ (fs : List Frame). AnswersPart rule from.state k.reached fs from.taken after from.whole total bytes) (sym g.order)
+          (part_then rule from.state g.state k.reached g.done g.held from.taken to.taken after from.whole to.whole total bytes g.all out),
+    )
 
 lt_is : (m n : ℕ) → m < n → nat_lt m n ≡ true
 lt_is m n e = grind (arith, nat_tests)
 
 -- one more text, and then a part of what waited went out
-pub answered_part : {State : Type 0} (rule : AnswerRule State) (from to next : State) (seen : List Frame) (frame : Frame) (old now after : Option (List ℕ)) (before count total bytes n : ℕ) (text lengths more text' lengths' : List ℕ) (gathers : Bool)
-    → (gathers ≡ false → lengths ≡ []) → rule to frame next (Some more) → Gathering rule from to seen old now before count text lengths
-    → text' ≡ text ++ more → lengths' ≡ lengths ++ length more ∷ [] → TakesFront now after n text' → (total, bytes) ≡ parted count n lengths' → GathersPart rule from next (seen ++ frame ∷ []) old after before total bytes gathers
-answered_part rule from to next seen frame old now after before count total bytes n text lengths more text' lengths' true alone draws g longer counted took counts =
-    let it = gathering_part rule from next (seen ++ frame ∷ []) old now after before count total bytes n text' lengths'
-    (gathering_more rule from to next seen frame old now before count text lengths more text' lengths' draws g longer counted) took counts in
-    (it.0, it.1, λ e. cc)
-answered_part rule from to next seen frame old now after before count total bytes n text lengths more text' lengths' false alone draws g longer counted took counts =
+pub answered_part : {State : Type 0} (rule : AnswerRule State) (from to last : Progress State) (seen : List Frame) (frame : Frame) (text lengths more text' lengths' : List ℕ) (bytes n : ℕ) (gathers : Bool)
+    → (gathers ≡ false → lengths ≡ []) → rule to.state frame last.state (Some more) → Gathering rule from to seen text lengths
+    → text' ≡ text ++ more → lengths' ≡ lengths ++ length more ∷ [] → TakesFront to.taken last.taken n text' → (last.whole, bytes) ≡ parted to.whole n lengths'
+    → GathersPart rule from last (seen ++ frame ∷ []) bytes gathers
+answered_part rule from to last seen frame text lengths more text' lengths' bytes n true alone draws g longer counted took counts =
+    let it = gathering_part rule from (record { state = last.state; taken = to.taken; whole = to.whole }) (seen ++ frame ∷ []) text' lengths' last.taken last.whole bytes n
+    (gathering_more rule from to last.state seen frame text lengths more text' lengths' draws g longer counted) took counts in
+    record { reached = it.0; part = it.1; alone = λ e. cc }
+answered_part rule from to last seen frame text lengths more text' lengths' bytes n false alone draws g longer counted took counts =
     let none = alone refl in
     let nothing : text ≡ [] = g.text_is ∙ ap all_of (no_texts g.texts (sym none ∙ g.lengths_are)) in
-    let took_more : TakesFront now after n more = subst (λ (xs : List ℕ). TakesFront now after n xs) (longer ∙ ap (λ (xs : List ℕ). xs ++ more) nothing) took in
+    let took_more : TakesFront to.taken last.taken n more = subst (λ (xs : List ℕ). TakesFront to.taken last.taken n xs) (longer ∙ ap (λ (xs : List ℕ). xs ++ more) nothing) took in
     let less : nat_lt n (length more) ≡ true = lt_is n (length more) took_more.0 in
-    let same : (total, bytes) ≡ (count, n) = counts ∙ ap (λ (ns : List ℕ). parted count n ns) (counted ∙ ap (λ (ns : List ℕ). ns ++ length more ∷ []) none) ∙ ap (λ (b : Bool). cond b (count, n) (count + 1, n - length more)) less in
-    let part : AnswersPart rule to next (frame ∷ []) now after count count n = one_part rule to next frame more now after count n draws took_more in
-    let all = gathering_end rule from to seen old now before count text lengths none g in
-    let told = part_then rule from to next seen (frame ∷ []) old now after before count count n all part in
-    (next, subst (λ (p : ℕ × ℕ). AnswersPart rule from next (seen ++ frame ∷ []) old after before p.0 p.1) (sym same) told, λ _. refl)
+    let same : (last.whole, bytes) ≡ (to.whole, n) = counts ∙ ap (λ (ns : List ℕ). parted to.whole n ns) (counted ∙ ap (λ (ns : List ℕ). ns ++ length more ∷ []) none)
+    ∙ ap (λ (b : Bool). cond b (to.whole, n) (to.whole + 1, n - length more)) less in
+    let part : AnswersPart rule to.state last.state (frame ∷ []) to.taken last.taken to.whole to.whole n = one_part rule to.state last.state frame more to.taken last.taken to.whole n draws took_more in
+    let all = gathering_end rule from to seen text lengths none g in
+    let told = part_then rule from.state to.state last.state seen (frame ∷ []) from.taken to.taken last.taken from.whole to.whole to.whole n all part in
+    record {
+      reached = last.state;
+      part = subst (λ (p : ℕ × ℕ). AnswersPart rule from.state last.state (seen ++ frame ∷ []) from.taken last.taken from.whole p.0 p.1) (sym same) told;
+      alone = λ _. refl;
+    }
 
 -- a part of what waited at the end of a piece went out
-pub rest_part : {State : Type 0} (rule : AnswerRule State) (from to : State) (seen : List Frame) (old now after : Option (List ℕ)) (before count total bytes n : ℕ) (text lengths : List ℕ) (gathers : Bool)
-    → (gathers ≡ false → lengths ≡ []) → Gathering rule from to seen old now before count text lengths
-    → TakesFront now after n text → (total, bytes) ≡ parted count n lengths → GathersPart rule from to seen old after before total bytes gathers
-rest_part rule from to seen old now after before count total bytes n text lengths true alone g took counts =
-    let it = gathering_part rule from to seen old now after before count total bytes n text lengths g took counts in
-    (it.0, it.1, λ e. cc)
-rest_part rule from to seen old now after before count total bytes n text lengths false alone g took counts =
+pub rest_part : {State : Type 0} (rule : AnswerRule State) (from to : Progress State) (seen : List Frame) (text lengths : List ℕ) (after : Option (List ℕ)) (total bytes n : ℕ) (gathers : Bool)
+    → (gathers ≡ false → lengths ≡ []) → Gathering rule from to seen text lengths
+    → TakesFront to.taken after n text → (total, bytes) ≡ parted to.whole n lengths → GathersPart rule from (record { state = to.state; taken = after; whole = total }) seen bytes gathers
+rest_part rule from to seen text lengths after total bytes n true alone g took counts =
+    let it = gathering_part rule from to seen text lengths after total bytes n g took counts in
+    record { reached = it.0; part = it.1; alone = λ e. cc }
+rest_part rule from to seen text lengths after total bytes n false alone g took counts =
     let nothing : text ≡ [] = g.text_is ∙ ap all_of (no_texts g.texts (sym (alone refl) ∙ g.lengths_are)) in
     let wrong : ⊥ = omega (arith, ap (λ (xs : List ℕ). length xs) nothing, took.0) in
     absurd wrong

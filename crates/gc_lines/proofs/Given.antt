@@ -7,8 +7,8 @@ use Rattle.gc_lines.specs.Assembler.{Kept, StandsFor}
 use Rattle.gc_lines.specs.Frames.{frames, rest_behind}
 use Rattle.gc_lines.specs.Passing.{frames_behind, GathersPart}
 use Rattle.gc_lines.specs.declared.frame.Frame.{Frame}
-use Rattle.gc_lines.proofs.Known.{Consumes-append, Consumes-nil}
-use Rattle.gc_lines.proofs.InOrder.{all_none, all_then, part_then}
+use Rattle.gc_lines.proofs.Known.{Consumes-append}
+use Rattle.gc_lines.proofs.InOrder.{all_then, part_then}
 use Rattle.gc_lines.proofs.Passing.{frames-append, rest_behind-append}
 
 pub record Given {State : Type 0} (rule : AnswerRule State) (source_old source_new sink_old sink_new : Option (List ℕ)) (kept : Kept) (from to : State) (reads count : ℕ) : Type 0 where
@@ -17,9 +17,6 @@ pub record Given {State : Type 0} (rule : AnswerRule State) (source_old source_n
   pub few : length given ≤ 256 * reads
   pub stands : StandsFor kept (rest_behind [] given)
   pub all : AnswersAll rule from to (frames given) sink_old sink_new 0 count
-
-pub given_start : {State : Type 0} (rule : AnswerRule State) (a b : Option (List ℕ)) (kept : Kept) (state : State) → StandsFor kept [] → Given rule a a b b kept state state 0 0
-given_start rule a b kept state s = record { given = []; gave = Consumes-nil a; few = omega arith; stands = s; all = all_none rule state b 0 }
 
 -- one more piece, whose frames were all answered
 pub given_more : {State : Type 0} (rule : AnswerRule State) (a a' a'' b b' b'' : Option (List ℕ)) (kept kept' : Kept) (s t u : State) (reads n n' : ℕ) (piece : List ℕ) → Given rule a a' b b' kept s t reads n → Consumes a' a'' piece → length piece ≤ 256
@@ -47,17 +44,17 @@ given_end rule a a' a'' b b' kept s t reads n so gave = (
 
 -- one more piece, of which a text went out in part
 pub given_part : {State : Type 0} (rule : AnswerRule State) (a a' a'' b b' b'' : Option (List ℕ)) (kept : Kept) (s t u : State) (reads n n' bytes : ℕ) (piece : List ℕ) (gathers : Bool) → Given rule a a' b b' kept s t reads n → Consumes a' a'' piece → length piece ≤ 256
-    → ((rest : List ℕ) → StandsFor kept rest → GathersPart rule t u (frames_behind rest piece) b' b'' n n' bytes gathers)
+    → ((rest : List ℕ) → StandsFor kept rest → GathersPart rule (record { state = t; taken = b'; whole = n }) (record { state = u; taken = b''; whole = n' }) (frames_behind rest piece) bytes gathers)
     → (reached : State) × ((given : List ℕ) × Consumes a a'' given × (length given ≤ 256 * (reads + 1)) × AnswersPart rule s reached (frames given) b b'' 0 n' bytes) × (gathers ≡ false → reached ≡ u)
 given_part rule a a' a'' b b' b'' kept s t u reads n n' bytes piece gathers so gave short answered =
     let it = answered (rest_behind [] so.given) so.stands in (
-      it.0,
+      it.reached,
       (
         so.given ++ piece,
         Consumes-append a a' a'' so.given piece so.gave gave,
         omega (arith, so.few, length-append so.given piece),
-        subst (λ (seen : List Frame). AnswersPart rule s it.0 seen b b'' 0 n' bytes) (sym (frames-append so.given piece))
-            (part_then rule s t it.0 (frames so.given) (frames_behind (rest_behind [] so.given) piece) b b' b'' 0 n n' bytes so.all it.1),
+        subst (λ (seen : List Frame). AnswersPart rule s it.reached seen b b'' 0 n' bytes) (sym (frames-append so.given piece))
+            (part_then rule s t it.reached (frames so.given) (frames_behind (rest_behind [] so.given) piece) b b' b'' 0 n n' bytes so.all it.part),
       ),
-      it.2,
+      it.alone,
     )

@@ -1,5 +1,5 @@
 -- Frames that are answered one list after another: what stands after them, and what is written.
-use Rattle.std.proofs.Common.{◌≡◌, ℕ, ◌+◌, List, [], ◌∷◌, ◌++◌, take, Option, Some, None, refl, sym, ap, ◌∙◌, subst, arith, append_assoc, length-append}
+use Rattle.std.proofs.Common.{◌≡◌, ℕ, ◌+◌, List, [], ◌∷◌, ◌++◌, take, Option, Some, refl, sym, ap, ◌∙◌, subst, arith, append_assoc, length-append}
 use Rattle.std.specs.Option.{option_to_list}
 use Rattle.std.specs.Io.KnownBytes.{Appends}
 use Rattle.std.proofs.lemmas.List.{append-nil}
@@ -78,10 +78,6 @@ part_before rule s u xs ys a c i k bytes part = record {
   not_all = part.not_all;
   took = part.took;
 }
-
--- one frame that is answered by nothing
-pub one_silent : {State : Type 0} (rule : AnswerRule State) (s t : State) (frame : Frame) (a : Option (List ℕ)) (count : ℕ) → rule s frame t None → AnswersAll rule s t (frame ∷ []) a a count count
-one_silent rule s t frame a count h = record { texts = []; answers = in_order_one rule s t frame None h; counts = omega arith; took = Appends-nil a }
 
 -- one frame, whose text went out whole
 pub one_whole : {State : Type 0} (rule : AnswerRule State) (s t : State) (frame : Frame) (text : List ℕ) (a b : Option (List ℕ)) (count : ℕ) → rule s frame t (Some text) → Appends a b text → AnswersAll rule s t (frame ∷ []) a b count (count + 1)

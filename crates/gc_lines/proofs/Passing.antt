@@ -1,12 +1,12 @@
 -- A piece on the way: which of its frames were answered, and what is left of it.
-use Rattle.std.proofs.Common.{◌≡◌, ℕ, ◌+◌, ◌<◌, Bool, true, false, eqb, cond, ◌-◌, List, [], ◌∷◌, ◌++◌, length, take, drop, map, Option, Some, None, refl, sym, ap, ◌∙◌, subst, arith, append_assoc}
+use Rattle.std.proofs.Common.{◌≡◌, ℕ, ◌+◌, ◌<◌, Bool, true, false, eqb, cond, ◌-◌, List, [], ◌∷◌, ◌++◌, length, take, drop, map, Some, None, refl, sym, ap, ◌∙◌, subst, arith, append_assoc}
 use Rattle.std.specs.List.{position}
 use Rattle.std.proofs.lemmas.Bool.Decides.{nat_tests}
 use Rattle.std.proofs.lemmas.List.{append-nil, drop_all, map-append}
 use Rattle.gc_lines.specs.Answering.{AnswerRule, AnswersPart}
 use Rattle.gc_lines.specs.Assembler.{Kept, StandsFor}
 use Rattle.gc_lines.specs.Frames.{is_line_feed, ends_in_return, frame_of, frames, pieces_behind, rest_behind}
-use Rattle.gc_lines.specs.Passing.{completed, frames_behind, Gathering, GathersPart}
+use Rattle.gc_lines.specs.Passing.{completed, frames_behind, Gathering, GathersPart, Progress}
 use Rattle.gc_lines.specs.declared.frame.Frame.{Frame}
 use Rattle.gc_lines.specs.declared.frame.Frame.TheVariants.{Line, Cleared, Overlong, More}
 use Rattle.gc_lines.proofs.Cutting.{cut_none, cut_some, pieces-append, rest-append}
@@ -67,32 +67,33 @@ takes rest left used frame kept more whole = elim (position is_line_feed left) a
 ] refl
 
 -- of the frames of a piece behind rest some were answered, and some of their texts wait; left is what is left of the piece
-pub record Going {State : Type 0} (rule : AnswerRule State) (rest piece left : List ℕ) (kept : Kept) (from to : State) (old new : Option (List ℕ)) (before count : ℕ) (text lengths : List ℕ) : Type 0 where
+pub record Going {State : Type 0} (rule : AnswerRule State) (rest piece left : List ℕ) (kept : Kept) (from to : Progress State) (text lengths : List ℕ) : Type 0 where
   pub now : List ℕ
   pub answered : List Frame
   pub stands : StandsFor kept now
   pub seen : frames_behind rest piece ≡ answered ++ frames_behind now left
   pub rests : rest_behind rest piece ≡ rest_behind now left
-  pub gathered : Gathering rule from to answered old new before count text lengths
+  pub gathered : Gathering rule from to answered text lengths
 
-pub going_start : {State : Type 0} (rule : AnswerRule State) (rest piece : List ℕ) (kept : Kept) (state : State) (known : Option (List ℕ)) (count : ℕ) (text lengths : List ℕ) → text ≡ [] → lengths ≡ [] → StandsFor kept rest
-    → Going rule rest piece piece kept state state known known count count text lengths
-going_start rule rest piece kept state known count text lengths empty none s = record {
+pub going_start : {State : Type 0} (rule : AnswerRule State) (rest piece : List ℕ) (kept : Kept) (start : Progress State) (text lengths : List ℕ) → text ≡ [] → lengths ≡ [] → StandsFor kept rest
+    → Going rule rest piece piece kept start start text lengths
+going_start rule rest piece kept start text lengths empty none s = record {
   now = rest;
   answered = [];
   stands = s;
   seen = refl;
   rests = refl;
-  gathered = rw (empty, none) (gathering_start rule state state [] known known count count (all_none rule state known count));
+  gathered = rw (empty, none) (gathering_start rule start start [] (all_none rule start.state start.taken start.whole));
 }
 
 seen_more : (answered frame later all left : List Frame) → all ≡ answered ++ left → left ≡ frame ++ later → all ≡ (answered ++ frame) ++ later
 seen_more answered frame later all left e f = e ∙ ap (λ zs. answered ++ zs) f ∙ sym (append_assoc answered frame later)
 
 -- one more frame
-pub going_on : {State : Type 0} (rule : AnswerRule State) (rest piece left : List ℕ) (used : ℕ) (frame : Frame) (kept kept' : Kept) (s t u : State) (a b c : Option (List ℕ)) (i j k : ℕ) (text lengths text' lengths' : List ℕ)
-    → (g : Going rule rest piece left kept s t a b i j text lengths) → Takes g.now left used frame kept' → Gathering rule s u (g.answered ++ completed frame) a c i k text' lengths' → Going rule rest piece (drop used left) kept' s u a c i k text' lengths'
-going_on rule rest piece left used frame kept kept' s t u a b c i j k text lengths text' lengths' g taken more = record {
+pub going_on : {State : Type 0} (rule : AnswerRule State) (rest piece left : List ℕ) (used : ℕ) (frame : Frame) (kept kept' : Kept) (from to next : Progress State) (text lengths text' lengths' : List ℕ)
+    → (g : Going rule rest piece left kept from to text lengths) → Takes g.now left used frame kept' → Gathering rule from next (g.answered ++ completed frame) text' lengths'
+    → Going rule rest piece (drop used left) kept' from next text' lengths'
+going_on rule rest piece left used frame kept kept' from to next text lengths text' lengths' g taken more = record {
   now = taken.now;
   answered = g.answered ++ completed frame;
   stands = taken.stands;
@@ -102,22 +103,25 @@ going_on rule rest piece left used frame kept kept' s t u a b c i j k text lengt
 }
 
 -- one more frame, and then a text went out in part
-pub going_part : {State : Type 0} (rule : AnswerRule State) (rest piece left : List ℕ) (used : ℕ) (frame : Frame) (kept kept' : Kept) (s t u : State) (a b c : Option (List ℕ)) (i j k bytes : ℕ) (text lengths : List ℕ) (gathers : Bool)
-    → (g : Going rule rest piece left kept s t a b i j text lengths) → Takes g.now left used frame kept' → GathersPart rule s u (g.answered ++ completed frame) a c i k bytes gathers → GathersPart rule s u (frames_behind rest piece) a c i k bytes gathers
-going_part {State} rule rest piece left used frame kept kept' s t u a b c i j k bytes text lengths gathers g taken part =
+pub going_part : {State : Type 0} (rule : AnswerRule State) (rest piece left : List ℕ) (used : ℕ) (frame : Frame) (kept kept' : Kept) (from to last : Progress State) (text lengths : List ℕ) (bytes : ℕ) (gathers : Bool)
+    → (g : Going rule rest piece left kept from to text lengths) → Takes g.now left used frame kept' → GathersPart rule from last (g.answered ++ completed frame) bytes gathers
+    → GathersPart rule from last (frames_behind rest piece) bytes gathers
+going_part rule rest piece left used frame kept kept' from to last text lengths bytes gathers g taken part =
     let later = frames_behind taken.now (drop used left) in
-    let all = seen_more g.answered (completed frame) later (frames_behind rest piece) (frames_behind g.now left) g.seen taken.seen in (
-      part.0,
-      subst (λ (seen : List Frame). AnswersPart rule s part.0 seen a c i k bytes) (sym all) (part_before rule s part.0 (g.answered ++ completed frame) later a c i k bytes part.1),
-      part.2,
-    )
+    let all = seen_more g.answered (completed frame) later (frames_behind rest piece) (frames_behind g.now left) g.seen taken.seen in
+    record {
+      reached = part.reached;
+      part = subst (λ (seen : List Frame). AnswersPart rule from.state part.reached seen from.taken last.taken from.whole last.whole bytes) (sym all)
+          (part_before rule from.state part.reached (g.answered ++ completed frame) later from.taken last.taken from.whole last.whole bytes part.part);
+      alone = part.alone;
+    }
 
 -- nothing is left of the piece
-pub going_end : {State : Type 0} (rule : AnswerRule State) (rest piece : List ℕ) (kept : Kept) (s t : State) (a b : Option (List ℕ)) (i j : ℕ) (text lengths : List ℕ) → Going rule rest piece [] kept s t a b i j text lengths
-    → StandsFor kept (rest_behind rest piece) × Gathering rule s t (frames_behind rest piece) a b i j text lengths
-going_end rule rest piece kept s t a b i j text lengths g = (
+pub going_end : {State : Type 0} (rule : AnswerRule State) (rest piece : List ℕ) (kept : Kept) (from to : Progress State) (text lengths : List ℕ) → Going rule rest piece [] kept from to text lengths
+    → StandsFor kept (rest_behind rest piece) × Gathering rule from to (frames_behind rest piece) text lengths
+going_end rule rest piece kept from to text lengths g = (
   subst (λ (xs : List ℕ). StandsFor kept xs) (sym g.rests) g.stands,
-  subst (λ (xs : List Frame). Gathering rule s t xs a b i j text lengths) (sym (g.seen ∙ append-nil g.answered)) g.gathered,
+  subst (λ (xs : List Frame). Gathering rule from to xs text lengths) (sym (g.seen ∙ append-nil g.answered)) g.gathered,
 )
 
 -- a length whose test for 0 fails

@@ -1,5 +1,6 @@
--- No part of a promise: what an assembler keeps of the bytes since the last line feed. Whatever standing for a rest meant, what the
--- assembler's contracts say of it at the start, over a piece without a line feed and at a line feed would give a stream's frames.
+-- No part of a promise: what an assembler keeps of the bytes since the last line feed. A reader may take `StandsFor` for any
+-- relation. What the assembler's contracts say of it (at the start, over a piece without a line feed, and at a line feed) gives
+-- a stream's frames, whatever it means.
 use Rattle.std.specs.Prelude.{◌≡◌, ℕ, ◌-◌, List, Bool, length, take, nat_lt, slice_index}
 
 -- the first 513 of them, the last one, and whether there are more than 513

@@ -47,7 +47,7 @@ pub record PastColon (signature line rest : List ℕ) : Type 0 where
   pub before : PastId signature line from
   pub here : from ≡ 58 ∷ rest
 
--- the first field from the left that has not its form, in a line with this signature and, behind the colon, what Body says
+-- the first faulty field from the left, in a line with this signature, where Body says what may stand behind the colon
 abbrev pub FirstBadField : List ℕ → (List ℕ → Type 0) → List ℕ → LineFault → Type 0
 FirstBadField signature Body line Signature = (rest : List ℕ) → ¬ PastSignature signature line rest
 FirstBadField signature Body line Number = (from : List ℕ) × PastSignature signature line from × ((n : ℕ) (rest : List ℕ) → ¬ HasNumber from n rest)

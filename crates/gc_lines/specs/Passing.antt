@@ -16,22 +16,29 @@ completed (Line line) = Line line ∷ []
 completed Cleared = Cleared ∷ []
 completed Overlong = Overlong ∷ []
 
+-- how far a run has come: the answerer's state, the bytes that the sink took, where they are known, and how many texts went out whole
+pub record Progress (State : Type 0) : Type 0 where
+  pub state : State
+  pub taken : Option (List ℕ)
+  pub whole : ℕ
+
 -- frames were answered; the texts of the first of them, done, went out, and those of the others, held, stand in a text, with these lengths
-pub record Gathering {State : Type 0} (rule : AnswerRule State) (from to : State) (seen : List Frame) (old now : Option (List ℕ)) (before count : ℕ) (text lengths : List ℕ) : Type 0 where
+pub record Gathering {State : Type 0} (rule : AnswerRule State) (from to : Progress State) (seen : List Frame) (text lengths : List ℕ) : Type 0 where
   pub state : State
   pub done : List Frame
   pub held : List Frame
   pub texts : List (List ℕ)
   pub order : seen ≡ done ++ held
-  pub all : AnswersAll rule from state done old now before count
-  pub holds : AnswersInOrder State rule state held to texts
+  pub all : AnswersAll rule from.state state done from.taken to.taken from.whole to.whole
+  pub holds : AnswersInOrder State rule state held to.state texts
   pub text_is : text ≡ all_of texts
   pub lengths_are : lengths ≡ map length texts
 
 -- a text was to go out with those that wait, and did so in part; where none may wait, the answerer stands behind the frame of that text
-abbrev pub GathersPart : {State : Type 0} → AnswerRule State → State → State → List Frame → Option (List ℕ) → Option (List ℕ) → ℕ → ℕ → ℕ → Bool → Type 0
-GathersPart {State} rule from to seen old new before count bytes gathers =
-    (reached : State) × AnswersPart rule from reached seen old new before count bytes × (gathers ≡ false → reached ≡ to)
+pub record GathersPart {State : Type 0} (rule : AnswerRule State) (from to : Progress State) (seen : List Frame) (bytes : ℕ) (gathers : Bool) : Type 0 where
+  pub reached : State
+  pub part : AnswersPart rule from.state reached seen from.taken to.taken from.whole to.whole bytes
+  pub alone : gathers ≡ false → reached ≡ to.state
 
 -- there is room for one more text, and none waits where none may
 pub record HasRoom (text lengths : List ℕ) (gathers : Bool) : Type 0 where
@@ -39,7 +46,7 @@ pub record HasRoom (text lengths : List ℕ) (gathers : Bool) : Type 0 where
   pub for_length : length lengths < 256
   pub alone : gathers ≡ false → lengths ≡ []
 
--- how many texts of these lengths the first left bytes hold whole, behind whole others, and how many bytes of the next
+-- how many texts of these lengths are whole in the first left bytes, the whole ones before them counted, and how many bytes of the next
 abbrev pub parted : ℕ → ℕ → List ℕ → ℕ × ℕ
 parted whole left [] = (whole, left)
 parted whole left (n ∷ ns) = if nat_lt left n then (whole, left) else parted (whole + 1) (left - n) ns

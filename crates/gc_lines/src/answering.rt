@@ -1,5 +1,5 @@
-//! The loop over the frames of a source: it reads, hands each frame to an answerer, and writes what that answers into a
-//! sink. All reading of a whole run lives here.
+//! The loop over the frames of a source: it reads, hands each frame to an answerer, and writes the answers into a sink. All
+//! reading of a whole run lives here.
 
 ghost use Rattle.std.specs.Prelude.{◌≡◌, ℕ, ◌+◌, ◌≤◌, List, Option, length, false};
 ghost use Rattle.arrayvec.specs.ArrayVec.{array_vec_len};
@@ -16,36 +16,34 @@ use arrayvec::ArrayVec;
 /// How many bytes a run reads at a time at most.
 const PIECE: usize = 256;
 
-/// What is handed out to be written: texts one behind the other, each of at most 514 bytes, its line end counted.
+/// Texts on their way out, one behind the other. Each has at most 514 bytes, its line end counted.
 pub type Outgoing = ArrayVec<u8, 8192>;
 
-/// What answers the frames of a stream, one after the other: each with a text of at most 514 bytes, its line end counted,
-/// or with nothing.
+/// An answerer of the frames of a stream, one after the other. It answers each with a text of at most 514 bytes, its line end
+/// counted, or with nothing.
 pub trait Answers {
     ghost use Rattle.gc_lines.specs.declared.frame.Frame.{Frame};
 
     /// What answering may do: the state before a frame, the frame, the state after it, and the text, if there is one.
     ghost answers: { Self → Frame → Self → Option (List ℕ) → Type 0 };
 
-    /// Appends what it answers to the frame, with its line end, and says whether it answers anything. Where it doesn't, the
-    /// text stays as it is.
+    /// Appends its answer to the frame, with the line end, and says whether it has one. Without one the text stays as it is.
     fn answer(&mut self, frame: Lent<'_>, text: &mut Outgoing) -> bool
         requires { array_vec_len text.old + 514 ≤ 8192 }
         ensures answered { AppendsAnswer (answers self.old (lent_seen frame.entry) self.new) text.old.items text.new.items result }
         ensures bound { length text.new.items ≤ length text.old.items + 514 };
 }
 
-/// Answers the frames of a source until its end, in at most `max_reads` reads of at most 256 bytes, and writes their texts
-/// into a sink: each before it looks at the next frame, or, where it gathers, those of one read together, before the next
-/// read.
+/// Answers the frames of a source until its end, in at most `max_reads` reads of at most 256 bytes, and writes the texts into a
+/// sink. Without `gathers` it writes each text before it looks at the next frame. With it the texts of one read go out
+/// together, before the next read. It takes no memory.
 ///
-/// A rest without a line feed at the end of the input is no frame. Where it doesn't gather, the answerer is then in the state
-/// after all frames that were read, and after a failed write in that after the frame whose text was on its way: later frames
-/// weren't handed to it. Where it gathers, that state is one that the answerer went through; later frames of the same read
-/// may have been handed to it. Takes no memory.
+/// Bytes without a line feed at the end of the input are no frame. Without `gathers` the answerer has got all frames that were
+/// read; after a failed write it has got none behind the frame whose text was on its way. With `gathers` it may then have got
+/// later frames of the same read, too.
 ///
-/// [`Served`] exactly where the last read was the end, 42 exactly where the source failed, 43 exactly where the sink did, and
-/// 44 exactly where all reads were answered and none was the end.
+/// It returns [`Served`] exactly where the last read was the end. It fails with 42 exactly where the source failed, with 43
+/// exactly where the sink did, and with 44 exactly where all reads were answered and none was the end.
 pub fn answer_frames<A: Answers, S: Source, K: Sink>(
     answerer: &mut A,
     source: &mut S,

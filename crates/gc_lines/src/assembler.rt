@@ -54,7 +54,7 @@ impl Assembler {
         self.front.is_empty()
     }
 
-    /// Uses the piece through its first line feed, and says how many bytes that were and what they end.
+    /// Uses the piece through its first line feed. It returns how many bytes those were, and the frame that they end.
     ///
     /// Where the piece has no line feed, all of it is used and the frame is [`Lent::More`], also where it is empty. After
     /// the other three frames the assembler is at the start of a line. A line that stands whole in the piece is lent from
@@ -114,7 +114,8 @@ impl Assembler {
         }
     }
 
-    // What a line feed makes of what came so far, its line put together in `cut`, and then the start of a line.
+    // The frame that a line feed makes of what came so far, its line put together in `cut`. It then stands at the start of a
+    // line.
     #[inline(never)]
     fn finish<'a>(&mut self, cut: &'a mut Line) -> Lent<'a>
         ensures frame { (rest : List ℕ) → StandsFor self.old rest → lent_seen result ≡ frame_of rest }
@@ -147,7 +148,7 @@ impl Assembler {
     }
 }
 
-// What a line feed makes of the bytes of a piece that began a line.
+// The frame that a line feed makes of a piece's bytes, where they begin a line.
 #[inline]
 fn frame_in(bytes: &[u8]) -> Lent<'_>
     ensures frame { lent_seen result ≡ frame_of bytes.now }

@@ -32,6 +32,7 @@ pub(crate) fn header_of<'a>(signature: &[u8], line: &'a [u8]) -> Result<Header<'
     Ok(Header { number, id, rest })
 }
 
+// What follows the signature.
 #[inline(always)]
 fn after_signature<'a>(signature: &[u8], line: &'a [u8]) -> Result<&'a [u8], LineFault>
     ensures { Gives (λ rest. rest.now) result (signature_at signature.now line.now) }
@@ -53,6 +54,7 @@ fn id_of(bytes: &[u8]) -> Result<(Option<u8>, &[u8]), LineFault>
     Ok((Some(rest[0] - b'0'), &rest[1..]))
 }
 
+// What follows the colon.
 #[inline(always)]
 fn after_colon(bytes: &[u8]) -> Result<&[u8], LineFault>
     ensures { Gives (λ rest. rest.now) result (colon_at bytes.now) }

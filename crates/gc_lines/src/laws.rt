@@ -11,7 +11,7 @@ pub fn limits()
     ensures ahead { AHEAD ≡ 8192 }
 {}
 
-/// A stream has one cutting at its line feeds: the pieces, of which the frames are made, and the rest.
+/// A stream is cut at its line feeds in one way: into the pieces, of which the frames are made, and a rest.
 pub fn one_cut()
     ensures { OneCut }
 {}

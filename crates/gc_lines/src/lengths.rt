@@ -22,6 +22,7 @@ impl Model for Lengths {
 }
 
 impl Lengths {
+    // No text waits.
     pub(crate) fn new() -> Lengths
         ensures { result ≡ [] }
     {
@@ -31,6 +32,7 @@ impl Lengths {
         }
     }
 
+    // How many texts wait.
     #[inline]
     pub(crate) fn len(&self) -> usize
         ensures { result ≡ length self.now }
@@ -38,6 +40,7 @@ impl Lengths {
         self.count
     }
 
+    // Their lengths, in order.
     #[inline]
     pub(crate) fn as_slice(&self) -> &[usize]
         ensures { result.now ≡ self.now }
@@ -45,6 +48,7 @@ impl Lengths {
         &self.all[..self.count]
     }
 
+    // One more text waits.
     #[inline]
     pub(crate) fn push(&mut self, bytes: usize)
         requires { length self.old < 256 }
@@ -54,6 +58,7 @@ impl Lengths {
         self.count += 1;
     }
 
+    // All of them went out.
     #[inline]
     pub(crate) fn clear(&mut self)
         ensures { self.new ≡ [] }

@@ -29,7 +29,7 @@ pub use assembler::Assembler;
 pub use fault::LineFault;
 pub use frame::{Frame, Lent};
 pub use from_reader::FromReader;
-pub use line::{Line, append, copy_of, is_plain};
+pub use line::{Line, append, is_plain};
 pub use ports::{Lasting, PortFailed, Sink, Source};
 pub use read_ahead::ReadAhead;
 pub use reply::{Reply, begin_reply, push_reply, read_reply, write_reply};

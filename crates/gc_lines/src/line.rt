@@ -25,13 +25,3 @@ pub fn append<const N: usize>(to: &mut ArrayVec<u8, N>, bytes: &[u8])
     // The caller has shown that there is room, so this is no fault that is passed over.
     let _ = to.try_extend_from_slice(bytes);
 }
-
-/// Another line with the same bytes.
-#[inline]
-pub fn copy_of(line: &Line) -> Line
-    ensures { result.items ≡ line.now.items }
-{
-    let mut copy = Line::new();
-    append(&mut copy, line);
-    copy
-}

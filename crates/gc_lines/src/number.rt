@@ -54,7 +54,7 @@ pub(crate) fn push_number<const N: usize>(to: &mut ArrayVec<u8, N>, n: u16)
     }
 }
 
-// Appends a number of two digits and more.
+// Appends a number of two digits or more.
 fn push_digits<const N: usize>(to: &mut ArrayVec<u8, N>, n: u16)
     requires { array_vec_len to.old + 5 ≤ N }
     ensures items { to.new.items ≡ to.old.items ++ decimal n }

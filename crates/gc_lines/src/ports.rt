@@ -24,9 +24,9 @@ impl Error for PortFailed {}
 
 /// Where bytes come from.
 ///
-/// Who implements it says by `remaining` which bytes reads will still give, or `None` where that is not known, as of a
-/// socket. `reads` counts the answered reads and `ended` says whether the last of them was the end; both stand still where
-/// a read fails. `failed` is true from the first failed read on.
+/// An implementor says with `remaining` which bytes reads will still give, or `None` where that is not known, as of a socket.
+/// `reads` counts the answered reads, and `ended` says whether the last of them was the end. Where a read fails, both stay as
+/// they are. `failed` is true from the first failed read on.
 pub trait Source {
     /// The bytes that reads will still give, where they are known.
     ghost remaining: { Self → Option (List ℕ) };
@@ -40,9 +40,9 @@ pub trait Source {
     /// Whether a read has failed.
     ghost failed: { Self → Bool };
 
-    /// Reads some bytes into the front of `buf`, which is not empty, and says how many: `Ok(0)` is the end of the input.
+    /// Reads some bytes into the front of `buf`, which is not empty, and returns how many. `Ok(0)` is the end of the input.
     ///
-    /// It fails exactly where `has_failed` is true after it, and gave no bytes then.
+    /// It fails exactly where `has_failed` is true afterwards. A read that fails gives no bytes.
     fn read(&mut self, buf: &mut [u8]) -> Result<usize, PortFailed>
         requires { 0 < length buf.old }
         ensures bytes { GivesBytes (remaining self.old) (remaining self.new) result buf.new }
@@ -56,8 +56,8 @@ pub trait Source {
 
 /// Where bytes go.
 ///
-/// Who implements it says by `taken` which bytes it has taken, or `None` where that is not known, as of a socket. `failed`
-/// is true from the first failed write on.
+/// An implementor says with `taken` which bytes it has taken, or `None` where that is not known, as of a socket. `failed` is
+/// true from the first failed write on.
 pub trait Sink {
     /// The bytes that were taken, where they are known.
     ghost taken: { Self → Option (List ℕ) };
@@ -65,9 +65,9 @@ pub trait Sink {
     /// Whether a write has failed.
     ghost failed: { Self → Bool };
 
-    /// Takes the first of these bytes, of which there are some, and says how many: at least one.
+    /// Takes bytes from the front of `bytes`, which is not empty, and returns how many: at least one.
     ///
-    /// It fails exactly where `has_failed` is true after it, and took no bytes then.
+    /// It fails exactly where `has_failed` is true afterwards. A write that fails takes no bytes.
     fn write(&mut self, bytes: &[u8]) -> Result<usize, PortFailed>
         requires { 0 < length bytes.now }
         ensures bytes { TakesBytes (taken self.old) (taken self.new) result bytes.now }
@@ -78,15 +78,16 @@ pub trait Sink {
         ensures { result ≡ failed self.now };
 }
 
-/// A sink whose bytes can be made to last: in a file of which the disk has each byte, where that was asked for.
+/// A sink whose bytes can be made to last, as those of a file do once the disk has them.
 ///
-/// Who implements it says by `lasts` whether what was taken outlasts all that this sink is meant to outlast. Where that is nothing,
-/// as at the end of a pipe, it always does.
+/// An implementor says with `lasts` whether the bytes that were taken outlast what the sink is meant to outlast: a crash, for a
+/// file that is synced. The end of a pipe is meant to outlast nothing, so its bytes always do.
 pub trait Lasting: Sink {
     /// Whether what was taken outlasts what this sink is meant to outlast.
     ghost lasts: { Self → Bool };
 
-    /// Makes what was taken last. It takes nothing, and fails exactly where `has_failed` is true after it.
+    /// Makes all bytes that were taken outlast what this sink is meant to outlast. It takes no bytes, and fails exactly where
+    /// `has_failed` is true afterwards.
     fn keep(&mut self) -> Result<(), PortFailed>
         ensures lasts { OnOk result (lasts self.new ≡ true) }
         ensures same { Keeps (Self.taken self.old) (Self.taken self.new) }

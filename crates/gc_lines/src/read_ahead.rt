@@ -12,9 +12,9 @@ const AHEAD: usize = 8192;
 
 /// A reader that reads ahead from another one, up to 8192 bytes at a time. Takes no memory.
 ///
-/// What it has still to give is what it holds, and then what the other has still to give. It reads the other once for each
-/// call at most, and only while it holds nothing: so no call waits for more than the other has, and the end or an error of
-/// the other is told only after all that came before it was given. It then does as the other does.
+/// It gives the bytes that it holds, and then those of the other. It reads the other at most once a call, and only while it
+/// holds nothing. So no call waits for more than the other has. The other's end, and an error of it, comes only once all bytes
+/// before it were given. It then does as the other does.
 #[derive(Drop)]
 pub struct ReadAhead<R> {
     held: Held,
@@ -41,6 +41,7 @@ impl Model for Held {
 }
 
 impl Held {
+    // Nothing is held.
     fn new() -> Held
         ensures { result ≡ [] }
     {
@@ -51,6 +52,7 @@ impl Held {
         }
     }
 
+    // Whether nothing is held.
     fn is_empty(&self) -> bool
         ensures { IsTrue result ↔ (self.now ≡ []) }
     {
@@ -69,7 +71,7 @@ impl Held {
         Ok(())
     }
 
-    // Moves bytes from the front into `buf`, as many as there are and have room, and says how many.
+    // Moves bytes from the front into `buf`, as many as it has room for, and returns how many.
     fn give(&mut self, buf: &mut [u8]) -> usize
         ensures count { result ≡ min (length self.old) (length buf.old) }
         ensures bytes { self.old ≡ take result buf.new ++ self.new }

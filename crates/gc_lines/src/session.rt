@@ -7,7 +7,7 @@ ghost use Rattle.gc_lines.specs.Answering.{AnswersAll};
 ghost use Rattle.gc_lines.specs.Assembler.{StandsFor};
 ghost use Rattle.gc_lines.specs.Frames.{rest_behind};
 ghost use Rattle.gc_lines.specs.Lent.{lent_seen};
-ghost use Rattle.gc_lines.specs.Passing.{completed, frames_behind, Gathering, GathersPart, HasRoom, parted};
+ghost use Rattle.gc_lines.specs.Passing.{completed, frames_behind, Gathering, GathersPart, HasRoom, parted, Progress};
 ghost use Rattle.gc_lines.specs.Ports.{FailsWith, TakesFront};
 ghost use Rattle.gc_lines.specs.declared.frame.Frame.{Frame};
 
@@ -33,6 +33,7 @@ pub(crate) struct Session {
 }
 
 impl Session {
+    // A session at the start of a stream.
     pub(crate) fn new(gathers: bool) -> Session
         ensures assembler { StandsFor result.assembler [] }
         ensures gathers { result.gathers ≡ gathers }
@@ -68,8 +69,9 @@ impl Session {
             × AnswersAll A.answers answerer.old answerer.new (frames_behind rest piece.now)
             (K.taken sink.old) (K.taken sink.new) self.old.replies self.new.replies) }
         ensures err { IfErr result (λ bytes. (rest : List ℕ) → StandsFor self.old.assembler rest
-            → GathersPart A.answers answerer.old answerer.new (frames_behind rest piece.now)
-            (K.taken sink.old) (K.taken sink.new) self.old.replies self.new.replies bytes self.old.gathers) }
+            → GathersPart A.answers (record { state = answerer.old; taken = K.taken sink.old; whole = self.old.replies })
+            (record { state = answerer.new; taken = K.taken sink.new; whole = self.new.replies })
+            (frames_behind rest piece.now) bytes self.old.gathers) }
     {
         let mut left = piece;
         while !left.is_empty() {
@@ -99,46 +101,20 @@ impl Session {
         ensures room { OnOk result (HasRoom self.new.text.items self.new.lengths self.new.gathers) }
         ensures same { (self.new.assembler ≡ self.old.assembler) × (self.new.gathers ≡ self.old.gathers) }
         ensures failed { FailsWith result (K.failed sink.old) (K.failed sink.new) }
-        ensures ok { OnOk result ((from : A) (seen : List Frame) (old : Option (List ℕ)) (before : ℕ)
-            → Gathering A.answers from answerer.old seen old (K.taken sink.old) before self.old.replies self.old.text.items self.old.lengths
-            → Gathering A.answers from answerer.new (seen ++ completed (lent_seen frame.entry)) old (K.taken sink.new) before
-            self.new.replies self.new.text.items self.new.lengths) }
-        ensures err { IfErr result (λ bytes. (from : A) (seen : List Frame) (old : Option (List ℕ)) (before : ℕ)
-            → Gathering A.answers from answerer.old seen old (K.taken sink.old) before self.old.replies self.old.text.items self.old.lengths
-            → GathersPart A.answers from answerer.new (seen ++ completed (lent_seen frame.entry)) old (K.taken sink.new) before
-            self.new.replies bytes self.old.gathers) }
+        ensures ok { OnOk result ((from : Progress A) (seen : List Frame)
+            → Gathering A.answers from (record { state = answerer.old; taken = K.taken sink.old; whole = self.old.replies })
+            seen self.old.text.items self.old.lengths
+            → Gathering A.answers from (record { state = answerer.new; taken = K.taken sink.new; whole = self.new.replies })
+            (seen ++ completed (lent_seen frame.entry)) self.new.text.items self.new.lengths) }
+        ensures err { IfErr result (λ bytes. (from : Progress A) (seen : List Frame)
+            → Gathering A.answers from (record { state = answerer.old; taken = K.taken sink.old; whole = self.old.replies })
+            seen self.old.text.items self.old.lengths
+            → GathersPart A.answers from (record { state = answerer.new; taken = K.taken sink.new; whole = self.new.replies })
+            (seen ++ completed (lent_seen frame.entry)) bytes self.old.gathers) }
     {
-        match frame {
-            Lent::More => Ok(()),
-            Lent::Line(_) | Lent::Cleared | Lent::Overlong => self.answer_ended(
-                answerer, sink, frame,
-            ),
+        if let Lent::More = frame {
+            return Ok(());
         }
-    }
-
-    // Answers a frame that a line feed has ended.
-    fn answer_ended<A: Answers, K: Sink>(
-        &mut self,
-        answerer: &mut A,
-        sink: &mut K,
-        frame: Lent<'_>,
-    ) -> Result<(), usize>
-        requires count { self.old.replies + length self.old.lengths + 1 < 2 ^ 64 }
-        requires room { HasRoom self.old.text.items self.old.lengths self.old.gathers }
-        ensures few { self.new.replies ≤ self.old.replies + length self.old.lengths + 1 }
-        ensures bound { OnOk result (self.new.replies + length self.new.lengths ≤ self.old.replies + length self.old.lengths + 1) }
-        ensures room { OnOk result (HasRoom self.new.text.items self.new.lengths self.new.gathers) }
-        ensures same { (self.new.assembler ≡ self.old.assembler) × (self.new.gathers ≡ self.old.gathers) }
-        ensures failed { FailsWith result (K.failed sink.old) (K.failed sink.new) }
-        ensures ok { OnOk result ((from : A) (seen : List Frame) (old : Option (List ℕ)) (before : ℕ)
-            → Gathering A.answers from answerer.old seen old (K.taken sink.old) before self.old.replies self.old.text.items self.old.lengths
-            → Gathering A.answers from answerer.new (seen ++ lent_seen frame.entry ∷ []) old (K.taken sink.new) before
-            self.new.replies self.new.text.items self.new.lengths) }
-        ensures err { IfErr result (λ bytes. (from : A) (seen : List Frame) (old : Option (List ℕ)) (before : ℕ)
-            → Gathering A.answers from answerer.old seen old (K.taken sink.old) before self.old.replies self.old.text.items self.old.lengths
-            → GathersPart A.answers from answerer.new (seen ++ lent_seen frame.entry ∷ []) old (K.taken sink.new) before
-            self.new.replies bytes self.old.gathers) }
-    {
         let before = self.text.len();
         if !answerer.answer(frame, &mut self.text) {
             return Ok(());
@@ -185,8 +161,8 @@ impl Session {
         }
     }
 
-    // Of the texts that wait the first `taken` bytes went out: counts those that did whole, and says how many bytes of the
-    // next did.
+    // Of the texts that wait the first `taken` bytes went out. It counts the texts that went out whole, and returns how many
+    // bytes of the next one did.
     #[inline(never)]
     fn count_part(&mut self, taken: usize) -> usize
         requires { self.old.replies + length self.old.lengths < 2 ^ 64 }
@@ -200,7 +176,8 @@ impl Session {
     }
 }
 
-// Of texts of these lengths, behind `whole` others, how many went out whole where `taken` bytes did, and how many bytes of the next.
+// Of texts of these lengths the first `taken` bytes went out. It returns how many texts went out whole, the `whole` ones before
+// them counted, and how many bytes of the next one did.
 fn parted(whole: u64, taken: usize, lengths: &[usize]) -> (u64, usize)
     requires { whole + length lengths.now < 2 ^ 64 }
     ensures parts { result ≡ parted whole taken lengths.now }

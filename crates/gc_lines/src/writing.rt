@@ -1,4 +1,4 @@
-//! The writing of bytes, whole, into a sink: as many writes as the sink needs, until it has all of them or has failed.
+//! Bytes are written whole: in as many writes as the sink needs, until it has all of them or has failed.
 
 ghost use Rattle.std.specs.Prelude.{◌≡◌, ◌++◌, ◌<◌, length, OnOk, IfErr};
 ghost use Rattle.std.specs.Io.KnownBytes.{Appends};
@@ -9,7 +9,7 @@ use crate::line::{Line, append};
 use crate::ports::Sink;
 use arrayvec::ArrayVec;
 
-/// Writes all of the bytes. `Err(n)`: the sink took the first n of them, which aren't all, and failed.
+/// Writes all of the bytes. `Err(n)`: the sink took only the first n of them, and failed.
 pub fn write_whole<K: Sink>(sink: &mut K, bytes: &[u8]) -> Result<(), usize>
     ensures failed { FailsWith result (K.failed sink.old) (K.failed sink.new) }
     ensures ok { OnOk result (Appends (K.taken sink.old) (K.taken sink.new) bytes.now) }
@@ -25,8 +25,8 @@ pub fn write_whole<K: Sink>(sink: &mut K, bytes: &[u8]) -> Result<(), usize>
     Ok(())
 }
 
-/// Writes a line with its CR LF, in one write where the sink takes all of it. `Err(n)`: the sink took the first n bytes of
-/// that, which aren't all, and failed.
+/// Writes a line with its CR LF, in one write where the sink takes all of it. `Err(n)`: the sink took only the first n bytes of
+/// that, and failed.
 pub fn write_line<K: Sink>(sink: &mut K, line: &Line) -> Result<(), usize>
     ensures failed { FailsWith result (K.failed sink.old) (K.failed sink.new) }
     ensures ok { OnOk result (Appends (K.taken sink.old) (K.taken sink.new) (with_end line.now.items)) }

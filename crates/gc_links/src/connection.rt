@@ -4,7 +4,11 @@ use std::io::{self, ErrorKind};
 use std::net::{Net, SocketAddr, TcpListener, TcpStream, ToSocketAddrs};
 use std::time::Duration;
 
-/// Who is connected to.
+/// How long the making of a connection, or one write, may wait for the other end, in milliseconds. A radio modem takes a request
+/// line in less than a second. A put whose line goes out in parts may wait so long for each of them over TCP.
+pub(crate) const PATIENCE: u64 = 10_000;
+
+/// The other end of a connection over TCP.
 #[derive(Clone, Copy)]
 pub(crate) enum Peer<'a> {
     // A port of 127.0.0.1.
@@ -13,10 +17,10 @@ pub(crate) enum Peer<'a> {
     Host(&'a str),
 }
 
-/// Connects, and waits for it no longer than so long, for each address that a name has now. The first that answers is the one.
+/// Connects to the first address of a peer that answers, and waits for each no longer than `patience`.
 ///
-/// It fails where a name isn't found and where none answers; and where a connection would be one to itself, as the system can
-/// make it at a port where nobody listens.
+/// It fails where a name isn't found, and where no address answers. It fails, too, where the connection would be one to itself,
+/// as the system can make it at a port where nobody listens.
 pub(crate) fn connect<R: Net<Listener = TcpListener, Stream = TcpStream>>(
     rt: &R,
     peer: Peer<'_>,
@@ -64,7 +68,7 @@ pub(crate) fn here(port: u16) -> SocketAddr {
     SocketAddr::from(([127, 0, 0, 1], port))
 }
 
-/// Sends each line as it is written. Where that can't be had, lines are only later, so it is no fault.
+/// Has each line sent as it is written. Where the system can't do that, lines only come later, so it is no fault.
 pub(crate) fn send_at_once(stream: &TcpStream) {
     let _ = stream.set_nodelay(true);
 }

@@ -3,6 +3,7 @@
 ghost use Rattle.std.specs.Prelude.{ℕ, ◌≤◌, List, length, None, IfOk, IfSome};
 ghost use Rattle.gc_links.specs.Acts.{IsWithin};
 
+use crate::connection::PATIENCE;
 use crate::link::{Came, Link, Moment};
 use crate::timer::Timer;
 use gc_lines::PortFailed;
@@ -11,13 +12,11 @@ use std::io::{self, ErrorKind, IsTerminal, Read, Write};
 use std::net::TcpStream;
 use std::os::fd::AsFd;
 use std::rt::Files;
-use std::time::Clock;
+use std::thread;
+use std::time::{Clock, Duration};
 
-/// How long to rest where nothing has come, or nothing can go, in milliseconds. A byte takes half of one at 19,200 baud.
-pub(crate) const REST: u64 = 2;
-
-/// How long one write may wait for a device that takes nothing, in milliseconds.
-pub(crate) const PATIENCE: u64 = 10_000;
+/// How long to rest where nothing has come, or nothing can go, in milliseconds. At 19,200 baud a byte takes half a millisecond.
+const REST: u64 = 2;
 
 /// Why a path is no device that a link can be had over.
 #[derive(Clone, Copy, Debug, PartialEq, Eq)]
@@ -30,11 +29,11 @@ pub enum Unusable {
     Forbidden,
 }
 
-/// Opens a device for reading and writing, and holds it, so that no second program of this kind gets it. Neither a read nor a
-/// write of it waits: where one would have to, the system answers `WouldBlock`, or that nothing was read where `stty` has
-/// `min 0`, which is an end. Without `clocal` the opening itself may wait for the carrier.
+/// Opens a device for reading and writing, and locks it, so that no second program of this kind gets it. No read or write of it
+/// waits. Where one would have to, the system answers `WouldBlock`; a read of a device that `stty` has set to `min 0` gives no
+/// bytes, which is an end. Without `clocal` the opening itself may wait for the carrier.
 ///
-/// `None` as the reason: it isn't there now, or it can't be opened for another reason than those that have a name.
+/// `None` as the reason: the device isn't there now, or it can't be opened for a reason without a name.
 pub(crate) fn open_device<R: Files<File = File>>(
     rt: &R,
     path: &str,
@@ -67,15 +66,43 @@ fn reason_of(kind: ErrorKind) -> Option<Unusable> {
     }
 }
 
-// Lets no call of a device wait. That is kept with what is open, and another descriptor of it serves to say so.
+// Makes no call of a device wait. The system keeps that with the open file, so it can be set by another descriptor of it.
 fn set_free(file: &File) -> io::Result<()> {
     let other = TcpStream::from(file.as_fd().try_clone_to_owned()?);
     other.set_nonblocking(true)
 }
 
-/// Whether an error says no more than that nothing came or went until now.
+/// Whether an error says only that nothing came or went until now.
 pub(crate) fn is_rest(kind: ErrorKind) -> bool {
     matches!(kind, ErrorKind::WouldBlock | ErrorKind::Interrupted)
+}
+
+/// Rests before the next look at a device.
+pub(crate) fn rest<R: Clock>(rt: &R) {
+    thread::sleep(rt, Duration::from_millis(REST));
+}
+
+/// Writes what a device takes of these bytes, and rests until it takes something. `rests` counts the rests of the writes before
+/// this one, too: all of them together last no longer than [`PATIENCE`].
+pub(crate) fn write_some<R: Clock>(
+    rt: &R,
+    file: &File,
+    bytes: &[u8],
+    rests: &mut u64,
+) -> io::Result<usize>
+    ensures { IfOk result (λ n. n ≤ length bytes.now) }
+{
+    let mut file = file;
+    while *rests < PATIENCE / REST {
+        match file.write(bytes) {
+            Err(error) if is_rest(error.kind()) => {
+                *rests += 1;
+                rest(rt);
+            }
+            ended => return ended,
+        }
+    }
+    Err(io::Error::from(ErrorKind::TimedOut))
 }
 
 /// A serial device by its path, and the time since the link was made. No clause says what a device carried, so its acts are not
@@ -86,7 +113,7 @@ pub struct DeviceLink<'a, R> {
     timer: Timer<'a, R>,
     path: &'a str,
     file: Option<File>,
-    // What was opened already, for the first time that it is to be.
+    // What `look` opened, for the link's first opening.
     first: Option<File>,
 }
 
@@ -102,7 +129,7 @@ impl<'a, R: Files<File = File> + Clock> DeviceLink<'a, R> {
         })
     }
 
-    /// Looks at the device, and opens it where it is there, for the link's first opening.
+    /// Looks whether the device is there, and opens it for the link's first opening.
     pub fn look(&mut self) -> Result<(), Option<Unusable>> {
         self.first = Some(open_device(self.rt, self.path)?);
         Ok(())
@@ -122,8 +149,8 @@ impl<'a, R: Files<File = File> + Clock> DeviceLink<'a, R> {
         }
     }
 
-    // Reads until some bytes came or so many milliseconds have gone by since `began`. Nothing had come until the moment that it
-    // tells, since a read behind that moment gave nothing.
+    // Reads until some bytes came, or until so many milliseconds have gone by since `began`. The moment of a silence is taken
+    // before the last read. That read gave nothing, so nothing had come until then.
     fn read_until(&mut self, buf: &mut [u8], began: u64, millis: u64) -> Came
         ensures { IsWithin result buf.new }
     {
@@ -164,20 +191,15 @@ impl<'a, R: Files<File = File> + Clock> Link for DeviceLink<'a, R> {
     }
 
     fn put(&mut self, bytes: &[u8]) -> Result<(), usize> {
+        let Some(file) = &self.file else {
+            return Err(0);
+        };
         let mut at = 0;
         let mut rests = 0;
         while at < bytes.len() {
-            let Some(file) = &mut self.file else {
-                return Err(at);
-            };
-            match file.write(&bytes[at..]) {
-                Ok(0) => return Err(at),
+            match write_some(self.rt, file, &bytes[at..], &mut rests) {
+                Ok(0) | Err(_) => return Err(at),
                 Ok(n) => at += n,
-                Err(error) if is_rest(error.kind()) && rests < PATIENCE / REST => {
-                    rests += 1;
-                    self.timer.rest(REST);
-                }
-                Err(_) => return Err(at),
             }
         }
         Ok(())

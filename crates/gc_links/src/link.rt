@@ -5,7 +5,7 @@ ghost use Rattle.gc_links.specs.Acts.{Closed, Tells, told_as, put_as, came_as, o
 
 use gc_lines::PortFailed;
 
-/// A moment, on two clocks. Either may go back; a request's deadline is then as far away as it was told.
+/// A moment, on two clocks. Either clock may go back. A request's deadline is then as far away as it was told.
 #[derive(Clone, Copy, Debug, PartialEq, Eq)]
 pub struct Moment {
     /// Milliseconds since some start, for deadlines.
@@ -19,7 +19,7 @@ pub struct Moment {
 pub enum Came {
     /// So many bytes.
     Bytes(usize, Moment),
-    /// None in the time that was allowed, and none had come until this moment. The link is as good as before.
+    /// No byte came in the time that was allowed, and none had come until this moment. The link is as good as before.
     Silence(Moment),
     /// The other end closed the connection.
     End,
@@ -45,14 +45,14 @@ pub trait Link {
 
     /// Reads some bytes, and waits for them no longer than so many milliseconds.
     ///
-    /// Where there is no connection it waits that long, and answers `Silence`.
+    /// Without a connection it waits that long, and returns `Silence`.
     fn read(&mut self, buf: &mut [u8], millis: u64) -> Came
         requires { 0 < length buf.old }
         ensures tells { Tells (acts self.old) (acts self.new) (came_as result buf.new ∷ []) }
         ensures within { IsWithin result buf.new };
 
-    /// Writes all of these bytes. `Err(n)`: the first n of them went out, which aren't all, and the connection failed. A
-    /// write that stalls is cut.
+    /// Writes all of these bytes. `Err(n)`: only the first n of them went out, and the connection failed. A write that stalls
+    /// is cut off.
     fn put(&mut self, bytes: &[u8]) -> Result<(), usize>
         requires { 0 < length bytes.now }
         ensures tells { Tells (acts self.old) (acts self.new) (put_as result bytes.now ∷ []) }

@@ -1,14 +1,11 @@
 //! Ports of 127.0.0.1 that are listened at, and the connections that come.
 
-use crate::connection::{Peer, connect, here, send_at_once};
+use crate::connection::{PATIENCE, Peer, connect, here, send_at_once};
 use std::io;
 use std::net::{Net, TcpListener, TcpStream};
 use std::time::Duration;
 
-// How long both ends of one connection of this machine to itself may take to find each other, in seconds.
-const PATIENCE: u64 = 10;
-
-/// Listens at a port of 127.0.0.1; at 0: at any free one.
+/// Listens at a port of 127.0.0.1. Port 0 stands for any free one.
 pub fn listen<R: Net<Listener = TcpListener, Stream = TcpStream>>(
     rt: &R,
     port: u16,
@@ -31,7 +28,7 @@ pub fn both_ends<R: Net<Listener = TcpListener, Stream = TcpStream>>(
     let near = connect(
         rt,
         Peer::Port(listener.local_addr()?.port()),
-        Duration::from_secs(PATIENCE),
+        Duration::from_millis(PATIENCE),
     )?;
     let far = accept(&listener)?;
     Ok((near, far))

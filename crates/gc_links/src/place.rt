@@ -17,8 +17,8 @@ pub enum Place<'a> {
     Device(&'a str),
 }
 
-/// The place that a word names. `None`: it is neither a port from 1 to 65535, nor something, a colon and such a port, nor has it
-/// a slash, as each path of a device is to have.
+/// The place that a word names: a port from 1 to 65535, `HOST:PORT` with such a port, or the path of a device, which has a
+/// slash. `None`: it is none of the three.
 pub fn place_of(word: &str) -> Option<Place<'_>>
     ensures { IfSome result (λ place. IsPlace word.now place) }
 {

@@ -25,8 +25,8 @@ impl<
     'a,
     R: Net<Listener = TcpListener, Stream = TcpStream> + Files<File = File> + Clock,
 > PlacedLink<'a, R> {
-    /// A link to a place. A device is looked at first: one that is there and can't be used is told, one that can is held for the
-    /// link's first opening, and one that isn't there may come yet. `None` as the reason: the clock can't be read.
+    /// A link to a place. A device is looked at first. One that can't be used is refused. One that can be used is held for the
+    /// link's first opening. One that isn't there may still come. `None` as the reason: the clock can't be read.
     pub fn new(rt: &'a R, place: Place<'a>) -> Result<PlacedLink<'a, R>, Option<Unusable>> {
         match place {
             Place::Port(port) => TcpLink::new(rt, port)
@@ -39,6 +39,7 @@ impl<
         }
     }
 
+    // A link to a device, which is looked at.
     fn to_device(rt: &'a R, path: &'a str) -> Result<PlacedLink<'a, R>, Option<Unusable>> {
         let Ok(mut link) = DeviceLink::new(rt, path) else {
             return Err(None);
@@ -50,6 +51,7 @@ impl<
     }
 }
 
+// Each call is that of the link inside.
 impl<'a, R: Net<Listener = TcpListener, Stream = TcpStream> + Files<File = File> + Clock> Link
     for PlacedLink<'a, R> {
     ghost acts = { λ _. None };

@@ -3,7 +3,7 @@
 ghost use Rattle.std.specs.Prelude.{◌≤◌, length, None, IfOk, IfSome};
 ghost use Rattle.gc_links.specs.Acts.{IsWithin};
 
-use crate::connection::{Peer, connect};
+use crate::connection::{PATIENCE, Peer, connect};
 use crate::link::{Came, Link, Moment};
 use crate::timer::Timer;
 use gc_lines::PortFailed;
@@ -11,12 +11,8 @@ use std::io::{self, ErrorKind, Read, Write};
 use std::net::{Net, TcpListener, TcpStream};
 use std::time::{Clock, Duration};
 
-// How long one write of the system, and the making of a connection, may wait for the other end, in milliseconds. A radio
-// modem takes a request line in less than a second; a put whose line goes out in parts may wait so long for each.
-const PATIENCE: u64 = 10_000;
-
-// A read that may wait no longer than so many milliseconds ends earlier, since the system may end it so much too late: a look every
-// few milliseconds keeps the moment that is waited for.
+// A read that may wait no longer than so many milliseconds only looks, since the system may end a wait so much too late. A look
+// every few milliseconds keeps the moment that is waited for.
 const SHORT: u64 = 40;
 
 // How often one put is tried again where it was interrupted.
@@ -40,7 +36,8 @@ impl<'a, R: Net<Listener = TcpListener, Stream = TcpStream> + Clock> TcpLink<'a,
         TcpLink::with_patience(rt, port, PATIENCE)
     }
 
-    /// A link to a port of which one write, and the making of a connection, waits no longer than so many milliseconds; for none, one.
+    /// A link to a port of 127.0.0.1. One write, and the making of a connection, waits no longer than so many milliseconds, and
+    /// at least one.
     pub fn with_patience(rt: &'a R, port: u16, patience: u64) -> io::Result<TcpLink<'a, R>> {
         TcpLink::to_peer(rt, Peer::Port(port), patience)
     }
@@ -51,6 +48,7 @@ impl<'a, R: Net<Listener = TcpListener, Stream = TcpStream> + Clock> TcpLink<'a,
         TcpLink::to_peer(rt, Peer::Host(host), PATIENCE)
     }
 
+    // A link to a peer that is not connected yet.
     fn to_peer(rt: &'a R, peer: Peer<'a>, patience: u64) -> io::Result<TcpLink<'a, R>> {
         Ok(TcpLink {
             rt,
@@ -61,7 +59,8 @@ impl<'a, R: Net<Listener = TcpListener, Stream = TcpStream> + Clock> TcpLink<'a,
         })
     }
 
-    // Reads for so many milliseconds, which the system may end too late. `None`: nothing came, or the read was interrupted.
+    // Reads, and waits so many milliseconds. The system may end the wait too late. `None`: nothing came, or the read was
+    // interrupted.
     fn read_for(&mut self, buf: &mut [u8], millis: u64) -> io::Result<Option<usize>>
         ensures { IfOk result (λ read. IfSome read (λ n. n ≤ length buf.new)) }
     {
@@ -77,8 +76,8 @@ impl<'a, R: Net<Listener = TcpListener, Stream = TcpStream> + Clock> TcpLink<'a,
         }
     }
 
-    // Reads once more where a read gave nothing: while this program was stopped bytes may have come, which lie unread. So the
-    // moment is told first, and it is a silence where nothing had come until then.
+    // Reads once more behind a read that gave nothing: bytes may have come while this program was stopped. The moment is taken
+    // first. Where this read gives nothing either, nothing had come until that moment.
     fn read_again(&mut self, buf: &mut [u8]) -> Came
         ensures { IsWithin result buf.new }
     {
@@ -93,8 +92,9 @@ impl<'a, R: Net<Listener = TcpListener, Stream = TcpStream> + Clock> TcpLink<'a,
     }
 }
 
-// How long a read is told to wait, so that it ends within so many milliseconds. The system may end a wait of more than a quarter of a
-// second too late by an eighth of it, and a shorter one by two of its ticks; who reads makes one that ended early again.
+// How long a read is told to wait, so that it ends within so many milliseconds. The system may end a wait too late: one of more
+// than a quarter of a second by an eighth of it, and a shorter one by two of its ticks. Who reads repeats a read that ended
+// early.
 fn in_time(millis: u64) -> u64
     ensures { result ≤ millis }
 {
@@ -106,7 +106,7 @@ fn is_interrupted(error: &io::Error) -> bool {
     error.kind() == ErrorKind::Interrupted
 }
 
-// Whether an error of a read says no more than that nothing came in its time.
+// Whether an error of a read says only that nothing came in its time.
 fn is_silence(kind: ErrorKind) -> bool {
     matches!(
         kind,
@@ -164,7 +164,8 @@ impl<'a, R: Net<Listener = TcpListener, Stream = TcpStream> + Clock> Link for Tc
         let Ok(stream) = connect(self.rt, self.peer, patience) else {
             return Err(PortFailed);
         };
-        // Without this a peer that takes nothing would hold a write for ever, so a connection that refuses it is none.
+        // Without this a peer that takes nothing would hold a write for ever. So a connection that refuses it counts
+        // as failed.
         if stream.set_write_timeout(Some(patience)).is_err() {
             return Err(PortFailed);
         }

@@ -1,4 +1,5 @@
-//! Any link, made to tell its acts: each call is made as it is, and what it came to is added to a history, which costs nothing.
+//! Any link, made to tell its acts. Each call is that of the link inside, and what it came to is added to a history, which
+//! costs nothing.
 
 ghost use Rattle.std.specs.Prelude.{◌≡◌, []};
 ghost use Rattle.gc_links.specs.Acts.{IsWithin, came_as};

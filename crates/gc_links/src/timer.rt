@@ -41,7 +41,7 @@ impl<'a, R: Clock> Timer<'a, R> {
         thread::sleep(self.rt, Duration::from_millis(millis));
     }
 
-    /// Rests so long where there is nothing to read from: nothing came.
+    /// Waits so long where there is no connection to read from. Nothing came.
     pub(crate) fn wait(&self, millis: u64) -> Came
         ensures { (buf : List ℕ) → IsWithin result buf }
     {
@@ -52,7 +52,7 @@ impl<'a, R: Clock> Timer<'a, R> {
         }
     }
 
-    /// A read gave so many bytes; none: that was the end.
+    /// What a read of so many bytes came to. None are the end.
     pub(crate) fn came(&self, n: usize) -> Came
         ensures { (buf : List ℕ) → n ≤ length buf → IsWithin result buf }
     {
@@ -66,7 +66,7 @@ impl<'a, R: Clock> Timer<'a, R> {
     }
 }
 
-// A time in milliseconds; the longest that a u64 holds, where it is longer.
+// A time in milliseconds, at most what a u64 holds.
 fn millis_of(time: Duration) -> u64 {
     u64::try_from(time.as_millis()).unwrap_or(u64::MAX)
 }

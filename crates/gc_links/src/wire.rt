@@ -1,19 +1,15 @@
-//! A connection whose two directions are read and written, and whose reads have no deadline: as `ask` and `serve` use it.
+//! A connection whose reads have no deadline, as `ask` and `serve` use it.
 
 ghost use Rattle.std.specs.Prelude.{◌≤◌, length, IfOk};
 
-use crate::connection::{Peer, connect};
-use crate::device::{PATIENCE as LONGEST_WRITE, REST, Unusable, is_rest, open_device};
+use crate::connection::{PATIENCE, Peer, connect};
+use crate::device::{Unusable, is_rest, open_device, rest, write_some};
 use crate::place::Place;
 use std::fs::File;
 use std::io::{self, ErrorKind, Read, Write};
 use std::net::{Net, TcpListener, TcpStream};
 use std::rt::Files;
-use std::thread;
 use std::time::{Clock, Duration};
-
-// How long the making of a connection may wait for each address, in seconds.
-const PATIENCE: u64 = 10;
 
 // The system's number of the error of a device that was pulled out: EIO.
 const PULLED_OUT: i32 = 5;
@@ -27,7 +23,7 @@ pub enum Wire<'a, R> {
     Device(&'a R, File),
 }
 
-/// Connects to a place, or opens it, where that is a device. `None` as the reason: it can't be had now.
+/// Connects to a place, or opens it where it is a device. `None` as the reason: it can't be had now.
 pub fn wire_to<'a, R: Net<Listener = TcpListener, Stream = TcpStream> + Files<File = File>>(
     rt: &'a R,
     place: Place<'_>,
@@ -37,13 +33,13 @@ pub fn wire_to<'a, R: Net<Listener = TcpListener, Stream = TcpStream> + Files<Fi
         Place::Host(host) => Peer::Host(host),
         Place::Device(path) => return wire_on(rt, path),
     };
-    match connect(rt, peer, Duration::from_secs(PATIENCE)) {
+    match connect(rt, peer, Duration::from_millis(PATIENCE)) {
         Ok(stream) => Ok(Wire::Tcp(stream)),
         Err(_) => Err(None),
     }
 }
 
-/// Opens a device, of which a read waits until something comes, as a connection's does.
+/// Opens a device. A read of it waits until something comes, as a read over TCP does.
 pub fn wire_on<'a, R: Files<File = File>>(
     rt: &'a R,
     path: &str,
@@ -51,6 +47,7 @@ pub fn wire_on<'a, R: Files<File = File>>(
     Ok(Wire::Device(rt, open_device(rt, path)?))
 }
 
+// A read waits until something comes.
 impl<'a, R: Clock> Read for &Wire<'a, R> {
     fn read(&mut self, buf: &mut [u8]) -> io::Result<usize> {
         match *self {
@@ -60,11 +57,12 @@ impl<'a, R: Clock> Read for &Wire<'a, R> {
     }
 }
 
+// A write waits until the other end takes something. Each goes out at once, so there is nothing to flush.
 impl<'a, R: Clock> Write for &Wire<'a, R> {
     fn write(&mut self, buf: &[u8]) -> io::Result<usize> {
         match *self {
             Wire::Tcp(stream) => write_to(stream, buf),
-            Wire::Device(rt, file) => write_device(*rt, file, buf),
+            Wire::Device(rt, file) => write_some(*rt, file, buf, &mut 0),
         }
     }
 
@@ -73,6 +71,7 @@ impl<'a, R: Clock> Write for &Wire<'a, R> {
     }
 }
 
+// Reads from a connection over TCP.
 fn read_from(stream: &TcpStream, buf: &mut [u8]) -> io::Result<usize>
     ensures { IfOk result (λ n. n ≤ length buf.new) }
 {
@@ -80,6 +79,7 @@ fn read_from(stream: &TcpStream, buf: &mut [u8]) -> io::Result<usize>
     stream.read(buf)
 }
 
+// Writes to a connection over TCP.
 fn write_to(stream: &TcpStream, buf: &[u8]) -> io::Result<usize>
     ensures { IfOk result (λ n. n ≤ length buf.now) }
 {
@@ -100,22 +100,4 @@ fn read_device<R: Clock>(rt: &R, file: &File, buf: &mut [u8]) -> io::Result<usiz
         }
     }
     Err(io::Error::from(ErrorKind::TimedOut))
-}
-
-// Writes what a device takes, and rests until it takes something.
-fn write_device<R: Clock>(rt: &R, file: &File, buf: &[u8]) -> io::Result<usize>
-    ensures { IfOk result (λ n. n ≤ length buf.now) }
-{
-    let mut file = file;
-    for _ in 0..LONGEST_WRITE / REST {
-        match file.write(buf) {
-            Err(error) if is_rest(error.kind()) => rest(rt),
-            ended => return ended,
-        }
-    }
-    Err(io::Error::from(ErrorKind::TimedOut))
-}
-
-fn rest<R: Clock>(rt: &R) {
-    thread::sleep(rt, Duration::from_millis(REST));
 }

@@ -1,7 +1,8 @@
 -- What contracts see of the ports for tests, and what a test tells them to do: this project's own.
 use Rattle.std.specs.Prelude.{◌≡◌, ℕ, ◌+◌, ◌-◌, ◌<◌, ◌≤◌, ◌==◌, ◌⊎◌, Bool, true, false, List, [], ◌∷◌, ◌++◌, length, take, drop, min, max, Result, Ok, Err}
 
--- a source: the bytes that it has still to give, the sizes of its next pieces, how many reads it was told to answer and how many it answered, whether the last of them was the end, and whether a call failed
+-- a source: the bytes and the sizes of the pieces that are still to come, how many reads it is to answer and how many it answered, whether the last was the end, and
+-- whether a call failed
 pub record SourceSeen : Type 0 where
   pub left : List ℕ
   pub sizes : List ℕ
@@ -10,7 +11,7 @@ pub record SourceSeen : Type 0 where
   pub ended : Bool
   pub failed : Bool
 
--- a sink: the bytes that it took, how many it takes for each call, how many writes it has still to answer, whether a call failed, and whether memory was wanting then
+-- a sink: the bytes that it took, how many it takes for each call, how many writes it is still to answer, whether a call failed, and whether memory was wanting then
 pub record SinkSeen : Type 0 where
   pub taken : List ℕ
   pub most : ℕ
@@ -23,14 +24,14 @@ abbrev pub piece_size : List ℕ → ℕ → ℕ → ℕ
 piece_size [] left room = min left room
 piece_size (size ∷ later) left room = min (max size 1) (min left room)
 
--- a read as it was told: it gives the next piece, and fails exactly where one has failed or all are answered that should be
+-- a read as the test told it: it gives the next piece, and fails exactly where one has failed or all are answered that should be
 abbrev pub ReadsAsTold : {E : Type 0} → SourceSeen → SourceSeen → ℕ → Result ℕ E → Type 0
 ReadsAsTold old new room (Ok n) =
     (old.failed ≡ false) × (old.reads < old.answers) × (n ≡ piece_size old.sizes (length old.left) room)
     × (new ≡ record old { left = drop n old.left; sizes = drop 1 old.sizes; reads = old.reads + 1; ended = (n == 0) })
 ReadsAsTold old new room (Err _) = ((old.failed ≡ true) ⊎ (old.answers ≤ old.reads)) × (new ≡ record old { failed = true })
 
--- a write as it was told: it takes as many bytes as it should, and fails exactly where one has failed, all are answered that should be, or memory is wanting
+-- a write as the test told it: it takes as many bytes as it should, and fails exactly where one has failed, all are answered that should be, or memory is wanting
 abbrev pub WritesAsTold : {E : Type 0} → SinkSeen → SinkSeen → List ℕ → Result ℕ E → Type 0
 WritesAsTold old new bytes (Ok n) =
     (old.failed ≡ false) × (0 < old.answers) × (n ≡ min old.most (length bytes))

@@ -1,4 +1,4 @@
-//! A pipe: what one port writes into it, another reads out of it, in one thread. Contracts know nothing of the bytes in it.
+//! A pipe: what one port writes into it, another reads out of it, in one thread. No contract knows the bytes in it.
 
 ghost use Rattle.std.specs.Prelude.{◌≡◌, ◌≤◌, ◌<◌, None, false, length};
 

@@ -9,7 +9,7 @@ use std::alloc::Global;
 use std::marker::Model;
 
 /// Takes at most a given number of bytes for each call, and keeps them. It fails where it can't
-/// store them, and says so.
+/// store them, and [`PieceSink::lacks_memory`] tells that.
 #[derive(Drop)]
 pub struct PieceSink {
     taken: Vec<u8>,

@@ -14,9 +14,6 @@ use Rattle.gc_values.proofs.ReadLemmas.{reads_value}
 use Rattle.gc_values.proofs.TextShape.{AreBare-append, bare_above, bare_digits, bare_param}
 use Rattle.gc_values.proofs.UnitsLemmas.{capped_short}
 
-pub counts_none : (front : ℕ) (text : List ℕ) (most : ℕ) → CountsDigits front text most front 0
-counts_none front text most = record { within = omega arith; few = omega arith; digits = tt; value_is = omega arith }
-
 pub counts_more : (front : ℕ) (text : List ℕ) (most value more i : ℕ) → CountsDigits front text most value i → i < length text → i < most → IsDigit (get_or text i 0) → more ≡ value * 10 + (get_or text i 0 - 48) → CountsDigits front text most more (i + 1)
 counts_more front text most value more i c inside few digit e = record {
   within = omega arith;
@@ -33,9 +30,6 @@ counts_small front text most value i c inside room =
     let power : 10 ^ (i + 1) ≡ 10 ^ i * 10 = rw add-one (pow-suc 10 i) in
     let all : (front + 1) * 10 ^ (i + 1) ≤ (front + 1) * 10 ^ most = mul-le-mul_left {m = 10 ^ (i + 1)} {n = 10 ^ most} (front + 1) (ten_pow_le (i + 1) most (omega arith)) in
     omega (arith, c.value_is, small, ap (λ k. 10 ^ k) size, ap (λ p. (front + 1) * p) power, all, room)
-
-pub counts_all : (front : ℕ) (text : List ℕ) (most value i : ℕ) → CountsDigits front text most value i → length text ≤ i → CountsDigits front text most value (length text)
-counts_all front text most value i c all = subst (λ n. CountsDigits front text most value n) (let e : i ≡ length text = let w = c.within in omega arith in e) c
 
 -- the digits behind the point find room
 pub counts_room : (text : List ℕ) (most value i : ℕ) → CountsDigits 0 text most value i → i ≤ 18 → (value + 1) * 10 ^ (18 - i) ≤ 10 ^ 18

@@ -104,12 +104,6 @@ AreDigits-at [] i d h lt = absurd (omega arith)
 AreDigits-at (b ∷ bs) zero d h lt = h.0
 AreDigits-at (b ∷ bs) (suc i) d h lt = AreDigits-at bs i d h.1 (omega arith)
 
-pub digit_or_zero-lt : (ds : List ℕ) (i : ℕ) → AreDigits ds → digit_or_zero ds i < 10
-digit_or_zero-lt ds i h = elim (cases_lt i (length ds)) [
-  | inl inside ↦ let here : IsDigit (get_or ds i 48) = AreDigits-at ds i 48 h inside in omega arith
-  | inr past ↦ omega (arith, get_or_past ds i 48 past)
-]
-
 pub AreDigits-append : (xs ys : List ℕ) → AreDigits xs → AreDigits ys → AreDigits (xs ++ ys)
 AreDigits-append [] ys h k = k
 AreDigits-append (x ∷ xs) ys h k = (h.0, AreDigits-append xs ys h.1 k)
@@ -168,10 +162,6 @@ min_pow cap n top z large = elim (cases_lt top z) [
   | inl past ↦ min_pow_many cap n top z large past
   | inr within ↦ ap (λ e. min cap (n * 10 ^ e)) (let e : min z top ≡ z = omega arith in e)
 ]
-
--- one digit more, below the cap
-pub kept_more_capped : (ds : List ℕ) (i cap kept_so_far : ℕ) → kept_so_far ≡ min cap (kept ds i) → min (kept_so_far * 10 + digit_or_zero ds i) cap ≡ min cap (kept ds (i + 1))
-kept_more_capped ds i cap so_far h = omega (arith, kept_more ds i)
 
 AreDigits-take_suc : (ds : List ℕ) (i : ℕ) → AreDigits (take i ds) → i < length ds → IsDigit (get_or ds i 0) → AreDigits (take (suc i) ds)
 AreDigits-take_suc [] i h lt d = tt

@@ -1,10 +1,10 @@
 -- One list of values for parameters and kinds, or one fault, and never both.
-use Rattle.std.specs.Prelude.{◌≡◌, ◌≢◌, ◌<◌, ◌≤◌, ◌%◌, ℕ, suc, List, [], ◌∷◌, map, length, Result, Ok, Err, IfErr, ◌⊎◌, refl}
+use Rattle.std.specs.Prelude.{◌≡◌, ◌<◌, ◌≤◌, ◌%◌, ℕ, suc, List, [], ◌∷◌, map, length, Result, Err, ◌⊎◌, refl}
 use Rattle.std.proofs.Common.{sym, ◌∙◌, ap, subst, inl, inr, arith}
 use Rattle.gc_values.specs.Item.{kind_of, text, IsItemFault}
 use Rattle.gc_values.specs.Params.{IsParams, joined, quotes}
 use Rattle.gc_values.specs.declared.fault.ValueFault.{ValueFault}
-use Rattle.gc_values.specs.declared.fault.ValueFault.TheVariants.{OpenQuote, TooMany, Count}
+use Rattle.gc_values.specs.declared.fault.ValueFault.TheVariants.{OpenQuote, TooMany}
 use Rattle.gc_values.specs.declared.value.Kind.{Kind}
 use Rattle.gc_values.specs.declared.value.Value.{Value}
 use Rattle.gc_values.specs.Lists.{kinds_of, AreItems, AreParams, AreValues, FirstFault, IsItemsFault, IsListFault, too_many, wrong_count, faulty_item, open_quote, faulty_items}
@@ -101,10 +101,3 @@ params_fit vs params x = items_fit vs x.items x.read
 pub split_fault : {X : Type 0} (r : Result X ValueFault) (ks : List Kind) (params : List ℕ) (e : ValueFault) → r ≡ Err e → ((e ≡ OpenQuote) ⊎ (e ≡ TooMany)) → (r ≡ Err OpenQuote → quotes params % 2 ≡ 1) → (r ≡ Err TooMany → (items : List (List ℕ)) × IsParams params items × (16 < length items)) → IsListFault ks params e
 split_fault r ks params e was (inl q) odd many = open_quote q (odd (was ∙ ap (λ f. Err f) q))
 split_fault r ks params e was (inr q) odd many = let found = many (was ∙ ap (λ f. Err f) q) in faulty_items found.0 found.1 (too_many q found.2)
-
-pub count_fault : (ks : List Kind) (params : List ℕ) (items : List (List ℕ)) → IsParams params items → length items ≤ 16 → length items ≢ length ks → IsListFault ks params Count
-count_fault ks params items s few other = faulty_items items s (wrong_count refl few other)
-
-pub item_fault : {X : Type 0} (r : Result X ValueFault) (ks : List Kind) (params : List ℕ) (items : List (List ℕ)) → IsParams params items → length items ≤ 16 → length items ≡ length ks → IfErr r (λ e. FirstFault ks items e) → IfErr r (λ e. IsListFault ks params e)
-item_fault (Ok x) ks params items s few same f = tt
-item_fault (Err e) ks params items s few same f = faulty_items items s (faulty_item few same f)

@@ -148,9 +148,6 @@ pub record SplitSoFar (text : List ℕ) (items : List (List ℕ)) (rest : List �
   pub are : ArePieces pieces items
   pub even : quotes rest % 2 ≡ 0
 
-pub split_none : (text : List ℕ) → quotes text % 2 ≡ 0 → SplitSoFar text [] text
-split_none text even = record { pieces = []; text_is = refl; are = tt; even = even }
-
 -- one item more
 pub split_more : (text rest piece next item : List ℕ) (items : List (List ℕ)) → SplitSoFar text items rest → CutsPiece rest piece (Some next) → IsTrimmed piece item → SplitSoFar text (items ++ item ∷ []) next
 split_more text rest piece next item items s cut t = record {

@@ -1,7 +1,7 @@
 -- Parameters in the common spelling.
 use Rattle.std.specs.Prelude.{◌≡◌, ◌+◌, ◌<◌, ◌≤◌, ℕ, List, [], ◌∷◌, ◌++◌, length, take, drop, Option, Some, None, refl}
 use Rattle.std.proofs.Common.{arith, sym, ap, ◌∙◌, subst, get_or, append-nil}
-use Rattle.std.proofs.lemmas.List.{take_more, take_all, take-append-drop, drop_more, length-take-le}
+use Rattle.std.proofs.lemmas.List.{take_all, take-append-drop, drop_more, length-take-le}
 use Rattle.gc_values.specs.Item.{IsItem}
 use Rattle.gc_values.specs.Lists.{AreParams}
 use Rattle.gc_values.specs.Plainly.{ArePlain, CutsPlain, LeftPlain}
@@ -9,21 +9,9 @@ use Rattle.gc_values.specs.declared.value.Value.{Value}
 use Rattle.gc_values.proofs.ParamLists.{joined_params}
 use Rattle.gc_values.proofs.TextShape.{AreBare, IsBare, bare_param}
 
-pub bare_byte_at : (b : ℕ) → (b ≡ 44 → ⊥) → ((b < 45) → b ≡ 39) → IsBare b
-bare_byte_at b comma low = record {
-  space = λ e. let f : b ≡ 39 = low (omega arith) in omega (arith, e, f);
-  quote = λ e. let f : b ≡ 39 = low (omega arith) in omega (arith, e, f);
-  comma = comma;
-  cr = λ e. let f : b ≡ 39 = low (omega arith) in omega (arith, e, f);
-  lf = λ e. let f : b ≡ 39 = low (omega arith) in omega (arith, e, f);
-}
-
 all_snoc : (xs : List ℕ) (b : ℕ) → AreBare xs → IsBare b → AreBare (xs ++ b ∷ [])
 all_snoc [] b h k = (k, tt)
 all_snoc (x ∷ xs) b h k = (h.0, all_snoc xs b h.1 k)
-
-pub bare_more : (text : List ℕ) (i : ℕ) → AreBare (take i text) → i < length text → IsBare (get_or text i 0) → AreBare (take (i + 1) text)
-bare_more text i h within k = subst AreBare (sym (take_more text i 0 within)) (all_snoc (take i text) (get_or text i 0) h k)
 
 pub plain_cut : (text : List ℕ) (i : ℕ) → AreBare (take i text) → 0 < i → i < length text → get_or text i 0 ≡ 44 → CutsPlain text (take i text) (Some (drop (i + 1) text))
 plain_cut text i h some within comma = record {

@@ -1,4 +1,4 @@
-use Rattle.std.proofs.Common.{◌≡◌, ◌↔◌, ◌⊎◌, inl, inr, ℕ, ◌+◌, ◌*◌, ◌^◌, ◌<◌, ◌≤◌, Bool, List, ◌++◌, length, Result, Ok, Err, IfOk, IfErr, MatchResult, refl, ap}
+use Rattle.std.proofs.Common.{◌≡◌, ◌↔◌, ◌⊎◌, inl, ℕ, ◌+◌, ◌*◌, ◌^◌, ◌<◌, ◌≤◌, Bool, List, ◌++◌, length, Result, Ok, Err, IfOk, IfErr, MatchResult, refl, ap}
 use Rattle.gc_values.specs.Cut.{ReadsNumeral}
 use Rattle.gc_values.specs.Digits.{number}
 use Rattle.gc_values.specs.Nearest.{IsCapped, MadeOf}
@@ -41,16 +41,6 @@ reads_range text e is beyond = record {
   range = (λ _. beyond, λ _. ap Err is);
   spelling = (λ h. absurd (range_is_other (Err e) (ap Err is) h), λ nothing. absurd (nothing beyond.2.0 beyond.2.1));
   faults = inl is;
-}
-
--- no number
-pub reads_spelling : (text : List ℕ) → SpellsNothing text → IsReading text (Err Spelling)
-reads_spelling text nothing = record {
-  value = tt;
-  only = λ d spelled. absurd (nothing spelled.0 spelled.1);
-  range = (λ h. absurd (range_is_other (Err Spelling) h refl), λ beyond. absurd (nothing beyond.2.0 beyond.2.1));
-  spelling = (λ _. nothing, λ _. refl);
-  faults = inr refl;
 }
 
 -- the parts of a numeral, and what is made of them

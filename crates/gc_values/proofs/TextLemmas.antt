@@ -1,5 +1,5 @@
-use Rattle.std.proofs.Common.{◌≡◌, ℕ, zero, suc, ◌+◌, ◌-◌, ◌<◌, ◌≤◌, List, [], ◌∷◌, ◌++◌, length, get_or, take, drop, replicate, refl, sym, ap, ◌∙◌, subst, arith, length-append}
-use Rattle.std.proofs.lemmas.List.{take_more, take_all, length-replicate}
+use Rattle.std.proofs.Common.{◌≡◌, ℕ, zero, suc, ◌-◌, ◌<◌, ◌≤◌, List, [], ◌∷◌, ◌++◌, length, get_or, take, drop, replicate, refl, sym, ap, ◌∙◌, subst, arith, length-append}
+use Rattle.std.proofs.lemmas.List.{length-replicate}
 use Rattle.std.proofs.Math.Seq.{take-append_seam, drop-append_seam}
 use Rattle.gc_values.specs.Padding.{IsKept}
 use Rattle.gc_values.specs.declared.text.Text.TheInside.{Inside}
@@ -8,12 +8,6 @@ use Rattle.gc_values.specs.Text.{IsStringByte, AreStringBytes, quoted, IsString}
 pub AreStringBytes-append : (xs ys : List ℕ) → AreStringBytes xs → AreStringBytes ys → AreStringBytes (xs ++ ys)
 AreStringBytes-append [] ys h k = k
 AreStringBytes-append (x ∷ xs) ys h k = (h.0, AreStringBytes-append xs ys h.1 k)
-
-pub string_bytes_more : (bytes : List ℕ) (i : ℕ) → i < length bytes → AreStringBytes (take i bytes) → IsStringByte (get_or bytes i 0) → AreStringBytes (take (i + 1) bytes)
-string_bytes_more bytes i within so_far here = subst AreStringBytes (sym (take_more bytes i 0 within)) (AreStringBytes-append (take i bytes) (get_or bytes i 0 ∷ []) so_far (here, tt))
-
-pub string_bytes_all : (bytes : List ℕ) (i : ℕ) → length bytes ≤ i → AreStringBytes (take i bytes) → AreStringBytes bytes
-string_bytes_all bytes i all h = subst AreStringBytes (take_all i bytes all) h
 
 pub string_byte_at : (bytes : List ℕ) (i : ℕ) → i < length bytes → AreStringBytes bytes → IsStringByte (get_or bytes i 0)
 string_byte_at [] i within h = absurd (omega arith)
@@ -45,6 +39,3 @@ filled_is_kept bytes all e few plain =
       long = ap length e ∙ omega (arith, length-append bytes (replicate (64 - length bytes) 0), length-replicate {A = ℕ} (64 - length bytes) 0);
       plain = subst AreStringBytes (sym front) plain;
     }
-
-pub filled_front : (bytes all : List ℕ) → all ≡ bytes ++ replicate (64 - length bytes) 0 → take (length bytes) all ≡ bytes
-filled_front bytes all e = ap (take (length bytes)) e ∙ take-append_seam bytes (replicate (64 - length bytes) 0)

@@ -227,7 +227,3 @@ first_not_space b bs (suc m) (suc n) h e = let t : replicate m 32 ++ b ∷ bs �
 pub front_not_spaces : (text item : List ℕ) → TrimsFront text item → 0 < length item → AreSpaces text → ⊥
 front_not_spaces text [] t some s = omega arith
 front_not_spaces text (b ∷ bs) t some s = first_not_space b bs t.count s.0 t.first (sym t.text_is ∙ s.1)
-
-pub front_spaces_alone : (text item : List ℕ) → TrimsFront text item → length item ≡ 0 → AreSpaces text
-front_spaces_alone text [] t none = (t.count, t.text_is ∙ append-nil (replicate t.count 32))
-front_spaces_alone text (b ∷ bs) t none = absurd (omega arith)

@@ -1,6 +1,5 @@
 use Rattle.std.proofs.Common.{◌≡◌, ℕ, ◌+◌, ◌-◌, ◌*◌, ◌<◌, ◌≤◌, min, Bool, true, false, cond, ℤ, List, [], ◌∷◌, length, get_or, take, refl, sym, ap, ◌∙◌, subst, inl, inr, arith}
 use Rattle.std.proofs.lemmas.Int.{ints}
-use Rattle.std.proofs.lemmas.List.{take_all}
 use Rattle.gc_values.specs.Cut.{StartsNoSign, CutsSign}
 use Rattle.gc_values.specs.Digits.{IsDigit, AreDigits, number}
 use Rattle.gc_values.specs.Fraction.{signed}
@@ -15,9 +14,6 @@ pub record CountedSoFar (text : List ℕ) (i cap value : ℕ) : Type 0 where
   pub digits : AreDigits (take i text)
   pub value_is : value ≡ min cap (number (take i text))
 
-pub counted_none : (text : List ℕ) (cap : ℕ) → CountedSoFar text 0 cap 0
-counted_none text cap = record { digits = tt; value_is = omega arith }
-
 capped_step : (n d cap value more whole : ℕ) → value ≡ min cap n → whole ≡ n * 10 + d → more ≡ min (value * 10 + d) cap → more ≡ min cap whole
 capped_step n d cap value more whole e f g = omega arith
 
@@ -30,14 +26,6 @@ counted_more text i cap value more c within here e = record {
 pub record Counted (text : List ℕ) (cap value : ℕ) : Type 0 where
   pub names : NamesNumber text (number text)
   pub value_is : value ≡ min cap (number text)
-
-pub counted_all : (text : List ℕ) (i cap value : ℕ) → CountedSoFar text i cap value → length text ≤ i → 0 < length text → Counted text cap value
-counted_all text i cap value c all some =
-    let whole = take_all i text all in
-    record {
-      names = record { digits = subst AreDigits whole c.digits; some = some; value = refl };
-      value_is = c.value_is ∙ ap (λ ds. min cap (number ds)) whole;
-    }
 
 -- a byte that is no digit
 pub not_number : (text : List ℕ) (i n : ℕ) → i < length text → (IsDigit (get_or text i 0) → ⊥) → NamesNumber text n → ⊥
@@ -74,11 +62,6 @@ pub one_whole : (text : List ℕ) (y z : ℤ) → NamesWhole text y → NamesWho
 one_whole text y z v w =
     let r = names_cut text v.digits (is_minus v.sign) z (cut_of text y v) w in
     v.value ∙ ap (signed (is_minus v.sign)) (one_number v.digits v.n r.0 v.number_is r.1) ∙ sym r.2
-
--- a number with its sign is between the two exactly where its size is
-pub between_from : (negative : Bool) (n below above : ℕ) → n ≤ cond negative below above → IsBetween below above (signed negative n)
-between_from false n below above h = (omega (arith, ints), omega (arith, ints))
-between_from true n below above h = (omega (arith, ints), omega (arith, ints))
 
 pub size_from : (negative : Bool) (n below above : ℕ) → IsBetween below above (signed negative n) → n ≤ cond negative below above
 size_from false n below above h = let u = h.1 in omega (arith, ints, u)

@@ -36,13 +36,6 @@ last_more old out new n k p some within e f =
     f ∙ ap (λ xs. xs ++ (48 + n / 10 ^ (p - 1) % 10) ∷ []) e ∙ append_assoc old (last_digits (k - p) (n / 10 ^ p)) ((48 + n / 10 ^ (p - 1) % 10) ∷ []) ∙ ap (λ xs. old ++ xs)
     (ap (λ x. last_digits (k - p) x ++ (48 + n / 10 ^ (p - 1) % 10) ∷ []) (sym (next_place n p some)) ∙ ap (λ j. last_digits j (n / 10 ^ (p - 1))) (sym more))
 
--- one power less
-pub unit_below : (unit p : ℕ) → 0 < p → unit ≡ 10 ^ p → unit / 10 ≡ 10 ^ (p - 1)
-unit_below unit p some e =
-    let back : suc (p - 1) ≡ p = omega arith in
-    let power : 10 ^ p ≡ 10 ^ (p - 1) * 10 = ap (λ k. 10 ^ k) (sym back) ∙ pow-suc 10 (p - 1) in
-    omega (arith, e, power)
-
 -- the last digit and the others, of a number below a power
 mod_over : (n k : ℕ) → n % 10 ^ suc k ≡ n / 10 % 10 ^ k * 10 + n % 10
 mod_over n k = ap (λ p. n % p) (pow-suc 10 k) ∙ mod-mul n {m = 10 ^ k} {c = 10} (ten_pow_pos k) (lit< tt)

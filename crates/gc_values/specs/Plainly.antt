@@ -19,7 +19,7 @@ pub record CutsPlain (text item : List ℕ) (rest : Option (List ℕ)) : Type 0 
   pub param : IsParam item
   pub some : 0 < length item
 
--- the first few bytes are digits, at most so many, and the value is the number that they write behind a number in front of them
+-- the first few bytes are digits, at most so many, and the value is the number that they write behind the digits of front
 pub record CountsDigits (front : ℕ) (text : List ℕ) (most value count : ℕ) : Type 0 where
   pub within : count ≤ length text
   pub few : count ≤ most

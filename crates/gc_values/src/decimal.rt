@@ -63,7 +63,7 @@ fn without_zeros(mut magnitude: u128, mut scale: u8) -> (u128, u8)
     (magnitude, scale)
 }
 
-/// `a / b`, cut off: in 64 bits where both fit in them, since a division of 128 bits is slow.
+/// `a / b`, rounded down. It divides in 64 bits where both fit, since a division of 128 bits is slow.
 fn quotient(a: u128, b: u128) -> u128
     requires { 0 < b }
     ensures { result ≡ a / b }
@@ -74,7 +74,7 @@ fn quotient(a: u128, b: u128) -> u128
     }
 }
 
-/// The whole number nearest to `a / b`, and the greater of two.
+/// The whole number nearest to `a / b`, and of two that are as near the greater.
 fn nearest(a: u128, b: u128) -> u128
     requires { 0 < b }
     ensures rounds { RoundsHalfUp a b result }
@@ -85,7 +85,7 @@ fn nearest(a: u128, b: u128) -> u128
     if rest >= b - rest { below + 1 } else { below }
 }
 
-/// Puts the digits behind the point in front, and answers the number before the point.
+/// Returns the integer part and writes the fraction's digits into `tail`.
 fn put_places(tail: &mut Tail, magnitude: u128, scale: u8) -> u64
     requires empty { tail.old ≡ [] }
     requires places { scale ≤ 24 }
@@ -153,7 +153,7 @@ impl Decimal {
 
     /// The decimal of the value `digits / 10^scale`.
     ///
-    /// It refuses `Range` where the scale passes 24 or the value passes the bound, and nothing else.
+    /// It is refused as `Range` exactly where the scale passes 24 or the value passes the bound.
     pub fn new(digits: i128, scale: u8) -> Result<Decimal, ValueFault>
         ensures value { IfOk result (λ d. SameValue d.digits d.scale digits scale) }
         ensures exact { IsOk result ↔ ((scale ≤ 24) × IsInRange digits scale) }
@@ -193,9 +193,9 @@ impl Decimal {
 
     /// Reads a number's text, and rounds it to 24 places, half away from zero.
     ///
-    /// The text is an optional sign, digits with an optional point among, before or behind them, and optionally
-    /// `e` or `E` with an optional sign and one to three digits. Where it isn't, `Spelling` is refused; else
-    /// where the rounded value passes the bound, `Range`. After a refusal nothing has changed.
+    /// The text is an optional sign, digits with an optional point among, before or behind them, and
+    /// optionally `e` or `E` with an optional sign and one to three digits. Another text is refused as
+    /// `Spelling`, and a rounded value past the bound as `Range`.
     pub fn read(text: &[u8]) -> Result<Decimal, ValueFault>
         ensures value { IfOk result (λ d. Spells text.now d.digits d.scale) }
         ensures only { (d : Decimal) → Spells text.now d.digits d.scale → result ≡ Ok d }
@@ -238,7 +238,7 @@ impl Decimal {
         out
     }
 
-    /// Puts the written form into an end that has no bytes yet.
+    /// Writes the written form into an empty `tail`.
     fn put(&self, tail: &mut Tail)
         requires { tail.old ≡ [] }
         ensures { tail.new ≡ written self.now.digits self.now.scale }
@@ -252,7 +252,7 @@ impl Decimal {
         }
     }
 
-    /// Whether the absolute difference of two values is at most the area; an area below zero takes in nothing.
+    /// Whether two values are at most `area` apart. No two values are within an area below zero.
     pub fn within(&self, other: &Decimal, area: &Decimal) -> bool
         ensures fact { IsTrue result
             ↔ IsWithin (fraction self.now) (fraction other.now) (fraction area.now) }
@@ -310,6 +310,7 @@ impl fmt::Display for Decimal {
     }
 }
 
+// Decimals are ordered by their values.
 impl Ord for Decimal {
     ghost use Rattle.gc_values.specs.Decimals.{decimal_cmp};
     ghost use Rattle.gc_values.specs.DecimalOrder.{cmp_total, cmp_matches_eq};

@@ -1,5 +1,5 @@
-//! A number at the front of a list of parameters in the common spelling, read in one pass through its comma: few digits,
-//! and where it is a decimal a point and digits. Whatever else stands there isn't found, and is for others to read.
+//! A number at the front of a list of parameters in the common spelling, read in one pass through its comma: few
+//! digits, and where it is a decimal a point and digits. It finds nothing else; other readers do.
 
 ghost use Rattle.std.specs.Prelude.{◌≡◌, ◌+◌, ◌*◌, ◌^◌, ◌≤◌, [], IfSome};
 ghost use Rattle.std.specs.Option.{option_copied};
@@ -10,11 +10,11 @@ use crate::decimal::Decimal;
 /// A number of so many digits before the point is in a decimal's range.
 const WHOLE: usize = 13;
 
-/// So many digits fit in 64 bits, whichever they are.
+/// Any number of so many digits fits in 64 bits.
 const SHORT: usize = 18;
 
-/// The number that the digits at the front write behind a number in front of them, and how many they are. No more
-/// than `most` are taken.
+/// Reads at most `most` digits at the front as digits behind those of `front`. It returns the number that all of
+/// them write, and how many digits it read.
 #[inline]
 fn counted(front: u64, text: &[u8], most: usize) -> (u64, usize)
     requires { (front + 1) * 10 ^ most ≤ 10 ^ 18 }

@@ -1,7 +1,6 @@
-//! Parameters that are asked for one after the other, from the left: whoever knows a procedure asks for what it takes,
-//! and learns at the end whether the list was of just these kinds.
-//! That a list is refused for its quotes, its length, its count and its first faulty item, in this order, is this
-//! project's own.
+//! Parameters that are asked for one after the other, from the left. Who knows a procedure asks for what it takes,
+//! and learns at the end whether the list was of just these kinds. That a list is refused for its quotes, its
+//! length, its count and its first faulty item, in this order, is this project's own.
 
 ghost use Rattle.std.specs.Prelude.{◌≡◌, ◌∷◌, [], ℕ, List, Some, IfErr, OnOk, MatchOption};
 ghost use Rattle.gc_values.specs.Asked.{FailsFrom, ReadsFrom};
@@ -18,8 +17,8 @@ use crate::items::{Items, split};
 use crate::text::Text;
 use crate::value::{Kind, Value};
 
-/// Parameters that are asked for one after the other, from the left. One that is missing or doesn't read is a zero of
-/// its kind, and what is asked for behind it is answered all the same.
+/// Parameters that are asked for one after the other, from the left. One that is missing or doesn't read is a zero
+/// of its kind. The next one can be asked for all the same.
 pub trait Parameters {
     /// The parameters that are left are read as these values, and all went well so far.
     ghost reads: { Self → List Value → Type 0 };
@@ -58,7 +57,7 @@ pub trait Parameters {
         ensures fails { (ks : List Kind) (e : ValueFault) → fails self.new ks e → fails self.old (Kind.Text ∷ ks) e };
 }
 
-/// The parameters of any list, and where they aren't what is asked for, the fault of the list.
+/// The parameters of any list. Where they aren't what was asked for, [`Listed::finish`] names the list's fault.
 #[derive(Drop)]
 pub struct Listed<'a> {
     // The items, or why there are none.

@@ -1,5 +1,5 @@
-//! Parameters in the common spelling, read in one pass and without a list of items: no spaces, no strings, no plus.
-//! Whatever else stands there isn't done, and is for `Listed` to read.
+//! Parameters in the common spelling, read in one pass and without a list of items: no spaces, no strings, no
+//! plus. Anything else is left to `Listed`.
 
 ghost use Rattle.std.specs.Prelude.{◌≡◌, ◌∷◌, [], ℕ, pos, List, IfSome, IfNone, IsTrue, true};
 ghost use Rattle.std.specs.Option.{option_copied};
@@ -16,8 +16,9 @@ use crate::parameters::Parameters;
 use crate::text::Text;
 use crate::whole::{read_bool, read_long, read_short};
 
-/// The parameters of a list in the common spelling. Where they aren't just what was asked for, or anything else is
-/// odd, nothing is known at the end.
+/// The parameters of a list in the common spelling. Where they aren't just what was asked for, or one has another
+/// spelling, [`Quick::is_done`] says no at the end. Then nothing is known of the list, and
+/// [`Listed`](crate::Listed) reads it again.
 #[derive(Drop)]
 pub struct Quick<'a> {
     // What is left behind a comma, or nothing behind the end.
@@ -51,7 +52,7 @@ impl<'a> Quick<'a> {
         self.good && self.rest.is_none()
     }
 
-    // The next item; where there is none in the common spelling, any bytes.
+    // The next item. Where there is none in the common spelling, it is any bytes, and the list isn't good.
     #[inline]
     fn item(&mut self) -> &'a [u8]
         ensures { (v : Value) (vs : List Value) → ReadsPlainly self.new.good (option_copied self.new.rest) vs → IsItem result.now v
@@ -67,7 +68,7 @@ impl<'a> Quick<'a> {
         &[]
     }
 
-    // The next whole number, if it has few digits and no sign; else it is left.
+    // The next whole number, if it has few digits and no sign. Else it is left where it is.
     #[inline]
     fn number(&mut self) -> Option<u64>
         ensures reads { IfSome result (λ n. (v : Value) (vs : List Value) → ((item : List ℕ) → NamesWhole item (pos n) → IsItem item v)

@@ -48,7 +48,7 @@ impl Tail {
         self.bytes[self.start] = byte;
     }
 
-    /// Puts the last `count` digits of a number in front, and answers what stands before them.
+    /// Writes the last `count` digits of a number in front, and returns the number without them.
     #[inline]
     pub fn put_last(&mut self, n: u64, count: u8) -> u64
         requires { length self.old + count ≤ 40 }

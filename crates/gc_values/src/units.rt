@@ -11,7 +11,7 @@ use crate::limits::PLACES;
 /// One more than a decimal's greatest number of units of the last place: where a number stops to grow.
 const CAP: u128 = 10_000_000_000_000_000_000_000_000_000_000_000_001;
 
-/// So many digits fit in 64 bits, whichever they are.
+/// Any number of so many digits fits in 64 bits.
 const SHORT: usize = 18;
 
 /// The digit at a place of both runs in a row, and 0 behind the last one.
@@ -59,7 +59,7 @@ fn rounded(whole: &[u8], fraction: &[u8], count: usize) -> u128
     }
 }
 
-/// A number with zeros behind it; more of them than lead past the cap make no difference.
+/// A number with zeros behind it, at most the cap.
 fn with_zeros(kept: u128, zeros: usize) -> u128
     ensures { result ≡ min CAP (kept * 10 ^ zeros) }
 {
@@ -67,7 +67,7 @@ fn with_zeros(kept: u128, zeros: usize) -> u128
     kept.saturating_mul(power).min(CAP)
 }
 
-/// The number that digits write behind a number that stands in front of them, in 64 bits.
+/// The number of `front` with these digits behind it, in 64 bits.
 fn followed_by(front: u64, digits: &[u8]) -> u64
     requires digits { AreDigits digits.now }
     requires small { (front + 1) * 10 ^ length digits.now ≤ 10 ^ 18 }

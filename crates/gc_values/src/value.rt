@@ -39,7 +39,7 @@ pub enum Value {
     Text(Text),
 }
 
-/// The value that fills places of an array which hold none: false.
+/// The value in the unused places of an array: false.
 impl Default for Value {
     ghost use Rattle.std.specs.Prelude.{false, ◌≡◌};
     ghost use Rattle.gc_values.specs.declared.value.Value.TheVariants as value;

@@ -1,6 +1,6 @@
 //! Whole numbers, with a sign or without one: any number of digits is read, and the range is looked
 //! at afterwards, so that leading zeros never matter. The ranges are those of the GeoCOM manual's
-//! types; signs and leading zeros are read as this project's own leniency.
+//! types. That signs and leading zeros are read is this project's own.
 
 ghost use Rattle.std.specs.Prelude.{◌≡◌, ◌⊎◌, ◌+◌, ◌<◌, ◌≤◌, ◌^◌, ◌++◌, ℕ, ℤ, pos, ◌∷◌, [], Bool, IfOk, IfErr, length};
 ghost use Rattle.gc_values.specs.Whole.{NamesNumber, IsNumberFault, NamesWhole, IsBetween, IsWholeFault, FitsLong, FitsShort, signed_text};
@@ -79,8 +79,7 @@ pub fn read_bool(item: &[u8]) -> Result<bool, ValueFault>
     Ok(read_between(item, 0, 1)? == 1)
 }
 
-/// Puts a whole number's text into an end that has no bytes yet: a minus where it is below zero, and digits without
-/// leading zeros.
+/// Writes a whole number into an empty `tail`: a minus where it is below zero, and digits without leading zeros.
 fn put_signed(tail: &mut Tail, v: i32)
     requires { tail.old ≡ [] }
     ensures { tail.new ≡ signed_text v }

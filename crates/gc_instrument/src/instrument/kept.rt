@@ -9,8 +9,8 @@ use std::marker::Model;
 // The most bytes of a line.
 const ROOM: usize = 512;
 
-/// The id of a request and the line of its reply, or nothing. It is written in place, and bytes of an earlier line that are
-/// longer than this one stay behind it: to blank them would cost each request.
+/// The id of a request and the line of its reply, or nothing. The line is written in place. Bytes of a longer earlier
+/// line stay behind it, since each request would pay for blanking them.
 #[derive(Debug, Drop)]
 pub struct Kept {
     id: Option<u8>,
@@ -31,7 +31,7 @@ impl Model for Kept {
 }
 
 impl Kept {
-    /// Nothing.
+    /// Neither an id nor a line.
     pub fn nothing() -> Kept
         ensures { result ≡ None }
     {
@@ -50,14 +50,14 @@ impl Kept {
         self.id
     }
 
-    /// Nothing is kept any longer.
+    /// Forgets the id and the line.
     pub fn forget(&mut self)
         ensures { self.new ≡ None }
     {
         self.id = None;
     }
 
-    /// The line that is kept, where it is that of this id.
+    /// The line that is kept, where it is kept for this id.
     #[tactic(auto, using(crate::proofs::Keeping::none_asked, crate::proofs::Keeping::none_kept, crate::proofs::Keeping::same_kept, crate::proofs::Keeping::other_kept))]
     #[inline]
     pub fn line_of(&self, id: Option<u8>) -> Option<&[u8]>

@@ -49,8 +49,8 @@ impl Instrument {
         }
     }
 
-    /// Appends the reply to a line, if it is a request, to what is handed in, and says whether it is
-    /// one. Else what was handed in stays as it is. It is [`Instrument::on_line`] in place.
+    /// Appends the reply to a line to `out`, if the line is a request, and says whether it is one.
+    /// Else `out` stays as it is. It is [`Instrument::on_line`] in place.
     #[inline(always)]
     pub fn reply_onto<const N: usize>(&mut self, line: &[u8], out: &mut ArrayVec<u8, N>) -> bool
         requires { array_vec_len out.old + 512 ≤ N }

@@ -1,17 +1,48 @@
-use Rattle.std.proofs.Common.{◌≡◌, ◌⊎◌, inl, inr, ℕ, List, [], ◌∷◌, refl, sym, subst, Bor}
+use Rattle.std.proofs.Common.{◌≡◌, ℕ, ◌-◌, List, [], ◌∷◌, ◌++◌, length, refl, ap, ◌∙◌, arith, length-append}
 use Rattle.gc_lines.specs.Lent.{lent_seen}
 use Rattle.gc_lines.specs.Passing.{completed}
 use Rattle.gc_lines.specs.declared.frame.Lent.{Lent}
-use Rattle.gc_lines.specs.declared.frame.Lent.TheVariants.{Line, Cleared, Overlong}
+use Rattle.gc_lines.specs.declared.frame.Lent.TheVariants.{Line, Cleared, Overlong, More}
+use Rattle.gc_lines.proofs.Gathering.{gathering_silent, gathering_more, gathering_start, gathering_written, answered_part}
 use Rattle.gc_lines.proofs.session.Session.answer_frame.Goals as goal
 
-ended : (frame : Lent) → ((x : Bor (List ℕ)) × (frame ≡ Line x)) ⊎ ((frame ≡ Cleared) ⊎ (frame ≡ Overlong)) → completed (lent_seen frame) ≡ lent_seen frame ∷ []
-ended frame (inl (x, e)) = subst (λ (f : Lent). completed (lent_seen f) ≡ lent_seen f ∷ []) (sym e) refl
-ended frame (inr (inl e)) = subst (λ (f : Lent). completed (lent_seen f) ≡ lent_seen f ∷ []) (sym e) refl
-ended frame (inr (inr e)) = subst (λ (f : Lent). completed (lent_seen f) ≡ lent_seen f ∷ []) (sym e) refl
+-- a frame that a line feed has ended
+ended : (frame : Lent) → (frame ≡ More → ⊥) → completed (lent_seen frame) ≡ lent_seen frame ∷ []
+ended (Line line) not = refl
+ended Cleared not = refl
+ended Overlong not = refl
+ended More not = absurd (not refl)
 
-pub returns-in-Line-clause-ok : goal.returns-in-Line-clause-ok
-returns-in-Line-clause-ok g c = rw (ended c.args.frame c.in-Line.is) c.answer_ended.ensures.ok
+-- what is kept of a text that was appended is its length
+kept : (old new more lengths lengths' : List ℕ) (before now : ℕ) → before ≡ length old → now ≡ length new → new ≡ old ++ more → lengths' ≡ lengths ++ (now - before) ∷ []
+    → lengths' ≡ lengths ++ length more ∷ []
+kept old new more lengths lengths' before now at to is pushed =
+    let same : now - before ≡ length more = omega (arith, at, to, ap (λ (xs : List ℕ). length xs) is, length-append old more) in
+    pushed ∙ ap (λ (k : ℕ). lengths ++ k ∷ []) same
 
-pub returns-in-Line-clause-err : goal.returns-in-Line-clause-err
-returns-in-Line-clause-err g c = rw (ended c.args.frame c.in-Line.is) c.answer_ended.ensures.err
+pub returns-then-not-answer-clause-ok : goal.returns-then-not-answer-clause-ok
+returns-then-not-answer-clause-ok g c from seen h =
+    let answered = c.if-not-answer.ensures.answered in
+    rw (ended c.args.frame c.in_default.not-More, answered.1) (gathering_silent _ from _ _ seen _ _ _ answered.0 h)
+
+pub returns-then-may_wait-clause-ok : goal.returns-then-may_wait-clause-ok
+returns-then-may_wait-clause-ok g c from seen h =
+    let answered = c.if-not-answer.ensures.answered in
+    rw (ended c.args.frame c.in_default.not-More) (gathering_more _ from _ _ seen _ _ _ answered.0 _ _ answered.1 h answered.2
+    (kept _ _ _ _ _ _ _ c.len-before.ensures.value c.len.ensures.value answered.2 c.push.ensures))
+
+pub returns-in-Err-clause-err : goal.returns-in-Err-clause-err
+returns-in-Err-clause-err g c from seen h =
+    let answered = c.if-not-answer.ensures.answered in
+    let failed = c.in-Err.ensures.err in
+    rw (ended c.args.frame c.in_default.not-More) (answered_part _ from _ _ seen _ _ _ answered.0 _ _ _ failed.0 c.args.self.now.gathers c.requires.room.alone answered.1 h answered.2
+    (kept _ _ _ _ _ _ _ c.len-before.ensures.value c.len.ensures.value answered.2 c.push.ensures) failed.1 failed.2)
+
+pub returns-clause-ok : goal.returns-clause-ok
+returns-clause-ok g c from seen h =
+    let answered = c.if-not-answer.ensures.answered in
+    let written = c.in_default-write_texts.ensures.ok in
+    let more = gathering_more _ from _ _ seen _ _ _ answered.0 _ _ answered.1 h answered.2
+    (kept _ _ _ _ _ _ _ c.len-before.ensures.value c.len.ensures.value answered.2 c.push.ensures) in
+    rw (ended c.args.frame c.in_default.not-More, c.in_default-write_texts.ensures.nothing.0, c.in_default-write_texts.ensures.nothing.1)
+    (gathering_start _ from _ _ (gathering_written _ from _ _ _ _ _ _ more written.0 written.1))

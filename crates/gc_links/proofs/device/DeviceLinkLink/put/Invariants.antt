@@ -1,11 +1,8 @@
-use Rattle.std.proofs.Common.{length, ◌+◌, ◌-◌, ◌≤◌}
+use Rattle.std.proofs.Common.{length, ◌-◌, ◌≤◌}
 use Rattle.gc_links.proofs.device.DeviceLinkLink.put.Given as goal
 
 abbrev pub invariant-loop-at : goal.invariant-loop-at
-invariant-loop-at g l = record {
-  within : l.at ≤ length l.bytes;
-  few : l.rests ≤ 5000;
-}
+invariant-loop-at g l = record { within : l.at ≤ length l.bytes }
 
 abbrev pub decreases-loop-at : goal.decreases-loop-at
-decreases-loop-at g l = (length l.bytes - l.at) + (5000 - l.rests)
+decreases-loop-at g l = length l.bytes - l.at
