@@ -3,7 +3,7 @@
 ghost use Rattle.std.specs.Prelude.{◌≡◌, ◌+◌, ◌*◌, ◌-◌, ◌<◌, ◌≤◌, ◌++◌, [], ℕ, List, length, Err, IfOk, IfErr};
 ghost use Rattle.std.specs.Io.KnownBytes.{Consumes};
 ghost use Rattle.gc_lines.specs.Assembler.{StandsFor};
-ghost use Rattle.gc_ask.specs.AskRuns.{AskRuns, GivesCommands, RefusesText};
+ghost use Rattle.gc_ask.specs.AskRuns.{AskRuns};
 ghost use Rattle.gc_texts.specs.declared.text.TheConstants.{TEXT_LIMIT};
 ghost use Rattle.gc_texts.specs.Texts.{end_reads};
 ghost use Rattle.gc_ask.specs.Asking.{Asks, AskEnds, idle, waiting_for};
@@ -13,7 +13,7 @@ ghost use Rattle.gc_ask.specs.Listening.{Sends, Exchanges, ExchangeEnds, AsksOne
 use crate::client_end::ClientEnd;
 use crate::unheard::Unheard;
 use gc_lines::{Line, Sink, Source, write_line};
-use gc_texts::{Command, RunFault, read_commands, read_text, write_settlements};
+use gc_texts::{Command, RunFault, read_command_text, write_settlements};
 use std::alloc::Global;
 
 // What asking keeps from one command to the next.
@@ -174,28 +174,6 @@ pub fn run_ask<S: Source, I: Source, O: Sink, K: Sink>(
         Err(fault) => return Err(fault),
     };
     ask_all(commands.as_slice(), link_in, link_out, sink, max_reads)
-}
-
-/// Reads the whole command text of a source. The faults are those of `read_commands`, and `Read` where a read failed.
-pub fn read_command_text<S: Source>(alloc: Global, source: &mut S) -> Result<Vec<Command>, RunFault>
-    ensures found { IfOk result (λ commands. (given : List ℕ) × Consumes (S.remaining source.old) (S.remaining source.new) given
-        × (S.reads source.new ≤ S.reads source.old + length given + end_reads (S.ended source.new))
-        × GivesCommands given
-        (record { remaining = S.remaining source.old; reads = S.reads source.old; ended = S.ended source.old; failed = S.failed source.old })
-        (record { remaining = S.remaining source.new; reads = S.reads source.new; ended = S.ended source.new; failed = S.failed source.new })
-        commands.items) }
-    ensures fault { IfErr result (λ fault. (given : List ℕ) × Consumes (S.remaining source.old) (S.remaining source.new) given
-        × (S.reads source.new ≤ S.reads source.old + length given + end_reads (S.ended source.new))
-        × RefusesText given
-        (record { remaining = S.remaining source.old; reads = S.reads source.old; ended = S.ended source.old; failed = S.failed source.old })
-        (record { remaining = S.remaining source.new; reads = S.reads source.new; ended = S.ended source.new; failed = S.failed source.new })
-        fault) }
-    ensures bounded { S.reads source.new ≤ S.reads source.old + (TEXT_LIMIT + 1) }
-{
-    match read_text(alloc, source) {
-        Ok(text) => read_commands(alloc, text.as_slice()),
-        Err(fault) => Err(fault),
-    }
 }
 
 // Asks commands in order, in so many reads of the link at most.

@@ -9,12 +9,12 @@ ghost use Rattle.gc_ask.specs.Places.{fault_of_reason};
 ghost use Rattle.gc_ask.specs.declared.connections.TheConstants.{MOST_CONNECTIONS};
 ghost use Rattle.gc_texts.specs.Faults.{end_of_serving};
 
-use crate::ask::{ask_all, read_command_text};
+use crate::ask::ask_all;
 use crate::looped::loop_all;
 use gc_instrument::{Instrument, ServeFault, serve};
 use gc_lines::{FromReader, Sink, Source, ToWriter};
 use gc_links::{Place, Unusable, accept, both_ends, listen, wire_to};
-use gc_texts::RunFault;
+use gc_texts::{RunFault, read_command_text};
 use std::alloc::Global;
 use std::fs::File;
 use std::net::{Net, TcpListener, TcpStream};

@@ -9,7 +9,7 @@ ghost use Rattle.gc_ask.specs.Looping.{Loops, LoopEnds, LoopRuns};
 ghost use Rattle.gc_texts.specs.Texts.{end_reads};
 ghost use Rattle.gc_texts.specs.declared.fault.RunFault.{RunFault};
 
-use crate::ask::{Asking, read_command_text};
+use crate::ask::Asking;
 use crate::instrument_end::InstrumentEnd;
 use gc_instrument::Instrument;
 use gc_lines::{Sink, Source};
