@@ -9,6 +9,8 @@ ghost use Rattle.gc_texts.specs.Texts.{end_reads};
 ghost use Rattle.gc_ask.specs.Asking.{Asks, AskEnds, idle, waiting_for};
 ghost use Rattle.gc_texts.specs.declared.fault.RunFault.{RunFault};
 ghost use Rattle.gc_ask.specs.Listening.{Sends, Exchanges, ExchangeEnds, AsksOne, AskOneEnds};
+ghost use Rattle.gc_lines.specs.Answering.{ports_of};
+ghost use Rattle.gc_texts.specs.WholeTexts.{input_of};
 
 use crate::client_end::ClientEnd;
 use crate::unheard::Unheard;
@@ -26,6 +28,7 @@ pub(crate) struct Asking {
 }
 
 impl Asking {
+    // Before the first command.
     pub(crate) fn new(max_reads: u32) -> Asking
         ensures client { result.end.client.ids ≡ idle 0 }
         ensures assembler { StandsFor result.end.assembler [] }
@@ -82,8 +85,8 @@ impl Asking {
         ensures grows { I.reads link_in.old ≤ I.reads link_in.new }
         ensures reads { I.reads link_in.new + self.new.reads ≡ I.reads link_in.old + self.old.reads }
         ensures ends { ExchangeEnds
-            (record { remaining = I.remaining link_in.old; reads = I.reads link_in.old; ended = I.ended link_in.old; source_failed = I.failed link_in.old; taken = O.taken link_out.old; sink_failed = O.failed link_out.old })
-            (record { remaining = I.remaining link_in.new; reads = I.reads link_in.new; ended = I.ended link_in.new; source_failed = I.failed link_in.new; taken = O.taken link_out.new; sink_failed = O.failed link_out.new })
+            (ports_of I.Source link_in.old O.Sink link_out.old)
+            (ports_of I.Source link_in.new O.Sink link_out.new)
             self.old.reads self.new.reads result }
     {
         self.send(place, command, link_out)?;
@@ -111,8 +114,8 @@ impl Asking {
         ensures grows { I.reads link_in.old ≤ I.reads link_in.new }
         ensures reads { I.reads link_in.new + self.new.reads ≡ I.reads link_in.old + self.old.reads }
         ensures ends { AskOneEnds
-            (record { remaining = I.remaining link_in.old; reads = I.reads link_in.old; ended = I.ended link_in.old; source_failed = I.failed link_in.old; taken = O.taken link_out.old; sink_failed = O.failed link_out.old })
-            (record { remaining = I.remaining link_in.new; reads = I.reads link_in.new; ended = I.ended link_in.new; source_failed = I.failed link_in.new; taken = O.taken link_out.new; sink_failed = O.failed link_out.new })
+            (ports_of I.Source link_in.old O.Sink link_out.old)
+            (ports_of I.Source link_in.new O.Sink link_out.new)
             self.old.reads self.new.reads (K.failed sink.old) (K.failed sink.new) result }
     {
         match self.exchange(place, command, link_in, link_out) {
@@ -154,11 +157,11 @@ pub fn run_ask<S: Source, I: Source, O: Sink, K: Sink>(
     ensures asks { (given : List ℕ) × Consumes (S.remaining commands.old) (S.remaining commands.new) given
         × (S.reads commands.new ≤ S.reads commands.old + length given + end_reads (S.ended commands.new))
         × AskRuns given
-        (record { remaining = S.remaining commands.old; reads = S.reads commands.old; ended = S.ended commands.old; failed = S.failed commands.old })
-        (record { remaining = S.remaining commands.new; reads = S.reads commands.new; ended = S.ended commands.new; failed = S.failed commands.new })
+        (input_of S.Source commands.old)
+        (input_of S.Source commands.new)
         max_reads
-        (record { remaining = I.remaining link_in.old; reads = I.reads link_in.old; ended = I.ended link_in.old; source_failed = I.failed link_in.old; taken = O.taken link_out.old; sink_failed = O.failed link_out.old })
-        (record { remaining = I.remaining link_in.new; reads = I.reads link_in.new; ended = I.ended link_in.new; source_failed = I.failed link_in.new; taken = O.taken link_out.new; sink_failed = O.failed link_out.new })
+        (ports_of I.Source link_in.old O.Sink link_out.old)
+        (ports_of I.Source link_in.new O.Sink link_out.new)
         (K.taken sink.old) (K.taken sink.new) (K.failed sink.old) (K.failed sink.new) result }
 
     // At most 65,537 reads of the source were answered.
@@ -195,8 +198,8 @@ pub(crate) fn ask_all<I: Source, O: Sink, K: Sink>(
 
     // Why it ended, and which ports have failed.
     ensures ends { AskEnds
-        (record { remaining = I.remaining link_in.old; reads = I.reads link_in.old; ended = I.ended link_in.old; source_failed = I.failed link_in.old; taken = O.taken link_out.old; sink_failed = O.failed link_out.old })
-        (record { remaining = I.remaining link_in.new; reads = I.reads link_in.new; ended = I.ended link_in.new; source_failed = I.failed link_in.new; taken = O.taken link_out.new; sink_failed = O.failed link_out.new })
+        (ports_of I.Source link_in.old O.Sink link_out.old)
+        (ports_of I.Source link_in.new O.Sink link_out.new)
         (K.failed sink.old) (K.failed sink.new) result }
 {
     let mut asking = Asking::new(max_reads);

@@ -1,6 +1,7 @@
 -- Texts that are read whole from a source, what they give, and why they are refused: this project's own.
 use Rattle.std.specs.Prelude.{◌≡◌, ℕ, ◌+◌, ◌<◌, ◌≤◌, ◌⊎◌, Bool, true, false, List, length, Option}
 use Rattle.std.specs.Io.KnownBytes.{IsAtEnd}
+use Rattle.gc_lines.specs.declared.ports.Source.{Ghosts as Source}
 use Rattle.gc_texts.specs.Commands.{IsCommand, IsCommands}
 use Rattle.gc_texts.specs.LineForms.{TextFault}
 use Rattle.gc_texts.specs.declared.commands.Command.{Command}
@@ -15,6 +16,11 @@ pub record Input : Type 0 where
   pub reads : ℕ
   pub ended : Bool
   pub failed : Bool
+
+-- what is seen of this source, by the ghost members of its trait
+abbrev pub input_of : {S : Type 0} → Source S → S → Input
+input_of of_source source =
+    record { remaining = of_source.remaining source; reads = of_source.reads source; ended = of_source.ended source; failed = of_source.failed source }
 
 -- a source gave a text, to its end
 pub record WasRead (given : List ℕ) (old new : Input) : Type 0 where

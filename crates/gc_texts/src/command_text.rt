@@ -3,7 +3,7 @@
 ghost use Rattle.std.specs.Prelude.{◌+◌, ◌≤◌, ℕ, List, length, IfOk, IfErr};
 ghost use Rattle.std.specs.Io.KnownBytes.{Consumes};
 ghost use Rattle.gc_texts.specs.Texts.{end_reads};
-ghost use Rattle.gc_texts.specs.WholeTexts.{GivesCommands, RefusesCommands};
+ghost use Rattle.gc_texts.specs.WholeTexts.{GivesCommands, RefusesCommands, input_of};
 ghost use Rattle.gc_texts.specs.declared.text.TheConstants.{TEXT_LIMIT};
 
 use crate::commands::{Command, read_commands};
@@ -17,14 +17,14 @@ pub fn read_command_text<S: Source>(alloc: Global, source: &mut S) -> Result<Vec
     ensures found { IfOk result (λ commands. (given : List ℕ) × Consumes (S.remaining source.old) (S.remaining source.new) given
         × (S.reads source.new ≤ S.reads source.old + length given + end_reads (S.ended source.new))
         × GivesCommands given
-        (record { remaining = S.remaining source.old; reads = S.reads source.old; ended = S.ended source.old; failed = S.failed source.old })
-        (record { remaining = S.remaining source.new; reads = S.reads source.new; ended = S.ended source.new; failed = S.failed source.new })
+        (input_of S.Source source.old)
+        (input_of S.Source source.new)
         commands.items) }
     ensures refused { IfErr result (λ fault. (given : List ℕ) × Consumes (S.remaining source.old) (S.remaining source.new) given
         × (S.reads source.new ≤ S.reads source.old + length given + end_reads (S.ended source.new))
         × RefusesCommands given
-        (record { remaining = S.remaining source.old; reads = S.reads source.old; ended = S.ended source.old; failed = S.failed source.old })
-        (record { remaining = S.remaining source.new; reads = S.reads source.new; ended = S.ended source.new; failed = S.failed source.new })
+        (input_of S.Source source.old)
+        (input_of S.Source source.new)
         fault) }
     ensures bounded { S.reads source.new ≤ S.reads source.old + (TEXT_LIMIT + 1) }
 {
