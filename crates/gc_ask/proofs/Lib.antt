@@ -3,5 +3,4 @@ mod Asked
 mod Exchanging
 mod Keeps
 mod ById
-mod Refusing
 mod Looping

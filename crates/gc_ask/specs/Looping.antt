@@ -6,7 +6,7 @@ use Rattle.gc_texts.specs.Settlements.{settlement_lines}
 use Rattle.gc_texts.specs.declared.commands.Command.{Command}
 use Rattle.gc_texts.specs.declared.fault.RunFault.{RunFault}
 use Rattle.gc_texts.specs.declared.fault.RunFault.TheVariants.{Read, Write, TooManyReads, LinkClosed, Output}
-use Rattle.gc_ask.specs.AskRuns.{Input, RefusesText, GivesCommands}
+use Rattle.gc_texts.specs.WholeTexts.{Input, GivesCommands, RefusesCommands}
 use Rattle.gc_ask.specs.Asking.{asked, lost_of, request_text, request_texts, AsksAll, TellsPart, LinkEnds}
 
 -- what came settles the commands before one, which was sent, and is lost; those behind it weren't sent
@@ -68,7 +68,7 @@ pub record LoopsOver (commands : List Command) (client_old client_new instrument
 -- written; or its commands were asked
 abbrev pub LoopRuns : List ℕ → Input → Input → (client_old client_new instrument_old instrument_new : Ports) → (sink_old sink_new : Option (List ℕ)) → (failed_old failed_new : Bool) → Result (Unit {0}) RunFault → Type 0
 LoopRuns given old new client_old client_new instrument_old instrument_new sink_old sink_new failed_old failed_new result =
-    ((fault : RunFault) × (result ≡ Err fault) × RefusesText given old new fault
+    ((fault : RunFault) × (result ≡ Err fault) × RefusesCommands given old new fault
     × (client_new ≡ client_old) × (instrument_new ≡ instrument_old) × (sink_new ≡ sink_old) × (failed_new ≡ failed_old))
     ⊎ ((commands : List Command) × GivesCommands given old new commands
     × LoopsOver commands client_old client_new instrument_old instrument_new sink_old sink_new failed_old failed_new result)

@@ -3,17 +3,19 @@
 ghost use Rattle.std.specs.Prelude.{◌≡◌, ◌+◌, ◌*◌, ◌-◌, ◌<◌, ◌≤◌, ◌++◌, [], ℕ, List, length, Err, IfOk, IfErr};
 ghost use Rattle.std.specs.Io.KnownBytes.{Consumes};
 ghost use Rattle.gc_lines.specs.Assembler.{StandsFor};
-ghost use Rattle.gc_ask.specs.AskRuns.{AskRuns, GivesCommands, RefusesText};
+ghost use Rattle.gc_ask.specs.AskRuns.{AskRuns};
 ghost use Rattle.gc_texts.specs.declared.text.TheConstants.{TEXT_LIMIT};
 ghost use Rattle.gc_texts.specs.Texts.{end_reads};
 ghost use Rattle.gc_ask.specs.Asking.{Asks, AskEnds, idle, waiting_for};
 ghost use Rattle.gc_texts.specs.declared.fault.RunFault.{RunFault};
 ghost use Rattle.gc_ask.specs.Listening.{Sends, Exchanges, ExchangeEnds, AsksOne, AskOneEnds};
+ghost use Rattle.gc_lines.specs.Answering.{ports_of};
+ghost use Rattle.gc_texts.specs.WholeTexts.{input_of};
 
 use crate::client_end::ClientEnd;
 use crate::unheard::Unheard;
 use gc_lines::{Line, Sink, Source, write_line};
-use gc_texts::{Command, RunFault, read_commands, read_text, write_settlements};
+use gc_texts::{Command, RunFault, read_command_text, write_settlements};
 use std::alloc::Global;
 
 // What asking keeps from one command to the next.
@@ -26,6 +28,7 @@ pub(crate) struct Asking {
 }
 
 impl Asking {
+    // Before the first command.
     pub(crate) fn new(max_reads: u32) -> Asking
         ensures client { result.end.client.ids ≡ idle 0 }
         ensures assembler { StandsFor result.end.assembler [] }
@@ -82,8 +85,8 @@ impl Asking {
         ensures grows { I.reads link_in.old ≤ I.reads link_in.new }
         ensures reads { I.reads link_in.new + self.new.reads ≡ I.reads link_in.old + self.old.reads }
         ensures ends { ExchangeEnds
-            (record { remaining = I.remaining link_in.old; reads = I.reads link_in.old; ended = I.ended link_in.old; source_failed = I.failed link_in.old; taken = O.taken link_out.old; sink_failed = O.failed link_out.old })
-            (record { remaining = I.remaining link_in.new; reads = I.reads link_in.new; ended = I.ended link_in.new; source_failed = I.failed link_in.new; taken = O.taken link_out.new; sink_failed = O.failed link_out.new })
+            (ports_of I.Source link_in.old O.Sink link_out.old)
+            (ports_of I.Source link_in.new O.Sink link_out.new)
             self.old.reads self.new.reads result }
     {
         self.send(place, command, link_out)?;
@@ -111,8 +114,8 @@ impl Asking {
         ensures grows { I.reads link_in.old ≤ I.reads link_in.new }
         ensures reads { I.reads link_in.new + self.new.reads ≡ I.reads link_in.old + self.old.reads }
         ensures ends { AskOneEnds
-            (record { remaining = I.remaining link_in.old; reads = I.reads link_in.old; ended = I.ended link_in.old; source_failed = I.failed link_in.old; taken = O.taken link_out.old; sink_failed = O.failed link_out.old })
-            (record { remaining = I.remaining link_in.new; reads = I.reads link_in.new; ended = I.ended link_in.new; source_failed = I.failed link_in.new; taken = O.taken link_out.new; sink_failed = O.failed link_out.new })
+            (ports_of I.Source link_in.old O.Sink link_out.old)
+            (ports_of I.Source link_in.new O.Sink link_out.new)
             self.old.reads self.new.reads (K.failed sink.old) (K.failed sink.new) result }
     {
         match self.exchange(place, command, link_in, link_out) {
@@ -154,11 +157,11 @@ pub fn run_ask<S: Source, I: Source, O: Sink, K: Sink>(
     ensures asks { (given : List ℕ) × Consumes (S.remaining commands.old) (S.remaining commands.new) given
         × (S.reads commands.new ≤ S.reads commands.old + length given + end_reads (S.ended commands.new))
         × AskRuns given
-        (record { remaining = S.remaining commands.old; reads = S.reads commands.old; ended = S.ended commands.old; failed = S.failed commands.old })
-        (record { remaining = S.remaining commands.new; reads = S.reads commands.new; ended = S.ended commands.new; failed = S.failed commands.new })
+        (input_of S.Source commands.old)
+        (input_of S.Source commands.new)
         max_reads
-        (record { remaining = I.remaining link_in.old; reads = I.reads link_in.old; ended = I.ended link_in.old; source_failed = I.failed link_in.old; taken = O.taken link_out.old; sink_failed = O.failed link_out.old })
-        (record { remaining = I.remaining link_in.new; reads = I.reads link_in.new; ended = I.ended link_in.new; source_failed = I.failed link_in.new; taken = O.taken link_out.new; sink_failed = O.failed link_out.new })
+        (ports_of I.Source link_in.old O.Sink link_out.old)
+        (ports_of I.Source link_in.new O.Sink link_out.new)
         (K.taken sink.old) (K.taken sink.new) (K.failed sink.old) (K.failed sink.new) result }
 
     // At most 65,537 reads of the source were answered.
@@ -174,28 +177,6 @@ pub fn run_ask<S: Source, I: Source, O: Sink, K: Sink>(
         Err(fault) => return Err(fault),
     };
     ask_all(commands.as_slice(), link_in, link_out, sink, max_reads)
-}
-
-/// Reads the whole command text of a source. The faults are those of `read_commands`, and `Read` where a read failed.
-pub fn read_command_text<S: Source>(alloc: Global, source: &mut S) -> Result<Vec<Command>, RunFault>
-    ensures found { IfOk result (λ commands. (given : List ℕ) × Consumes (S.remaining source.old) (S.remaining source.new) given
-        × (S.reads source.new ≤ S.reads source.old + length given + end_reads (S.ended source.new))
-        × GivesCommands given
-        (record { remaining = S.remaining source.old; reads = S.reads source.old; ended = S.ended source.old; failed = S.failed source.old })
-        (record { remaining = S.remaining source.new; reads = S.reads source.new; ended = S.ended source.new; failed = S.failed source.new })
-        commands.items) }
-    ensures fault { IfErr result (λ fault. (given : List ℕ) × Consumes (S.remaining source.old) (S.remaining source.new) given
-        × (S.reads source.new ≤ S.reads source.old + length given + end_reads (S.ended source.new))
-        × RefusesText given
-        (record { remaining = S.remaining source.old; reads = S.reads source.old; ended = S.ended source.old; failed = S.failed source.old })
-        (record { remaining = S.remaining source.new; reads = S.reads source.new; ended = S.ended source.new; failed = S.failed source.new })
-        fault) }
-    ensures bounded { S.reads source.new ≤ S.reads source.old + (TEXT_LIMIT + 1) }
-{
-    match read_text(alloc, source) {
-        Ok(text) => read_commands(alloc, text.as_slice()),
-        Err(fault) => Err(fault),
-    }
 }
 
 // Asks commands in order, in so many reads of the link at most.
@@ -217,8 +198,8 @@ pub(crate) fn ask_all<I: Source, O: Sink, K: Sink>(
 
     // Why it ended, and which ports have failed.
     ensures ends { AskEnds
-        (record { remaining = I.remaining link_in.old; reads = I.reads link_in.old; ended = I.ended link_in.old; source_failed = I.failed link_in.old; taken = O.taken link_out.old; sink_failed = O.failed link_out.old })
-        (record { remaining = I.remaining link_in.new; reads = I.reads link_in.new; ended = I.ended link_in.new; source_failed = I.failed link_in.new; taken = O.taken link_out.new; sink_failed = O.failed link_out.new })
+        (ports_of I.Source link_in.old O.Sink link_out.old)
+        (ports_of I.Source link_in.new O.Sink link_out.new)
         (K.failed sink.old) (K.failed sink.new) result }
 {
     let mut asking = Asking::new(max_reads);

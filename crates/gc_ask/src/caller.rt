@@ -6,6 +6,7 @@ ghost use Rattle.gc_instrument.specs.Serving.{IsServing};
 ghost use Rattle.gc_instrument.specs.State.{restarted};
 ghost use Rattle.gc_lines.specs.declared.served.Served.{Served};
 ghost use Rattle.gc_lines.specs.declared.served.ServeFault.{ServeFault};
+ghost use Rattle.gc_lines.specs.Answering.{ports_of};
 
 use crate::callers::CallerFault;
 use gc_instrument::{Instrument, ServeFault, serve};
@@ -24,6 +25,7 @@ pub(crate) struct Caller<'a> {
 }
 
 impl<'a> Caller<'a> {
+    /// Over a connection that has its time-outs already. Nothing was read of it yet.
     pub(crate) fn new(stream: &'a TcpStream) -> Caller<'a> {
         Caller {
             stream,
@@ -68,8 +70,8 @@ pub(crate) fn serve_caller<S: Source, K: Sink>(
     max_reads: u32,
 ) -> Result<(), CallerFault>
     ensures { (end : Result Served ServeFault) × IsServing (restarted instrument.old) instrument.new
-        (record { remaining = S.remaining source.old; reads = S.reads source.old; ended = S.ended source.old; source_failed = S.failed source.old; taken = K.taken sink.old; sink_failed = K.failed sink.old })
-        (record { remaining = S.remaining source.new; reads = S.reads source.new; ended = S.ended source.new; source_failed = S.failed source.new; taken = K.taken sink.new; sink_failed = K.failed sink.new })
+        (ports_of S.Source source.old K.Sink sink.old)
+        (ports_of S.Source source.new K.Sink sink.new)
         max_reads end
         × (result ≡ end_of_caller end) }
 {

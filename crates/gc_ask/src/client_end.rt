@@ -24,6 +24,7 @@ pub(crate) struct ClientEnd {
 }
 
 impl ClientEnd {
+    // A client that waits for nothing, on a link of which nothing was read.
     pub(crate) fn new() -> ClientEnd
         ensures client { result.client.ids ≡ idle 0 }
         ensures assembler { StandsFor result.assembler [] }

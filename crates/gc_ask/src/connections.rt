@@ -8,13 +8,14 @@ ghost use Rattle.gc_instrument.specs.State.{restarted};
 ghost use Rattle.gc_ask.specs.Places.{fault_of_reason};
 ghost use Rattle.gc_ask.specs.declared.connections.TheConstants.{MOST_CONNECTIONS};
 ghost use Rattle.gc_texts.specs.Faults.{end_of_serving};
+ghost use Rattle.gc_lines.specs.Answering.{ports_of};
 
-use crate::ask::{ask_all, read_command_text};
+use crate::ask::ask_all;
 use crate::looped::loop_all;
 use gc_instrument::{Instrument, ServeFault, serve};
 use gc_lines::{FromReader, Sink, Source, ToWriter};
 use gc_links::{Place, Unusable, accept, both_ends, listen, wire_to};
-use gc_texts::RunFault;
+use gc_texts::{RunFault, read_command_text};
 use std::alloc::Global;
 use std::fs::File;
 use std::net::{Net, TcpListener, TcpStream};
@@ -170,8 +171,8 @@ pub(crate) fn serve_connection<S: Source, K: Sink>(
     max_reads: u32,
 ) -> Result<(), RunFault>
     ensures { (end : Result Served ServeFault) × IsServing (restarted instrument.old) instrument.new
-        (record { remaining = S.remaining source.old; reads = S.reads source.old; ended = S.ended source.old; source_failed = S.failed source.old; taken = K.taken sink.old; sink_failed = K.failed sink.old })
-        (record { remaining = S.remaining source.new; reads = S.reads source.new; ended = S.ended source.new; source_failed = S.failed source.new; taken = K.taken sink.new; sink_failed = K.failed sink.new })
+        (ports_of S.Source source.old K.Sink sink.old)
+        (ports_of S.Source source.new K.Sink sink.new)
         max_reads end
         × (result ≡ end_of_serving end) }
 {

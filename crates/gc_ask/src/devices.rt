@@ -109,6 +109,7 @@ impl<'a, R: Files<File = File> + Clock> DeviceCallers<'a, R> {
         Err(CallerFault::Socket)
     }
 
+    // Lets a second pass.
     fn rest(&self) {
         thread::sleep(self.rt, Duration::from_secs(REST));
     }
@@ -117,6 +118,7 @@ impl<'a, R: Files<File = File> + Clock> DeviceCallers<'a, R> {
 impl<'a, R: Files<File = File> + Clock> Callers for DeviceCallers<'a, R> {
     ghost served = { λ _. None };
 
+    // Serves the device until its end, once it is there. A rest is behind it, however it ended.
     fn serve_next(&mut self) -> Result<(), CallerFault> {
         let ended = match self.wait() {
             Ok(wire) => serve_caller(

@@ -3,6 +3,7 @@
 ghost use Rattle.std.specs.Prelude.{◌≡◌, ◌+◌, Err};
 ghost use Rattle.gc_texts.specs.declared.fault.RunFault.{RunFault};
 ghost use Rattle.gc_ask.specs.Listening.{StepEnds, CountsReplies};
+ghost use Rattle.gc_lines.specs.Answering.{ports_of};
 
 use crate::unheard::Unheard;
 use gc_instrument::Instrument;
@@ -18,6 +19,7 @@ pub(crate) struct InstrumentEnd {
 }
 
 impl InstrumentEnd {
+    // This instrument, on a link of which nothing was read.
     pub(crate) fn new(instrument: Instrument) -> InstrumentEnd {
         InstrumentEnd {
             instrument,
@@ -36,8 +38,8 @@ impl InstrumentEnd {
     ) -> Result<(), RunFault>
         ensures reads { I.reads link_in.new + reads.new ≡ I.reads link_in.old + reads.old }
         ensures ends { StepEnds
-            (record { remaining = I.remaining link_in.old; reads = I.reads link_in.old; ended = I.ended link_in.old; source_failed = I.failed link_in.old; taken = O.taken link_out.old; sink_failed = O.failed link_out.old })
-            (record { remaining = I.remaining link_in.new; reads = I.reads link_in.new; ended = I.ended link_in.new; source_failed = I.failed link_in.new; taken = O.taken link_out.new; sink_failed = O.failed link_out.new })
+            (ports_of I.Source link_in.old O.Sink link_out.old)
+            (ports_of I.Source link_in.new O.Sink link_out.new)
             result }
         ensures count { CountsReplies place result }
         ensures too_many { result ≡ Err RunFault.TooManyReads → reads.new ≡ 0 }

@@ -13,7 +13,7 @@ pub mod laws;
 mod looped;
 mod unheard;
 
-pub use ask::{read_command_text, run_ask};
+pub use ask::run_ask;
 pub use callers::{CallerFault, Callers, keep};
 pub use connections::{
     MOST_CONNECTIONS, ask_at, fault_of, loop_tcp, loop_tcp_on, serve_on, serve_tcp,

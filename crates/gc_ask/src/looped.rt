@@ -8,8 +8,10 @@ ghost use Rattle.gc_ask.specs.Listening.{LoopExchanges, LoopsOne, LoopOneEnds, B
 ghost use Rattle.gc_ask.specs.Looping.{Loops, LoopEnds, LoopRuns};
 ghost use Rattle.gc_texts.specs.Texts.{end_reads};
 ghost use Rattle.gc_texts.specs.declared.fault.RunFault.{RunFault};
+ghost use Rattle.gc_lines.specs.Answering.{ports_of};
+ghost use Rattle.gc_texts.specs.WholeTexts.{input_of};
 
-use crate::ask::{Asking, read_command_text};
+use crate::ask::Asking;
 use crate::instrument_end::InstrumentEnd;
 use gc_instrument::Instrument;
 use gc_lines::{Sink, Source};
@@ -38,12 +40,12 @@ pub fn run_loop_on<S: Source, A: Source, B: Sink, C: Source, D: Sink, K: Sink>(
     ensures loops { (given : List ℕ) × Consumes (S.remaining commands.old) (S.remaining commands.new) given
         × (S.reads commands.new ≤ S.reads commands.old + length given + end_reads (S.ended commands.new))
         × LoopRuns given
-        (record { remaining = S.remaining commands.old; reads = S.reads commands.old; ended = S.ended commands.old; failed = S.failed commands.old })
-        (record { remaining = S.remaining commands.new; reads = S.reads commands.new; ended = S.ended commands.new; failed = S.failed commands.new })
-        (record { remaining = A.remaining client_in.old; reads = A.reads client_in.old; ended = A.ended client_in.old; source_failed = A.failed client_in.old; taken = B.taken client_out.old; sink_failed = B.failed client_out.old })
-        (record { remaining = A.remaining client_in.new; reads = A.reads client_in.new; ended = A.ended client_in.new; source_failed = A.failed client_in.new; taken = B.taken client_out.new; sink_failed = B.failed client_out.new })
-        (record { remaining = C.remaining instrument_in.old; reads = C.reads instrument_in.old; ended = C.ended instrument_in.old; source_failed = C.failed instrument_in.old; taken = D.taken instrument_out.old; sink_failed = D.failed instrument_out.old })
-        (record { remaining = C.remaining instrument_in.new; reads = C.reads instrument_in.new; ended = C.ended instrument_in.new; source_failed = C.failed instrument_in.new; taken = D.taken instrument_out.new; sink_failed = D.failed instrument_out.new })
+        (input_of S.Source commands.old)
+        (input_of S.Source commands.new)
+        (ports_of A.Source client_in.old B.Sink client_out.old)
+        (ports_of A.Source client_in.new B.Sink client_out.new)
+        (ports_of C.Source instrument_in.old D.Sink instrument_out.old)
+        (ports_of C.Source instrument_in.new D.Sink instrument_out.new)
         (K.taken sink.old) (K.taken sink.new) (K.failed sink.old) (K.failed sink.new) result }
 
     // At most so many reads of both ends were answered, and all of them where that is the fault.
@@ -87,12 +89,12 @@ pub fn run_loop<S: Source, A: Source, B: Sink, C: Source, D: Sink, K: Sink>(
     ensures loops { (given : List ℕ) × Consumes (S.remaining commands.old) (S.remaining commands.new) given
         × (S.reads commands.new ≤ S.reads commands.old + length given + end_reads (S.ended commands.new))
         × LoopRuns given
-        (record { remaining = S.remaining commands.old; reads = S.reads commands.old; ended = S.ended commands.old; failed = S.failed commands.old })
-        (record { remaining = S.remaining commands.new; reads = S.reads commands.new; ended = S.ended commands.new; failed = S.failed commands.new })
-        (record { remaining = A.remaining client_in.old; reads = A.reads client_in.old; ended = A.ended client_in.old; source_failed = A.failed client_in.old; taken = B.taken client_out.old; sink_failed = B.failed client_out.old })
-        (record { remaining = A.remaining client_in.new; reads = A.reads client_in.new; ended = A.ended client_in.new; source_failed = A.failed client_in.new; taken = B.taken client_out.new; sink_failed = B.failed client_out.new })
-        (record { remaining = C.remaining instrument_in.old; reads = C.reads instrument_in.old; ended = C.ended instrument_in.old; source_failed = C.failed instrument_in.old; taken = D.taken instrument_out.old; sink_failed = D.failed instrument_out.old })
-        (record { remaining = C.remaining instrument_in.new; reads = C.reads instrument_in.new; ended = C.ended instrument_in.new; source_failed = C.failed instrument_in.new; taken = D.taken instrument_out.new; sink_failed = D.failed instrument_out.new })
+        (input_of S.Source commands.old)
+        (input_of S.Source commands.new)
+        (ports_of A.Source client_in.old B.Sink client_out.old)
+        (ports_of A.Source client_in.new B.Sink client_out.new)
+        (ports_of C.Source instrument_in.old D.Sink instrument_out.old)
+        (ports_of C.Source instrument_in.new D.Sink instrument_out.new)
         (K.taken sink.old) (K.taken sink.new) (K.failed sink.old) (K.failed sink.new) result }
     ensures bound { A.reads client_in.new + C.reads instrument_in.new ≤ A.reads client_in.old + C.reads instrument_in.old + max_reads }
     ensures too_many { result ≡ Err RunFault.TooManyReads → A.reads client_in.new + C.reads instrument_in.new ≡ A.reads client_in.old + C.reads instrument_in.old + max_reads }
@@ -137,10 +139,10 @@ pub(crate) fn loop_all<A: Source, B: Sink, C: Source, D: Sink, K: Sink>(
 
     // Why it ended, and which ports have failed.
     ensures ends { LoopEnds
-        (record { remaining = A.remaining client_in.old; reads = A.reads client_in.old; ended = A.ended client_in.old; source_failed = A.failed client_in.old; taken = B.taken client_out.old; sink_failed = B.failed client_out.old })
-        (record { remaining = A.remaining client_in.new; reads = A.reads client_in.new; ended = A.ended client_in.new; source_failed = A.failed client_in.new; taken = B.taken client_out.new; sink_failed = B.failed client_out.new })
-        (record { remaining = C.remaining instrument_in.old; reads = C.reads instrument_in.old; ended = C.ended instrument_in.old; source_failed = C.failed instrument_in.old; taken = D.taken instrument_out.old; sink_failed = D.failed instrument_out.old })
-        (record { remaining = C.remaining instrument_in.new; reads = C.reads instrument_in.new; ended = C.ended instrument_in.new; source_failed = C.failed instrument_in.new; taken = D.taken instrument_out.new; sink_failed = D.failed instrument_out.new })
+        (ports_of A.Source client_in.old B.Sink client_out.old)
+        (ports_of A.Source client_in.new B.Sink client_out.new)
+        (ports_of C.Source instrument_in.old D.Sink instrument_out.old)
+        (ports_of C.Source instrument_in.new D.Sink instrument_out.new)
         (K.failed sink.old) (K.failed sink.new) result }
 {
     let asking = Asking::new(max_reads);
@@ -194,10 +196,10 @@ impl Ends {
         ensures grows { A.reads client_in.old ≤ A.reads client_in.new }
         ensures too_many { result ≡ Err RunFault.TooManyReads → self.new.asking.reads ≡ 0 }
         ensures ends { LoopOneEnds
-            (record { remaining = A.remaining client_in.old; reads = A.reads client_in.old; ended = A.ended client_in.old; source_failed = A.failed client_in.old; taken = B.taken client_out.old; sink_failed = B.failed client_out.old })
-            (record { remaining = A.remaining client_in.new; reads = A.reads client_in.new; ended = A.ended client_in.new; source_failed = A.failed client_in.new; taken = B.taken client_out.new; sink_failed = B.failed client_out.new })
-            (record { remaining = C.remaining instrument_in.old; reads = C.reads instrument_in.old; ended = C.ended instrument_in.old; source_failed = C.failed instrument_in.old; taken = D.taken instrument_out.old; sink_failed = D.failed instrument_out.old })
-            (record { remaining = C.remaining instrument_in.new; reads = C.reads instrument_in.new; ended = C.ended instrument_in.new; source_failed = C.failed instrument_in.new; taken = D.taken instrument_out.new; sink_failed = D.failed instrument_out.new })
+            (ports_of A.Source client_in.old B.Sink client_out.old)
+            (ports_of A.Source client_in.new B.Sink client_out.new)
+            (ports_of C.Source instrument_in.old D.Sink instrument_out.old)
+            (ports_of C.Source instrument_in.new D.Sink instrument_out.new)
             (K.failed sink.old) (K.failed sink.new) result }
     {
         match self.exchange(
@@ -239,10 +241,10 @@ impl Ends {
         ensures grows { A.reads client_in.old ≤ A.reads client_in.new }
         ensures too_many { result ≡ Err RunFault.TooManyReads → self.new.asking.reads ≡ 0 }
         ensures ends { BothStep
-            (record { remaining = A.remaining client_in.old; reads = A.reads client_in.old; ended = A.ended client_in.old; source_failed = A.failed client_in.old; taken = B.taken client_out.old; sink_failed = B.failed client_out.old })
-            (record { remaining = A.remaining client_in.new; reads = A.reads client_in.new; ended = A.ended client_in.new; source_failed = A.failed client_in.new; taken = B.taken client_out.new; sink_failed = B.failed client_out.new })
-            (record { remaining = C.remaining instrument_in.old; reads = C.reads instrument_in.old; ended = C.ended instrument_in.old; source_failed = C.failed instrument_in.old; taken = D.taken instrument_out.old; sink_failed = D.failed instrument_out.old })
-            (record { remaining = C.remaining instrument_in.new; reads = C.reads instrument_in.new; ended = C.ended instrument_in.new; source_failed = C.failed instrument_in.new; taken = D.taken instrument_out.new; sink_failed = D.failed instrument_out.new })
+            (ports_of A.Source client_in.old B.Sink client_out.old)
+            (ports_of A.Source client_in.new B.Sink client_out.new)
+            (ports_of C.Source instrument_in.old D.Sink instrument_out.old)
+            (ports_of C.Source instrument_in.new D.Sink instrument_out.new)
             result }
     {
         if let Err(fault) = self.asking.send(place, command, client_out) {

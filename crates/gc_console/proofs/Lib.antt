@@ -1,4 +1,3 @@
 mod Measured
 mod Linkless
-mod Refused
 mod Started

@@ -1,6 +1,6 @@
 -- Status 0 is told only of a run that is done.
 use Rattle.std.proofs.Common.{◌≡◌, ℕ, List, Option, Result, Ok, Err, inl, inr, arith}
-use Rattle.gc_ask.specs.AskRuns.{Input}
+use Rattle.gc_texts.specs.WholeTexts.{Input}
 use Rattle.gc_console.specs.Measuring.{Places, Measures, RunsBehind, TellsCounts}
 use Rattle.gc_console.specs.TaskTexts.{GivesTasks}
 use Rattle.gc_console.specs.declared.choice.Choice.{Choice}

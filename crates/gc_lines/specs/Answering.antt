@@ -7,6 +7,8 @@ use Rattle.std.specs.Option.{option_to_list}
 use Rattle.gc_lines.specs.Frames.{frames}
 use Rattle.gc_lines.specs.declared.frame.Frame.{Frame}
 use Rattle.gc_lines.specs.declared.served.TheConstants.{READ_FAILED, WRITE_FAILED, READS_SPENT}
+use Rattle.gc_lines.specs.declared.ports.Source.{Ghosts as Source}
+use Rattle.gc_lines.specs.declared.ports.Sink.{Ghosts as Sink}
 use Rattle.gc_lines.specs.declared.served.Served.{Served}
 use Rattle.gc_lines.specs.declared.served.ServeFault.{ServeFault}
 use Rattle.gc_lines.specs.declared.served.ServeFault.TheVariants.{Read, Write, TooManyReads}
@@ -84,6 +86,17 @@ pub record Ports : Type 0 where
   pub source_failed : Bool
   pub taken : Option (List ℕ)
   pub sink_failed : Bool
+
+-- what is seen of this source and this sink, by the ghost members of their traits
+abbrev pub ports_of : {S K : Type 0} → Source S → S → Sink K → K → Ports
+ports_of of_source source of_sink sink = record {
+  remaining = of_source.remaining source;
+  reads = of_source.reads source;
+  ended = of_source.ended source;
+  source_failed = of_source.failed source;
+  taken = of_sink.taken sink;
+  sink_failed = of_sink.failed sink;
+}
 
 -- why it ended, in at most most reads, and what the ports then are
 abbrev pub EndsBecause : Ports → Ports → ℕ → Result Served ServeFault → Type 0

@@ -3,7 +3,7 @@
 
 ghost use Rattle.std.specs.Prelude.{◌≡◌, ℕ, ◌+◌, ◌≤◌, List, Option, length, false};
 ghost use Rattle.arrayvec.specs.ArrayVec.{array_vec_len};
-ghost use Rattle.gc_lines.specs.Answering.{AnswersGiven, HasEnded, AppendsAnswer};
+ghost use Rattle.gc_lines.specs.Answering.{AnswersGiven, HasEnded, AppendsAnswer, ports_of};
 ghost use Rattle.gc_lines.specs.Lent.{lent_seen};
 
 use crate::frame::Lent;
@@ -52,12 +52,12 @@ pub fn answer_frames<A: Answers, S: Source, K: Sink>(
     gathers: bool,
 ) -> Result<Served, ServeFault>
     ensures answers { (reached : A) × AnswersGiven A.answers answerer.old reached
-        (record { remaining = S.remaining source.old; reads = S.reads source.old; ended = S.ended source.old; source_failed = S.failed source.old; taken = K.taken sink.old; sink_failed = K.failed sink.old })
-        (record { remaining = S.remaining source.new; reads = S.reads source.new; ended = S.ended source.new; source_failed = S.failed source.new; taken = K.taken sink.new; sink_failed = K.failed sink.new })
+        (ports_of S.Source source.old K.Sink sink.old)
+        (ports_of S.Source source.new K.Sink sink.new)
         result × (gathers ≡ false → reached ≡ answerer.new) }
     ensures ended { HasEnded
-        (record { remaining = S.remaining source.old; reads = S.reads source.old; ended = S.ended source.old; source_failed = S.failed source.old; taken = K.taken sink.old; sink_failed = K.failed sink.old })
-        (record { remaining = S.remaining source.new; reads = S.reads source.new; ended = S.ended source.new; source_failed = S.failed source.new; taken = K.taken sink.new; sink_failed = K.failed sink.new })
+        (ports_of S.Source source.old K.Sink sink.old)
+        (ports_of S.Source source.new K.Sink sink.new)
         max_reads result }
 {
     let mut session = Session::new(gathers);

@@ -6,6 +6,7 @@ pub mod Names
 pub mod TaskLines
 pub mod Tasks
 pub mod Texts
+pub mod WholeTexts
 pub mod Settlements
 pub mod Faults
 pub mod Stamps

@@ -1,6 +1,7 @@
 //! The texts that the program reads and writes: lines and their items, commands, settlement lines, records, faults.
 #![tactic(auto)]
 
+mod command_text;
 mod commands;
 mod cuts;
 mod ending;
@@ -23,6 +24,7 @@ mod text;
 mod trouble;
 mod when;
 
+pub use command_text::read_command_text;
 pub use commands::{Command, read_commands};
 pub use cuts::cut_at;
 pub use ending::Ending;

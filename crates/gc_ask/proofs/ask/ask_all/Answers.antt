@@ -6,6 +6,7 @@ use Rattle.gc_ask.proofs.Asked.{course_start, course_all}
 use Rattle.gc_texts.proofs.SettlementLines.{at_place}
 use Rattle.gc_ask.proofs.Exchanging.{course_next, course_fault, going_fault, still_on}
 use Rattle.gc_ask.proofs.ask.ask_all.Goals as goal
+use Rattle.gc_lines.specs.Answering.{ports_of}
 
 pub loop-place-init : goal.loop-place-init
 loop-place-init g c = record {
@@ -75,8 +76,8 @@ returns-in-Err-clause-asks g c =
       course_fault commands (take place commands) (drop (place + 1) commands) command place so.0 c.loop-place.asking.ahead one.0 asking.ahead c.loop-place.asking.end.assembler asking.end.assembler c.loop-place.asking.end.client.ids asking.end.client.ids
           (g.O.Sink.taken c.args.link_out.now) (g.O.Sink.taken out) (g.O.Sink.taken out') (g.K.Sink.taken c.args.sink.now) (g.K.Sink.taken c.loop-place.sink) (g.K.Sink.taken c.ask.new.sink)
           c.in-Err.fault
-          (record { remaining = g.I.Source.remaining link; reads = g.I.Source.reads link; ended = g.I.Source.ended link; source_failed = g.I.Source.failed link; taken = g.O.Sink.taken out; sink_failed = g.O.Sink.failed out })
-          (record { remaining = g.I.Source.remaining link'; reads = g.I.Source.reads link'; ended = g.I.Source.ended link'; source_failed = g.I.Source.failed link'; taken = g.O.Sink.taken out'; sink_failed = g.O.Sink.failed out' })
+          (ports_of g.I.Source link g.O.Sink out)
+          (ports_of g.I.Source link' g.O.Sink out')
           c.loop-place.asking.reads asking.reads
           (g.K.Sink.failed c.loop-place.sink) (g.K.Sink.failed c.ask.new.sink)
           at (place_is commands place c.loop-place-test.true) (at_place commands place command c.loop-place-test.true c.index-commands-place.is).1
@@ -98,9 +99,9 @@ returns-in-Err-clause-ends g c =
     let link' = c.ask.new.link_in in
     let out' = c.ask.new.link_out in
     going_fault
-    (record { remaining = g.I.Source.remaining link0; reads = g.I.Source.reads link0; ended = g.I.Source.ended link0; source_failed = g.I.Source.failed link0; taken = g.O.Sink.taken out0; sink_failed = g.O.Sink.failed out0 })
-    (record { remaining = g.I.Source.remaining link; reads = g.I.Source.reads link; ended = g.I.Source.ended link; source_failed = g.I.Source.failed link; taken = g.O.Sink.taken out; sink_failed = g.O.Sink.failed out })
-    (record { remaining = g.I.Source.remaining link'; reads = g.I.Source.reads link'; ended = g.I.Source.ended link'; source_failed = g.I.Source.failed link'; taken = g.O.Sink.taken out'; sink_failed = g.O.Sink.failed out' })
+    (ports_of g.I.Source link0 g.O.Sink out0)
+    (ports_of g.I.Source link g.O.Sink out)
+    (ports_of g.I.Source link' g.O.Sink out')
     (g.K.Sink.failed c.args.sink.now) (g.K.Sink.failed c.loop-place.sink) (g.K.Sink.failed c.ask.new.sink)
     c.loop-place.asking.reads c.ask.new.self.reads c.in-Err.fault
     (record {

@@ -7,6 +7,7 @@ use Rattle.gc_texts.proofs.SettlementLines.{at_place}
 use Rattle.gc_ask.proofs.Exchanging.{course_next}
 use Rattle.gc_ask.proofs.Looping.{sound_start, sound_on, loop_ends_all, loop_ends_fault, loop_fault}
 use Rattle.gc_ask.proofs.looped.loop_all.Goals as goal
+use Rattle.gc_lines.specs.Answering.{ports_of}
 
 pub loop-place-init : goal.loop-place-init
 loop-place-init g c = record {
@@ -43,12 +44,12 @@ loop-place-preserved g c =
     let next = course_next commands (take place commands) (drop (place + 1) commands) command place so.0 old.ahead one.0 asking.ahead old.end.assembler asking.end.assembler old.end.client.ids asking.end.client.ids
     _ _ _ _ _ _ at (place_is commands place c.loop-place-test.true) (one.3 at.now at.stands) in
     let sound = sound_on
-    (record { remaining = g.A.Source.remaining c.args.client_in.now; reads = g.A.Source.reads c.args.client_in.now; ended = g.A.Source.ended c.args.client_in.now; source_failed = g.A.Source.failed c.args.client_in.now; taken = g.B.Sink.taken c.args.client_out.now; sink_failed = g.B.Sink.failed c.args.client_out.now })
-    (record { remaining = g.A.Source.remaining c.loop-place.client_in; reads = g.A.Source.reads c.loop-place.client_in; ended = g.A.Source.ended c.loop-place.client_in; source_failed = g.A.Source.failed c.loop-place.client_in; taken = g.B.Sink.taken c.loop-place.client_out; sink_failed = g.B.Sink.failed c.loop-place.client_out })
-    (record { remaining = g.A.Source.remaining c.ask.new.client_in; reads = g.A.Source.reads c.ask.new.client_in; ended = g.A.Source.ended c.ask.new.client_in; source_failed = g.A.Source.failed c.ask.new.client_in; taken = g.B.Sink.taken c.ask.new.client_out; sink_failed = g.B.Sink.failed c.ask.new.client_out })
-    (record { remaining = g.C.Source.remaining c.args.instrument_in.now; reads = g.C.Source.reads c.args.instrument_in.now; ended = g.C.Source.ended c.args.instrument_in.now; source_failed = g.C.Source.failed c.args.instrument_in.now; taken = g.D.Sink.taken c.args.instrument_out.now; sink_failed = g.D.Sink.failed c.args.instrument_out.now })
-    (record { remaining = g.C.Source.remaining c.loop-place.instrument_in; reads = g.C.Source.reads c.loop-place.instrument_in; ended = g.C.Source.ended c.loop-place.instrument_in; source_failed = g.C.Source.failed c.loop-place.instrument_in; taken = g.D.Sink.taken c.loop-place.instrument_out; sink_failed = g.D.Sink.failed c.loop-place.instrument_out })
-    (record { remaining = g.C.Source.remaining c.ask.new.instrument_in; reads = g.C.Source.reads c.ask.new.instrument_in; ended = g.C.Source.ended c.ask.new.instrument_in; source_failed = g.C.Source.failed c.ask.new.instrument_in; taken = g.D.Sink.taken c.ask.new.instrument_out; sink_failed = g.D.Sink.failed c.ask.new.instrument_out })
+    (ports_of g.A.Source c.args.client_in.now g.B.Sink c.args.client_out.now)
+    (ports_of g.A.Source c.loop-place.client_in g.B.Sink c.loop-place.client_out)
+    (ports_of g.A.Source c.ask.new.client_in g.B.Sink c.ask.new.client_out)
+    (ports_of g.C.Source c.args.instrument_in.now g.D.Sink c.args.instrument_out.now)
+    (ports_of g.C.Source c.loop-place.instrument_in g.D.Sink c.loop-place.instrument_out)
+    (ports_of g.C.Source c.ask.new.instrument_in g.D.Sink c.ask.new.instrument_out)
     (g.K.Sink.failed c.loop-place.sink) (g.K.Sink.failed c.ask.new.sink) c.loop-place.invariant.client c.loop-place.invariant.instrument c.in_default.ensures.ends in
     record {
       course = (
@@ -80,10 +81,10 @@ returns-in-Err-clause-loops g c =
       loop_fault commands (take place commands) (drop (place + 1) commands) command place so.0 old.ahead one.0 asking.ahead old.end.assembler asking.end.assembler old.end.client.ids asking.end.client.ids
           (g.B.Sink.taken c.args.client_out.now) (g.B.Sink.taken c.loop-place.client_out) (g.B.Sink.taken c.ask.new.client_out) (g.K.Sink.taken c.args.sink.now) (g.K.Sink.taken c.loop-place.sink) (g.K.Sink.taken c.ask.new.sink)
           c.in-Err.fault
-          (record { remaining = g.A.Source.remaining c.loop-place.client_in; reads = g.A.Source.reads c.loop-place.client_in; ended = g.A.Source.ended c.loop-place.client_in; source_failed = g.A.Source.failed c.loop-place.client_in; taken = g.B.Sink.taken c.loop-place.client_out; sink_failed = g.B.Sink.failed c.loop-place.client_out })
-          (record { remaining = g.A.Source.remaining c.ask.new.client_in; reads = g.A.Source.reads c.ask.new.client_in; ended = g.A.Source.ended c.ask.new.client_in; source_failed = g.A.Source.failed c.ask.new.client_in; taken = g.B.Sink.taken c.ask.new.client_out; sink_failed = g.B.Sink.failed c.ask.new.client_out })
-          (record { remaining = g.C.Source.remaining c.loop-place.instrument_in; reads = g.C.Source.reads c.loop-place.instrument_in; ended = g.C.Source.ended c.loop-place.instrument_in; source_failed = g.C.Source.failed c.loop-place.instrument_in; taken = g.D.Sink.taken c.loop-place.instrument_out; sink_failed = g.D.Sink.failed c.loop-place.instrument_out })
-          (record { remaining = g.C.Source.remaining c.ask.new.instrument_in; reads = g.C.Source.reads c.ask.new.instrument_in; ended = g.C.Source.ended c.ask.new.instrument_in; source_failed = g.C.Source.failed c.ask.new.instrument_in; taken = g.D.Sink.taken c.ask.new.instrument_out; sink_failed = g.D.Sink.failed c.ask.new.instrument_out })
+          (ports_of g.A.Source c.loop-place.client_in g.B.Sink c.loop-place.client_out)
+          (ports_of g.A.Source c.ask.new.client_in g.B.Sink c.ask.new.client_out)
+          (ports_of g.C.Source c.loop-place.instrument_in g.D.Sink c.loop-place.instrument_out)
+          (ports_of g.C.Source c.ask.new.instrument_in g.D.Sink c.ask.new.instrument_out)
           (g.K.Sink.failed c.loop-place.sink) (g.K.Sink.failed c.ask.new.sink)
           at (place_is commands place c.loop-place-test.true) (at_place commands place command c.loop-place-test.true c.index-commands-place.is).1
           (one.3 at.now at.stands) c.in-Err.ensures.ends,
@@ -92,12 +93,12 @@ returns-in-Err-clause-loops g c =
 pub returns-in-Err-clause-ends : goal.returns-in-Err-clause-ends
 returns-in-Err-clause-ends g c =
     loop_ends_fault
-    (record { remaining = g.A.Source.remaining c.args.client_in.now; reads = g.A.Source.reads c.args.client_in.now; ended = g.A.Source.ended c.args.client_in.now; source_failed = g.A.Source.failed c.args.client_in.now; taken = g.B.Sink.taken c.args.client_out.now; sink_failed = g.B.Sink.failed c.args.client_out.now })
-    (record { remaining = g.A.Source.remaining c.loop-place.client_in; reads = g.A.Source.reads c.loop-place.client_in; ended = g.A.Source.ended c.loop-place.client_in; source_failed = g.A.Source.failed c.loop-place.client_in; taken = g.B.Sink.taken c.loop-place.client_out; sink_failed = g.B.Sink.failed c.loop-place.client_out })
-    (record { remaining = g.A.Source.remaining c.ask.new.client_in; reads = g.A.Source.reads c.ask.new.client_in; ended = g.A.Source.ended c.ask.new.client_in; source_failed = g.A.Source.failed c.ask.new.client_in; taken = g.B.Sink.taken c.ask.new.client_out; sink_failed = g.B.Sink.failed c.ask.new.client_out })
-    (record { remaining = g.C.Source.remaining c.args.instrument_in.now; reads = g.C.Source.reads c.args.instrument_in.now; ended = g.C.Source.ended c.args.instrument_in.now; source_failed = g.C.Source.failed c.args.instrument_in.now; taken = g.D.Sink.taken c.args.instrument_out.now; sink_failed = g.D.Sink.failed c.args.instrument_out.now })
-    (record { remaining = g.C.Source.remaining c.loop-place.instrument_in; reads = g.C.Source.reads c.loop-place.instrument_in; ended = g.C.Source.ended c.loop-place.instrument_in; source_failed = g.C.Source.failed c.loop-place.instrument_in; taken = g.D.Sink.taken c.loop-place.instrument_out; sink_failed = g.D.Sink.failed c.loop-place.instrument_out })
-    (record { remaining = g.C.Source.remaining c.ask.new.instrument_in; reads = g.C.Source.reads c.ask.new.instrument_in; ended = g.C.Source.ended c.ask.new.instrument_in; source_failed = g.C.Source.failed c.ask.new.instrument_in; taken = g.D.Sink.taken c.ask.new.instrument_out; sink_failed = g.D.Sink.failed c.ask.new.instrument_out })
+    (ports_of g.A.Source c.args.client_in.now g.B.Sink c.args.client_out.now)
+    (ports_of g.A.Source c.loop-place.client_in g.B.Sink c.loop-place.client_out)
+    (ports_of g.A.Source c.ask.new.client_in g.B.Sink c.ask.new.client_out)
+    (ports_of g.C.Source c.args.instrument_in.now g.D.Sink c.args.instrument_out.now)
+    (ports_of g.C.Source c.loop-place.instrument_in g.D.Sink c.loop-place.instrument_out)
+    (ports_of g.C.Source c.ask.new.instrument_in g.D.Sink c.ask.new.instrument_out)
     (g.K.Sink.failed c.args.sink.now) (g.K.Sink.failed c.loop-place.sink) (g.K.Sink.failed c.ask.new.sink) c.in-Err.fault
     c.loop-place.invariant.client c.loop-place.invariant.instrument c.loop-place.invariant.sink c.in-Err.ensures.ends
 
@@ -110,9 +111,9 @@ returns-clause-loops g c =
 pub returns-clause-ends : goal.returns-clause-ends
 returns-clause-ends g c =
     loop_ends_all
-    (record { remaining = g.A.Source.remaining c.args.client_in.now; reads = g.A.Source.reads c.args.client_in.now; ended = g.A.Source.ended c.args.client_in.now; source_failed = g.A.Source.failed c.args.client_in.now; taken = g.B.Sink.taken c.args.client_out.now; sink_failed = g.B.Sink.failed c.args.client_out.now })
-    (record { remaining = g.A.Source.remaining c.loop-place.client_in; reads = g.A.Source.reads c.loop-place.client_in; ended = g.A.Source.ended c.loop-place.client_in; source_failed = g.A.Source.failed c.loop-place.client_in; taken = g.B.Sink.taken c.loop-place.client_out; sink_failed = g.B.Sink.failed c.loop-place.client_out })
-    (record { remaining = g.C.Source.remaining c.args.instrument_in.now; reads = g.C.Source.reads c.args.instrument_in.now; ended = g.C.Source.ended c.args.instrument_in.now; source_failed = g.C.Source.failed c.args.instrument_in.now; taken = g.D.Sink.taken c.args.instrument_out.now; sink_failed = g.D.Sink.failed c.args.instrument_out.now })
-    (record { remaining = g.C.Source.remaining c.loop-place.instrument_in; reads = g.C.Source.reads c.loop-place.instrument_in; ended = g.C.Source.ended c.loop-place.instrument_in; source_failed = g.C.Source.failed c.loop-place.instrument_in; taken = g.D.Sink.taken c.loop-place.instrument_out; sink_failed = g.D.Sink.failed c.loop-place.instrument_out })
+    (ports_of g.A.Source c.args.client_in.now g.B.Sink c.args.client_out.now)
+    (ports_of g.A.Source c.loop-place.client_in g.B.Sink c.loop-place.client_out)
+    (ports_of g.C.Source c.args.instrument_in.now g.D.Sink c.args.instrument_out.now)
+    (ports_of g.C.Source c.loop-place.instrument_in g.D.Sink c.loop-place.instrument_out)
     (g.K.Sink.failed c.args.sink.now) (g.K.Sink.failed c.loop-place.sink)
     c.loop-place.invariant.client c.loop-place.invariant.instrument c.loop-place.invariant.sink

@@ -4,6 +4,7 @@ use Rattle.gc_client.specs.Settlements.{settlement_seen}
 use Rattle.gc_ask.proofs.Asked.{settled_is}
 use Rattle.gc_ask.proofs.Exchanging.{still_waits, lost_alone, asks_lost, asks_untold}
 use Rattle.gc_ask.proofs.ask.Asking.ask.Goals as goal
+use Rattle.gc_lines.specs.Answering.{ports_of}
 
 pub write_settlements-requires : goal.write_settlements-requires
 write_settlements-requires g c =
@@ -38,8 +39,8 @@ returns-in-Ok-write_settlements-clause-asks g c =
           c.restart-lost.result.items c.as_slice-in-Err.result.now
           (g.O.Sink.taken out) (g.O.Sink.taken out') (g.K.Sink.taken c.args.sink.now) (g.K.Sink.taken c.write_settlements-in-Err.new.sink)
           c.in-Err.fault
-          (record { remaining = g.I.Source.remaining link; reads = g.I.Source.reads link; ended = g.I.Source.ended link; source_failed = g.I.Source.failed link; taken = g.O.Sink.taken out; sink_failed = g.O.Sink.failed out })
-          (record { remaining = g.I.Source.remaining link'; reads = g.I.Source.reads link'; ended = g.I.Source.ended link'; source_failed = g.I.Source.failed link'; taken = g.O.Sink.taken out'; sink_failed = g.O.Sink.failed out' })
+          (ports_of g.I.Source link g.O.Sink out)
+          (ports_of g.I.Source link' g.O.Sink out')
           c.args.self.now.reads c.exchange.new.self.reads
           (ex.3 rest s) c.in-Err.ensures.ends c.restart-lost.ensures.settled c.as_slice-in-Err.ensures.value c.in-Ok-write_settlements.ensures.0,
     )

@@ -5,6 +5,7 @@ use Rattle.gc_ask.proofs.Asked.{settled_is}
 use Rattle.gc_ask.proofs.Exchanging.{lost_alone}
 use Rattle.gc_ask.proofs.Looping.{loop_waits, loop_lost, loop_untold, loop_ends_lost, loop_ends_untold}
 use Rattle.gc_ask.proofs.looped.Ends.ask.Goals as goal
+use Rattle.gc_lines.specs.Answering.{ports_of}
 
 pub write_settlements-requires : goal.write_settlements-requires
 write_settlements-requires g c =
@@ -36,20 +37,20 @@ returns-in-Ok-write_settlements-clause-loops g c =
           c.restart-lost.result.items c.as_slice-in-Err.result.now
           (g.B.Sink.taken c.args.client_out.now) (g.B.Sink.taken c.exchange.new.client_out) (g.K.Sink.taken c.args.sink.now) (g.K.Sink.taken c.write_settlements-in-Err.new.sink)
           c.in-Err.fault
-          (record { remaining = g.A.Source.remaining c.args.client_in.now; reads = g.A.Source.reads c.args.client_in.now; ended = g.A.Source.ended c.args.client_in.now; source_failed = g.A.Source.failed c.args.client_in.now; taken = g.B.Sink.taken c.args.client_out.now; sink_failed = g.B.Sink.failed c.args.client_out.now })
-          (record { remaining = g.A.Source.remaining c.exchange.new.client_in; reads = g.A.Source.reads c.exchange.new.client_in; ended = g.A.Source.ended c.exchange.new.client_in; source_failed = g.A.Source.failed c.exchange.new.client_in; taken = g.B.Sink.taken c.exchange.new.client_out; sink_failed = g.B.Sink.failed c.exchange.new.client_out })
-          (record { remaining = g.C.Source.remaining c.args.instrument_in.now; reads = g.C.Source.reads c.args.instrument_in.now; ended = g.C.Source.ended c.args.instrument_in.now; source_failed = g.C.Source.failed c.args.instrument_in.now; taken = g.D.Sink.taken c.args.instrument_out.now; sink_failed = g.D.Sink.failed c.args.instrument_out.now })
-          (record { remaining = g.C.Source.remaining c.exchange.new.instrument_in; reads = g.C.Source.reads c.exchange.new.instrument_in; ended = g.C.Source.ended c.exchange.new.instrument_in; source_failed = g.C.Source.failed c.exchange.new.instrument_in; taken = g.D.Sink.taken c.exchange.new.instrument_out; sink_failed = g.D.Sink.failed c.exchange.new.instrument_out })
+          (ports_of g.A.Source c.args.client_in.now g.B.Sink c.args.client_out.now)
+          (ports_of g.A.Source c.exchange.new.client_in g.B.Sink c.exchange.new.client_out)
+          (ports_of g.C.Source c.args.instrument_in.now g.D.Sink c.args.instrument_out.now)
+          (ports_of g.C.Source c.exchange.new.instrument_in g.D.Sink c.exchange.new.instrument_out)
           (ex.3 rest s) c.in-Err.ensures.ends c.restart-lost.ensures.settled c.as_slice-in-Err.ensures.value c.in-Ok-write_settlements.ensures.0,
     )
 
 pub returns-in-Ok-write_settlements-clause-ends : goal.returns-in-Ok-write_settlements-clause-ends
 returns-in-Ok-write_settlements-clause-ends g c =
     loop_ends_lost
-    (record { remaining = g.A.Source.remaining c.args.client_in.now; reads = g.A.Source.reads c.args.client_in.now; ended = g.A.Source.ended c.args.client_in.now; source_failed = g.A.Source.failed c.args.client_in.now; taken = g.B.Sink.taken c.args.client_out.now; sink_failed = g.B.Sink.failed c.args.client_out.now })
-    (record { remaining = g.A.Source.remaining c.exchange.new.client_in; reads = g.A.Source.reads c.exchange.new.client_in; ended = g.A.Source.ended c.exchange.new.client_in; source_failed = g.A.Source.failed c.exchange.new.client_in; taken = g.B.Sink.taken c.exchange.new.client_out; sink_failed = g.B.Sink.failed c.exchange.new.client_out })
-    (record { remaining = g.C.Source.remaining c.args.instrument_in.now; reads = g.C.Source.reads c.args.instrument_in.now; ended = g.C.Source.ended c.args.instrument_in.now; source_failed = g.C.Source.failed c.args.instrument_in.now; taken = g.D.Sink.taken c.args.instrument_out.now; sink_failed = g.D.Sink.failed c.args.instrument_out.now })
-    (record { remaining = g.C.Source.remaining c.exchange.new.instrument_in; reads = g.C.Source.reads c.exchange.new.instrument_in; ended = g.C.Source.ended c.exchange.new.instrument_in; source_failed = g.C.Source.failed c.exchange.new.instrument_in; taken = g.D.Sink.taken c.exchange.new.instrument_out; sink_failed = g.D.Sink.failed c.exchange.new.instrument_out })
+    (ports_of g.A.Source c.args.client_in.now g.B.Sink c.args.client_out.now)
+    (ports_of g.A.Source c.exchange.new.client_in g.B.Sink c.exchange.new.client_out)
+    (ports_of g.C.Source c.args.instrument_in.now g.D.Sink c.args.instrument_out.now)
+    (ports_of g.C.Source c.exchange.new.instrument_in g.D.Sink c.exchange.new.instrument_out)
     (g.K.Sink.failed c.args.sink.now) (g.K.Sink.failed c.write_settlements-in-Err.new.sink) c.in-Err.fault c.in-Err.ensures.ends c.in-Ok-write_settlements.ensures.1
 
 pub returns-in-Err-write_settlements-clause-loops : goal.returns-in-Err-write_settlements-clause-loops
@@ -72,9 +73,9 @@ returns-in-Err-write_settlements-clause-loops g c =
 pub returns-in-Err-write_settlements-clause-ends : goal.returns-in-Err-write_settlements-clause-ends
 returns-in-Err-write_settlements-clause-ends g c =
     loop_ends_untold
-    (record { remaining = g.A.Source.remaining c.args.client_in.now; reads = g.A.Source.reads c.args.client_in.now; ended = g.A.Source.ended c.args.client_in.now; source_failed = g.A.Source.failed c.args.client_in.now; taken = g.B.Sink.taken c.args.client_out.now; sink_failed = g.B.Sink.failed c.args.client_out.now })
-    (record { remaining = g.A.Source.remaining c.exchange.new.client_in; reads = g.A.Source.reads c.exchange.new.client_in; ended = g.A.Source.ended c.exchange.new.client_in; source_failed = g.A.Source.failed c.exchange.new.client_in; taken = g.B.Sink.taken c.exchange.new.client_out; sink_failed = g.B.Sink.failed c.exchange.new.client_out })
-    (record { remaining = g.C.Source.remaining c.args.instrument_in.now; reads = g.C.Source.reads c.args.instrument_in.now; ended = g.C.Source.ended c.args.instrument_in.now; source_failed = g.C.Source.failed c.args.instrument_in.now; taken = g.D.Sink.taken c.args.instrument_out.now; sink_failed = g.D.Sink.failed c.args.instrument_out.now })
-    (record { remaining = g.C.Source.remaining c.exchange.new.instrument_in; reads = g.C.Source.reads c.exchange.new.instrument_in; ended = g.C.Source.ended c.exchange.new.instrument_in; source_failed = g.C.Source.failed c.exchange.new.instrument_in; taken = g.D.Sink.taken c.exchange.new.instrument_out; sink_failed = g.D.Sink.failed c.exchange.new.instrument_out })
+    (ports_of g.A.Source c.args.client_in.now g.B.Sink c.args.client_out.now)
+    (ports_of g.A.Source c.exchange.new.client_in g.B.Sink c.exchange.new.client_out)
+    (ports_of g.C.Source c.args.instrument_in.now g.D.Sink c.args.instrument_out.now)
+    (ports_of g.C.Source c.exchange.new.instrument_in g.D.Sink c.exchange.new.instrument_out)
     c.args.place _ (g.K.Sink.taken c.args.sink.now) (g.K.Sink.taken c.write_settlements-in-Err.new.sink) (g.K.Sink.failed c.args.sink.now) (g.K.Sink.failed c.write_settlements-in-Err.new.sink)
     c.in-Err.fault c.in-Err-write_settlements.output c.in-Err.ensures.ends c.in-Err-write_settlements.ensures

@@ -4,6 +4,7 @@ use Rattle.gc_lines.proofs.Known.{Consumes-nil}
 use Rattle.gc_ask.specs.Listening.{LoopExchanges}
 use Rattle.gc_ask.proofs.Looping.{step_none, step_sends, step_hears, unsent, unanswered, exchanged}
 use Rattle.gc_ask.proofs.looped.Ends.exchange.Goals as goal
+use Rattle.gc_lines.specs.Answering.{ports_of}
 
 pub returns-in-Err-clause-exchanges : goal.returns-in-Err-clause-exchanges
 returns-in-Err-clause-exchanges g c =
@@ -21,10 +22,10 @@ pub returns-in-Err-clause-ends : goal.returns-in-Err-clause-ends
 returns-in-Err-clause-ends g c =
     inl (
       step_sends c.args.place c.args.command.now
-          (record { remaining = g.A.Source.remaining c.args.client_in.now; reads = g.A.Source.reads c.args.client_in.now; ended = g.A.Source.ended c.args.client_in.now; source_failed = g.A.Source.failed c.args.client_in.now; taken = g.B.Sink.taken c.args.client_out.now; sink_failed = g.B.Sink.failed c.args.client_out.now })
-          (record { remaining = g.A.Source.remaining c.args.client_in.now; reads = g.A.Source.reads c.args.client_in.now; ended = g.A.Source.ended c.args.client_in.now; source_failed = g.A.Source.failed c.args.client_in.now; taken = g.B.Sink.taken c.send.new.link; sink_failed = g.B.Sink.failed c.send.new.link })
+          (ports_of g.A.Source c.args.client_in.now g.B.Sink c.args.client_out.now)
+          (ports_of g.A.Source c.args.client_in.now g.B.Sink c.send.new.link)
           c.in-Err.fault c.in-Err.ensures.sends refl refl refl,
-      step_none (record { remaining = g.C.Source.remaining c.args.instrument_in.now; reads = g.C.Source.reads c.args.instrument_in.now; ended = g.C.Source.ended c.args.instrument_in.now; source_failed = g.C.Source.failed c.args.instrument_in.now; taken = g.D.Sink.taken c.args.instrument_out.now; sink_failed = g.D.Sink.failed c.args.instrument_out.now }) (record { remaining = g.C.Source.remaining c.args.instrument_in.now; reads = g.C.Source.reads c.args.instrument_in.now; ended = g.C.Source.ended c.args.instrument_in.now; source_failed = g.C.Source.failed c.args.instrument_in.now; taken = g.D.Sink.taken c.args.instrument_out.now; sink_failed = g.D.Sink.failed c.args.instrument_out.now }) refl refl refl refl,
+      step_none (ports_of g.C.Source c.args.instrument_in.now g.D.Sink c.args.instrument_out.now) (ports_of g.C.Source c.args.instrument_in.now g.D.Sink c.args.instrument_out.now) refl refl refl refl,
     )
 
 pub returns-in-Err-answer_line-clause-exchanges : goal.returns-in-Err-answer_line-clause-exchanges
@@ -43,8 +44,8 @@ pub returns-in-Err-answer_line-clause-ends : goal.returns-in-Err-answer_line-cla
 returns-in-Err-answer_line-clause-ends g c =
     inr (
       step_none
-          (record { remaining = g.A.Source.remaining c.args.client_in.now; reads = g.A.Source.reads c.args.client_in.now; ended = g.A.Source.ended c.args.client_in.now; source_failed = g.A.Source.failed c.args.client_in.now; taken = g.B.Sink.taken c.args.client_out.now; sink_failed = g.B.Sink.failed c.args.client_out.now })
-          (record { remaining = g.A.Source.remaining c.args.client_in.now; reads = g.A.Source.reads c.args.client_in.now; ended = g.A.Source.ended c.args.client_in.now; source_failed = g.A.Source.failed c.args.client_in.now; taken = g.B.Sink.taken c.send.new.link; sink_failed = g.B.Sink.failed c.send.new.link })
+          (ports_of g.A.Source c.args.client_in.now g.B.Sink c.args.client_out.now)
+          (ports_of g.A.Source c.args.client_in.now g.B.Sink c.send.new.link)
           refl refl refl c.in_default.ensures.sends.1,
       c.in-Err-answer_line.ensures.ends,
     )
@@ -70,8 +71,8 @@ pub returns-clause-ends : goal.returns-clause-ends
 returns-clause-ends g c =
     inl (
       step_hears
-          (record { remaining = g.A.Source.remaining c.args.client_in.now; reads = g.A.Source.reads c.args.client_in.now; ended = g.A.Source.ended c.args.client_in.now; source_failed = g.A.Source.failed c.args.client_in.now; taken = g.B.Sink.taken c.args.client_out.now; sink_failed = g.B.Sink.failed c.args.client_out.now })
-          (record { remaining = g.A.Source.remaining c.hear_reply.new.link; reads = g.A.Source.reads c.hear_reply.new.link; ended = g.A.Source.ended c.hear_reply.new.link; source_failed = g.A.Source.failed c.hear_reply.new.link; taken = g.B.Sink.taken c.send.new.link; sink_failed = g.B.Sink.failed c.send.new.link })
+          (ports_of g.A.Source c.args.client_in.now g.B.Sink c.args.client_out.now)
+          (ports_of g.A.Source c.hear_reply.new.link g.B.Sink c.send.new.link)
           c.answer_line.new.reads c.hear_reply.new.reads c.hear_reply.result c.hear_reply.ensures.ends c.hear_reply.ensures.grows c.in_default.ensures.sends.1,
       c.in_default-answer_line.ensures.ends,
     )
