@@ -118,7 +118,7 @@ abbrev pub id_in : Result ReplyFields LineFault → Option ℕ
 id_in (Ok reply) = reply.id
 id_in (Err fault) = None
 
--- the id that a line has, where it reads as a reply with one; by the grammar of replies the law `ids_are_heard` says it
+-- the id that a line has, where it reads as a reply with one; the law `ids_are_heard` says the same by the grammar of replies
 abbrev pub heard : List ℕ → Option ℕ
 heard line = id_in (reply_at line)
 

@@ -23,7 +23,7 @@ abbrev pub behind : List ℕ → List Step → List ℕ
 behind held [] = held
 behind held (step ∷ steps) = behind (stepped held step) steps
 
--- what a crash in the course of a step finds: a front of what is appended, some length between at a cut
+-- what a crash in the course of a step finds: a front of what is appended, or at a cut some length between the two
 abbrev pub InPart : List ℕ → Step → List ℕ → Type 0
 InPart held (Append bytes) left = (k : ℕ) × (left ≡ held ++ take k bytes)
 InPart held (Cut size) left = (k : ℕ) × (size ≤ k) × (left ≡ take k held)
@@ -36,7 +36,7 @@ has_sync (Sync ∷ steps) = true
 has_sync (Append bytes ∷ steps) = has_sync steps
 has_sync (Cut size ∷ steps) = has_sync steps
 
--- what a crash may leave behind these steps: what the file held in the course of one behind which there is no sync, or holds now
+-- what a crash may leave behind these steps: what the file holds now, or what it held in the course of a step with no sync behind it
 abbrev pub MayLeave : List ℕ → List Step → List ℕ → Type 0
 MayLeave held [] left = left ≡ held
 MayLeave held (step ∷ steps) left = ((has_sync (step ∷ steps) ≡ false) × InPart held step left) ⊎ MayLeave (stepped held step) steps left

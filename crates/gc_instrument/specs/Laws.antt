@@ -29,8 +29,7 @@ pub record Restarts : Type 0 where
 abbrev pub OneReply : Type 0
 OneReply = (s t u : State) (line : List ℕ) (p q : Option (List ℕ)) → IsReplied s line t p → IsReplied s line u q → (t ≡ u) × (p ≡ q)
 
--- handing over a call's request line has the reply of the call, which says of it what carrying it out gave, where the id
--- isn't the kept one
+-- handing over a call's request line gives the call's reply; where the id isn't the kept one, the reply says what carrying out the call gave
 pub record ExchangesCalls : Type 0 where
   pub replied : (s : State) (id : ℕ) (call : Call) → id < 8 → IsFitting call → IsReplied s (request_line (Some id) call) (handed s id call).state (Some (handed s id call).reply)
   pub answered : (s : State) (id : ℕ) (call : Call) → IsFittingState s → id < 8 → IsFitting call → kept_line s.kept (Some id) ≡ None → IsAnswered s id call (handed s id call).reply

@@ -32,7 +32,7 @@ pub use from_reader::FromReader;
 pub use line::{Line, append, is_plain};
 pub use ports::{Lasting, PortFailed, Sink, Source};
 pub use read_ahead::ReadAhead;
-pub use reply::{Reply, begin_reply, push_reply, read_reply, write_reply};
+pub use reply::{Reply, push_reply, read_reply, write_reply};
 pub use request::{Request, begin_request, push_request, read_request, write_request};
 pub use served::{READ_FAILED, READS_SPENT, ServeFault, Served, WRITE_FAILED};
 pub use to_writer::ToWriter;

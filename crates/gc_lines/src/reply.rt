@@ -119,8 +119,8 @@ fn put_reply<const N: usize>(to: &mut ArrayVec<u8, N>, rc_com: u16, id: Option<u
     push_number(to, rc);
 }
 
-/// Begins a reply line: it is written through the return code, and parameters may be appended, each behind a comma.
-pub fn begin_reply(rc_com: u16, id: Option<u8>, rc: u16) -> Line
+// A reply line through its return code; parameters may be appended, each behind a comma.
+fn begin_reply(rc_com: u16, id: Option<u8>, rc: u16) -> Line
     requires { ForSome id (λ i. i < 8) }
     ensures items { result.items ≡ reply_text (record { rc_com = rc_com; id = id; rc = rc; params = [] }) }
     ensures room { array_vec_len result ≤ 18 }
