@@ -193,7 +193,7 @@ silent_listening : (act : Act) → IsSilent act → IsListening act
 silent_listening (Silent m) e = tt
 silent_listening act e = absurd e
 
--- the time of quiet begins anew
+-- the quiet time begins anew
 drained_anew : (since now : ℕ) (acts : List Act) (act : Act) → TellsMoment now act → IsDrained since acts → IsDrained now (acts ++ act ∷ [])
 drained_anew since now acts act tells d = record {
   before = d.before;
@@ -281,7 +281,7 @@ drain_long : (plan : Plan) (anew : Bool) (drain : ℕ) → plan.quiet ≤ 184467
 drain_long plan true drain small once = let often : 1 * plan.quiet ≤ drain * plan.quiet = mul-le-mul_right plan.quiet once in le-min (omega (arith, often)) small
 drain_long plan false drain small once = omega arith
 
--- the time of quiet is not the longer for a clock that went back
+-- the quiet time is not the longer for a clock that went back
 pub not_longer : (now since : ℕ) (b : Bool) → nat_le since now ≡ b → now - min since now ≡ now - since
 not_longer now since true e = ap (λ n. now - n) (min-eq_left (leb-true since now e))
 not_longer now since false e =
@@ -289,7 +289,7 @@ not_longer now since false e =
     let less : now ≤ since = omega (arith, low) in
     ap (λ n. now - n) (min-eq_right less) ∙ omega (arith, low)
 
--- the time of quiet where a read gave nothing: it goes on, or begins anew where the clock went back
+-- the quiet time where a read gave nothing: it goes on, or begins anew where the clock went back
 silent_on : (since : ℕ) (m : Moment) (acts : List Act) (b : Bool) → nat_le since m.elapsed ≡ b → IsDrained since acts → IsDrained (min since m.elapsed) (acts ++ Silent m ∷ [])
 silent_on since m acts true e d = subst (λ n. IsDrained n (acts ++ Silent m ∷ [])) (sym (min-eq_left (leb-true since m.elapsed e))) (drained_longer since acts m d)
 silent_on since m acts false e d =

@@ -110,7 +110,7 @@ in_wakes plan (phase.Closing why) p w is = closing_wakes p why is
 in_wakes plan (phase.Over why) p w is = tt
 in_wakes plan at p w is = on_wakes plan p w
 
--- What was told, and came, behind the moment at which the time of quiet began.
+-- What was told, and came, behind the moment at which the quiet time began.
 
 pub latest_more : (now : ℕ) (acts : List Act) (act : Act) → latest now (acts ++ act ∷ []) ≡ latest (latest now acts) (act ∷ [])
 latest_more now [] act = refl

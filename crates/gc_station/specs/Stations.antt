@@ -1,5 +1,5 @@
 -- No part of a promise: what the functions of a station say of it, in the words of where it stands.
-use Rattle.std.specs.Prelude.{◌≡◌, ℕ, ◌<◌, Bool, true, false, List, [], ◌∷◌, length, Option, Result, Ok, Err}
+use Rattle.std.specs.Prelude.{◌≡◌, ℕ, ◌<◌, false, List, [], ◌∷◌, length, Option, Result, Ok, Err}
 use Rattle.std.specs.Io.KnownBytes.{Appends}
 use Rattle.gc_lines.specs.Assembler.{StandsFor}
 use Rattle.gc_client.specs.Rule.{deadlines}
