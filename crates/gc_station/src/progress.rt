@@ -14,14 +14,14 @@
 //! | | else | as where it waits | | |
 //! | `Ready` | it is `alone` | as where it waits | | |
 //! | | a command is unsent, and not `bound` | with room `Send`, else as where it waits | sends the next command | `Ready` |
-//! | | commands wait, all given up | with room `Flush`, else as where it waits | sends a null procedure behind them | `Ready` |
-//! | | commands wait, one isn't given up | as where it waits | | |
-//! | | none waits, one is unsent, and may go | with room `Send`, else as where it waits | sends the next command | `Ready` |
-//! | | none waits, one is unsent, and may not go | `Skip` | reads the clock, and writes the command down | `Ready` |
-//! | | none waits or is unsent, and no cycle is left | `Close(Done)` | closes the connection | `Over(Done)` |
-//! | | none waits or is unsent, and a cycle is due | `Begin` | reads the clock, and begins the cycle | `Ready` |
-//! | | none waits or is unsent, and none is due | `Read(Due)` | hears what comes | `Ready` |
-//! | it waits | all that wait are given up, and it is quiet | `Close(Silence)` | closes the connection | as below |
+//! | | commands wait, and all that waits is given up | with room `Flush`, else as where it waits | sends a null procedure behind them | `Ready` |
+//! | | commands wait, and something isn't given up | as where it waits | | |
+//! | | no command waits, one is unsent, and may go | with room `Send`, else as where it waits | sends the next command | `Ready` |
+//! | | no command waits, one is unsent, and may not go | `Skip` | reads the clock, and writes the command down | `Ready` |
+//! | | no command waits or is unsent, and no cycle is left | `Close(Done)` | closes the connection | `Over(Done)` |
+//! | | no command waits or is unsent, and the next cycle is due | `Begin` | reads the clock, and begins the cycle | `Ready` |
+//! | | no command waits or is unsent, and the next cycle isn't due | `Read(Due)` | hears what comes | `Ready` |
+//! | it waits | all that wait are given up, and the line is quiet | `Close(Silence)` | closes the connection | as below |
 //! | | the line is dead | `Close(Dead)` | closes the connection | as below |
 //! | | else | `Read(Limit)` | hears what comes | the same |
 //! | `Closing` | | `Close` for its cause | closes the connection | for `Done`, `Clock` and `Turns`: `Over` for that cause. Else `Over(Done)` where nothing is left to be sent and no command waits, `Pausing` where a try is left or none is needed, and else `Over` for that cause |
