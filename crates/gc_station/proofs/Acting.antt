@@ -11,14 +11,15 @@ use Rattle.gc_station.specs.declared.plan.Plan.{Plan}
 use Rattle.gc_station.specs.declared.cause.Cause.{Cause}
 use Rattle.gc_station.specs.declared.cause.Cause.TheVariants as cause
 use Rattle.gc_station.specs.declared.progress.Phase.{Phase}
-use Rattle.gc_station.specs.declared.progress.Phase.TheVariants.{Down, Resting, Clearing, Draining, Probing, Ready, Closing, Over}
+use Rattle.gc_station.specs.declared.progress.Phase.TheVariants.{Down, Pausing, Clearing, Draining, Probing, Ready, Closing, Over}
 use Rattle.gc_station.specs.declared.progress.Progress.{Progress}
+use Rattle.gc_station.specs.declared.progress.Until.{Until}
 use Rattle.gc_station.specs.declared.progress.Waiting.{Waiting}
 use Rattle.gc_links.specs.Acts.{Act, Told, Cut, Gave, Silent, Ended, Broke, Opened}
 use Rattle.gc_station.specs.Deciding.{is_up, is_past, drain_of}
 use Rattle.gc_station.specs.Marks.{commands_in}
-use Rattle.gc_station.specs.Progressing.{told, failing, opened, again, is_finished, is_spared, quieted, drained, waited, silent, is_resting, waiting_on, begins_anew, beginning_anew, closed, closed_again}
-use Rattle.gc_station.specs.Standing.{Standing, with_progress, with_moment, with_rest, waiting_of, line_came, lines_came, lines_behind, came, is_heard, reckoned, piece_at, after_tell, after_put, after_open, after_read, after_close, is_nil}
+use Rattle.gc_station.specs.Progressing.{told, failing, opened, again, is_finished, is_spared, quieted, drained, time_passed, silent, is_idle, quiet_renewed, begins_anew, beginning_anew, closed, closed_again}
+use Rattle.gc_station.specs.Standing.{Standing, with_progress, with_moment, with_rest, waiting_of, line_came, lines_came, lines_behind, came, is_heard, reckoned, piece_at, after_clock, after_put, after_open, after_read, after_close, is_nil}
 use Rattle.gc_station.proofs.Facts.{both_true}
 use Rattle.gc_station.proofs.Fine.{is_bare, is_done, says_done}
 use Rattle.gc_station.proofs.Midway.{Placed, SoundAt, PlacedAt, Mid, clash, sound_moment, sound_settles}
@@ -53,9 +54,9 @@ pub mid_moment : (plan : Plan) (commands : List Task) (s : Standing) (m : Moment
 mid_moment plan commands s m mid = (sound_moment plan commands s.progress.left s.progress.unsent s.client s.marks s.records m.elapsed mid.0, mid.1)
 
 -- the clock was read
-pub mid_tell : (plan : Plan) (commands : List Task) (f : Moment → Progress → Progress) (s : Standing) (act : Act) → Mid plan commands s → ((m : Moment) → Mid plan commands (with_progress (f m) s)) → Mid plan commands (after_tell f s act)
-mid_tell plan commands f s (Told m) mid ok = mid_moment plan commands (with_progress (f m) s) m (ok m)
-mid_tell plan commands f s act mid ok = mid_fail plan commands s cause.Clock refl mid
+pub mid_clock : (plan : Plan) (commands : List Task) (f : Moment → Progress → Progress) (s : Standing) (act : Act) → Mid plan commands s → ((m : Moment) → Mid plan commands (with_progress (f m) s)) → Mid plan commands (after_clock f s act)
+mid_clock plan commands f s (Told m) mid ok = mid_moment plan commands (with_progress (f m) s) m (ok m)
+mid_clock plan commands f s act mid ok = mid_fail plan commands s cause.Clock refl mid
 
 -- bytes were put
 pub mid_put : (plan : Plan) (commands : List Task) (requests : ℕ) (f : Standing → Standing) (s : Standing) (act : Act) → Mid plan commands (f s) → Mid plan commands (after_put requests f s act)
@@ -65,7 +66,7 @@ mid_put plan commands requests f s act mid = mid
 -- a connection is asked for anew
 again_placed : (why : Cause) (anew alone : Bool) (left unsent : ℕ) (rest : List ℕ) (next : ℕ) (marks : List (Option Mark)) (done some : Bool) → is_done why ≡ false
     → alone ≡ false → rest ≡ [] → (done ≡ true → (left ≡ 0) × (unsent ≡ 0))
-    → Placed (if done then Over cause.Done else if some then Resting else Over why) anew alone left unsent rest next marks
+    → Placed (if done then Over cause.Done else if some then Pausing else Over why) anew alone left unsent rest next marks
 again_placed why anew alone left unsent rest next marks true some other single none finished = record {
   begins = λ e. single;
   ready = λ e. cc;
@@ -229,7 +230,7 @@ listen_lines plan commands s (line ∷ others) l = listen_lines plan commands (l
 
 pub heard_ready : (phase : Phase) → is_heard phase ≡ true → phase ≡ Ready
 heard_ready Down e = cc
-heard_ready Resting e = cc
+heard_ready Pausing e = cc
 heard_ready Clearing e = cc
 heard_ready Draining e = cc
 heard_ready Probing e = cc
@@ -254,8 +255,8 @@ some_wait : (marks : List (Option Mark)) (n : ℕ) → length marks ≡ n → no
 some_wait marks n count some (inl e) = absurd (clash (not (nat_eq n 0)) some (ap (λ k. not (nat_eq k 0)) (sym count ∙ ap length e)))
 some_wait marks n count some (inr e) = e
 
-reckoned_ready : (plan : Plan) (commands : List Task) (s : Standing) (rested : Bool) (before : ℕ) → Listening plan commands s → Mid plan commands (reckoned plan rested before s)
-reckoned_ready plan commands s rested before l =
+reckoned_ready : (plan : Plan) (commands : List Task) (s : Standing) (until : Until) (before : ℕ) → Listening plan commands s → Mid plan commands (reckoned plan until before s)
+reckoned_ready plan commands s until before l =
     let p = s.progress in
     let some = not (nat_eq (length s.client.waiting) 0) in (
       l.sound,
@@ -272,25 +273,25 @@ reckoned_ready plan commands s rested before l =
       never_probing : (phase : Phase) → phase ≡ Ready → phase ≡ Probing → ⊥
       never_probing phase e g = let other : Ready ≡ Probing = sym e ∙ g in cc
 
-reckoned_came : (plan : Plan) (commands : List Task) (s : Standing) (rested : Bool) (before : ℕ) (h : Bool) (piece : List ℕ) → is_heard s.progress.phase ≡ h → Mid plan commands s → Mid plan commands (reckoned plan rested before (came h piece s))
-reckoned_came plan commands s rested before true piece is mid =
+reckoned_came : (plan : Plan) (commands : List Task) (s : Standing) (until : Until) (before : ℕ) (h : Bool) (piece : List ℕ) → is_heard s.progress.phase ≡ h → Mid plan commands s → Mid plan commands (reckoned plan until before (came h piece s))
+reckoned_came plan commands s until before true piece is mid =
     let here = heard_ready s.progress.phase is in
-    reckoned_ready plan commands (came true piece s) rested before (listen_lines plan commands (with_rest (rest_behind s.rest piece) s) (lines_behind s.rest piece) (record {
+    reckoned_ready plan commands (came true piece s) until before (listen_lines plan commands (with_rest (rest_behind s.rest piece) s) (lines_behind s.rest piece) (record {
       sound = mid.0;
       is_ready = here;
       begun = mid.1.ready here;
       few = λ e. let it = mid.1.lone e (ap is_up here) in (inr it.0, it.1);
     }))
-reckoned_came plan commands s rested before false piece is mid =
+reckoned_came plan commands s until before false piece is mid =
     (mid.0, still_alone s.progress.phase s.progress.anew s.progress.alone (not (nat_eq (length s.client.waiting) 0)) s.progress.left s.progress.unsent s.rest s.client.next s.marks mid.1)
 
-pub mid_piece : (plan : Plan) (commands : List Task) (s : Standing) (rested : Bool) (piece : List ℕ) (m : Moment) → Mid plan commands s → Mid plan commands (piece_at plan rested piece m s)
-mid_piece plan commands s rested piece m mid =
-    reckoned_came plan commands (with_moment m (with_progress (told m) s)) rested (commands_in s.marks) (is_heard s.progress.phase) piece refl (mid_moment plan commands (with_progress (told m) s) m mid)
+pub mid_piece : (plan : Plan) (commands : List Task) (s : Standing) (until : Until) (piece : List ℕ) (m : Moment) → Mid plan commands s → Mid plan commands (piece_at plan until piece m s)
+mid_piece plan commands s until piece m mid =
+    reckoned_came plan commands (with_moment m (with_progress (told m) s)) until (commands_in s.marks) (is_heard s.progress.phase) piece refl (mid_moment plan commands (with_progress (told m) s) m mid)
 
 -- Nothing came.
 
-down_placed : (b anew alone : Bool) (phase : Phase) (left unsent : ℕ) (rest : List ℕ) (next : ℕ) (marks : List (Option Mark)) → phase ≡ Resting → Placed phase anew alone left unsent rest next marks
+down_placed : (b anew alone : Bool) (phase : Phase) (left unsent : ℕ) (rest : List ℕ) (next : ℕ) (marks : List (Option Mark)) → phase ≡ Pausing → Placed phase anew alone left unsent rest next marks
     → Placed (if b then Down else phase) anew alone left unsent rest next marks
 down_placed true anew alone phase left unsent rest next marks is placed = record {
   begins = placed.begins;
@@ -333,7 +334,7 @@ drained_there plan commands s p true is mid = (mid.0, drained_placed p.anew p.al
 drained_there plan commands s p false is mid = mid
 
 quiet_there : (plan : Plan) (commands : List Task) (s : Standing) (phase : Phase) (p : Progress) → p.phase ≡ phase → MidAt plan commands s p → MidAt plan commands s (quieted plan phase p)
-quiet_there plan commands s Resting p is mid = (mid.0, down_placed (is_past p.pause p && not (is_resting plan p)) p.anew p.alone p.phase p.left p.unsent s.rest s.client.next s.marks is mid.1)
+quiet_there plan commands s Pausing p is mid = (mid.0, down_placed (is_past p.pause p && not (is_idle plan p)) p.anew p.alone p.phase p.left p.unsent s.rest s.client.next s.marks is mid.1)
 quiet_there plan commands s Draining p is mid = drained_there plan commands s p (is_past (drain_of plan p) p) is mid
 quiet_there plan commands s Down p is mid = mid
 quiet_there plan commands s Clearing p is mid = mid
@@ -342,14 +343,14 @@ quiet_there plan commands s Ready p is mid = mid
 quiet_there plan commands s (Closing why) p is mid = mid
 quiet_there plan commands s (Over why) p is mid = mid
 
-pub mid_silent : (plan : Plan) (commands : List Task) (s : Standing) (rested gave_up : Bool) (m : Moment) → Mid plan commands s → Mid plan commands (with_moment m (with_progress (λ p. waiting_on gave_up m (silent plan rested m p)) s))
-mid_silent plan commands s rested gave_up m mid =
-    mid_moment plan commands (with_progress (λ p. waiting_on gave_up m (silent plan rested m p)) s) m (quiet_there plan commands s s.progress.phase (waited rested m s.progress) refl mid)
+pub mid_silent : (plan : Plan) (commands : List Task) (s : Standing) (until : Until) (gave_up : Bool) (m : Moment) → Mid plan commands s → Mid plan commands (with_moment m (with_progress (λ p. quiet_renewed gave_up m (silent plan until m p)) s))
+mid_silent plan commands s until gave_up m mid =
+    mid_moment plan commands (with_progress (λ p. quiet_renewed gave_up m (silent plan until m p)) s) m (quiet_there plan commands s s.progress.phase (time_passed until m s.progress) refl mid)
 
 -- what was read
-pub mid_read : (plan : Plan) (commands : List Task) (rested : Bool) (s : Standing) (act : Act) → Mid plan commands s → Mid plan commands (after_read plan rested s act)
-mid_read plan commands rested s (Gave bytes m) mid = mid_piece plan commands s rested bytes m mid
-mid_read plan commands rested s (Silent m) mid = mid_silent plan commands s rested (not (is_nil (expiring m.elapsed s.client.waiting))) m mid
-mid_read plan commands rested s Ended mid = mid_fail plan commands s cause.End refl mid
-mid_read plan commands rested s Broke mid = mid_fail plan commands s cause.Read refl mid
-mid_read plan commands rested s act mid = mid_fail plan commands s cause.Clock refl mid
+pub mid_read : (plan : Plan) (commands : List Task) (until : Until) (s : Standing) (act : Act) → Mid plan commands s → Mid plan commands (after_read plan until s act)
+mid_read plan commands until s (Gave bytes m) mid = mid_piece plan commands s until bytes m mid
+mid_read plan commands until s (Silent m) mid = mid_silent plan commands s until (not (is_nil (expiring m.elapsed s.client.waiting))) m mid
+mid_read plan commands until s Ended mid = mid_fail plan commands s cause.End refl mid
+mid_read plan commands until s Broke mid = mid_fail plan commands s cause.Read refl mid
+mid_read plan commands until s act mid = mid_fail plan commands s cause.Clock refl mid

@@ -18,6 +18,7 @@ use Rattle.gc_links.specs.declared.link.Moment.{Moment}
 use Rattle.gc_station.specs.declared.progress.Order.{Order}
 use Rattle.gc_station.specs.declared.progress.Order.TheVariants as orders
 use Rattle.gc_station.specs.declared.progress.Progress.{Progress}
+use Rattle.gc_station.specs.declared.progress.Until.{Until}
 use Rattle.gc_links.specs.Acts.{Act, Told, Untold, Put, Cut, Gave, Silent, Ended, Broke, Closed, Opened, Unopened}
 use Rattle.gc_station.specs.Answers.{IsBefore, first_deadline, deadline_behind, IsTrueRecord}
 use Rattle.gc_station.specs.Ends.{IsTrulyLate, IsTrulyLost}
@@ -28,7 +29,7 @@ use Rattle.gc_station.specs.Marks.{commands_in}
 use Rattle.gc_station.specs.Reasons.{IsFor}
 use Rattle.gc_station.specs.Records.{Record}
 use Rattle.gc_station.specs.Runs.{stood}
-use Rattle.gc_station.specs.Standing.{Standing, opening, order_at, waiting_of, mark_next, place_next, request_text, first_text, with_progress, is_heard, client_sent, asks_null, asks_first, asks_next, bound_next, with_records, skips, skips_first, after_tell, after_put, after_open, after_read, Puts, IsTelling, IsOpening, IsReading, Obeys, moved, Runs}
+use Rattle.gc_station.specs.Standing.{Standing, opening, order_at, waiting_of, mark_next, place_next, request_text, first_text, with_progress, is_heard, client_sent, asks_null, asks_first, asks_next, bound_next, with_records, skips, skips_first, after_clock, after_put, after_open, after_read, Puts, ReadsClock, IsOpening, IsReading, Obeys, moved, Runs}
 use Rattle.gc_station.proofs.EachRun.{fine_stood}
 use Rattle.gc_station.proofs.Facts.{order_for}
 use Rattle.gc_station.proofs.Fine.{Fine}
@@ -193,19 +194,19 @@ skips_true plan commands scope all p act = tt
 
 -- Each order.
 
-tell_honest : (plan : Plan) (commands : List Task) (scope : Scope) (acts : List Act) (act : Act) (f : Moment → Progress → Progress) (s : Standing) → IsHonest plan commands scope acts (acts ++ act ∷ []) s → IsTelling act
-    → IsHonest plan commands scope (acts ++ act ∷ []) (acts ++ act ∷ []) (after_tell f (with_progress turned s) act)
-tell_honest plan commands scope acts (Told m) f s h o = moment_told plan commands scope acts (Told m) m.elapsed _ _ _ (λ d low. low) (λ d past. past) h
-tell_honest plan commands scope acts Untold f s h o = still plan commands scope acts Untold _ _ _ (λ d. tt) h
-tell_honest plan commands scope acts (Put out) f s h o = absurd o
-tell_honest plan commands scope acts (Cut out n) f s h o = absurd o
-tell_honest plan commands scope acts (Gave bytes m) f s h o = absurd o
-tell_honest plan commands scope acts (Silent m) f s h o = absurd o
-tell_honest plan commands scope acts Ended f s h o = absurd o
-tell_honest plan commands scope acts Broke f s h o = absurd o
-tell_honest plan commands scope acts Closed f s h o = absurd o
-tell_honest plan commands scope acts Opened f s h o = absurd o
-tell_honest plan commands scope acts Unopened f s h o = absurd o
+clock_honest : (plan : Plan) (commands : List Task) (scope : Scope) (acts : List Act) (act : Act) (f : Moment → Progress → Progress) (s : Standing) → IsHonest plan commands scope acts (acts ++ act ∷ []) s → ReadsClock act
+    → IsHonest plan commands scope (acts ++ act ∷ []) (acts ++ act ∷ []) (after_clock f (with_progress turned s) act)
+clock_honest plan commands scope acts (Told m) f s h o = moment_told plan commands scope acts (Told m) m.elapsed _ _ _ (λ d low. low) (λ d past. past) h
+clock_honest plan commands scope acts Untold f s h o = still plan commands scope acts Untold _ _ _ (λ d. tt) h
+clock_honest plan commands scope acts (Put out) f s h o = absurd o
+clock_honest plan commands scope acts (Cut out n) f s h o = absurd o
+clock_honest plan commands scope acts (Gave bytes m) f s h o = absurd o
+clock_honest plan commands scope acts (Silent m) f s h o = absurd o
+clock_honest plan commands scope acts Ended f s h o = absurd o
+clock_honest plan commands scope acts Broke f s h o = absurd o
+clock_honest plan commands scope acts Closed f s h o = absurd o
+clock_honest plan commands scope acts Opened f s h o = absurd o
+clock_honest plan commands scope acts Unopened f s h o = absurd o
 
 open_honest : (plan : Plan) (commands : List Task) (scope : Scope) (acts : List Act) (act : Act) (s : Standing) → IsHonest plan commands scope acts (acts ++ act ∷ []) s → IsOpening act
     → IsHonest plan commands scope (acts ++ act ∷ []) (acts ++ act ∷ []) (after_open plan (with_progress turned s) act)
@@ -221,22 +222,22 @@ open_honest plan commands scope acts Closed s h o = absurd o
 open_honest plan commands scope acts Opened s h o = still plan commands scope acts Opened _ _ _ (λ d. tt) h
 open_honest plan commands scope acts Unopened s h o = still plan commands scope acts Unopened _ _ _ (λ d. tt) h
 
-read_honest : (plan : Plan) (commands : List Task) (scope : Scope) (acts : List Act) (rested : Bool) (act : Act) (tail : List Record) → Fine plan commands (stood plan commands scope acts) → IsHonest plan commands scope acts (acts ++ act ∷ []) (stood plan commands scope acts) → IsReading act
-    → (stood plan commands scope (acts ++ act ∷ [])).records ≡ (after_read plan rested (with_progress turned (stood plan commands scope acts)) act).records ++ tail
-    → IsHonest plan commands scope (acts ++ act ∷ []) (acts ++ act ∷ []) (after_read plan rested (with_progress turned (stood plan commands scope acts)) act)
-read_honest plan commands scope acts rested (Told m) tail fine h o ends = absurd o
-read_honest plan commands scope acts rested Untold tail fine h o ends = still plan commands scope acts Untold _ _ _ (λ d. tt) h
-read_honest plan commands scope acts rested (Put out) tail fine h o ends = absurd o
-read_honest plan commands scope acts rested (Cut out n) tail fine h o ends = absurd o
-read_honest plan commands scope acts rested (Gave bytes m) tail fine h o ends =
+read_honest : (plan : Plan) (commands : List Task) (scope : Scope) (acts : List Act) (until : Until) (act : Act) (tail : List Record) → Fine plan commands (stood plan commands scope acts) → IsHonest plan commands scope acts (acts ++ act ∷ []) (stood plan commands scope acts) → IsReading act
+    → (stood plan commands scope (acts ++ act ∷ [])).records ≡ (after_read plan until (with_progress turned (stood plan commands scope acts)) act).records ++ tail
+    → IsHonest plan commands scope (acts ++ act ∷ []) (acts ++ act ∷ []) (after_read plan until (with_progress turned (stood plan commands scope acts)) act)
+read_honest plan commands scope acts until (Told m) tail fine h o ends = absurd o
+read_honest plan commands scope acts until Untold tail fine h o ends = still plan commands scope acts Untold _ _ _ (λ d. tt) h
+read_honest plan commands scope acts until (Put out) tail fine h o ends = absurd o
+read_honest plan commands scope acts until (Cut out n) tail fine h o ends = absurd o
+read_honest plan commands scope acts until (Gave bytes m) tail fine h o ends =
     let s = stood plan commands scope acts in
     piece_honest plan commands scope acts bytes m (is_heard s.progress.phase) tail ends (record { digit = fine.digit; few = fine.window }) h
-read_honest plan commands scope acts rested (Silent m) tail fine h o ends = moment_told plan commands scope acts (Silent m) m.elapsed _ _ _ (λ d low. low) (λ d past. past) h
-read_honest plan commands scope acts rested Ended tail fine h o ends = still plan commands scope acts Ended _ _ _ (λ d. tt) h
-read_honest plan commands scope acts rested Broke tail fine h o ends = still plan commands scope acts Broke _ _ _ (λ d. tt) h
-read_honest plan commands scope acts rested Closed tail fine h o ends = absurd o
-read_honest plan commands scope acts rested Opened tail fine h o ends = absurd o
-read_honest plan commands scope acts rested Unopened tail fine h o ends = absurd o
+read_honest plan commands scope acts until (Silent m) tail fine h o ends = moment_told plan commands scope acts (Silent m) m.elapsed _ _ _ (λ d low. low) (λ d past. past) h
+read_honest plan commands scope acts until Ended tail fine h o ends = still plan commands scope acts Ended _ _ _ (λ d. tt) h
+read_honest plan commands scope acts until Broke tail fine h o ends = still plan commands scope acts Broke _ _ _ (λ d. tt) h
+read_honest plan commands scope acts until Closed tail fine h o ends = absurd o
+read_honest plan commands scope acts until Opened tail fine h o ends = absurd o
+read_honest plan commands scope acts until Unopened tail fine h o ends = absurd o
 
 close_still : (act : Act) → act ≡ Closed → (d : ℕ) → IsBefore d act
 close_still act is d = subst (λ (x : Act). IsBefore d x) (sym is) tt
@@ -249,9 +250,9 @@ moved_honest : (plan : Plan) (commands : List Task) (scope : Scope) (acts : List
     → Obeys commands (stood plan commands scope acts) order act
     → (stood plan commands scope (acts ++ act ∷ [])).records ≡ (moved plan commands order (with_progress turned (stood plan commands scope acts)) act).records ++ tail
     → IsHonest plan commands scope (acts ++ act ∷ []) (acts ++ act ∷ []) (moved plan commands order (with_progress turned (stood plan commands scope acts)) act)
-moved_honest plan commands scope acts orders.Tell act tail fine h is needs o ends =
-    let s = stood plan commands scope acts in tell_honest plan commands scope acts act (λ m p. reckoned_early plan (commands_in s.marks) (told m p)) s h o
-moved_honest plan commands scope acts orders.Begin act tail fine h is needs o ends = tell_honest plan commands scope acts act (begun plan (length commands)) (stood plan commands scope acts) h o
+moved_honest plan commands scope acts orders.ReadClock act tail fine h is needs o ends =
+    let s = stood plan commands scope acts in clock_honest plan commands scope acts act (λ m p. reckoned_early plan (commands_in s.marks) (told m p)) s h o
+moved_honest plan commands scope acts orders.Begin act tail fine h is needs o ends = clock_honest plan commands scope acts act (begun plan (length commands)) (stood plan commands scope acts) h o
 moved_honest plan commands scope acts orders.Open act tail fine h is needs o ends = open_honest plan commands scope acts act (stood plan commands scope acts) h o
 moved_honest plan commands scope acts orders.Clear act tail fine h is needs o ends =
     let s = stood plan commands scope acts in
@@ -266,14 +267,13 @@ moved_honest plan commands scope acts orders.Send act tail fine h is needs o end
     (first_honest plan commands scope acts act (bound_next commands s.progress) (drop (place_next commands s.progress) commands) fine h is needs.3.1 needs.2 refl o)
 moved_honest plan commands scope acts orders.Skip act tail fine h is needs o ends =
     let s = stood plan commands scope acts in
-    tell_honest plan commands scope acts act (λ m p. reckoned_early plan (commands_in s.marks) (skipped (bound_next commands s.progress) m p)) (with_records (skips plan commands s.progress act) s)
+    clock_honest plan commands scope acts act (λ m p. reckoned_early plan (commands_in s.marks) (skipped (bound_next commands s.progress) m p)) (with_records (skips plan commands s.progress act) s)
     (record { waiting = h.waiting; written = all_append (IsTrue plan commands scope (acts ++ act ∷ [])) s.records (skips plan commands s.progress act) h.written (skips_true plan commands scope (acts ++ act ∷ []) s.progress act) }) o
 moved_honest plan commands scope acts orders.Flush act tail fine h is needs o ends =
     let s = stood plan commands scope acts in
     put_honest plan commands scope (acts ++ act ∷ []) _ (λ (x : Standing). with_progress asking (asks_null plan x)) (with_progress turned s) act
     (null_honest plan commands scope acts act asking fine h needs.5.1 (λ above. is_asking _ (inr is)) o)
-moved_honest plan commands scope acts orders.Read act tail fine h is needs o ends = read_honest plan commands scope acts false act tail fine h o ends
-moved_honest plan commands scope acts orders.Rest act tail fine h is needs o ends = read_honest plan commands scope acts true act tail fine h o ends
+moved_honest plan commands scope acts (orders.Read until) act tail fine h is needs o ends = read_honest plan commands scope acts until act tail fine h o ends
 moved_honest plan commands scope acts (orders.Close why) act tail fine h is needs o ends = still plan commands scope acts act _ _ _ (close_still act o) h
 moved_honest plan commands scope acts (orders.Stop why) act tail fine h is needs o ends = absurd o
 
@@ -291,8 +291,8 @@ honest_along plan commands scope done (act ∷ acts) h runs =
     let one = moved_honest plan commands scope done (order_at plan s) act lost.0 fine prior refl (order_for plan s.progress (waiting_of s)) runs.0 ends in
     let both = losing_honest plan commands scope done act fine runs.0 one in
     let here = subst (λ (x : Standing). IsHonest plan commands scope (done ++ act ∷ []) (done ++ act ∷ []) x) (sym next) both in
-    let rest = subst (λ (x : Standing). Runs plan commands x acts) (sym next) runs.1 in
-    subst (λ (xs : List Act). IsHonest plan commands scope xs xs (stood plan commands scope xs)) (append_assoc done (act ∷ []) acts) (honest_along plan commands scope (done ++ act ∷ []) acts here rest)
+    let goes_on = subst (λ (x : Standing). Runs plan commands x acts) (sym next) runs.1 in
+    subst (λ (xs : List Act). IsHonest plan commands scope xs xs (stood plan commands scope xs)) (append_assoc done (act ∷ []) acts) (honest_along plan commands scope (done ++ act ∷ []) acts here goes_on)
 
 -- each record is true
 all_true : (plan : Plan) (commands : List Task) (scope : Scope) (acts : List Act) → Runs plan commands (opening plan scope) acts → AllByRecursion (IsTrue plan commands scope acts) (stood plan commands scope acts).records

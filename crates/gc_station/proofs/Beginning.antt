@@ -16,14 +16,15 @@ use Rattle.gc_station.specs.declared.progress.Order.TheVariants as order
 use Rattle.gc_station.specs.declared.progress.Phase.{Phase}
 use Rattle.gc_station.specs.declared.progress.Phase.TheVariants as phase
 use Rattle.gc_station.specs.declared.progress.Progress.{Progress}
+use Rattle.gc_station.specs.declared.progress.Until.{Until}
 use Rattle.gc_station.specs.declared.progress.Waiting.{Waiting}
 use Rattle.gc_links.specs.Acts.{Act, Told, Untold, Put, Cut, Gave, Silent, Ended, Broke, Closed, Opened, Unopened}
 use Rattle.gc_station.specs.Deciding.{is_up, is_past, drain_of, later, order_in, order_on}
 use Rattle.gc_station.specs.Marks.{commands_in}
 use Rattle.gc_station.specs.Parts.{Part, only, asking, putting, hearing, acting}
-use Rattle.gc_station.specs.Progressing.{told, turned, begun, waited, quieted, drained, reckoned_early, begins_anew, closed, closed_again, is_over_in, is_over, loses_all}
+use Rattle.gc_station.specs.Progressing.{told, turned, begun, time_passed, quieted, drained, reckoned_early, begins_anew, closed, closed_again, is_over_in, is_over, loses_all}
 use Rattle.gc_station.specs.Reasons.{IsFor}
-use Rattle.gc_station.specs.Standing.{Standing, order_at, waiting_of, request_text, Puts, IsTelling, IsOpening, IsReading, Obeys, with_progress, with_moment, with_rest, lines_came, lines_behind, is_heard, came, reckoned, after_read, after_tell, after_open, moved}
+use Rattle.gc_station.specs.Standing.{Standing, order_at, waiting_of, request_text, Puts, ReadsClock, IsOpening, IsReading, Obeys, with_progress, with_moment, with_rest, lines_came, lines_behind, is_heard, came, reckoned, after_read, after_clock, after_open, moved}
 use Rattle.gc_station.proofs.Acting.{heard_ready}
 use Rattle.gc_station.proofs.Fine.{Fine}
 use Rattle.gc_station.proofs.Midway.{clash}
@@ -95,19 +96,19 @@ module _ (plan : Plan) (commands : List Task) where
   abbrev Begins : Part → Standing → Type 0
   Begins p t = IsQuiet p t ⊎ IsProbed p t
 
-  begins_tell : (s : Standing) (f : Moment → Progress → Progress) (o : Order) (act : Act) → ((m : Moment) → (f m (turned s.progress)).anew ≡ s.progress.anew) → s.progress.anew ≡ true → IsTelling act
-      → Begins (acting plan commands s o act) (after_tell f (with_progress turned s) act)
-  begins_tell s f o (Told m) same w tells = inl (record { steps = tt; marks = refl; anew = same m ∙ w })
-  begins_tell s f o Untold same w tells = inl (record { steps = tt; marks = refl; anew = w })
-  begins_tell s f o (Put bytes) same w tells = absurd tells
-  begins_tell s f o (Cut bytes count) same w tells = absurd tells
-  begins_tell s f o (Gave bytes m) same w tells = absurd tells
-  begins_tell s f o (Silent m) same w tells = absurd tells
-  begins_tell s f o Ended same w tells = absurd tells
-  begins_tell s f o Broke same w tells = absurd tells
-  begins_tell s f o Closed same w tells = absurd tells
-  begins_tell s f o Opened same w tells = absurd tells
-  begins_tell s f o Unopened same w tells = absurd tells
+  begins_clock : (s : Standing) (f : Moment → Progress → Progress) (o : Order) (act : Act) → ((m : Moment) → (f m (turned s.progress)).anew ≡ s.progress.anew) → s.progress.anew ≡ true → ReadsClock act
+      → Begins (acting plan commands s o act) (after_clock f (with_progress turned s) act)
+  begins_clock s f o (Told m) same w tells = inl (record { steps = tt; marks = refl; anew = same m ∙ w })
+  begins_clock s f o Untold same w tells = inl (record { steps = tt; marks = refl; anew = w })
+  begins_clock s f o (Put bytes) same w tells = absurd tells
+  begins_clock s f o (Cut bytes count) same w tells = absurd tells
+  begins_clock s f o (Gave bytes m) same w tells = absurd tells
+  begins_clock s f o (Silent m) same w tells = absurd tells
+  begins_clock s f o Ended same w tells = absurd tells
+  begins_clock s f o Broke same w tells = absurd tells
+  begins_clock s f o Closed same w tells = absurd tells
+  begins_clock s f o Opened same w tells = absurd tells
+  begins_clock s f o Unopened same w tells = absurd tells
 
   begins_open : (s : Standing) (o : Order) (act : Act) → s.progress.anew ≡ true → IsOpening act → Begins (acting plan commands s o act) (after_open plan (with_progress turned s) act)
   begins_open s o Opened w asked = inl (record { steps = tt; marks = refl; anew = w })
@@ -151,10 +152,10 @@ module _ (plan : Plan) (commands : List Task) where
   begins_probe s Unopened bytes puts = absurd puts
 
   -- a piece is dropped
-  begins_piece : (s : Standing) (rested h : Bool) (piece : List ℕ) (m : Moment) → h ≡ false → s.progress.anew ≡ true
-      → IsQuiet (only (Expire m.elapsed ∷ hearing h s.rest piece)) (reckoned plan rested (commands_in s.marks) (came h piece (with_moment m (with_progress (told m) (with_progress turned s)))))
-  begins_piece s rested true piece m is w = cc
-  begins_piece s rested false piece m is w = record { steps = tt; marks = refl; anew = w }
+  begins_piece : (s : Standing) (until : Until) (h : Bool) (piece : List ℕ) (m : Moment) → h ≡ false → s.progress.anew ≡ true
+      → IsQuiet (only (Expire m.elapsed ∷ hearing h s.rest piece)) (reckoned plan until (commands_in s.marks) (came h piece (with_moment m (with_progress (told m) (with_progress turned s)))))
+  begins_piece s until true piece m is w = cc
+  begins_piece s until false piece m is w = record { steps = tt; marks = refl; anew = w }
 
   drained_anew : (p : Progress) (b : Bool) → (if b then drained p else p).anew ≡ p.anew
   drained_anew p true = refl
@@ -162,7 +163,7 @@ module _ (plan : Plan) (commands : List Task) where
 
   quieted_anew : (at : Phase) (p : Progress) → (quieted plan at p).anew ≡ p.anew
   quieted_anew phase.Down p = refl
-  quieted_anew phase.Resting p = refl
+  quieted_anew phase.Pausing p = refl
   quieted_anew phase.Clearing p = refl
   quieted_anew phase.Draining p = drained_anew p (is_past (drain_of plan p) p)
   quieted_anew phase.Probing p = refl
@@ -170,19 +171,19 @@ module _ (plan : Plan) (commands : List Task) where
   quieted_anew (phase.Closing why) p = refl
   quieted_anew (phase.Over why) p = refl
 
-  begins_read : (s : Standing) (rested : Bool) (o : Order) (act : Act) → is_heard s.progress.phase ≡ false → s.progress.anew ≡ true → IsReading act
-      → Begins (acting plan commands s o act) (after_read plan rested (with_progress turned s) act)
-  begins_read s rested o (Gave bytes m) unheard w reads = inl (begins_piece s rested (is_heard s.progress.phase) bytes m unheard w)
-  begins_read s rested o (Silent m) unheard w reads = inl (record { steps = tt; marks = refl; anew = quieted_anew s.progress.phase (waited rested m (turned s.progress)) ∙ w })
-  begins_read s rested o Ended unheard w reads = inl (record { steps = tt; marks = refl; anew = w })
-  begins_read s rested o Broke unheard w reads = inl (record { steps = tt; marks = refl; anew = w })
-  begins_read s rested o Untold unheard w reads = inl (record { steps = tt; marks = refl; anew = w })
-  begins_read s rested o (Told m) unheard w reads = absurd reads
-  begins_read s rested o (Put bytes) unheard w reads = absurd reads
-  begins_read s rested o (Cut bytes count) unheard w reads = absurd reads
-  begins_read s rested o Closed unheard w reads = absurd reads
-  begins_read s rested o Opened unheard w reads = absurd reads
-  begins_read s rested o Unopened unheard w reads = absurd reads
+  begins_read : (s : Standing) (until : Until) (o : Order) (act : Act) → is_heard s.progress.phase ≡ false → s.progress.anew ≡ true → IsReading act
+      → Begins (acting plan commands s o act) (after_read plan until (with_progress turned s) act)
+  begins_read s until o (Gave bytes m) unheard w reads = inl (begins_piece s until (is_heard s.progress.phase) bytes m unheard w)
+  begins_read s until o (Silent m) unheard w reads = inl (record { steps = tt; marks = refl; anew = quieted_anew s.progress.phase (time_passed until m (turned s.progress)) ∙ w })
+  begins_read s until o Ended unheard w reads = inl (record { steps = tt; marks = refl; anew = w })
+  begins_read s until o Broke unheard w reads = inl (record { steps = tt; marks = refl; anew = w })
+  begins_read s until o Untold unheard w reads = inl (record { steps = tt; marks = refl; anew = w })
+  begins_read s until o (Told m) unheard w reads = absurd reads
+  begins_read s until o (Put bytes) unheard w reads = absurd reads
+  begins_read s until o (Cut bytes count) unheard w reads = absurd reads
+  begins_read s until o Closed unheard w reads = absurd reads
+  begins_read s until o Opened unheard w reads = absurd reads
+  begins_read s until o Unopened unheard w reads = absurd reads
 
   again_anew : (w : Waiting) (why : Cause) (p : Progress) (b : Bool) → p.anew ≡ true → (closed_again plan w why b p).anew ≡ true
   again_anew w why p true is = refl
@@ -206,16 +207,15 @@ module _ (plan : Plan) (commands : List Task) where
 
   begins_order : (s : Standing) (o : Order) (act : Act) → Fine plan commands s → IsFor plan s.progress (waiting_of s) o → Obeys commands s o act → s.progress.anew ≡ true
       → Begins (acting plan commands s o act) (moved plan commands o (with_progress turned s) act)
-  begins_order s order.Tell act fine is obeys w = begins_tell s (λ m p. reckoned_early plan (commands_in s.marks) (told m p)) order.Tell act (λ m. refl) w obeys
-  begins_order s order.Begin act fine is obeys w = begins_tell s (begun plan (length commands)) order.Begin act (λ m. refl) w obeys
+  begins_order s order.ReadClock act fine is obeys w = begins_clock s (λ m p. reckoned_early plan (commands_in s.marks) (told m p)) order.ReadClock act (λ m. refl) w obeys
+  begins_order s order.Begin act fine is obeys w = begins_clock s (begun plan (length commands)) order.Begin act (λ m. refl) w obeys
   begins_order s order.Skip act fine is obeys w = absurd (clash s.progress.anew w (fine.ready is.0))
   begins_order s order.Open act fine is obeys w = begins_open s order.Open act w obeys
   begins_order s order.Clear act fine is obeys w = begins_clear s act (10 ∷ []) w obeys
   begins_order s order.Probe act fine is obeys w = begins_probe s act (request_text s.client NullProc) obeys
   begins_order s order.Send act fine is obeys w = absurd (clash s.progress.anew w (fine.ready is.0))
   begins_order s order.Flush act fine is obeys w = absurd (clash s.progress.anew w (fine.ready is.0))
-  begins_order s order.Read act fine is obeys w = begins_read s false order.Read act (unheard_anew s fine w (is_heard s.progress.phase) refl) w obeys
-  begins_order s order.Rest act fine is obeys w = begins_read s true order.Rest act (unheard_anew s fine w (is_heard s.progress.phase) refl) w obeys
+  begins_order s (order.Read until) act fine is obeys w = begins_read s until (order.Read until) act (unheard_anew s fine w (is_heard s.progress.phase) refl) w obeys
   begins_order s (order.Close why) act fine is obeys w =
       subst (λ (a : Act). Begins (acting plan commands s (order.Close why) a) (moved plan commands (order.Close why) (with_progress turned s) a)) (sym obeys)
       (inl (record { steps = tt; marks = refl; anew = closed_anew (waiting_of (with_rest [] (with_progress turned s))) why (turned s.progress) w }))
@@ -237,9 +237,9 @@ module _ (plan : Plan) (commands : List Task) where
   abbrev Waits : Part → Standing → Type 0
   Waits p t = Passes p × (Replies p ⊎ ((t.progress.alone ≡ true) ⊎ (loses_all t.progress ≡ true)))
 
-  waits_piece : (s : Standing) (rested h : Bool) (piece : List ℕ) (m : Moment) → Alone s
-      → Waits (only (Expire m.elapsed ∷ hearing h s.rest piece)) (reckoned plan rested (commands_in s.marks) (came h piece (with_moment m (with_progress (told m) (with_progress turned s)))))
-  waits_piece s rested true piece m w =
+  waits_piece : (s : Standing) (until : Until) (h : Bool) (piece : List ℕ) (m : Moment) → Alone s
+      → Waits (only (Expire m.elapsed ∷ hearing h s.rest piece)) (reckoned plan until (commands_in s.marks) (came h piece (with_moment m (with_progress (told m) (with_progress turned s)))))
+  waits_piece s until true piece m w =
       let x = with_rest (rest_behind s.rest piece) (with_moment m (with_progress (told m) (with_progress turned s))) in
       let lines = lines_behind s.rest piece in
       let t = lines_came x lines in (
@@ -249,7 +249,7 @@ module _ (plan : Plan) (commands : List Task) where
           | inr a ↦ inr (inl (some_wait t.progress.alone (length t.client.waiting) a.0 a.1.1))
         ],
       )
-  waits_piece s rested false piece m w =
+  waits_piece s until false piece m w =
       let x = with_moment m (with_progress (told m) (with_progress turned s)) in
       (λ later h. h, inr (inl (some_wait x.progress.alone (length x.client.waiting) w.0 (alone_told s.client m.elapsed w.1).1)))
 
@@ -260,7 +260,7 @@ module _ (plan : Plan) (commands : List Task) where
 
   -- no request goes out
   no_request : (s : Standing) (o : Order) → Fine plan commands s → IsFor plan s.progress (waiting_of s) o → s.progress.alone ≡ true → s.progress.anew ≡ false → Passes (putting plan commands s o)
-  no_request s order.Tell fine is w n = λ later h. h
+  no_request s order.ReadClock fine is w n = λ later h. h
   no_request s order.Begin fine is w n = λ later h. h
   no_request s order.Skip fine is w n = λ later h. h
   no_request s order.Open fine is w n = λ later h. h
@@ -268,15 +268,13 @@ module _ (plan : Plan) (commands : List Task) where
   no_request s order.Probe fine is w n = absurd (clash s.progress.anew (fine.probing is.0) n)
   no_request s order.Send fine is w n = absurd (clash s.progress.alone w is.1)
   no_request s order.Flush fine is w n = absurd (clash s.progress.alone w is.1)
-  no_request s order.Read fine is w n = λ later h. h
-  no_request s order.Rest fine is w n = λ later h. h
+  no_request s (order.Read until) fine is w n = λ later h. h
   no_request s (order.Close why) fine is w n = λ later h. h
   no_request s (order.Stop why) fine is w n = λ later h. h
 
   gave_waits : (s : Standing) (o : Order) (piece : List ℕ) (m : Moment) → Obeys commands s o (Gave piece m) → Alone s → Waits (acting plan commands s o (Gave piece m)) (moved plan commands o (with_progress turned s) (Gave piece m))
-  gave_waits s order.Read piece m obeys w = waits_piece s false (is_heard s.progress.phase) piece m w
-  gave_waits s order.Rest piece m obeys w = waits_piece s true (is_heard s.progress.phase) piece m w
-  gave_waits s order.Tell piece m obeys w = absurd obeys
+  gave_waits s (order.Read until) piece m obeys w = waits_piece s until (is_heard s.progress.phase) piece m w
+  gave_waits s order.ReadClock piece m obeys w = absurd obeys
   gave_waits s order.Begin piece m obeys w = absurd obeys
   gave_waits s order.Skip piece m obeys w = absurd obeys
   gave_waits s order.Open piece m obeys w = absurd obeys
@@ -308,7 +306,7 @@ module _ (plan : Plan) (commands : List Task) where
 
   closed_waits : (s : Standing) (o : Order) → Obeys commands s o Closed → s.progress.alone ≡ true → loses_all (moved plan commands o (with_progress turned s) Closed).progress ≡ true
   closed_waits s (order.Close why) obeys w = closed_loses (waiting_of (with_rest [] (with_progress turned s))) why (turned s.progress) w
-  closed_waits s order.Tell obeys w = absurd obeys
+  closed_waits s order.ReadClock obeys w = absurd obeys
   closed_waits s order.Begin obeys w = absurd obeys
   closed_waits s order.Skip obeys w = absurd obeys
   closed_waits s order.Open obeys w = absurd obeys
@@ -316,8 +314,7 @@ module _ (plan : Plan) (commands : List Task) where
   closed_waits s order.Probe obeys w = absurd obeys
   closed_waits s order.Send obeys w = absurd obeys
   closed_waits s order.Flush obeys w = absurd obeys
-  closed_waits s order.Read obeys w = absurd obeys
-  closed_waits s order.Rest obeys w = absurd obeys
+  closed_waits s (order.Read until) obeys w = absurd obeys
   closed_waits s (order.Stop why) obeys w = absurd obeys
 
   pub waits : (s : Standing) (o : Order) (act : Act) → Fine plan commands s → IsFor plan s.progress (waiting_of s) o → Obeys commands s o act → Alone s → s.progress.anew ≡ false
@@ -348,7 +345,7 @@ module _ (plan : Plan) (commands : List Task) where
 
     by_phase : (at : Phase) → s.progress.phase ≡ at → (is_over_in s.progress.phase || (not (is_up s.progress.phase) && nat_eq s.progress.turns 0)) ≡ true → ⊥
     by_phase phase.Down is o = stops (ap (λ at. order_in at plan s.progress (waiting_of s)) is) (sym (ap (λ at. is_over_in at || (not (is_up s.progress.phase) && nat_eq s.progress.turns 0)) is) ∙ o)
-    by_phase phase.Resting is o = stops (ap (λ at. order_in at plan s.progress (waiting_of s)) is) (sym (ap (λ at. is_over_in at || (not (is_up s.progress.phase) && nat_eq s.progress.turns 0)) is) ∙ o)
+    by_phase phase.Pausing is o = stops (ap (λ at. order_in at plan s.progress (waiting_of s)) is) (sym (ap (λ at. is_over_in at || (not (is_up s.progress.phase) && nat_eq s.progress.turns 0)) is) ∙ o)
     by_phase phase.Clearing is o = stops (ap (λ at. order_in at plan s.progress (waiting_of s)) is) (sym (ap (λ at. is_over_in at || (not (is_up s.progress.phase) && nat_eq s.progress.turns 0)) is) ∙ o)
     by_phase phase.Draining is o = stops (ap (λ at. order_in at plan s.progress (waiting_of s)) is) (sym (ap (λ at. is_over_in at || (not (is_up s.progress.phase) && nat_eq s.progress.turns 0)) is) ∙ o)
     by_phase phase.Probing is o = stops (ap (λ at. order_in at plan s.progress (waiting_of s)) is) (sym (ap (λ at. is_over_in at || (not (is_up s.progress.phase) && nat_eq s.progress.turns 0)) is) ∙ o)

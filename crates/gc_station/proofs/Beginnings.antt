@@ -17,17 +17,18 @@ use Rattle.gc_station.specs.declared.progress.Phase.TheVariants as phase
 use Rattle.gc_station.specs.declared.progress.Order.{Order}
 use Rattle.gc_station.specs.declared.progress.Order.TheVariants as orders
 use Rattle.gc_station.specs.declared.progress.Progress.{Progress}
+use Rattle.gc_station.specs.declared.progress.Until.{Until}
 use Rattle.gc_station.specs.declared.progress.Waiting.{Waiting}
 use Rattle.gc_links.specs.Acts.{Act, Told, Untold, Put, Cut, Gave, Silent, Ended, Broke, Closed, Opened}
 use Rattle.gc_station.specs.Beginnings.{null_text, IsFirst, bytes_in, IsAnsweredAmong}
 use Rattle.gc_station.specs.Deciding.{is_up, is_past, drain_of, order_in}
 use Rattle.gc_station.specs.Marks.{commands_in}
 use Rattle.gc_station.specs.Probing.{KeepsOpen}
-use Rattle.gc_station.specs.Progressing.{turned, told, reckoned_early, cleared, probed, waited, quieted, drained, begins_anew, closed_again, closed}
+use Rattle.gc_station.specs.Progressing.{turned, told, reckoned_early, cleared, probed, time_passed, quieted, drained, begins_anew, closed_again, closed}
 use Rattle.gc_station.specs.Quiet.{IsRequest, AsksNothing, StaysConnected}
 use Rattle.gc_station.specs.Reasons.{IsFor}
 use Rattle.gc_station.specs.Runs.{stood}
-use Rattle.gc_station.specs.Standing.{Standing, opening, order_at, waiting_of, with_progress, with_moment, with_rest, line_came, lines_came, lines_behind, came, is_heard, request_text, asks_null, after_tell, after_put, after_open, after_read, IsTelling, IsReading, Puts, Obeys, moved, after, after_all, Runs}
+use Rattle.gc_station.specs.Standing.{Standing, opening, order_at, waiting_of, with_progress, with_moment, with_rest, line_came, lines_came, lines_behind, came, is_heard, request_text, asks_null, after_clock, after_put, after_open, after_read, ReadsClock, IsReading, Puts, Obeys, moved, after, after_all, Runs}
 use Rattle.gc_station.proofs.Closings.{runs_split}
 use Rattle.gc_station.proofs.Counts.{ended_progress}
 use Rattle.gc_station.proofs.Drains.{along}
@@ -39,14 +40,14 @@ use Rattle.gc_station.proofs.Going.{after_all-append}
 use Rattle.gc_station.proofs.Lists.{all_append}
 use Rattle.gc_station.proofs.Midway.{clash}
 use Rattle.gc_station.proofs.Probing.{Comes, Goes, alone_moved, alone_fine, over_stops}
-use Rattle.gc_station.proofs.Quiets.{stage_in, stage_stood, not_telling, not_opening, not_reading, not_clearing, not_closing}
+use Rattle.gc_station.proofs.Quiets.{stage_in, stage_stood, not_clock, not_opening, not_reading, not_clearing, not_closing}
 use Rattle.gc_station.specs.Scopes.{Scope}
 
 -- While it begins anew it goes on doing so, until the null procedure goes out.
 
-pub anew_tell : (f : Moment → Progress → Progress) (s : Standing) (act : Act) → ((m : Moment) → (f m s.progress).anew ≡ true) → s.progress.anew ≡ true → (after_tell f s act).progress.anew ≡ true
-anew_tell f s (Told m) step d = step m
-anew_tell f s act step d = d
+pub anew_clock : (f : Moment → Progress → Progress) (s : Standing) (act : Act) → ((m : Moment) → (f m s.progress).anew ≡ true) → s.progress.anew ≡ true → (after_clock f s act).progress.anew ≡ true
+anew_clock f s (Told m) step d = step m
+anew_clock f s act step d = d
 
 pub anew_put : (requests : ℕ) (f : Standing → Standing) (s : Standing) (act : Act) → (f s).progress.anew ≡ true → (after_put requests f s act).progress.anew ≡ true
 anew_put requests f s (Cut out n) d = d
@@ -70,13 +71,13 @@ anew_test p false d = d
 
 anew_quiet : (plan : Plan) (at : Phase) (p : Progress) → p.anew ≡ true → (quieted plan at p).anew ≡ true
 anew_quiet plan phase.Draining p d = anew_test p (is_past (drain_of plan p) p) d
-anew_quiet plan phase.Resting p d = d
+anew_quiet plan phase.Pausing p d = d
 anew_quiet plan at p d = d
 
-pub anew_read : (plan : Plan) (rested : Bool) (s : Standing) (act : Act) → s.progress.anew ≡ true → (after_read plan rested s act).progress.anew ≡ true
-anew_read plan rested s (Gave bytes m) d = anew_came (is_heard s.progress.phase) bytes (with_moment m (with_progress (told m) s)) d
-anew_read plan rested s (Silent m) d = anew_quiet plan s.progress.phase (waited rested m s.progress) d
-anew_read plan rested s act d = d
+pub anew_read : (plan : Plan) (until : Until) (s : Standing) (act : Act) → s.progress.anew ≡ true → (after_read plan until s act).progress.anew ≡ true
+anew_read plan until s (Gave bytes m) d = anew_came (is_heard s.progress.phase) bytes (with_moment m (with_progress (told m) s)) d
+anew_read plan until s (Silent m) d = anew_quiet plan s.progress.phase (time_passed until m s.progress) d
+anew_read plan until s act d = d
 
 anew_again : (plan : Plan) (w : Waiting) (why : Cause) (b : Bool) (p : Progress) → p.anew ≡ true → (closed_again plan w why b p).anew ≡ true
 anew_again plan w why true p d = refl
@@ -170,10 +171,10 @@ record IsCalm (act : Act) : Type 0 where
   stays : StaysConnected act
   none : AsksNothing act
 
-calm_telling : (act : Act) → IsTelling act → IsCalm act
-calm_telling (Told m) o = record { open_ = tt; stays = tt; none = λ e. e }
-calm_telling Untold o = record { open_ = tt; stays = tt; none = λ e. e }
-calm_telling act o = absurd o
+calm_clock : (act : Act) → ReadsClock act → IsCalm act
+calm_clock (Told m) o = record { open_ = tt; stays = tt; none = λ e. e }
+calm_clock Untold o = record { open_ = tt; stays = tt; none = λ e. e }
+calm_clock act o = absurd o
 
 calm_reading : (act : Act) → IsReading act → IsCalm act
 calm_reading (Gave bytes m) o = record { open_ = tt; stays = tt; none = λ e. e }
@@ -186,7 +187,7 @@ calm_reading act o = absurd o
 -- while it waits and there is a connection, only a close is no such act
 lone_act : (commands : List Task) (plan : Plan) (next : Order) (s : Standing) (act : Act) → Obeys commands s next act → IsFor plan s.progress (waiting_of s) next → s.progress.phase ≡ phase.Ready → s.progress.alone ≡ true
     → ((why : Cause) × (next ≡ orders.Close why) × (act ≡ Closed)) ⊎ IsCalm act
-lone_act commands plan orders.Tell s act o needs is alone = inr (calm_telling act o)
+lone_act commands plan orders.ReadClock s act o needs is alone = inr (calm_clock act o)
 lone_act commands plan orders.Begin s act o needs is alone = absurd (clash s.progress.alone alone needs.1)
 lone_act commands plan orders.Open s act o needs is alone = let other : phase.Ready ≡ phase.Down = sym is ∙ needs in cc
 lone_act commands plan orders.Clear s act o needs is alone = let other : phase.Ready ≡ phase.Clearing = sym is ∙ needs in cc
@@ -194,15 +195,14 @@ lone_act commands plan orders.Probe s act o needs is alone = let other : phase.R
 lone_act commands plan orders.Send s act o needs is alone = absurd (clash s.progress.alone alone needs.1)
 lone_act commands plan orders.Skip s act o needs is alone = absurd (clash s.progress.alone alone needs.1)
 lone_act commands plan orders.Flush s act o needs is alone = absurd (clash s.progress.alone alone needs.1)
-lone_act commands plan orders.Read s act o needs is alone = inr (calm_reading act o)
-lone_act commands plan orders.Rest s act o needs is alone = inr (calm_reading act o)
+lone_act commands plan (orders.Read until) s act o needs is alone = inr (calm_reading act o)
 lone_act commands plan (orders.Close why) s act o needs is alone = inl (why, refl, o)
 lone_act commands plan (orders.Stop why) s act o needs is alone = absurd o
 
 -- where it is while it waits
 lone_at : (at : Phase) (alone : Bool) → (is_bare at ≡ true → alone ≡ false) → alone ≡ true → (at ≡ phase.Ready) ⊎ (((why : Cause) × (at ≡ phase.Closing why)) ⊎ ((why : Cause) × (at ≡ phase.Over why)))
 lone_at phase.Down alone bare is = absurd (clash alone is (bare refl))
-lone_at phase.Resting alone bare is = absurd (clash alone is (bare refl))
+lone_at phase.Pausing alone bare is = absurd (clash alone is (bare refl))
 lone_at phase.Clearing alone bare is = absurd (clash alone is (bare refl))
 lone_at phase.Draining alone bare is = absurd (clash alone is (bare refl))
 lone_at phase.Probing alone bare is = absurd (clash alone is (bare refl))
@@ -254,7 +254,7 @@ lone_put requests f s act acts heard rest o none left is alone = absurd o
 
 anew_moved : (plan : Plan) (commands : List Task) (next : Order) (s : Standing) (act : Act) (acts : List Act) (rest : List ℕ) → Obeys commands s next act → IsFor plan s.progress (waiting_of s) next → Fine plan commands s → s.progress.anew ≡ true
     → rest ≡ rest_with (is_heard s.progress.phase) act s.rest → Begun (moved plan commands next (with_progress turned s) act).progress rest (acts ++ act ∷ [])
-anew_moved plan commands orders.Tell s act acts rest o needs fine d left = inl (anew_tell (λ (m : Moment) (p : Progress). reckoned_early plan (commands_in s.marks) (told m p)) (with_progress turned s) act (λ m. d) d)
+anew_moved plan commands orders.ReadClock s act acts rest o needs fine d left = inl (anew_clock (λ (m : Moment) (p : Progress). reckoned_early plan (commands_in s.marks) (told m p)) (with_progress turned s) act (λ m. d) d)
 anew_moved plan commands orders.Begin s act acts rest o needs fine d left = absurd (clash s.progress.anew d (fine.ready needs.0))
 anew_moved plan commands orders.Open s act acts rest o needs fine d left = inl (anew_open plan (with_progress turned s) act d)
 anew_moved plan commands orders.Clear s act acts rest o needs fine d left = inl (anew_put _ (with_progress cleared) (with_progress turned s) act d)
@@ -265,8 +265,7 @@ anew_moved plan commands orders.Probe s act acts rest o needs fine d left =
 anew_moved plan commands orders.Send s act acts rest o needs fine d left = absurd (clash s.progress.anew d (fine.ready needs.0))
 anew_moved plan commands orders.Skip s act acts rest o needs fine d left = absurd (clash s.progress.anew d (fine.ready needs.0))
 anew_moved plan commands orders.Flush s act acts rest o needs fine d left = absurd (clash s.progress.anew d (fine.ready needs.0))
-anew_moved plan commands orders.Read s act acts rest o needs fine d left = inl (anew_read plan false (with_progress turned s) act d)
-anew_moved plan commands orders.Rest s act acts rest o needs fine d left = inl (anew_read plan true (with_progress turned s) act d)
+anew_moved plan commands (orders.Read until) s act acts rest o needs fine d left = inl (anew_read plan until (with_progress turned s) act d)
 anew_moved plan commands (orders.Close why) s act acts rest o needs fine d left = inl (anew_close plan (waiting_of s) why (turned s.progress) d)
 anew_moved plan commands (orders.Stop why) s act acts rest o needs fine d left = absurd o
 
@@ -354,16 +353,15 @@ begun_stood plan commands scope earlier between anew runs =
 -- the request that goes out where it begins anew
 pub first_act : (plan : Plan) (commands : List Task) (next : Order) (s : Standing) (act : Act) → Obeys commands s next act → IsRequest act → IsFor plan s.progress (waiting_of s) next → Fine plan commands s → s.progress.anew ≡ true
     → (s.progress.phase ≡ phase.Probing) × Puts null_text act
-first_act plan commands orders.Tell s act o asks needs fine d = absurd (not_telling act o asks)
-first_act plan commands orders.Begin s act o asks needs fine d = absurd (not_telling act o asks)
+first_act plan commands orders.ReadClock s act o asks needs fine d = absurd (not_clock act o asks)
+first_act plan commands orders.Begin s act o asks needs fine d = absurd (not_clock act o asks)
 first_act plan commands orders.Open s act o asks needs fine d = absurd (not_opening act o asks)
 first_act plan commands orders.Clear s act o asks needs fine d = absurd (not_clearing act o asks)
 first_act plan commands orders.Probe s act o asks needs fine d = (needs.0, subst (λ (c : ById). Puts (request_text c NullProc) act) (fine.anew d).0 o)
 first_act plan commands orders.Send s act o asks needs fine d = absurd (clash s.progress.anew d (fine.ready needs.0))
-first_act plan commands orders.Skip s act o asks needs fine d = absurd (not_telling act o asks)
+first_act plan commands orders.Skip s act o asks needs fine d = absurd (not_clock act o asks)
 first_act plan commands orders.Flush s act o asks needs fine d = absurd (clash s.progress.anew d (fine.ready needs.0))
-first_act plan commands orders.Read s act o asks needs fine d = absurd (not_reading act o asks)
-first_act plan commands orders.Rest s act o asks needs fine d = absurd (not_reading act o asks)
+first_act plan commands (orders.Read until) s act o asks needs fine d = absurd (not_reading act o asks)
 first_act plan commands (orders.Close why) s act o asks needs fine d = absurd (not_closing act o asks)
 first_act plan commands (orders.Stop why) s act o asks needs fine d = absurd o
 

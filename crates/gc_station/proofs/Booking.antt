@@ -226,7 +226,7 @@ wrote_both reads commands ms ms1 ms2 more1 more2 rs rs1 rs2 ss1 ss2 asks1 asks2 
       drop_length : {A : Type 0} (n : ℕ) (xs : List A) → n ≤ length xs → length xs ≡ n + length (drop n xs)
       drop_length zero xs le = omega arith
       drop_length (suc n) [] le = absurd (omega (arith, le))
-      drop_length (suc n) (x ∷ xs) le = let rest = drop_length n xs (omega (arith, le)) in omega (arith, rest)
+      drop_length (suc n) (x ∷ xs) le = let more = drop_length n xs (omega (arith, le)) in omega (arith, more)
 
 -- a client took these steps, and went on to this one; and what was written down
 pub record Books (reads : Call → List ℕ → Reading) (commands : List Task) (c : ById) (ms : List (Option Mark)) (rs : List Record) (p : Part) (c' : ById) (ms' : List (Option Mark)) (rs' : List Record) : Type 0 where

@@ -13,10 +13,11 @@ use Rattle.gc_station.specs.declared.cause.Cause.TheVariants as cause
 use Rattle.gc_station.specs.declared.mark.Mark.{Mark}
 use Rattle.gc_station.specs.declared.plan.Plan.{Plan}
 use Rattle.gc_station.specs.declared.progress.Order.{Order}
-use Rattle.gc_station.specs.declared.progress.Order.TheVariants.{Tell, Begin, Open, Clear, Probe, Send, Skip, Flush, Read, Rest, Close, Stop}
+use Rattle.gc_station.specs.declared.progress.Order.TheVariants.{ReadClock, Begin, Open, Clear, Probe, Send, Skip, Flush, Read, Close, Stop}
 use Rattle.gc_station.specs.declared.progress.Phase.{Phase}
 use Rattle.gc_station.specs.declared.progress.Phase.TheVariants as phase
 use Rattle.gc_station.specs.declared.progress.Progress.{Progress}
+use Rattle.gc_station.specs.declared.progress.Until.{Until}
 use Rattle.gc_station.specs.declared.progress.Waiting.{Waiting}
 use Rattle.gc_links.specs.Acts.{Act, Told, Cut, Gave, Silent, Ended, Broke, Closed, Opened}
 use Rattle.gc_station.specs.Answers.{IsTrueRecord, answer_of}
@@ -25,12 +26,12 @@ use Rattle.gc_station.specs.Deciding.{is_past, drain_of}
 use Rattle.gc_station.specs.EachOnce.{Request, of_record, of_task, requests, sent_by}
 use Rattle.gc_station.specs.Marks.{commands_in, is_value, is_well, last_well}
 use Rattle.gc_station.specs.Probing.{KeepsOpen}
-use Rattle.gc_station.specs.Progressing.{turned, told, begun, skipped, cleared, asking, probed, sent, reckoned_early, closed_again, closed, quieted, drained, waited}
+use Rattle.gc_station.specs.Progressing.{turned, told, begun, skipped, cleared, asking, probed, sent, reckoned_early, closed_again, closed, quieted, drained, time_passed}
 use Rattle.gc_station.specs.Reasons.{IsFor, MayGo}
 use Rattle.gc_station.specs.Records.{Record}
 use Rattle.gc_station.specs.Runs.{stood}
 use Rattle.gc_station.specs.Scopes.{Scope}
-use Rattle.gc_station.specs.Standing.{Standing, Obeys, IsTelling, IsOpening, IsReading, Puts, Runs, opening, order_at, waiting_of, place_next, cycles_begun, mark_next, is_chained, bound_next, with_progress, with_moment, with_rest, with_records, skips, asks_null, asks_first, asks_next, line_came, lines_came, lines_behind, came, is_heard, after_tell, after_put, after_open, after_read, moved}
+use Rattle.gc_station.specs.Standing.{Standing, Obeys, ReadsClock, IsOpening, IsReading, Puts, Runs, opening, order_at, waiting_of, place_next, cycles_begun, mark_next, is_chained, bound_next, with_progress, with_moment, with_rest, with_records, skips, asks_null, asks_first, asks_next, line_came, lines_came, lines_behind, came, is_heard, after_clock, after_put, after_open, after_read, moved}
 use Rattle.gc_station.proofs.Answers.{answers_true}
 use Rattle.gc_station.proofs.Counts.{ended_progress}
 use Rattle.gc_station.proofs.Each.{each_settled, sent_next}
@@ -87,30 +88,30 @@ drained_still true p = record { left = refl; unsent = refl; missed = refl; bound
 drained_still false p = still p
 
 quieted_still : (plan : Plan) (phase : Phase) (p : Progress) → Still p (quieted plan phase p)
-quieted_still plan phase.Resting p = record { left = refl; unsent = refl; missed = refl; bound = refl; whole = λ e. e }
+quieted_still plan phase.Pausing p = record { left = refl; unsent = refl; missed = refl; bound = refl; whole = λ e. e }
 quieted_still plan phase.Draining p = drained_still (is_past (drain_of plan p) p) p
 quieted_still plan phase p = still p
 
-read_still : (plan : Plan) (rested : Bool) (s : Standing) (act : Act) → Still s.progress (after_read plan rested s act).progress
-read_still plan rested s (Gave bytes m) =
+read_still : (plan : Plan) (until : Until) (s : Standing) (act : Act) → Still s.progress (after_read plan until s act).progress
+read_still plan until s (Gave bytes m) =
     let k = came_still (is_heard s.progress.phase) bytes (with_moment m (with_progress (told m) s)) in record { left = k.left; unsent = k.unsent; missed = k.missed; bound = k.bound; whole = k.whole }
-read_still plan rested s (Silent m) =
-    let k = quieted_still plan s.progress.phase (waited rested m s.progress) in record { left = k.left; unsent = k.unsent; missed = k.missed; bound = k.bound; whole = k.whole }
-read_still plan rested s Ended = record { left = refl; unsent = refl; missed = refl; bound = refl; whole = λ e. e }
-read_still plan rested s Broke = record { left = refl; unsent = refl; missed = refl; bound = refl; whole = λ e. e }
-read_still plan rested s act = record { left = refl; unsent = refl; missed = refl; bound = refl; whole = λ e. e }
+read_still plan until s (Silent m) =
+    let k = quieted_still plan s.progress.phase (time_passed until m s.progress) in record { left = k.left; unsent = k.unsent; missed = k.missed; bound = k.bound; whole = k.whole }
+read_still plan until s Ended = record { left = refl; unsent = refl; missed = refl; bound = refl; whole = λ e. e }
+read_still plan until s Broke = record { left = refl; unsent = refl; missed = refl; bound = refl; whole = λ e. e }
+read_still plan until s act = record { left = refl; unsent = refl; missed = refl; bound = refl; whole = λ e. e }
 
-tell_still : (plan : Plan) (n : ℕ) (s : Standing) (act : Act) → Still s.progress (after_tell (λ m p. reckoned_early plan n (told m p)) s act).progress
-tell_still plan n s (Told m) = record { left = refl; unsent = refl; missed = refl; bound = refl; whole = λ e. e }
-tell_still plan n s act = record { left = refl; unsent = refl; missed = refl; bound = refl; whole = λ e. e }
+clock_still : (plan : Plan) (n : ℕ) (s : Standing) (act : Act) → Still s.progress (after_clock (λ m p. reckoned_early plan n (told m p)) s act).progress
+clock_still plan n s (Told m) = record { left = refl; unsent = refl; missed = refl; bound = refl; whole = λ e. e }
+clock_still plan n s act = record { left = refl; unsent = refl; missed = refl; bound = refl; whole = λ e. e }
 
-begin_steps : (plan : Plan) (count : ℕ) (s : Standing) (act : Act) → Still s.progress (after_tell (begun plan count) s act).progress ⊎ Anew count (after_tell (begun plan count) s act).progress
+begin_steps : (plan : Plan) (count : ℕ) (s : Standing) (act : Act) → Still s.progress (after_clock (begun plan count) s act).progress ⊎ Anew count (after_clock (begun plan count) s act).progress
 begin_steps plan count s (Told m) = inr (record { unsent = refl; whole = refl })
 begin_steps plan count s act = inl (record { left = refl; unsent = refl; missed = refl; bound = refl; whole = λ e. e })
 
 skip_steps : (plan : Plan) (n : ℕ) (bound : Bool) (s : Standing) (act : Act)
-    → Still s.progress (after_tell (λ m p. reckoned_early plan n (skipped bound m p)) s act).progress
-    ⊎ (Next bound s.progress (after_tell (λ m p. reckoned_early plan n (skipped bound m p)) s act).progress × ((after_tell (λ m p. reckoned_early plan n (skipped bound m p)) s act).progress.whole ≡ false))
+    → Still s.progress (after_clock (λ m p. reckoned_early plan n (skipped bound m p)) s act).progress
+    ⊎ (Next bound s.progress (after_clock (λ m p. reckoned_early plan n (skipped bound m p)) s act).progress × ((after_clock (λ m p. reckoned_early plan n (skipped bound m p)) s act).progress.whole ≡ false))
 skip_steps plan n bound s (Told m) = inr (record { left = refl; unsent = refl; missed = refl; is_bound = refl }, refl)
 skip_steps plan n bound s act = inl (record { left = refl; unsent = refl; missed = refl; bound = refl; whole = λ e. e })
 
@@ -142,7 +143,7 @@ closed_steps plan w cause.Silence p = again_steps plan w cause.Silence true p
 closed_steps plan w why p = again_steps plan w why (p.alone || p.anew) p
 
 moved_steps : (plan : Plan) (commands : List Task) (order : Order) (s : Standing) (act : Act) → Steps (length commands) (bound_next commands s.progress) order s.progress (moved plan commands order s act).progress
-moved_steps plan commands Tell s act = tell_still plan (commands_in s.marks) s act
+moved_steps plan commands ReadClock s act = clock_still plan (commands_in s.marks) s act
 moved_steps plan commands Begin s act = begin_steps plan (length commands) s act
 moved_steps plan commands Open s act = open_still plan s act
 moved_steps plan commands Clear s act = put_still s.progress _ (with_progress cleared) s act (record { left = refl; unsent = refl; missed = refl; bound = refl; whole = λ e. e })
@@ -152,8 +153,7 @@ moved_steps plan commands Send s act =
     (first_next (bound_next commands s.progress) (mark_next plan commands s.progress) (drop (place_next commands s.progress) commands) s)
 moved_steps plan commands Skip s act = skip_steps plan (commands_in s.marks) (bound_next commands s.progress) (with_records (skips plan commands s.progress act) s) act
 moved_steps plan commands Flush s act = put_still s.progress _ (λ (x : Standing). with_progress asking (asks_null plan x)) s act (record { left = refl; unsent = refl; missed = refl; bound = refl; whole = λ e. e })
-moved_steps plan commands Read s act = read_still plan false s act
-moved_steps plan commands Rest s act = read_still plan true s act
+moved_steps plan commands (Read until) s act = read_still plan until s act
 moved_steps plan commands (Close why) s act = closed_steps plan (waiting_of (with_rest [] s)) why s.progress
 moved_steps plan commands (Stop why) s act = still s.progress
 
@@ -162,9 +162,9 @@ puts_open : (bytes : List ℕ) (act : Act) → Puts bytes act → KeepsOpen act
 puts_open bytes Closed o = absurd o
 puts_open bytes act o = tt
 
-telling_open : (act : Act) → IsTelling act → KeepsOpen act
-telling_open Closed o = absurd o
-telling_open act o = tt
+clock_open : (act : Act) → ReadsClock act → KeepsOpen act
+clock_open Closed o = absurd o
+clock_open act o = tt
 
 opening_open : (act : Act) → IsOpening act → KeepsOpen act
 opening_open Closed o = absurd o
@@ -265,20 +265,19 @@ chain_moved : (plan : Plan) (commands : List Task) (scope : Scope) (acts : List 
     → order_at plan (stood plan commands scope acts) ≡ order → IsFor plan (stood plan commands scope acts).progress w order → Obeys commands (stood plan commands scope acts) order act
     → Steps (length commands) (bound_next commands (turned (stood plan commands scope acts).progress)) order (turned (stood plan commands scope acts).progress) q
     → Chain plan commands scope acts (turned (stood plan commands scope acts).progress) → Chain plan commands scope (acts ++ act ∷ []) q
-chain_moved plan commands scope acts act Begin w q fine is needs o (inl k) h = chain_still plan commands scope acts act _ q k (telling_open act o) h
+chain_moved plan commands scope acts act Begin w q fine is needs o (inl k) h = chain_still plan commands scope acts act _ q k (clock_open act o) h
 chain_moved plan commands scope acts act Begin w q fine is needs o (inr a) h = chain_anew plan commands scope (acts ++ act ∷ []) q a
 chain_moved plan commands scope acts act Send w q fine is needs o n h = chain_sent plan commands scope acts act (turned (stood plan commands scope acts).progress) q refl is n needs.2 fine.unsent
-chain_moved plan commands scope acts act Skip w q fine is needs o (inl k) h = chain_still plan commands scope acts act _ q k (telling_open act o) h
+chain_moved plan commands scope acts act Skip w q fine is needs o (inl k) h = chain_still plan commands scope acts act _ q k (clock_open act o) h
 chain_moved plan commands scope acts act Skip w q fine is needs o (inr n) h = chain_skipped plan commands scope (acts ++ act ∷ []) (turned (stood plan commands scope acts).progress) q n.0 n.1 needs.2 fine.unsent
 chain_moved plan commands scope acts act (Close why) w q fine is needs o k h = chain_closed plan commands scope acts (acts ++ act ∷ []) _ q k.0 k.1 h
 chain_moved plan commands scope acts act (Stop why) w q fine is needs o k h = absurd o
-chain_moved plan commands scope acts act Tell w q fine is needs o k h = chain_still plan commands scope acts act _ q k (telling_open act o) h
+chain_moved plan commands scope acts act ReadClock w q fine is needs o k h = chain_still plan commands scope acts act _ q k (clock_open act o) h
 chain_moved plan commands scope acts act Open w q fine is needs o k h = chain_still plan commands scope acts act _ q k (opening_open act o) h
 chain_moved plan commands scope acts act Clear w q fine is needs o k h = chain_still plan commands scope acts act _ q k (puts_open _ act o) h
 chain_moved plan commands scope acts act Probe w q fine is needs o k h = chain_still plan commands scope acts act _ q k (puts_open _ act o) h
 chain_moved plan commands scope acts act Flush w q fine is needs o k h = chain_still plan commands scope acts act _ q k (puts_open _ act o) h
-chain_moved plan commands scope acts act Read w q fine is needs o k h = chain_still plan commands scope acts act _ q k (reading_open act o) h
-chain_moved plan commands scope acts act Rest w q fine is needs o k h = chain_still plan commands scope acts act _ q k (reading_open act o) h
+chain_moved plan commands scope acts act (Read until) w q fine is needs o k h = chain_still plan commands scope acts act _ q k (reading_open act o) h
 
 -- and so each run
 chain_along : (plan : Plan) (commands : List Task) (scope : Scope) (done acts : List Act) → Runs plan commands (stood plan commands scope done) acts → Chain plan commands scope done (stood plan commands scope done).progress
@@ -300,8 +299,8 @@ chain_along plan commands scope done (act ∷ acts) runs h =
     let one = chain_moved plan commands scope done act (order_at plan s) (waiting_of s) t.progress (fine_stood plan commands scope done) refl (order_for plan s.progress (waiting_of s)) runs.0
     (moved_steps plan commands (order_at plan s) (with_progress turned s) act) at_turn in
     let here = subst (λ (p : Progress). Chain plan commands scope (done ++ act ∷ []) p) (sym far) one in
-    let rest = subst (λ (x : Standing). Runs plan commands x acts) (sym next) runs.1 in
-    subst (λ (xs : List Act). Chain plan commands scope xs (stood plan commands scope xs).progress) (append_assoc done (act ∷ []) acts) (chain_along plan commands scope (done ++ act ∷ []) acts rest here)
+    let goes_on = subst (λ (x : Standing). Runs plan commands x acts) (sym next) runs.1 in
+    subst (λ (xs : List Act). Chain plan commands scope xs (stood plan commands scope xs).progress) (append_assoc done (act ∷ []) acts) (chain_along plan commands scope (done ++ act ∷ []) acts goes_on here)
 
 none_behind : (commands : List Task) → drop (length commands - 0) commands ≡ []
 none_behind commands = let at : length commands - 0 ≡ length commands = omega arith in ap (λ (n : ℕ). drop n commands) at ∙ all_dropped commands where

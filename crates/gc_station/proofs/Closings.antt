@@ -9,19 +9,20 @@ use Rattle.gc_station.specs.declared.cause.Cause.TheVariants as cause
 use Rattle.gc_links.specs.declared.link.Moment.{Moment}
 use Rattle.gc_station.specs.declared.mark.Mark.{Mark}
 use Rattle.gc_station.specs.declared.progress.Phase.{Phase}
-use Rattle.gc_station.specs.declared.progress.Phase.TheVariants.{Resting, Draining, Probing, Ready, Closing, Over, Down}
+use Rattle.gc_station.specs.declared.progress.Phase.TheVariants.{Pausing, Draining, Probing, Ready, Closing, Over, Down}
 use Rattle.gc_station.specs.declared.progress.Order.{Order}
 use Rattle.gc_station.specs.declared.progress.Order.TheVariants as order
 use Rattle.gc_station.specs.declared.progress.Progress.{Progress}
+use Rattle.gc_station.specs.declared.progress.Until.{Until}
 use Rattle.gc_station.specs.declared.progress.Waiting.{Waiting}
 use Rattle.gc_links.specs.Acts.{Act, Told, Untold, Put, Cut, Gave, Silent, Ended, Broke, Closed, Opened, Unopened}
 use Rattle.gc_station.specs.Deciding.{is_up, is_past, drain_of, order_in}
 use Rattle.gc_station.specs.Marks.{commands_in}
-use Rattle.gc_station.specs.Progressing.{turned, told, begun, skipped, failing, quieted, drained, waited, asking, reckoned_early, is_finished, is_resting, begins_anew, closed_again, closed, cleared, probed, sent, is_spared}
+use Rattle.gc_station.specs.Progressing.{turned, told, begun, skipped, failing, quieted, drained, time_passed, asking, reckoned_early, is_finished, is_idle, begins_anew, closed_again, closed, cleared, probed, sent, is_spared}
 use Rattle.gc_station.specs.Closing.{IsAlone, IsReasoned, Shows, ClosesForACause, EndsDone, EndsBehind, EndsGone, Ends, StopsForACause, commands_behind}
 use Rattle.gc_station.specs.Reasons.{IsFor, IsAtItsEnd}
 use Rattle.gc_station.specs.Runs.{stood}
-use Rattle.gc_station.specs.Standing.{Standing, waiting_of, opening, order_at, place_next, bound_next, mark_next, with_progress, with_moment, with_rest, is_heard, line_came, lines_came, lines_behind, came, asks_null, asks_first, asks_next, with_records, skips, after_tell, after_put, after_open, after_read, Puts, IsTelling, IsOpening, IsReading, Obeys, moved, after, after_all, Runs}
+use Rattle.gc_station.specs.Standing.{Standing, waiting_of, opening, order_at, place_next, bound_next, mark_next, with_progress, with_moment, with_rest, is_heard, line_came, lines_came, lines_behind, came, asks_null, asks_first, asks_next, with_records, skips, after_clock, after_put, after_open, after_read, Puts, ReadsClock, IsOpening, IsReading, Obeys, moved, after, after_all, Runs}
 use Rattle.gc_station.proofs.Counts.{ended_progress}
 use Rattle.gc_station.proofs.EachRun.{fine_stood}
 use Rattle.gc_station.proofs.Facts.{order_for}
@@ -53,11 +54,11 @@ fail_decides before at false why c act is shows down e = let same : why ≡ c = 
 failed : {Other : Type 0} (s : Standing) (why c : Cause) (act : Act) → Shows why act → end_of (with_progress (failing why) s).progress.phase ≡ Some c → Decides Other s.progress.phase (with_progress (failing why) s).progress.phase c act
 failed s why c act shows e = fail_decides s.progress.phase s.progress.phase (is_up s.progress.phase) why c act refl shows (λ d. d) e
 
-tell_decides : {Other : Type 0} (f : Moment → Progress → Progress) (s : Standing) (act : Act) (c : Cause) → IsTelling act → ((m : Moment) → (f m s.progress).phase ≡ s.progress.phase) → end_of (after_tell f s act).progress.phase ≡ Some c
-    → Decides Other s.progress.phase (after_tell f s act).progress.phase c act
-tell_decides f s (Told m) c o same e = inr (inr (same m))
-tell_decides f s Untold c o same e = failed s cause.Clock c Untold refl e
-tell_decides f s act c o same e = absurd o
+clock_decides : {Other : Type 0} (f : Moment → Progress → Progress) (s : Standing) (act : Act) (c : Cause) → ReadsClock act → ((m : Moment) → (f m s.progress).phase ≡ s.progress.phase) → end_of (after_clock f s act).progress.phase ≡ Some c
+    → Decides Other s.progress.phase (after_clock f s act).progress.phase c act
+clock_decides f s (Told m) c o same e = inr (inr (same m))
+clock_decides f s Untold c o same e = failed s cause.Clock c Untold refl e
+clock_decides f s act c o same e = absurd o
 
 put_decides : {Other : Type 0} (requests : ℕ) (bytes : List ℕ) (f : Standing → Standing) (s : Standing) (act : Act) (c : Cause) → Puts bytes act
     → (end_of (f s).progress.phase ≡ Some c → (f s).progress.phase ≡ s.progress.phase) → (is_up (f s).progress.phase ≡ false → is_up s.progress.phase ≡ false) → end_of (after_put requests f s act).progress.phase ≡ Some c
@@ -70,16 +71,16 @@ drained_none : (p : Progress) (anew : Bool) (c : Cause) → end_of (if anew then
 drained_none p true c e = cc
 drained_none p false c e = cc
 
-rested_same : (at : Phase) (b : Bool) (c : Cause) → end_of (if b then Down else at) ≡ Some c → (if b then Down else at) ≡ at
-rested_same at true c e = cc
-rested_same at false c e = refl
+paused_same : (at : Phase) (b : Bool) (c : Cause) → end_of (if b then Down else at) ≡ Some c → (if b then Down else at) ≡ at
+paused_same at true c e = cc
+paused_same at false c e = refl
 
 drained_same : (p : Progress) (b : Bool) (c : Cause) → end_of (if b then drained p else p).phase ≡ Some c → (if b then drained p else p).phase ≡ p.phase
 drained_same p true c e = absurd (drained_none p p.anew c e)
 drained_same p false c e = refl
 
 quiet_same : (plan : Plan) (phase : Phase) (p : Progress) (c : Cause) → end_of (quieted plan phase p).phase ≡ Some c → (quieted plan phase p).phase ≡ p.phase
-quiet_same plan Resting p c e = rested_same p.phase (is_past p.pause p && not (is_resting plan p)) c e
+quiet_same plan Pausing p c e = paused_same p.phase (is_past p.pause p && not (is_idle plan p)) c e
 quiet_same plan Draining p c e = drained_same p (is_past (drain_of plan p) p) c e
 quiet_same plan phase p c e = refl
 
@@ -92,14 +93,14 @@ pub came_phase : (heard : Bool) (piece : List ℕ) (s : Standing) → (came hear
 came_phase true piece s = lines_phase (with_rest (rest_behind s.rest piece) s) (lines_behind s.rest piece)
 came_phase false piece s = refl
 
-read_decides : {Other : Type 0} (plan : Plan) (rested : Bool) (s : Standing) (act : Act) (c : Cause) → IsReading act → end_of (after_read plan rested s act).progress.phase ≡ Some c
-    → Decides Other s.progress.phase (after_read plan rested s act).progress.phase c act
-read_decides plan rested s Untold c o e = failed s cause.Clock c Untold refl e
-read_decides plan rested s (Gave bytes m) c o e = inr (inr (came_phase (is_heard s.progress.phase) bytes (with_moment m (with_progress (told m) s))))
-read_decides plan rested s (Silent m) c o e = inr (inr (quiet_same plan s.progress.phase (waited rested m s.progress) c e))
-read_decides plan rested s Ended c o e = failed s cause.End c Ended refl e
-read_decides plan rested s Broke c o e = failed s cause.Read c Broke refl e
-read_decides plan rested s act c o e = absurd o
+read_decides : {Other : Type 0} (plan : Plan) (until : Until) (s : Standing) (act : Act) (c : Cause) → IsReading act → end_of (after_read plan until s act).progress.phase ≡ Some c
+    → Decides Other s.progress.phase (after_read plan until s act).progress.phase c act
+read_decides plan until s Untold c o e = failed s cause.Clock c Untold refl e
+read_decides plan until s (Gave bytes m) c o e = inr (inr (came_phase (is_heard s.progress.phase) bytes (with_moment m (with_progress (told m) s))))
+read_decides plan until s (Silent m) c o e = inr (inr (quiet_same plan s.progress.phase (time_passed until m s.progress) c e))
+read_decides plan until s Ended c o e = failed s cause.End c Ended refl e
+read_decides plan until s Broke c o e = failed s cause.Read c Broke refl e
+read_decides plan until s act c o e = absurd o
 
 none_left : (a b n : ℕ) → nat_eq a 0 && nat_eq b 0 && nat_eq n 0 ≡ true → (a ≡ 0) × (b ≡ 0) × (n ≡ 0)
 none_left a b n e = grind (arith, nat_tests, e)
@@ -114,7 +115,7 @@ EndsAgain plan p n other c = EndsDone p n c ⊎ ((c ≡ other) × (is_finished n
 
 -- what a run ends for where no connection is made anew
 again_ends : (plan : Plan) (other c : Cause) (n : ℕ) (p : Progress) (done some : Bool) → is_finished n p ≡ done → (is_spared plan other p || nat_lt 0 p.tries) ≡ some
-    → end_of (if done then Over cause.Done else if some then Resting else Over other) ≡ Some c → EndsAgain plan p n other c
+    → end_of (if done then Over cause.Done else if some then Pausing else Over other) ≡ Some c → EndsAgain plan p n other c
 again_ends plan other c n p true some finished tries e = let none = none_left p.left p.unsent n finished in inl (cc, none.0, none.1, none.2)
 again_ends plan other c n p false true finished tries e = cc
 again_ends plan other c n p false false finished tries e = let none = no_try (is_spared plan other p) p.tries tries in inr (cc, finished, none.0, none.1)
@@ -123,8 +124,8 @@ again_ends plan other c n p false false finished tries e = let none = no_try (is
 closed_again_ends : (plan : Plan) (w : Waiting) (other c : Cause) (p : Progress) (anew : Bool) → end_of (closed_again plan w other anew (turned p)).phase ≡ Some c → EndsAgain plan p (if anew then 0 else w.commands) other c
 closed_again_ends plan w cause.Open c p true e = again_ends plan cause.Open c 0 p (is_finished 0 p) (nat_lt 0 p.tries) refl refl e
 closed_again_ends plan w cause.Open c p false e = again_ends plan cause.Open c w.commands p (is_finished w.commands p) (nat_lt 0 p.tries) refl refl e
-closed_again_ends plan w other c p true e = again_ends plan other c 0 p (is_finished 0 p) (is_resting plan p || nat_lt 0 p.tries) refl refl e
-closed_again_ends plan w other c p false e = again_ends plan other c w.commands p (is_finished w.commands p) (is_resting plan p || nat_lt 0 p.tries) refl refl e
+closed_again_ends plan w other c p true e = again_ends plan other c 0 p (is_finished 0 p) (is_idle plan p || nat_lt 0 p.tries) refl refl e
+closed_again_ends plan w other c p false e = again_ends plan other c w.commands p (is_finished w.commands p) (is_idle plan p || nat_lt 0 p.tries) refl refl e
 
 none_behind : (anew : Bool) (n : ℕ) → n ≡ 0 → (if anew then 0 else n) ≡ 0
 none_behind true n e = refl
@@ -161,8 +162,8 @@ first_phase mark (command ∷ others) s = refl
 moved_decides : (plan : Plan) (commands : List Task) (next : Order) (s : Standing) (act : Act) (c : Cause) → Obeys commands s next act → (next ≡ order.Close cause.Done → NoneLeft s.progress (commands_in s.marks))
     → end_of (moved plan commands next (with_progress turned s) act).progress.phase ≡ Some c
     → Decides (Gone plan s next (moved plan commands next (with_progress turned s) act).progress.phase c act) s.progress.phase (moved plan commands next (with_progress turned s) act).progress.phase c act
-moved_decides plan commands order.Tell s act c o done e = tell_decides (λ (m : Moment) (p : Progress). reckoned_early plan (commands_in s.marks) (told m p)) (with_progress turned s) act c o (λ m. refl) e
-moved_decides plan commands order.Begin s act c o done e = tell_decides (begun plan (length commands)) (with_progress turned s) act c o (λ m. refl) e
+moved_decides plan commands order.ReadClock s act c o done e = clock_decides (λ (m : Moment) (p : Progress). reckoned_early plan (commands_in s.marks) (told m p)) (with_progress turned s) act c o (λ m. refl) e
+moved_decides plan commands order.Begin s act c o done e = clock_decides (begun plan (length commands)) (with_progress turned s) act c o (λ m. refl) e
 moved_decides plan commands order.Open s act c o done e = open_decides plan s act c o e
 moved_decides plan commands order.Clear s act c o done e = put_decides _ (10 ∷ []) (with_progress cleared) (with_progress turned s) act c o (λ g. cc) (λ d. cc) e
 moved_decides plan commands order.Probe s act c o done e = put_decides _ _ (λ (x : Standing). with_progress probed (asks_null plan x)) (with_progress turned s) act c o (λ g. cc) (λ d. cc) e
@@ -170,10 +171,9 @@ moved_decides plan commands order.Send s act c o done e =
     let same = first_phase (mark_next plan commands s.progress) (drop (place_next commands s.progress) commands) (with_progress turned s) in
     put_decides _ _ (λ (x : Standing). with_progress (sent (bound_next commands x.progress)) (asks_next plan commands x)) (with_progress turned s) act c o (λ g. same) (λ d. sym (ap is_up same) ∙ d) e
 moved_decides plan commands order.Skip s act c o done e =
-    tell_decides (λ (m : Moment) (p : Progress). reckoned_early plan (commands_in s.marks) (skipped (bound_next commands s.progress) m p)) (with_records (skips plan commands (turned s.progress) act) (with_progress turned s)) act c o (λ m. refl) e
+    clock_decides (λ (m : Moment) (p : Progress). reckoned_early plan (commands_in s.marks) (skipped (bound_next commands s.progress) m p)) (with_records (skips plan commands (turned s.progress) act) (with_progress turned s)) act c o (λ m. refl) e
 moved_decides plan commands order.Flush s act c o done e = put_decides _ _ (λ (x : Standing). with_progress asking (asks_null plan x)) (with_progress turned s) act c o (λ g. refl) (λ d. d) e
-moved_decides plan commands order.Read s act c o done e = read_decides plan false (with_progress turned s) act c o e
-moved_decides plan commands order.Rest s act c o done e = read_decides plan true (with_progress turned s) act c o e
+moved_decides plan commands (order.Read until) s act c o done e = read_decides plan until (with_progress turned s) act c o e
 moved_decides plan commands (order.Close why) s act c o done e =
     inr (inl (closed_down plan (waiting_of s) why (turned s.progress), inl (why, o, refl, closed_ends plan (waiting_of s) why c s.progress (λ is. done (ap order.Close is)) e)))
 moved_decides plan commands (order.Stop why) s act c o done e = absurd o

@@ -6,17 +6,18 @@ use Rattle.gc_station.specs.declared.plan.Plan.{Plan}
 use Rattle.gc_station.specs.declared.cause.Cause.{Cause}
 use Rattle.gc_station.specs.declared.cause.Cause.TheVariants as cause
 use Rattle.gc_station.specs.declared.progress.Phase.{Phase}
-use Rattle.gc_station.specs.declared.progress.Phase.TheVariants.{Down, Resting, Clearing, Draining, Probing, Ready, Closing, Over}
+use Rattle.gc_station.specs.declared.progress.Phase.TheVariants.{Down, Pausing, Clearing, Draining, Probing, Ready, Closing, Over}
 use Rattle.gc_station.specs.declared.progress.Order.{Order}
-use Rattle.gc_station.specs.declared.progress.Order.TheVariants.{Tell, Begin, Open, Clear, Probe, Send, Skip, Flush, Read, Rest, Close, Stop}
+use Rattle.gc_station.specs.declared.progress.Order.TheVariants.{ReadClock, Begin, Open, Clear, Probe, Send, Skip, Flush, Read, Close, Stop}
 use Rattle.gc_station.specs.declared.progress.Progress.{Progress}
+use Rattle.gc_station.specs.declared.progress.Until.{Until}
 use Rattle.gc_station.specs.declared.progress.Waiting.{Waiting}
 use Rattle.gc_station.specs.declared.mark.Mark.{Mark}
 use Rattle.gc_links.specs.Acts.{Act, Told, Cut, Gave, Silent, Ended, Broke, Opened}
 use Rattle.gc_station.specs.Deciding.{is_past, drain_of}
 use Rattle.gc_station.specs.Marks.{commands_in}
-use Rattle.gc_station.specs.Standing.{Standing, moved, losing, ended, asks_null, asks_first, asks_next, with_records, skips, bound_next, with_progress, with_moment, with_rest, waiting_of, line_came, lines_came, lines_behind, came, after_tell, after_put, after_open, after_read, is_heard, place_next, mark_next}
-use Rattle.gc_station.specs.Progressing.{told, begun, skipped, cleared, asking, probed, sent, reckoned_early, closed_again, closed, quieted, drained, waited, loses_all}
+use Rattle.gc_station.specs.Standing.{Standing, moved, losing, ended, asks_null, asks_first, asks_next, with_records, skips, bound_next, with_progress, with_moment, with_rest, waiting_of, line_came, lines_came, lines_behind, came, after_clock, after_put, after_open, after_read, is_heard, place_next, mark_next}
+use Rattle.gc_station.specs.Progressing.{told, begun, skipped, cleared, asking, probed, sent, reckoned_early, closed_again, closed, quieted, drained, time_passed, loses_all}
 
 -- the counts are the same
 pub record Kept (p q : Progress) : Type 0 where
@@ -73,7 +74,7 @@ drained_kept true p = kept p _ refl refl refl
 drained_kept false p = kept p _ refl refl refl
 
 pub quieted_kept : (plan : Plan) (phase : Phase) (p : Progress) → Kept p (quieted plan phase p)
-quieted_kept plan Resting p = kept p _ refl refl refl
+quieted_kept plan Pausing p = kept p _ refl refl refl
 quieted_kept plan Draining p = drained_kept (is_past (drain_of plan p) p) p
 quieted_kept plan Down p = kept p _ refl refl refl
 quieted_kept plan Clearing p = kept p _ refl refl refl
@@ -82,24 +83,24 @@ quieted_kept plan Ready p = kept p _ refl refl refl
 quieted_kept plan (Closing why) p = kept p _ refl refl refl
 quieted_kept plan (Over why) p = kept p _ refl refl refl
 
-read_kept : (plan : Plan) (rested : Bool) (s : Standing) (act : Act) → Kept s.progress (after_read plan rested s act).progress
-read_kept plan rested s (Gave bytes m) =
+read_kept : (plan : Plan) (until : Until) (s : Standing) (act : Act) → Kept s.progress (after_read plan until s act).progress
+read_kept plan until s (Gave bytes m) =
     let same = came_kept (is_heard s.progress.phase) bytes (with_moment m (with_progress (told m) s)) in kept s.progress _ same.turns same.left same.unsent
-read_kept plan rested s (Silent m) =
-    let same = quieted_kept plan s.progress.phase (waited rested m s.progress) in kept s.progress _ same.turns same.left same.unsent
-read_kept plan rested s Ended = kept s.progress _ refl refl refl
-read_kept plan rested s Broke = kept s.progress _ refl refl refl
-read_kept plan rested s act = kept s.progress _ refl refl refl
+read_kept plan until s (Silent m) =
+    let same = quieted_kept plan s.progress.phase (time_passed until m s.progress) in kept s.progress _ same.turns same.left same.unsent
+read_kept plan until s Ended = kept s.progress _ refl refl refl
+read_kept plan until s Broke = kept s.progress _ refl refl refl
+read_kept plan until s act = kept s.progress _ refl refl refl
 
-tell_kept : (plan : Plan) (n : ℕ) (s : Standing) (act : Act) → Kept s.progress (after_tell (λ m p. reckoned_early plan n (told m p)) s act).progress
-tell_kept plan n s (Told m) = kept s.progress _ refl refl refl
-tell_kept plan n s act = kept s.progress _ refl refl refl
+clock_kept : (plan : Plan) (n : ℕ) (s : Standing) (act : Act) → Kept s.progress (after_clock (λ m p. reckoned_early plan n (told m p)) s act).progress
+clock_kept plan n s (Told m) = kept s.progress _ refl refl refl
+clock_kept plan n s act = kept s.progress _ refl refl refl
 
-begin_counts : (plan : Plan) (count : ℕ) (s : Standing) (act : Act) → Counts count Begin s.progress (after_tell (begun plan count) s act).progress
+begin_counts : (plan : Plan) (count : ℕ) (s : Standing) (act : Act) → Counts count Begin s.progress (after_clock (begun plan count) s act).progress
 begin_counts plan count s (Told m) = inr (kept (counted_begun count s.progress) _ refl refl refl)
 begin_counts plan count s act = inl (kept s.progress _ refl refl refl)
 
-skip_counts : (plan : Plan) (count n : ℕ) (bound : Bool) (s : Standing) (act : Act) → Counts count Skip s.progress (after_tell (λ m p. reckoned_early plan n (skipped bound m p)) s act).progress
+skip_counts : (plan : Plan) (count n : ℕ) (bound : Bool) (s : Standing) (act : Act) → Counts count Skip s.progress (after_clock (λ m p. reckoned_early plan n (skipped bound m p)) s act).progress
 skip_counts plan count n bound s (Told m) = inr (kept (counted_sent s.progress) _ refl refl refl)
 skip_counts plan count n bound s act = inl (kept s.progress _ refl refl refl)
 
@@ -116,7 +117,7 @@ sent_kept bound mark [] s = kept (counted_sent s.progress) _ refl refl refl
 sent_kept bound mark (command ∷ others) s = kept (counted_sent s.progress) _ refl refl refl
 
 pub moved_counts : (plan : Plan) (commands : List Task) (order : Order) (s : Standing) (act : Act) → Counts (length commands) order s.progress (moved plan commands order s act).progress
-moved_counts plan commands Tell s act = tell_kept plan (commands_in s.marks) s act
+moved_counts plan commands ReadClock s act = clock_kept plan (commands_in s.marks) s act
 moved_counts plan commands Begin s act = begin_counts plan (length commands) s act
 moved_counts plan commands Open s act = open_kept plan s act
 moved_counts plan commands Clear s act = put_kept s.progress _ (with_progress cleared) s act (kept s.progress _ refl refl refl)
@@ -126,8 +127,7 @@ moved_counts plan commands Send s act =
     (sent_kept (bound_next commands s.progress) (mark_next plan commands s.progress) (drop (place_next commands s.progress) commands) s)
 moved_counts plan commands Skip s act = skip_counts plan (length commands) (commands_in s.marks) (bound_next commands s.progress) (with_records (skips plan commands s.progress act) s) act
 moved_counts plan commands Flush s act = put_kept s.progress _ (λ (x : Standing). with_progress asking (asks_null plan x)) s act (kept s.progress _ refl refl refl)
-moved_counts plan commands Read s act = read_kept plan false s act
-moved_counts plan commands Rest s act = read_kept plan true s act
+moved_counts plan commands (Read until) s act = read_kept plan until s act
 moved_counts plan commands (Close why) s act = let c = closed_kept plan (waiting_of (with_rest [] s)) why s.progress in kept s.progress _ c.turns c.left c.unsent
 moved_counts plan commands (Stop why) s act = kept s.progress _ refl refl refl
 
@@ -144,14 +144,13 @@ counts_turns count Begin p q (inl same) = same.turns
 counts_turns count Begin p q (inr began) = began.turns
 counts_turns count Skip p q (inl same) = same.turns
 counts_turns count Skip p q (inr skipped) = skipped.turns
-counts_turns count Tell p q is = is.turns
+counts_turns count ReadClock p q is = is.turns
 counts_turns count Open p q is = is.turns
 counts_turns count Clear p q is = is.turns
 counts_turns count Probe p q is = is.turns
 counts_turns count Send p q is = is.turns
 counts_turns count Flush p q is = is.turns
-counts_turns count Read p q is = is.turns
-counts_turns count Rest p q is = is.turns
+counts_turns count (Read until) p q is = is.turns
 counts_turns count (Close why) p q is = is.turns
 counts_turns count (Stop why) p q is = is.turns
 
@@ -164,14 +163,13 @@ counts_within count Begin p q (inl same) h = omega (arith, same.unsent, h)
 counts_within count Begin p q (inr began) h = omega (arith, began.unsent)
 counts_within count Skip p q (inl same) h = omega (arith, same.unsent, h)
 counts_within count Skip p q (inr skipped) h = omega (arith, skipped.unsent, h)
-counts_within count Tell p q is h = omega (arith, is.unsent, h)
+counts_within count ReadClock p q is h = omega (arith, is.unsent, h)
 counts_within count Open p q is h = omega (arith, is.unsent, h)
 counts_within count Clear p q is h = omega (arith, is.unsent, h)
 counts_within count Probe p q is h = omega (arith, is.unsent, h)
 counts_within count Send p q is h = omega (arith, is.unsent, h)
 counts_within count Flush p q is h = omega (arith, is.unsent, h)
-counts_within count Read p q is h = omega (arith, is.unsent, h)
-counts_within count Rest p q is h = omega (arith, is.unsent, h)
+counts_within count (Read until) p q is h = omega (arith, is.unsent, h)
 counts_within count (Close why) p q is h = omega (arith, is.unsent, h)
 counts_within count (Stop why) p q is h = omega (arith, is.unsent, h)
 

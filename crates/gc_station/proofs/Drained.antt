@@ -19,17 +19,18 @@ use Rattle.gc_station.specs.declared.progress.Phase.TheVariants as phase
 use Rattle.gc_station.specs.declared.progress.Order.{Order}
 use Rattle.gc_station.specs.declared.progress.Order.TheVariants as orders
 use Rattle.gc_station.specs.declared.progress.Progress.{Progress}
+use Rattle.gc_station.specs.declared.progress.Until.{Until}
 use Rattle.gc_station.specs.declared.progress.Waiting.{Waiting}
 use Rattle.gc_links.specs.Acts.{Act, Told, Untold, Put, Cut, Gave, Silent, Ended, Broke, Closed, Opened, Unopened}
 use Rattle.gc_station.specs.Beginnings.{IsUnasked, IsFirst, BeginsWith, quiet_times}
 use Rattle.gc_station.specs.Deciding.{is_up, is_past, drain_of}
 use Rattle.gc_station.specs.Marks.{commands_in}
-use Rattle.gc_station.specs.Progressing.{turned, told, begun, skipped, reckoned_early, cleared, probed, sent, asking, waited, waiting_on, quieted, is_resting, drained, begins_anew, closed_again, closed}
+use Rattle.gc_station.specs.Progressing.{turned, told, begun, skipped, reckoned_early, cleared, probed, sent, asking, time_passed, quiet_renewed, quieted, is_idle, drained, begins_anew, closed_again, closed}
 use Rattle.gc_station.specs.Quiet.{IsRequest, AsksNothing}
 use Rattle.gc_station.specs.Reasons.{IsFor}
 use Rattle.gc_station.specs.Runs.{stood}
-use Rattle.gc_station.specs.Standing.{Standing, opening, order_at, waiting_of, with_progress, with_moment, with_rest, line_came, lines_came, lines_behind, came, is_heard, is_nil, asks_null, asks_first, asks_next, with_records, skips, mark_next, place_next, bound_next, after_tell, after_put, after_open, after_read, IsTelling, IsOpening, IsReading, Puts, Obeys, moved, after, Runs}
-use Rattle.gc_station.proofs.Beginnings.{anew_tell, anew_put, anew_open, anew_read, anew_close, first_act, runs_behind}
+use Rattle.gc_station.specs.Standing.{Standing, opening, order_at, waiting_of, with_progress, with_moment, with_rest, line_came, lines_came, lines_behind, came, is_heard, is_nil, asks_null, asks_first, asks_next, with_records, skips, mark_next, place_next, bound_next, after_clock, after_put, after_open, after_read, ReadsClock, IsOpening, IsReading, Puts, Obeys, moved, after, Runs}
+use Rattle.gc_station.proofs.Beginnings.{anew_clock, anew_put, anew_open, anew_read, anew_close, first_act, runs_behind}
 use Rattle.gc_station.proofs.Closings.{runs_split, closes_only}
 use Rattle.gc_station.proofs.Drains.{along, progress_behind, moved_drain}
 use Rattle.gc_station.proofs.EachRun.{fine_stood}
@@ -53,9 +54,9 @@ failed_elsewhere false why e = cc
 down_elsewhere : (at : Phase) → is_up at ≡ false → at ≡ phase.Probing → ⊥
 down_elsewhere at down e = let up : true ≡ false = sym (ap is_up e) ∙ down in cc
 
-rested_elsewhere : (b : Bool) (at : Phase) → at ≡ phase.Resting → (if b then phase.Down else at) ≡ phase.Probing → ⊥
-rested_elsewhere true at is e = cc
-rested_elsewhere false at is e = let both : phase.Resting ≡ phase.Probing = sym is ∙ e in cc
+paused_elsewhere : (b : Bool) (at : Phase) → at ≡ phase.Pausing → (if b then phase.Down else at) ≡ phase.Probing → ⊥
+paused_elsewhere true at is e = cc
+paused_elsewhere false at is e = let both : phase.Pausing ≡ phase.Probing = sym is ∙ e in cc
 
 lines_unasked : (plan : Plan) (s : Standing) (lines : List (List ℕ)) (acts : List Act) → Unasked plan s.progress acts → Unasked plan (lines_came s lines).progress acts
 lines_unasked plan s [] acts u = u
@@ -74,37 +75,37 @@ anew_there : (anew : Bool) → (if anew then phase.Probing else phase.Ready) ≡
 anew_there true e = refl
 anew_there false e = cc
 
-drained_unasked : (plan : Plan) (rested gave_up : Bool) (m : Moment) (p : Progress) (acts : List Act) (b : Bool) → is_past (drain_of plan (waited rested m p)) (waited rested m p) ≡ b → p.phase ≡ phase.Draining → IsDrained p.since acts
-    → Unasked plan (waiting_on gave_up m (if b then drained (waited rested m p) else waited rested m p)) (acts ++ Silent m ∷ [])
-drained_unasked plan rested gave_up m p acts true past is d e =
-    let long = leb-true (drain_of plan (waited rested m p)) (m.elapsed - min p.since m.elapsed) past in
+drained_unasked : (plan : Plan) (until : Until) (gave_up : Bool) (m : Moment) (p : Progress) (acts : List Act) (b : Bool) → is_past (drain_of plan (time_passed until m p)) (time_passed until m p) ≡ b → p.phase ≡ phase.Draining → IsDrained p.since acts
+    → Unasked plan (quiet_renewed gave_up m (if b then drained (time_passed until m p) else time_passed until m p)) (acts ++ Silent m ∷ [])
+drained_unasked plan until gave_up m p acts true past is d e =
+    let long = leb-true (drain_of plan (time_passed until m p)) (m.elapsed - min p.since m.elapsed) past in
     let same = not_longer m.elapsed p.since (nat_le p.since m.elapsed) refl in
     (quiet_now (quiet_times plan p.drain) p.since acts m (long_enough plan p.anew p.drain (m.elapsed - min p.since m.elapsed) m.elapsed p.since (anew_there p.anew e) long same) d, tt)
-drained_unasked plan rested gave_up m p acts false past is d e = let both : phase.Draining ≡ phase.Probing = sym is ∙ e in cc
+drained_unasked plan until gave_up m p acts false past is d e = let both : phase.Draining ≡ phase.Probing = sym is ∙ e in cc
 
-silent_unasked : (plan : Plan) (rested gave_up : Bool) (m : Moment) (p : Progress) (at : Phase) (acts : List Act) → p.phase ≡ at → p.stale ≡ false → StageAt plan.quiet p acts → Unasked plan p acts
-    → Unasked plan (waiting_on gave_up m (quieted plan at (waited rested m p))) (acts ++ Silent m ∷ [])
-silent_unasked plan rested gave_up m p phase.Draining acts is fresh st u =
-    drained_unasked plan rested gave_up m p acts (is_past (drain_of plan (waited rested m p)) (waited rested m p)) refl is (draining_read p.stale p.since acts fresh (stage_in plan.quiet p phase.Draining acts is st))
-silent_unasked plan rested gave_up m p phase.Resting acts is fresh st u =
-    λ e. absurd (rested_elsewhere (is_past p.pause (waited rested m p) && not (is_resting plan (waited rested m p))) p.phase is e)
-silent_unasked plan rested gave_up m p at acts is fresh st u = λ e. more_unasked (quiet_times plan p.drain) acts (Silent m) tt (λ x. x) (u e)
+silent_unasked : (plan : Plan) (until : Until) (gave_up : Bool) (m : Moment) (p : Progress) (at : Phase) (acts : List Act) → p.phase ≡ at → p.stale ≡ false → StageAt plan.quiet p acts → Unasked plan p acts
+    → Unasked plan (quiet_renewed gave_up m (quieted plan at (time_passed until m p))) (acts ++ Silent m ∷ [])
+silent_unasked plan until gave_up m p phase.Draining acts is fresh st u =
+    drained_unasked plan until gave_up m p acts (is_past (drain_of plan (time_passed until m p)) (time_passed until m p)) refl is (draining_read p.stale p.since acts fresh (stage_in plan.quiet p phase.Draining acts is st))
+silent_unasked plan until gave_up m p phase.Pausing acts is fresh st u =
+    λ e. absurd (paused_elsewhere (is_past p.pause (time_passed until m p) && not (is_idle plan (time_passed until m p))) p.phase is e)
+silent_unasked plan until gave_up m p at acts is fresh st u = λ e. more_unasked (quiet_times plan p.drain) acts (Silent m) tt (λ x. x) (u e)
 
-read_unasked : (plan : Plan) (rested : Bool) (s : Standing) (act : Act) (acts : List Act) → IsReading act → s.progress.stale ≡ false → StageAt plan.quiet s.progress acts → Unasked plan s.progress acts
-    → Unasked plan (after_read plan rested s act).progress (acts ++ act ∷ [])
-read_unasked plan rested s (Gave bytes m) acts o fresh st u =
+read_unasked : (plan : Plan) (until : Until) (s : Standing) (act : Act) (acts : List Act) → IsReading act → s.progress.stale ≡ false → StageAt plan.quiet s.progress acts → Unasked plan s.progress acts
+    → Unasked plan (after_read plan until s act).progress (acts ++ act ∷ [])
+read_unasked plan until s (Gave bytes m) acts o fresh st u =
     came_unasked plan (is_heard s.progress.phase) bytes (with_moment m (with_progress (told m) s)) (acts ++ Gave bytes m ∷ [])
     (λ e. more_unasked (quiet_times plan s.progress.drain) acts (Gave bytes m) tt (λ x. x) (u e))
-read_unasked plan rested s (Silent m) acts o fresh st u = silent_unasked plan rested (not (is_nil (expiring m.elapsed s.client.waiting))) m s.progress s.progress.phase acts refl fresh st u
-read_unasked plan rested s Untold acts o fresh st u = λ e. absurd (failed_elsewhere (is_up s.progress.phase) cause.Clock e)
-read_unasked plan rested s Ended acts o fresh st u = λ e. absurd (failed_elsewhere (is_up s.progress.phase) cause.End e)
-read_unasked plan rested s Broke acts o fresh st u = λ e. absurd (failed_elsewhere (is_up s.progress.phase) cause.Read e)
-read_unasked plan rested s act acts o fresh st u = absurd o
+read_unasked plan until s (Silent m) acts o fresh st u = silent_unasked plan until (not (is_nil (expiring m.elapsed s.client.waiting))) m s.progress s.progress.phase acts refl fresh st u
+read_unasked plan until s Untold acts o fresh st u = λ e. absurd (failed_elsewhere (is_up s.progress.phase) cause.Clock e)
+read_unasked plan until s Ended acts o fresh st u = λ e. absurd (failed_elsewhere (is_up s.progress.phase) cause.End e)
+read_unasked plan until s Broke acts o fresh st u = λ e. absurd (failed_elsewhere (is_up s.progress.phase) cause.Read e)
+read_unasked plan until s act acts o fresh st u = absurd o
 
-tell_unasked : (plan : Plan) (f : Moment → Progress → Progress) (s : Standing) (act : Act) (acts : List Act) → IsTelling act → ((m : Moment) → Unasked plan (f m s.progress) (acts ++ Told m ∷ [])) → Unasked plan (after_tell f s act).progress (acts ++ act ∷ [])
-tell_unasked plan f s (Told m) acts o step = step m
-tell_unasked plan f s Untold acts o step = λ e. absurd (failed_elsewhere (is_up s.progress.phase) cause.Clock e)
-tell_unasked plan f s act acts o step = absurd o
+clock_unasked : (plan : Plan) (f : Moment → Progress → Progress) (s : Standing) (act : Act) (acts : List Act) → ReadsClock act → ((m : Moment) → Unasked plan (f m s.progress) (acts ++ Told m ∷ [])) → Unasked plan (after_clock f s act).progress (acts ++ act ∷ [])
+clock_unasked plan f s (Told m) acts o step = step m
+clock_unasked plan f s Untold acts o step = λ e. absurd (failed_elsewhere (is_up s.progress.phase) cause.Clock e)
+clock_unasked plan f s act acts o step = absurd o
 
 open_unasked : (plan : Plan) (s : Standing) (act : Act) (acts : List Act) → IsOpening act → Unasked plan (after_open plan s act).progress (acts ++ act ∷ [])
 open_unasked plan s Opened acts o = λ e. cc
@@ -129,8 +130,8 @@ told_unasked plan p acts m u e = more_unasked (quiet_times plan p.drain) acts (T
 
 unasked_moved : (plan : Plan) (commands : List Task) (next : Order) (s : Standing) (act : Act) (acts : List Act) → Obeys commands s next act → IsFor plan s.progress (waiting_of s) next → Timely s.progress next → StageAt plan.quiet s.progress acts
     → Unasked plan s.progress acts → Unasked plan (moved plan commands next (with_progress turned s) act).progress (acts ++ act ∷ [])
-unasked_moved plan commands orders.Tell s act acts o needs time st u = tell_unasked plan (λ (m : Moment) (p : Progress). reckoned_early plan (commands_in s.marks) (told m p)) (with_progress turned s) act acts o (λ m. told_unasked plan s.progress acts m u)
-unasked_moved plan commands orders.Begin s act acts o needs time st u = tell_unasked plan (begun plan (length commands)) (with_progress turned s) act acts o (λ m. told_unasked plan s.progress acts m u)
+unasked_moved plan commands orders.ReadClock s act acts o needs time st u = clock_unasked plan (λ (m : Moment) (p : Progress). reckoned_early plan (commands_in s.marks) (told m p)) (with_progress turned s) act acts o (λ m. told_unasked plan s.progress acts m u)
+unasked_moved plan commands orders.Begin s act acts o needs time st u = clock_unasked plan (begun plan (length commands)) (with_progress turned s) act acts o (λ m. told_unasked plan s.progress acts m u)
 unasked_moved plan commands orders.Open s act acts o needs time st u = open_unasked plan (with_progress turned s) act acts o
 unasked_moved plan commands orders.Clear s act acts o needs time st u = put_unasked plan _ _ (with_progress cleared) (with_progress turned s) act acts o (λ e. cc)
 unasked_moved plan commands orders.Probe s act acts o needs time st u = put_unasked plan _ _ (λ (x : Standing). with_progress probed (asks_null plan x)) (with_progress turned s) act acts o (λ e. cc)
@@ -138,12 +139,11 @@ unasked_moved plan commands orders.Send s act acts o needs time st u =
     put_unasked plan _ _ (λ (x : Standing). with_progress (sent (bound_next commands x.progress)) (asks_next plan commands x)) (with_progress turned s) act acts o
     (ready_elsewhere _ (first_phase (mark_next plan commands s.progress) (drop (place_next commands s.progress) commands) (with_progress turned s) ∙ needs.0))
 unasked_moved plan commands orders.Skip s act acts o needs time st u =
-    tell_unasked plan (λ (m : Moment) (p : Progress). reckoned_early plan (commands_in s.marks) (skipped (bound_next commands s.progress) m p))
+    clock_unasked plan (λ (m : Moment) (p : Progress). reckoned_early plan (commands_in s.marks) (skipped (bound_next commands s.progress) m p))
     (with_records (skips plan commands (turned s.progress) act) (with_progress turned s)) act acts o (λ m. told_unasked plan s.progress acts m u)
 unasked_moved plan commands orders.Flush s act acts o needs time st u =
     put_unasked plan _ _ (λ (x : Standing). with_progress asking (asks_null plan x)) (with_progress turned s) act acts o (ready_elsewhere s.progress.phase needs.0)
-unasked_moved plan commands orders.Read s act acts o needs time st u = read_unasked plan false (with_progress turned s) act acts o time.0 st u
-unasked_moved plan commands orders.Rest s act acts o needs time st u = read_unasked plan true (with_progress turned s) act acts o time.0 st u
+unasked_moved plan commands (orders.Read until) s act acts o needs time st u = read_unasked plan until (with_progress turned s) act acts o time.0 st u
 unasked_moved plan commands (orders.Close why) s act acts o needs time st u =
     λ e. absurd (down_elsewhere (closed plan (waiting_of s) why (turned s.progress)).phase (closed_down plan (waiting_of s) why (turned s.progress)) e)
 unasked_moved plan commands (orders.Stop why) s act acts o needs time st u = absurd o
@@ -172,7 +172,7 @@ With n p = (p.anew ≡ true) × (p.drain ≡ n)
 
 anew_stays : (plan : Plan) (commands : List Task) (next : Order) (s : Standing) (act : Act) → Obeys commands s next act → IsFor plan s.progress (waiting_of s) next → Fine plan commands s → AsksNothing act → s.progress.anew ≡ true
     → (moved plan commands next (with_progress turned s) act).progress.anew ≡ true
-anew_stays plan commands orders.Tell s act o needs fine none d = anew_tell (λ (m : Moment) (p : Progress). reckoned_early plan (commands_in s.marks) (told m p)) (with_progress turned s) act (λ m. d) d
+anew_stays plan commands orders.ReadClock s act o needs fine none d = anew_clock (λ (m : Moment) (p : Progress). reckoned_early plan (commands_in s.marks) (told m p)) (with_progress turned s) act (λ m. d) d
 anew_stays plan commands orders.Begin s act o needs fine none d = absurd (clash s.progress.anew d (fine.ready needs.0))
 anew_stays plan commands orders.Open s act o needs fine none d = anew_open plan (with_progress turned s) act d
 anew_stays plan commands orders.Clear s act o needs fine none d = anew_put _ (with_progress cleared) (with_progress turned s) act d
@@ -180,8 +180,7 @@ anew_stays plan commands orders.Probe s act o needs fine none d = absurd (puts_a
 anew_stays plan commands orders.Send s act o needs fine none d = absurd (clash s.progress.anew d (fine.ready needs.0))
 anew_stays plan commands orders.Skip s act o needs fine none d = absurd (clash s.progress.anew d (fine.ready needs.0))
 anew_stays plan commands orders.Flush s act o needs fine none d = absurd (clash s.progress.anew d (fine.ready needs.0))
-anew_stays plan commands orders.Read s act o needs fine none d = anew_read plan false (with_progress turned s) act d
-anew_stays plan commands orders.Rest s act o needs fine none d = anew_read plan true (with_progress turned s) act d
+anew_stays plan commands (orders.Read until) s act o needs fine none d = anew_read plan until (with_progress turned s) act d
 anew_stays plan commands (orders.Close why) s act o needs fine none d = anew_close plan (waiting_of s) why (turned s.progress) d
 anew_stays plan commands (orders.Stop why) s act o needs fine none d = absurd o
 

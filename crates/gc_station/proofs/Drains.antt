@@ -13,15 +13,16 @@ use Rattle.gc_station.specs.declared.progress.Phase.TheVariants as phase
 use Rattle.gc_station.specs.declared.progress.Order.{Order}
 use Rattle.gc_station.specs.declared.progress.Order.TheVariants as orders
 use Rattle.gc_station.specs.declared.progress.Progress.{Progress}
+use Rattle.gc_station.specs.declared.progress.Until.{Until}
 use Rattle.gc_station.specs.declared.progress.Waiting.{Waiting}
 use Rattle.gc_links.specs.Acts.{Act, Told, Cut, Gave, Silent, Closed, Opened}
 use Rattle.gc_station.specs.Closing.{Shows}
 use Rattle.gc_station.specs.Deciding.{width_of, is_up, is_past, drain_of}
 use Rattle.gc_station.specs.Marks.{commands_in}
-use Rattle.gc_station.specs.Progressing.{turned, told, begun, skipped, reckoned_early, cleared, probed, sent, asking, waited, quieted, drained, begins_anew, closed_again, closed}
+use Rattle.gc_station.specs.Progressing.{turned, told, begun, skipped, reckoned_early, cleared, probed, sent, asking, time_passed, quieted, drained, begins_anew, closed_again, closed}
 use Rattle.gc_station.specs.Reasons.{IsFor, IsAtItsEnd, NothingMayGo}
 use Rattle.gc_station.specs.Runs.{stood}
-use Rattle.gc_station.specs.Standing.{Standing, opening, order_at, waiting_of, with_progress, with_moment, with_rest, line_came, lines_came, lines_behind, came, is_heard, asks_null, asks_first, asks_next, with_records, skips, mark_next, place_next, bound_next, after_tell, after_put, after_open, after_read, Obeys, moved, Runs}
+use Rattle.gc_station.specs.Standing.{Standing, opening, order_at, waiting_of, with_progress, with_moment, with_rest, line_came, lines_came, lines_behind, came, is_heard, asks_null, asks_first, asks_next, with_records, skips, mark_next, place_next, bound_next, after_clock, after_put, after_open, after_read, Obeys, moved, Runs}
 use Rattle.gc_station.proofs.Closings.{runs_split, closed_for}
 use Rattle.gc_station.proofs.Counts.{ended_progress}
 use Rattle.gc_station.proofs.EachRun.{fine_stood}
@@ -52,9 +53,9 @@ anew_turned cause.Silence p = refl
 anew_turned why p = refl
 
 module _ (P : ℕ → Type 0) where
-  tell_drain : (f : Moment → Progress → Progress) (s : Standing) (act : Act) → ((m : Moment) → P (f m s.progress).drain) → P s.progress.drain → P (after_tell f s act).progress.drain
-  tell_drain f s (Told m) step d = step m
-  tell_drain f s act step d = d
+  clock_drain : (f : Moment → Progress → Progress) (s : Standing) (act : Act) → ((m : Moment) → P (f m s.progress).drain) → P s.progress.drain → P (after_clock f s act).progress.drain
+  clock_drain f s (Told m) step d = step m
+  clock_drain f s act step d = d
 
   put_drain : (requests : ℕ) (f : Standing → Standing) (s : Standing) (act : Act) → P (f s).progress.drain → P (after_put requests f s act).progress.drain
   put_drain requests f s (Cut out n) d = d
@@ -82,13 +83,13 @@ module _ (P : ℕ → Type 0) where
 
   quiet_drain : (plan : Plan) (at : Phase) (p : Progress) → P p.drain → P (quieted plan at p).drain
   quiet_drain plan phase.Draining p d = test_drain p (is_past (drain_of plan p) p) d
-  quiet_drain plan phase.Resting p d = d
+  quiet_drain plan phase.Pausing p d = d
   quiet_drain plan at p d = d
 
-  read_drain : (plan : Plan) (rested : Bool) (s : Standing) (act : Act) → P s.progress.drain → P (after_read plan rested s act).progress.drain
-  read_drain plan rested s (Gave bytes m) d = came_drain (is_heard s.progress.phase) bytes (with_moment m (with_progress (told m) s)) d
-  read_drain plan rested s (Silent m) d = quiet_drain plan s.progress.phase (waited rested m s.progress) d
-  read_drain plan rested s act d = d
+  read_drain : (plan : Plan) (until : Until) (s : Standing) (act : Act) → P s.progress.drain → P (after_read plan until s act).progress.drain
+  read_drain plan until s (Gave bytes m) d = came_drain (is_heard s.progress.phase) bytes (with_moment m (with_progress (told m) s)) d
+  read_drain plan until s (Silent m) d = quiet_drain plan s.progress.phase (time_passed until m s.progress) d
+  read_drain plan until s act d = d
 
   anew_drain : (anew : Bool) (drain waiting : ℕ) → P drain → (anew ≡ false → P waiting) → P (if anew then drain else waiting)
   anew_drain true drain waiting d some = d
@@ -107,8 +108,8 @@ module _ (P : ℕ → Type 0) where
   pub moved_drain : (plan : Plan) (commands : List Task) (next : Order) (s : Standing) (act : Act) → P s.progress.drain
       → ((why : Cause) → next ≡ orders.Close why → begins_anew why s.progress ≡ true → s.progress.anew ≡ false → P (length s.client.waiting))
       → Obeys commands s next act → P (moved plan commands next (with_progress turned s) act).progress.drain
-  moved_drain plan commands orders.Tell s act d some o = tell_drain (λ (m : Moment) (p : Progress). reckoned_early plan (commands_in s.marks) (told m p)) (with_progress turned s) act (λ m. d) d
-  moved_drain plan commands orders.Begin s act d some o = tell_drain (begun plan (length commands)) (with_progress turned s) act (λ m. d) d
+  moved_drain plan commands orders.ReadClock s act d some o = clock_drain (λ (m : Moment) (p : Progress). reckoned_early plan (commands_in s.marks) (told m p)) (with_progress turned s) act (λ m. d) d
+  moved_drain plan commands orders.Begin s act d some o = clock_drain (begun plan (length commands)) (with_progress turned s) act (λ m. d) d
   moved_drain plan commands orders.Open s act d some o = open_drain plan (with_progress turned s) act d
   moved_drain plan commands orders.Clear s act d some o = put_drain _ (with_progress cleared) (with_progress turned s) act d
   moved_drain plan commands orders.Probe s act d some o = put_drain _ (λ (x : Standing). with_progress probed (asks_null plan x)) (with_progress turned s) act d
@@ -116,10 +117,9 @@ module _ (P : ℕ → Type 0) where
       put_drain _ (λ (x : Standing). with_progress (sent (bound_next commands x.progress)) (asks_next plan commands x)) (with_progress turned s) act
       (first_drain (mark_next plan commands s.progress) (drop (place_next commands s.progress) commands) (with_progress turned s) d)
   moved_drain plan commands orders.Skip s act d some o =
-      tell_drain (λ (m : Moment) (p : Progress). reckoned_early plan (commands_in s.marks) (skipped (bound_next commands s.progress) m p)) (with_records (skips plan commands (turned s.progress) act) (with_progress turned s)) act (λ m. d) d
+      clock_drain (λ (m : Moment) (p : Progress). reckoned_early plan (commands_in s.marks) (skipped (bound_next commands s.progress) m p)) (with_records (skips plan commands (turned s.progress) act) (with_progress turned s)) act (λ m. d) d
   moved_drain plan commands orders.Flush s act d some o = put_drain _ (λ (x : Standing). with_progress asking (asks_null plan x)) (with_progress turned s) act d
-  moved_drain plan commands orders.Read s act d some o = read_drain plan false (with_progress turned s) act d
-  moved_drain plan commands orders.Rest s act d some o = read_drain plan true (with_progress turned s) act d
+  moved_drain plan commands (orders.Read until) s act d some o = read_drain plan until (with_progress turned s) act d
   moved_drain plan commands (orders.Close why) s act d some o = close_drain plan (waiting_of s) why (turned s.progress) d (λ e old. some why refl (sym (anew_turned why s.progress) ∙ e) old)
   moved_drain plan commands (orders.Stop why) s act d some o = d
 

@@ -24,8 +24,8 @@ use Rattle.gc_station.specs.Reasons.{IsFor}
 use Rattle.gc_station.specs.Records.{Record}
 use Rattle.gc_station.specs.Runs.{stood}
 use Rattle.gc_texts.specs.Endings.{Skipped, Missed}
-use Rattle.gc_station.specs.Standing.{Standing, opening, order_at, waiting_of, place_next, mark_next, with_progress, asks_null, asks_first, asks_next, bound_next, with_records, skips, skips_first, after_tell, moved, after, after_all}
-use Rattle.gc_station.proofs.Acting.{mid_fail, mid_moment, mid_tell, mid_put, mid_open, mid_close, mid_read}
+use Rattle.gc_station.specs.Standing.{Standing, opening, order_at, waiting_of, place_next, mark_next, with_progress, asks_null, asks_first, asks_next, bound_next, with_records, skips, skips_first, after_clock, moved, after, after_all}
+use Rattle.gc_station.proofs.Acting.{mid_fail, mid_moment, mid_clock, mid_put, mid_open, mid_close, mid_read}
 use Rattle.gc_station.proofs.Each.{each_empty, sent_whole}
 use Rattle.gc_station.proofs.Facts.{order_for}
 use Rattle.gc_station.proofs.Fine.{Fine, is_bare, says_done}
@@ -132,7 +132,7 @@ mid_skips plan commands bound s m (task ∷ others) at is single some none mid =
     )
 
 mid_skip : (plan : Plan) (commands : List Task) (bound : Bool) (s : Standing) (act : Act) → s.progress.phase ≡ Ready → s.progress.alone ≡ false → 0 < s.progress.unsent → commands_in s.marks ≡ 0 → Mid plan commands s
-    → Mid plan commands (after_tell (λ m p. reckoned_early plan (commands_in s.marks) (skipped bound m p)) (with_records (skips plan commands s.progress act) s) act)
+    → Mid plan commands (after_clock (λ m p. reckoned_early plan (commands_in s.marks) (skipped bound m p)) (with_records (skips plan commands s.progress act) s) act)
 mid_skip plan commands bound s (Told m) is single some none mid =
     mid_moment plan commands (with_progress (λ p. reckoned_early plan (commands_in s.marks) (skipped bound m p)) (with_records (skips plan commands s.progress (Told m)) s)) m
     (mid_skips plan commands bound s m (drop (place_next commands s.progress) commands) refl is single some none mid)
@@ -147,12 +147,12 @@ close_done plan commands s w why fine for_it is = cc
 -- what an act of an order leaves
 pub mid_moved : (plan : Plan) (commands : List Task) (s : Standing) (order : Order) (act : Act) → Fine plan commands s → IsFor plan s.progress (waiting_of s) order
     → Mid plan commands (moved plan commands order (with_progress turned s) act)
-mid_moved plan commands s order.Tell act fine is =
-    let t = with_progress turned s in mid_tell plan commands (λ m p. reckoned_early plan (commands_in t.marks) (told m p)) t act (mid_of plan commands s fine) (λ m. mid_of plan commands s fine)
+mid_moved plan commands s order.ReadClock act fine is =
+    let t = with_progress turned s in mid_clock plan commands (λ m p. reckoned_early plan (commands_in t.marks) (told m p)) t act (mid_of plan commands s fine) (λ m. mid_of plan commands s fine)
 mid_moved plan commands s order.Begin act fine is =
     let t = with_progress turned s in
     let mid = mid_of plan commands s fine in
-    mid_tell plan commands (begun plan (length commands)) t act mid (λ m. mid_begun plan commands t m is.0 is.1 is.2 is.3 is.4 mid)
+    mid_clock plan commands (begun plan (length commands)) t act mid (λ m. mid_begun plan commands t m is.0 is.1 is.2 is.3 is.4 mid)
 mid_moved plan commands s order.Open act fine is = mid_open plan commands (with_progress turned s) act is (mid_of plan commands s fine)
 mid_moved plan commands s order.Clear act fine is =
     let t = with_progress turned s in mid_put plan commands _ (with_progress cleared) t act (mid_cleared plan commands t is (mid_of plan commands s fine))
@@ -170,8 +170,7 @@ mid_moved plan commands s order.Skip act fine is =
 mid_moved plan commands s order.Flush act fine is =
     let t = with_progress turned s in
     mid_put plan commands _ (λ (x : Standing). with_progress asking (asks_null plan x)) t act (mid_flushed plan commands t is.0 is.1 is.5.1 (mid_of plan commands s fine))
-mid_moved plan commands s order.Read act fine is = mid_read plan commands false (with_progress turned s) act (mid_of plan commands s fine)
-mid_moved plan commands s order.Rest act fine is = mid_read plan commands true (with_progress turned s) act (mid_of plan commands s fine)
+mid_moved plan commands s (order.Read until) act fine is = mid_read plan commands until (with_progress turned s) act (mid_of plan commands s fine)
 mid_moved plan commands s (order.Close why) act fine is = mid_close plan commands (with_progress turned s) why (close_done plan commands s (waiting_of s) why fine is) (mid_of plan commands s fine)
 mid_moved plan commands s (order.Stop why) act fine is = mid_of plan commands s fine
 

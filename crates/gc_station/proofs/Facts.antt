@@ -6,10 +6,11 @@ use Rattle.gc_client.specs.declared.window.TheConstants.{WINDOW}
 use Rattle.gc_station.specs.declared.plan.Plan.{Plan}
 use Rattle.gc_station.specs.declared.cause.Cause.TheVariants as cause
 use Rattle.gc_station.specs.declared.progress.Phase.{Phase}
-use Rattle.gc_station.specs.declared.progress.Phase.TheVariants.{Down, Resting, Clearing, Draining, Probing, Ready, Closing, Over}
+use Rattle.gc_station.specs.declared.progress.Phase.TheVariants.{Down, Pausing, Clearing, Draining, Probing, Ready, Closing, Over}
 use Rattle.gc_station.specs.declared.progress.Order.{Order}
 use Rattle.gc_station.specs.declared.progress.Order.TheVariants as order
 use Rattle.gc_station.specs.declared.progress.Progress.{Progress}
+use Rattle.gc_station.specs.declared.progress.Until.TheVariants.{Limit, Due}
 use Rattle.gc_station.specs.declared.progress.Waiting.{Waiting}
 use Rattle.gc_station.specs.Reasons.{IsFor, IsHeld, HasRoom, NothingMayGo}
 use Rattle.gc_station.specs.Deciding.{width_of, is_up, is_quiet, is_dead, is_due, has_room, order_of, order_in, order_on, order_told, may_go, order_ready, order_sent, order_settled, order_done, order_room, order_waiting, order_up}
@@ -48,7 +49,7 @@ waits plan p w up nothing =
     let P = IsFor plan p w in
     either P (order.Close cause.Silence) _ (nat_eq w.current 0 && is_quiet plan p)
     (λ e. let it = both_true (nat_eq w.current 0) (is_quiet plan p) e in (up, inr (eqb-true w.current 0 it.0, nothing, it.1)))
-    (λ e. either P (order.Close cause.Dead) order.Read (is_dead plan p w) (λ d. (up, inr (nothing, d))) (λ d. tt))
+    (λ e. either P (order.Close cause.Dead) (order.Read Limit) (is_dead plan p w) (λ d. (up, inr (nothing, d))) (λ d. tt))
 
 room_for : (plan : Plan) (p : Progress) (w : Waiting) (o : Order) → is_up p.phase ≡ true → (HasRoom plan w → IsFor plan p w o) → IsFor plan p w (order_room plan p w o)
 room_for plan p w o up step =
@@ -59,7 +60,7 @@ done_for : (plan : Plan) (p : Progress) (w : Waiting) → p.phase ≡ Ready → 
 done_for plan p w is alone sent settled =
     let P = IsFor plan p w in
     either P (order.Close cause.Done) _ (nat_eq p.left 0) (λ e. (ap is_up is, inr (eqb-true p.left 0 e, sent, settled)))
-    (λ e. either P order.Begin order.Rest (is_due plan p) (λ d. (is, alone, sent, settled, some_left p.left e)) (λ d. tt))
+    (λ e. either P order.Begin (order.Read Due) (is_due plan p) (λ d. (is, alone, sent, settled, some_left p.left e)) (λ d. tt))
 
 -- of what is held, what isn't the end of the cycle is of a chain
 chained : (p : Progress) → IsHeld p → nat_eq p.unsent 0 ≡ false → p.bound ≡ true
@@ -110,7 +111,7 @@ ready plan p w is =
 
 told_for : (plan : Plan) (phase : Phase) (p : Progress) (w : Waiting) → p.phase ≡ phase → IsFor plan p w (order_told plan phase p w)
 told_for plan Down p w is = is
-told_for plan Resting p w is = tt
+told_for plan Pausing p w is = tt
 told_for plan Clearing p w is = is
 told_for plan Draining p w is = tt
 told_for plan Probing p w is = room_for plan p w order.Probe (ap is_up is) (λ room. (is, room))
@@ -125,11 +126,11 @@ up_for plan p w false is none = (is, inr (refl, none))
 on_for : (plan : Plan) (p : Progress) (w : Waiting) → IsFor plan p w (order_on plan p w)
 on_for plan p w =
     let P = IsFor plan p w in
-    either P _ _ (nat_eq p.turns 0) (λ e. up_for plan p w (is_up p.phase) refl (eqb-true p.turns 0 e)) (λ e. either P order.Tell _ p.stale (λ e. tt) (λ e. told_for plan p.phase p w refl))
+    either P _ _ (nat_eq p.turns 0) (λ e. up_for plan p w (is_up p.phase) refl (eqb-true p.turns 0 e)) (λ e. either P order.ReadClock _ p.stale (λ e. tt) (λ e. told_for plan p.phase p w refl))
 
 in_for : (plan : Plan) (phase : Phase) (p : Progress) (w : Waiting) → p.phase ≡ phase → IsFor plan p w (order_in phase plan p w)
 in_for plan Down p w is = on_for plan p w
-in_for plan Resting p w is = on_for plan p w
+in_for plan Pausing p w is = on_for plan p w
 in_for plan Clearing p w is = on_for plan p w
 in_for plan Draining p w is = on_for plan p w
 in_for plan Probing p w is = on_for plan p w

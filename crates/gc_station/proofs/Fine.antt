@@ -6,7 +6,7 @@ use Rattle.gc_station.specs.declared.plan.Plan.{Plan}
 use Rattle.gc_station.specs.declared.cause.Cause.{Cause}
 use Rattle.gc_station.specs.declared.cause.Cause.TheVariants as cause
 use Rattle.gc_station.specs.declared.progress.Phase.{Phase}
-use Rattle.gc_station.specs.declared.progress.Phase.TheVariants.{Down, Resting, Clearing, Draining, Probing, Ready, Closing, Over}
+use Rattle.gc_station.specs.declared.progress.Phase.TheVariants.{Down, Pausing, Clearing, Draining, Probing, Ready, Closing, Over}
 use Rattle.gc_station.specs.Deciding.{is_up}
 use Rattle.gc_station.specs.Marks.{commands_in}
 use Rattle.gc_station.specs.Progressing.{is_over}
@@ -16,7 +16,7 @@ use Rattle.gc_station.specs.Standing.{Standing}
 -- a phase without a connection, or before requests go out: no byte of a line is kept there
 abbrev pub is_bare : Phase → Bool
 is_bare Down = true
-is_bare Resting = true
+is_bare Pausing = true
 is_bare Clearing = true
 is_bare Draining = true
 is_bare Probing = true

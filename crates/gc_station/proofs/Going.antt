@@ -10,7 +10,7 @@ use Rattle.gc_station.specs.declared.cause.Cause.{Cause}
 use Rattle.gc_station.specs.declared.cause.Cause.TheVariants as causes
 use Rattle.gc_station.specs.Causes.{fault_of}
 use Rattle.gc_station.specs.declared.progress.Order.{Order}
-use Rattle.gc_station.specs.declared.progress.Order.TheVariants.{Tell, Begin, Open, Clear, Probe, Send, Skip, Flush, Read, Rest, Close, Stop}
+use Rattle.gc_station.specs.declared.progress.Order.TheVariants.{ReadClock, Begin, Open, Clear, Probe, Send, Skip, Flush, Read, Close, Stop}
 use Rattle.gc_station.specs.declared.progress.Progress.{Progress}
 use Rattle.gc_station.specs.declared.station.Station.{Station}
 use Rattle.gc_links.specs.Acts.{Act, Closed, Tells}
@@ -18,7 +18,7 @@ use Rattle.gc_station.specs.Progressing.{turned, loses_all}
 use Rattle.gc_station.specs.Records.{Record, texts_of}
 use Rattle.gc_station.specs.Runs.{stood, BrokeAt, LeftAt}
 use Rattle.gc_station.specs.Standing.{Standing, opening, order_at, Obeys, after, after_all, moved, ended, Runs, with_progress}
-use Rattle.gc_station.specs.Stations.{waiting_in, IsPaired, Stands, Took, Makes, Breaks, Made, Follows, stepped, OnCall}
+use Rattle.gc_station.specs.Stations.{waiting_in, IsPaired, Stands, Took, Makes, Breaks, Made, Follows, stepped, OnCall, seen}
 use Rattle.gc_station.specs.Deciding.{order_of}
 use Rattle.gc_station.proofs.Counts.{unsent_within, ended_progress}
 use Rattle.gc_station.proofs.Growing.{losing_records, moved_grew}
@@ -32,7 +32,7 @@ use Rattle.gc_station.specs.Scopes.{Scope, AreReadings}
 
 -- an order is obeyed by the same acts, whatever the turn
 pub turn_obeys : (commands : List Task) (order : Order) (s : Standing) (act : Act) → Obeys commands (with_progress turned s) order act → Obeys commands s order act
-turn_obeys commands Tell s act o = o
+turn_obeys commands ReadClock s act o = o
 turn_obeys commands Begin s act o = o
 turn_obeys commands Open s act o = o
 turn_obeys commands Clear s act o = o
@@ -40,14 +40,13 @@ turn_obeys commands Probe s act o = o
 turn_obeys commands Send s act o = o
 turn_obeys commands Skip s act o = o
 turn_obeys commands Flush s act o = o
-turn_obeys commands Read s act o = o
-turn_obeys commands Rest s act o = o
+turn_obeys commands (Read until) s act o = o
 turn_obeys commands (Close cause) s act o = o
 turn_obeys commands (Stop cause) s act o = o
 
 -- a claim on each order but the last holds of one that isn't the last
 pub on_call : (order : Order) (claim : Type 0) → ((cause : Cause) → order ≡ Stop cause → ⊥) → OnCall order claim → claim
-on_call Tell claim never on = on
+on_call ReadClock claim never on = on
 on_call Begin claim never on = on
 on_call Open claim never on = on
 on_call Clear claim never on = on
@@ -55,14 +54,13 @@ on_call Probe claim never on = on
 on_call Send claim never on = on
 on_call Skip claim never on = on
 on_call Flush claim never on = on
-on_call Read claim never on = on
-on_call Rest claim never on = on
+on_call (Read until) claim never on = on
 on_call (Close cause) claim never on = on
 on_call (Stop cause) claim never on = absurd (never cause refl)
 
 -- what follows of a claim on each order but the last
 pub on_then : (order : Order) (claim other : Type 0) → (claim → other) → OnCall order claim → OnCall order other
-on_then Tell claim other step on = step on
+on_then ReadClock claim other step on = step on
 on_then Begin claim other step on = step on
 on_then Open claim other step on = step on
 on_then Clear claim other step on = step on
@@ -70,8 +68,7 @@ on_then Probe claim other step on = step on
 on_then Send claim other step on = step on
 on_then Skip claim other step on = step on
 on_then Flush claim other step on = step on
-on_then Read claim other step on = step on
-on_then Rest claim other step on = step on
+on_then (Read until) claim other step on = step on
 on_then (Close cause) claim other step on = step on
 on_then (Stop cause) claim other step on = tt
 
@@ -90,9 +87,9 @@ stands_turned station p s e stands = record {
 
 -- an order was obeyed, and all that wait were lost or not; or the book failed at what was lost
 pub makes_step : {X E : Type 0} (plan : Plan) (commands : List Task) (order : Order) (text : Record → List ℕ) (told told' : Option (List Act)) (taken taken' taken'' : Option (List ℕ)) (station mid new : Station) (p : Progress) (result : Result X E)
-    → p ≡ turned station.progress → Makes commands order (moved plan commands order) text told told' taken taken' (record station { progress = p }) mid
+    → p ≡ turned station.progress → Makes commands order (moved plan commands order) (seen told text taken (record station { progress = p })) (seen told' text taken' mid)
     → ((s : Standing) (start : Option (List ℕ)) → Stands mid s → Took text start taken' s → Follows text s.records new start taken'' (ended s) result)
-    → Made commands order (stepped plan commands order) text told told' taken taken'' station new result
+    → Made commands order (stepped plan commands order) (seen told text taken station) (seen told' text taken'' new) result
 makes_step plan commands order text told told' taken taken' taken'' station mid new p (Ok r) e makes ends = record {
   act = makes.act;
   tells = makes.tells;
@@ -113,8 +110,8 @@ makes_step plan commands order text told told' taken taken' taken'' station mid 
 
 -- the book failed at what the act writes down
 pub breaks_step : (plan : Plan) (commands : List Task) (order : Order) (text : Record → List ℕ) (told told' : Option (List Act)) (taken taken' : Option (List ℕ)) (station : Station) (p : Progress)
-    → p ≡ turned station.progress → Breaks commands order (moved plan commands order) text told told' taken taken' (record station { progress = p })
-    → Breaks commands order (stepped plan commands order) text told told' taken taken' station
+    → p ≡ turned station.progress → Breaks commands order (moved plan commands order) (seen told text taken (record station { progress = p })) told' taken'
+    → Breaks commands order (stepped plan commands order) (seen told text taken station) told' taken'
 breaks_step plan commands order text told told' taken taken' station p e breaks = record {
   act = breaks.act;
   tells = breaks.tells;
@@ -198,7 +195,7 @@ runs-append plan commands s (x ∷ xs) ys p q = (p.0, runs-append plan commands 
 pub went_on : (plan : Plan) (commands : List Task) (scope : Scope) (text : Record → List ℕ) (told told' told'' : Option (List Act)) (taken taken' taken'' : Option (List ℕ)) (station new : Station) (order : Order)
     → (w : Went plan commands scope text told told' taken taken' station)
     → order ≡ order_at plan (stood plan commands scope w.acts)
-    → Makes commands order (stepped plan commands order) text told' told'' taken' taken'' station new
+    → Makes commands order (stepped plan commands order) (seen told' text taken' station) (seen told'' text taken'' new)
     → AreReadings scope.reads → Went plan commands scope text told told'' taken taken'' new
 went_on plan commands scope text told told' told'' taken taken' taken'' station new order w is makes are =
     let s = stood plan commands scope w.acts in
@@ -219,7 +216,7 @@ went_on plan commands scope text told told' told'' taken taken' taken'' station 
 pub went_wrong : (plan : Plan) (commands : List Task) (scope : Scope) (text : Record → List ℕ) (told told' told'' told''' : Option (List Act)) (taken taken' taken'' : Option (List ℕ)) (station : Station) (order : Order)
     → (w : Went plan commands scope text told told' taken taken' station)
     → order ≡ order_at plan (stood plan commands scope w.acts)
-    → Breaks commands order (stepped plan commands order) text told' told'' taken' taken'' station
+    → Breaks commands order (stepped plan commands order) (seen told' text taken' station) told'' taken''
     → Tells told'' told''' (Closed ∷ [])
     → AreReadings scope.reads → BrokeAt plan commands scope text told told''' taken taken''
 went_wrong plan commands scope text told told' told'' told''' taken taken' taken'' station order w is breaks closed are =
@@ -247,14 +244,14 @@ abbrev pub Somewhere : Station → Type 0
 Somewhere station = (s : Standing) × Stands station s
 
 pub somewhere_on : (plan : Plan) (commands : List Task) (text : Record → List ℕ) (told told' : Option (List Act)) (taken taken' : Option (List ℕ)) (station new : Station) (order : Order)
-    → Makes commands order (stepped plan commands order) text told told' taken taken' station new → Somewhere station → Somewhere new
+    → Makes commands order (stepped plan commands order) (seen told text taken station) (seen told' text taken' new) → Somewhere station → Somewhere new
 somewhere_on plan commands text told told' taken taken' station new order makes some =
     let one = makes.goes some.0 None some.1 (λ are. tt) in
     (stepped plan commands order some.0 makes.act, one.1)
 
 pub went_nearer : (plan : Plan) (commands : List Task) (text : Record → List ℕ) (told told' : Option (List Act)) (taken taken' : Option (List ℕ)) (station new : Station) (order : Order)
     → order ≡ order_of plan station.progress (waiting_in station) → Somewhere station
-    → Makes commands order (stepped plan commands order) text told told' taken taken' station new
+    → Makes commands order (stepped plan commands order) (seen told text taken station) (seen told' text taken' new)
     → station.progress.unsent ≤ length commands → IsNearer commands station.progress new.progress
 went_nearer plan commands text told told' taken taken' station new order is some makes within =
     let s = some.0 in

@@ -24,6 +24,7 @@ use Rattle.gc_station.specs.declared.plan.Plan.{Plan}
 use Rattle.gc_station.specs.declared.cause.Cause.{Cause}
 use Rattle.gc_station.specs.declared.cause.Cause.TheVariants as cause
 use Rattle.gc_station.specs.declared.progress.Progress.{Progress}
+use Rattle.gc_station.specs.declared.progress.Until.{Until}
 use Rattle.gc_station.specs.declared.progress.Waiting.{Waiting}
 use Rattle.gc_station.specs.declared.station.Station.{Station}
 use Rattle.gc_station.specs.Marks.{commands_in, records_of, last_well}
@@ -55,7 +56,7 @@ pub lines_came-append : (s : Standing) (xs ys : List (List ℕ)) → lines_came 
 lines_came-append s [] ys = refl
 lines_came-append s (x ∷ xs) ys = lines_came-append (line_came s x) xs ys
 
--- lines leave the rest
+-- lines leave the bytes since the last line feed
 pub lines_rest : (s : Standing) (rest : List ℕ) (lines : List (List ℕ)) → lines_came (with_rest rest s) lines ≡ with_rest rest (lines_came s lines)
 lines_rest s rest [] = refl
 lines_rest s rest (line ∷ others) = lines_rest (line_came s line) rest others
@@ -121,7 +122,7 @@ hearing_end text start taken station s piece h = (
   subst (λ (x : Standing). Took text start taken x) h.goes h.wrote,
 )
 
--- the rest of a station's line begins anew where it is taken up
+-- the bytes since the last line feed are others
 pub with_kept : (station : Station) (kept : Kept) (rest : List ℕ) (s : Standing) → Stands station s → StandsFor kept rest → Stands (record station { assembler = kept }) (with_rest rest s)
 with_kept station kept rest s stands is = record {
   progress = stands.progress;
@@ -139,7 +140,7 @@ with_kept station kept rest s stands is = record {
 settle_less : (k : ℕ) (line : List ℕ) (ps : List Pending) → length ps - length (settle k line ps) ≡ length ps - (k + 1)
 settle_less k line [] = omega arith
 settle_less zero line (p ∷ ps) = omega arith
-settle_less (suc k) line (p ∷ ps) = let rest = settle_less k line ps in omega (arith, rest)
+settle_less (suc k) line (p ∷ ps) = let more = settle_less k line ps in omega (arith, more)
 
 -- each request that waits has a mark, once more
 abbrev pub StayPaired : List (Option Mark) → Settled ById → Type 0
@@ -279,12 +280,12 @@ pub commands_same : (station : Station) (s : Standing) → Stands station s → 
 commands_same station s stands = ap commands_in stands.marks
 
 -- how far a station is once it heard a piece
-pub reckoned_same : (plan : Plan) (rested : Bool) (b b' : ℕ) (w w' : Waiting) (p p' : Progress) → b ≡ b' → w.all ≡ w'.all → w.commands ≡ w'.commands → p ≡ p'
-    → reckoned_early plan w.commands (gave plan rested b w p) ≡ reckoned_early plan w'.commands (gave plan rested b' w' p')
-reckoned_same plan rested b b' w w' p p' eb ea ec ep =
+pub reckoned_same : (plan : Plan) (until : Until) (b b' : ℕ) (w w' : Waiting) (p p' : Progress) → b ≡ b' → w.all ≡ w'.all → w.commands ≡ w'.commands → p ≡ p'
+    → reckoned_early plan w.commands (gave plan until b w p) ≡ reckoned_early plan w'.commands (gave plan until b' w' p')
+reckoned_same plan until b b' w w' p p' eb ea ec ep =
     ap (λ x. early x w.all w.commands p) eb ∙ ap (λ x. early b' x w.commands p) ea ∙ ap (λ x. early b' w'.all x p) ec ∙ ap (λ x. early b' w'.all w'.commands x) ep where
       early : ℕ → ℕ → ℕ → Progress → Progress
-      early before all commands p = reckoned_early plan commands (gave plan rested before (record { all = all; current = 0; commands = commands; well = false }) p)
+      early before all commands p = reckoned_early plan commands (gave plan until before (record { all = all; current = 0; commands = commands; well = false }) p)
 
 -- and once its connection was closed
 pub closed_same : (plan : Plan) (w w' : Waiting) (why : Cause) (p p' : Progress) → w.all ≡ w'.all → w.commands ≡ w'.commands → p ≡ p' → closed plan w why p ≡ closed plan w' why p'

@@ -104,26 +104,26 @@ rows_all P Q f low k (x ∷ xs) (y ∷ ys) step p = (step p.0 k x y p.2, rows_al
 -- Lists cut at an element.
 
 -- of two cuts of a list, the longer front goes on behind the element of the shorter one
-pub record CutsOn {A : Type 0} (front behind longer : List A) (x y : A) (rest : List A) : Type 0 where
+pub record CutsOn {A : Type 0} (front behind longer : List A) (x y : A) (tail : List A) : Type 0 where
   pub between : List A
   pub goes_on : longer ≡ front ++ x ∷ between
-  pub splits : behind ≡ between ++ y ∷ rest
+  pub splits : behind ≡ between ++ y ∷ tail
 
-pub cuts_on : {A : Type 0} (front longer behind rest : List A) (x y : A) → front ++ x ∷ behind ≡ longer ++ y ∷ rest → length front < length longer → CutsOn front behind longer x y rest
-cuts_on [] [] behind rest x y e low = absurd (omega (arith, low))
-cuts_on [] (b ∷ longer) behind rest x y e low = let head : x ≡ b = cc in let others : behind ≡ longer ++ y ∷ rest = cc in record { between = longer; goes_on = ap (λ z. z ∷ longer) (sym head); splits = others }
-cuts_on (a ∷ front) [] behind rest x y e low = absurd (omega (arith, low))
-cuts_on (a ∷ front) (b ∷ longer) behind rest x y e low =
+pub cuts_on : {A : Type 0} (front longer behind tail : List A) (x y : A) → front ++ x ∷ behind ≡ longer ++ y ∷ tail → length front < length longer → CutsOn front behind longer x y tail
+cuts_on [] [] behind tail x y e low = absurd (omega (arith, low))
+cuts_on [] (b ∷ longer) behind tail x y e low = let head : x ≡ b = cc in let others : behind ≡ longer ++ y ∷ tail = cc in record { between = longer; goes_on = ap (λ z. z ∷ longer) (sym head); splits = others }
+cuts_on (a ∷ front) [] behind tail x y e low = absurd (omega (arith, low))
+cuts_on (a ∷ front) (b ∷ longer) behind tail x y e low =
     let head : a ≡ b = cc in
-    let others : front ++ x ∷ behind ≡ longer ++ y ∷ rest = cc in
+    let others : front ++ x ∷ behind ≡ longer ++ y ∷ tail = cc in
     let fewer : length front < length longer = omega (arith, low) in
-    let on = cuts_on front longer behind rest x y others fewer in
+    let on = cuts_on front longer behind tail x y others fewer in
     record { between = on.between; goes_on = ap (λ z. z ∷ longer) (sym head) ∙ ap (λ zs. a ∷ zs) on.goes_on; splits = on.splits }
 
 -- a list with one more at its end, cut at an element: at that one, or before it
 pub data Cut {A : Type 0} (xs : List A) (last : A) (front behind : List A) (x : A) : Type 0 where
   AtEnd : (same : xs ≡ front) → Cut xs last front behind x
-  Before : (between : List A) → (at : xs ≡ front ++ x ∷ between) → (rest : behind ≡ between ++ last ∷ []) → Cut xs last front behind x
+  Before : (between : List A) → (at : xs ≡ front ++ x ∷ between) → (tail : behind ≡ between ++ last ∷ []) → Cut xs last front behind x
 
 pub cut_at : {A : Type 0} (xs front behind : List A) (last x : A) → xs ++ last ∷ [] ≡ front ++ x ∷ behind → Cut xs last front behind x
 cut_at [] [] behind last x e = AtEnd refl
@@ -139,4 +139,4 @@ cut_at (a ∷ xs) (b ∷ front) behind last x e = on (cut_at xs front behind las
 
   on : Cut xs last front behind x → Cut (a ∷ xs) last (b ∷ front) behind x
   on (AtEnd same) = AtEnd (ap (λ z. z ∷ xs) head ∙ ap (λ zs. b ∷ zs) same)
-  on (Before between at rest) = Before between (ap (λ z. z ∷ xs) head ∙ ap (λ zs. b ∷ zs) at) rest
+  on (Before between at tail) = Before between (ap (λ z. z ∷ xs) head ∙ ap (λ zs. b ∷ zs) at) tail

@@ -107,8 +107,8 @@ keeps way p (b ∷ bs) =
     let es = entries_at way p b in
     let q = pending_at p b in
     let fs = entries way q bs in
-    let rest = (pending_behind q bs).bytes.items in
-    ap (λ w. w ++ rest) (flat_map-append (λ (e : Entry). wire_of e.mark e.bytes) es fs) ∙ append_assoc (wire es) (wire fs) rest ∙ ap (λ w. wire es ++ w) (keeps way q bs)
+    let held = (pending_behind q bs).bytes.items in
+    ap (λ w. w ++ held) (flat_map-append (λ (e : Entry). wire_of e.mark e.bytes) es fs) ∙ append_assoc (wire es) (wire fs) held ∙ ap (λ w. wire es ++ w) (keeps way q bs)
     ∙ sym (append_assoc (wire es) q.bytes.items bs) ∙ ap (λ w. w ++ bs) (byte_wire way p b) ∙ append_assoc p.bytes.items (b ∷ []) bs
 
 pub keeps_all : LogKeepsAll

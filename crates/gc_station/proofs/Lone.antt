@@ -116,7 +116,7 @@ module _ (plan : Plan) (commands : List Task) where
         let it = wait e n in
         elim it.1 [
           | inl f ↦ replies_joined p (parts_of plan commands u acts) f others.later
-          | inr rest ↦ elim rest [
+          | inr other ↦ elim other [
             | inl alone ↦ waits_joined p (parts_of plan commands u acts) it.0 (others.waits (ap (λ (x : Progress). x.alone) same ∙ alone) (or_false u.progress.anew (is_over u.progress) l).0)
             | inr all ↦ absurd (clash (loses_all t.progress) all (sym (ap loses_all same) ∙ l))
           ]

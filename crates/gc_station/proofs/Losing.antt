@@ -16,20 +16,21 @@ use Rattle.gc_links.specs.declared.link.Moment.{Moment}
 use Rattle.gc_station.specs.declared.mark.Mark.{Mark}
 use Rattle.gc_station.specs.declared.plan.Plan.{Plan}
 use Rattle.gc_station.specs.declared.progress.Phase.{Phase}
-use Rattle.gc_station.specs.declared.progress.Phase.TheVariants.{Down, Resting, Clearing, Draining, Probing, Ready, Closing, Over}
+use Rattle.gc_station.specs.declared.progress.Phase.TheVariants.{Down, Pausing, Clearing, Draining, Probing, Ready, Closing, Over}
 use Rattle.gc_station.specs.declared.progress.Order.{Order}
 use Rattle.gc_station.specs.declared.progress.Order.TheVariants as orders
 use Rattle.gc_station.specs.declared.progress.Progress.{Progress}
+use Rattle.gc_station.specs.declared.progress.Until.{Until}
 use Rattle.gc_station.specs.declared.progress.Waiting.{Waiting}
 use Rattle.gc_links.specs.Acts.{Act, Told, Cut, Gave, Silent, Ended, Broke, Closed, Opened}
 use Rattle.gc_station.specs.Deciding.{is_up, is_past, drain_of, order_of, order_in, order_up}
 use Rattle.gc_station.specs.Ends.{IsWrittenAt, BeginsAnew, IsLast, IsLostIn}
 use Rattle.gc_station.specs.Marks.{commands_in, records_of}
-use Rattle.gc_station.specs.Progressing.{turned, told, begun, skipped, cleared, asking, probed, sent, failing, reckoned_early, closed_again, closed, quieted, drained, waited, is_over, is_over_in, loses_all, beginning_anew, is_finished, is_spared}
+use Rattle.gc_station.specs.Progressing.{turned, told, begun, skipped, cleared, asking, probed, sent, failing, reckoned_early, closed_again, closed, quieted, drained, time_passed, is_over, is_over_in, loses_all, beginning_anew, is_finished, is_spared}
 use Rattle.gc_station.specs.Reasons.{IsFor}
 use Rattle.gc_station.specs.Records.{Record}
 use Rattle.gc_station.specs.Runs.{stood}
-use Rattle.gc_station.specs.Standing.{Standing, opening, order_at, waiting_of, place_next, mark_next, request_text, Puts, Obeys, is_heard, with_progress, with_moment, with_rest, line_came, lines_came, lines_behind, came, asks_null, asks_first, asks_next, bound_next, skips, with_records, after_tell, after_put, after_open, after_read, moved, losing, ended, after}
+use Rattle.gc_station.specs.Standing.{Standing, opening, order_at, waiting_of, place_next, mark_next, request_text, Puts, Obeys, is_heard, with_progress, with_moment, with_rest, line_came, lines_came, lines_behind, came, asks_null, asks_first, asks_next, bound_next, skips, with_records, after_clock, after_put, after_open, after_read, moved, losing, ended, after}
 use Rattle.gc_station.proofs.Counts.{ended_progress}
 use Rattle.gc_station.proofs.Facts.{order_for}
 use Rattle.gc_station.proofs.Fine.{Fine}
@@ -65,20 +66,20 @@ drained_anew true p = refl
 drained_anew false p = refl
 
 pub quieted_anew : (plan : Plan) (phase : Phase) (p : Progress) → (quieted plan phase p).anew ≡ p.anew
-quieted_anew plan Resting p = refl
+quieted_anew plan Pausing p = refl
 quieted_anew plan Draining p = drained_anew (is_past (drain_of plan p) p) p
 quieted_anew plan phase p = refl
 
-read_leaves : (plan : Plan) (rested : Bool) (s : Standing) (act : Act) → Leaves s (after_read plan rested s act)
-read_leaves plan rested s (Gave bytes m) = let l = came_leaves (is_heard s.progress.phase) bytes (with_moment m (with_progress (told m) s)) in (l.0, l.1)
-read_leaves plan rested s (Silent m) = (quieted_anew plan s.progress.phase (waited rested m s.progress), λ e. e)
-read_leaves plan rested s Ended = (refl, λ e. e)
-read_leaves plan rested s Broke = (refl, λ e. e)
-read_leaves plan rested s act = (refl, λ e. e)
+read_leaves : (plan : Plan) (until : Until) (s : Standing) (act : Act) → Leaves s (after_read plan until s act)
+read_leaves plan until s (Gave bytes m) = let l = came_leaves (is_heard s.progress.phase) bytes (with_moment m (with_progress (told m) s)) in (l.0, l.1)
+read_leaves plan until s (Silent m) = (quieted_anew plan s.progress.phase (time_passed until m s.progress), λ e. e)
+read_leaves plan until s Ended = (refl, λ e. e)
+read_leaves plan until s Broke = (refl, λ e. e)
+read_leaves plan until s act = (refl, λ e. e)
 
-tell_leaves : (f : Moment → Progress → Progress) (s : Standing) (act : Act) → ((m : Moment) → (f m s.progress).anew ≡ s.progress.anew) → Leaves s (after_tell f s act)
-tell_leaves f s (Told m) same = (same m, λ e. e)
-tell_leaves f s act same = (refl, λ e. e)
+clock_leaves : (f : Moment → Progress → Progress) (s : Standing) (act : Act) → ((m : Moment) → (f m s.progress).anew ≡ s.progress.anew) → Leaves s (after_clock f s act)
+clock_leaves f s (Told m) same = (same m, λ e. e)
+clock_leaves f s act same = (refl, λ e. e)
 
 open_leaves : (plan : Plan) (s : Standing) (act : Act) → Leaves s (after_open plan s act)
 open_leaves plan s Opened = (refl, λ e. e)
@@ -143,9 +144,9 @@ close_why plan commands s w cause.Open act fine up is e = inl (again_unwritten p
 
 anew_why : (plan : Plan) (commands : List Task) (s : Standing) (order : Order) (act : Act) → Fine plan commands s → IsFor plan s.progress (waiting_of s) order → Obeys commands s order act
     → (moved plan commands order (with_progress turned s) act).progress.anew ≡ true → SilenceOr order act (moved plan commands order (with_progress turned s) act).marks
-anew_why plan commands s orders.Tell act fine needs o e =
-    let l = tell_leaves (λ m p. reckoned_early plan (commands_in s.marks) (told m p)) (with_progress turned s) act (λ m. refl) in inl (unwritten_left plan commands s _ _ fine l.0 l.1 e)
-anew_why plan commands s orders.Begin act fine needs o e = let l = tell_leaves (begun plan (length commands)) (with_progress turned s) act (λ m. refl) in inl (unwritten_left plan commands s _ _ fine l.0 l.1 e)
+anew_why plan commands s orders.ReadClock act fine needs o e =
+    let l = clock_leaves (λ m p. reckoned_early plan (commands_in s.marks) (told m p)) (with_progress turned s) act (λ m. refl) in inl (unwritten_left plan commands s _ _ fine l.0 l.1 e)
+anew_why plan commands s orders.Begin act fine needs o e = let l = clock_leaves (begun plan (length commands)) (with_progress turned s) act (λ m. refl) in inl (unwritten_left plan commands s _ _ fine l.0 l.1 e)
 anew_why plan commands s orders.Open act fine needs o e = let l = open_leaves plan (with_progress turned s) act in inl (unwritten_left plan commands s _ _ fine l.0 l.1 e)
 anew_why plan commands s orders.Clear act fine needs o e =
     let t = with_progress turned s in
@@ -159,10 +160,9 @@ anew_why plan commands s orders.Send act fine needs o e =
 anew_why plan commands s orders.Skip act fine needs o e =
     let t = with_progress turned s in
     let u = with_records (skips plan commands t.progress act) t in
-    let l = tell_leaves (λ m p. reckoned_early plan (commands_in t.marks) (skipped (bound_next commands t.progress) m p)) u act (λ m. refl) in inl (unwritten_left plan commands s _ _ fine l.0 l.1 e)
+    let l = clock_leaves (λ m p. reckoned_early plan (commands_in t.marks) (skipped (bound_next commands t.progress) m p)) u act (λ m. refl) in inl (unwritten_left plan commands s _ _ fine l.0 l.1 e)
 anew_why plan commands s orders.Flush act fine needs o e = absurd (clash _ e (put_anew _ (λ (x : Standing). with_progress asking (asks_null plan x)) (with_progress turned s) act ∙ fine.ready needs.0))
-anew_why plan commands s orders.Read act fine needs o e = let l = read_leaves plan false (with_progress turned s) act in inl (unwritten_left plan commands s _ _ fine l.0 l.1 e)
-anew_why plan commands s orders.Rest act fine needs o e = let l = read_leaves plan true (with_progress turned s) act in inl (unwritten_left plan commands s _ _ fine l.0 l.1 e)
+anew_why plan commands s (orders.Read until) act fine needs o e = let l = read_leaves plan until (with_progress turned s) act in inl (unwritten_left plan commands s _ _ fine l.0 l.1 e)
 anew_why plan commands s (orders.Close why) act fine needs o e = close_why plan commands s (waiting_of (with_rest [] (with_progress turned s))) why act fine needs.0 o e
 anew_why plan commands s (orders.Stop why) act fine needs o e = absurd o
 
@@ -174,7 +174,7 @@ over_stops plan p w over = by_phase p.phase refl over where
 
   by_phase : (phase : Phase) → p.phase ≡ phase → (is_over_in phase || (not (is_up phase) && nat_eq p.turns 0)) ≡ true → (why : Cause) × (order_in phase plan p w ≡ orders.Stop why)
   by_phase Down is e = (cause.Turns, no_turn Down _ is refl e)
-  by_phase Resting is e = (cause.Turns, no_turn Resting _ is refl e)
+  by_phase Pausing is e = (cause.Turns, no_turn Pausing _ is refl e)
   by_phase Clearing is e = cc
   by_phase Draining is e = cc
   by_phase Probing is e = cc
@@ -182,16 +182,16 @@ over_stops plan p w over = by_phase p.phase refl over where
   by_phase (Closing why) is e = cc
   by_phase (Over why) is e = (why, refl)
 
--- behind a close for silence it rests, unless no act follows
-rests_behind : (done some : Bool) (n : ℕ)
-    → (is_over_in (if done then Over cause.Done else if some then Resting else Over cause.Silence) || (not (is_up (if done then Over cause.Done else if some then Resting else Over cause.Silence)) && nat_eq n 0)) ≡ false
-    → (if done then Over cause.Done else if some then Resting else Over cause.Silence) ≡ Resting
-rests_behind true some n e = cc
-rests_behind false true n e = refl
-rests_behind false false n e = cc
+-- behind a close for silence it pauses, unless no act follows
+pauses_behind : (done some : Bool) (n : ℕ)
+    → (is_over_in (if done then Over cause.Done else if some then Pausing else Over cause.Silence) || (not (is_up (if done then Over cause.Done else if some then Pausing else Over cause.Silence)) && nat_eq n 0)) ≡ false
+    → (if done then Over cause.Done else if some then Pausing else Over cause.Silence) ≡ Pausing
+pauses_behind true some n e = cc
+pauses_behind false true n e = refl
+pauses_behind false false n e = cc
 
-silence_rests : (plan : Plan) (w : Waiting) (p : Progress) → is_over (closed plan w cause.Silence p) ≡ false → (closed plan w cause.Silence p).phase ≡ Resting
-silence_rests plan w p e = let q = beginning_anew w.all p in rests_behind (is_finished 0 q) (is_spared plan cause.Silence q || nat_lt 0 q.tries) q.turns e
+silence_pauses : (plan : Plan) (w : Waiting) (p : Progress) → is_over (closed plan w cause.Silence p) ≡ false → (closed plan w cause.Silence p).phase ≡ Pausing
+silence_pauses plan w p e = let q = beginning_anew w.all p in pauses_behind (is_finished 0 q) (is_spared plan cause.Silence q || nat_lt 0 q.tries) q.turns e
 
 only_first : (a : Bool) → (a || false) ≡ true → a ≡ true
 only_first true e = refl
@@ -216,15 +216,15 @@ loses_why plan commands scope acts act fine obeys loses = by_test (is_over t.pro
   far : (stood plan commands scope (acts ++ act ∷ [])).progress ≡ t.progress
   far = ap (λ (x : Standing). x.progress) next ∙ ended_progress t
 
-  rests : order_at plan s ≡ orders.Close cause.Silence → is_over t.progress ≡ false → t.progress.phase ≡ Resting
-  rests is on =
+  pauses : order_at plan s ≡ orders.Close cause.Silence → is_over t.progress ≡ false → t.progress.phase ≡ Pausing
+  pauses is on =
       let w = waiting_of (with_rest [] (with_progress turned s)) in
       let there : t.progress ≡ closed plan w cause.Silence (turned s.progress) = ap (λ (o : Order). (moved plan commands o (with_progress turned s) act).progress) is in
-      ap (λ (p : Progress). p.phase) there ∙ silence_rests plan w (turned s.progress) (sym (ap is_over there) ∙ on)
+      ap (λ (p : Progress). p.phase) there ∙ silence_pauses plan w (turned s.progress) (sym (ap is_over there) ∙ on)
 
   begins : t.progress.anew ≡ true → is_over t.progress ≡ false → SilenceOr (order_at plan s) act t.marks → Unwritten t.marks ⊎ (BeginsAnew plan commands scope acts act ⊎ IsLast plan commands scope acts act [])
   begins anew on (inl none) = inl none
-  begins anew on (inr both) = inr (inl (record { closes = both.0; closed = both.1; rests = ap (λ (p : Progress). p.phase) far ∙ rests both.0 on; anew = ap (λ (p : Progress). p.anew) far ∙ anew }))
+  begins anew on (inr both) = inr (inl (record { closes = both.0; closed = both.1; pauses = ap (λ (p : Progress). p.phase) far ∙ pauses both.0 on; anew = ap (λ (p : Progress). p.anew) far ∙ anew }))
 
   by_test : (b : Bool) → is_over t.progress ≡ b → (t.progress.anew || b) ≡ true → Unwritten t.marks ⊎ (BeginsAnew plan commands scope acts act ⊎ IsLast plan commands scope acts act [])
   by_test true over e =

@@ -14,7 +14,9 @@ use Rattle.gc_links.specs.declared.link.Moment.{Moment}
 use Rattle.gc_station.specs.declared.mark.Mark.{Mark}
 use Rattle.gc_station.specs.declared.plan.Plan.{Plan}
 use Rattle.gc_station.specs.declared.cause.Cause.TheVariants as cause
+use Rattle.gc_station.specs.declared.progress.Order.TheVariants.{Read}
 use Rattle.gc_station.specs.declared.progress.Progress.{Progress}
+use Rattle.gc_station.specs.declared.progress.Until.{Until}
 use Rattle.gc_station.specs.declared.station.Station.{Station}
 use Rattle.gc_links.specs.Acts.{Act, Tells, put_as, IsPart}
 use Rattle.gc_station.specs.Deciding.{later}
@@ -22,7 +24,7 @@ use Rattle.gc_station.specs.Marks.{is_well, last_well}
 use Rattle.gc_station.specs.Progressing.{failing, skipped_at}
 use Rattle.gc_station.specs.Records.{Record}
 use Rattle.gc_station.specs.Standing.{Standing, is_nil, Puts, IsReading, client_sent, asks, asks_first, skips_first, with_progress, with_records, after_put, after_read, moved}
-use Rattle.gc_station.specs.Stations.{Stands, Took, Makes, Made, Follows, cut_progress, read_order}
+use Rattle.gc_station.specs.Stations.{Stands, Took, Makes, Made, Follows, cut_progress, seen}
 use Rattle.gc_station.specs.Tallies.{none_yet, tallied}
 use Rattle.gc_station.proofs.Records.{tallied-append, last-append}
 
@@ -150,18 +152,16 @@ none_skipped s = ap (λ (rs : List Record). record s { records = rs }) (append-n
 
 -- A read.
 
-pub makes_read : (plan : Plan) (commands : List Task) (rested : Bool) (text : Record → List ℕ) (told told' : Option (List Act)) (taken taken' : Option (List ℕ)) (station new : Station) (act : Act) → Tells told told' (act ∷ []) → IsReading act
-    → ((s : Standing) (start : Option (List ℕ)) → Stands station s → Took text start taken s → Stands new (after_read plan rested s act) × Took text start taken' (after_read plan rested s act))
-    → Makes commands (read_order rested) (moved plan commands (read_order rested)) text told told' taken taken' station new
-makes_read plan commands true text told told' taken taken' station new act tells reads goes = record { act = act; tells = tells; goes = λ s start stands so. let g = goes s start stands so in (reads, g.0, g.1) }
-makes_read plan commands false text told told' taken taken' station new act tells reads goes = record { act = act; tells = tells; goes = λ s start stands so. let g = goes s start stands so in (reads, g.0, g.1) }
+pub makes_read : (plan : Plan) (commands : List Task) (until : Until) (text : Record → List ℕ) (told told' : Option (List Act)) (taken taken' : Option (List ℕ)) (station new : Station) (act : Act) → Tells told told' (act ∷ []) → IsReading act
+    → ((s : Standing) (start : Option (List ℕ)) → Stands station s → Took text start taken s → Stands new (after_read plan until s act) × Took text start taken' (after_read plan until s act))
+    → Makes commands (Read until) (moved plan commands (Read until)) (seen told text taken station) (seen told' text taken' new)
+makes_read plan commands until text told told' taken taken' station new act tells reads goes = record { act = act; tells = tells; goes = λ s start stands so. let g = goes s start stands so in (reads, g.0, g.1) }
 
-pub made_read : {X E : Type 0} (plan : Plan) (commands : List Task) (rested : Bool) (text : Record → List ℕ) (told told' : Option (List Act)) (taken taken' : Option (List ℕ)) (station new : Station) (act : Act) (result : Result X E) → Tells told told' (act ∷ []) → IsReading act
-    → ((s : Standing) (start : Option (List ℕ)) → Stands station s → Took text start taken s → Follows text s.records new start taken' (after_read plan rested s act) result)
-    → Made commands (read_order rested) (moved plan commands (read_order rested)) text told told' taken taken' station new result
-made_read plan commands rested text told told' taken taken' station new act (Ok r) tells reads goes = makes_read plan commands rested text told told' taken taken' station new act tells reads goes
-made_read plan commands true text told told' taken taken' station new act (Err r) tells reads goes = record { act = act; tells = tells; goes = λ s start stands so. (reads, goes s start stands so) }
-made_read plan commands false text told told' taken taken' station new act (Err r) tells reads goes = record { act = act; tells = tells; goes = λ s start stands so. (reads, goes s start stands so) }
+pub made_read : {X E : Type 0} (plan : Plan) (commands : List Task) (until : Until) (text : Record → List ℕ) (told told' : Option (List Act)) (taken taken' : Option (List ℕ)) (station new : Station) (act : Act) (result : Result X E) → Tells told told' (act ∷ []) → IsReading act
+    → ((s : Standing) (start : Option (List ℕ)) → Stands station s → Took text start taken s → Follows text s.records new start taken' (after_read plan until s act) result)
+    → Made commands (Read until) (moved plan commands (Read until)) (seen told text taken station) (seen told' text taken' new) result
+made_read plan commands until text told told' taken taken' station new act (Ok r) tells reads goes = makes_read plan commands until text told told' taken taken' station new act tells reads goes
+made_read plan commands until text told told' taken taken' station new act (Err r) tells reads goes = record { act = act; tells = tells; goes = λ s start stands so. (reads, goes s start stands so) }
 
 pub nil_count : (xs : List ℕ) → nat_eq (length xs) 0 ≡ is_nil xs
 nil_count [] = refl

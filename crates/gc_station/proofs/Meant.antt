@@ -10,13 +10,14 @@ use Rattle.gc_station.specs.declared.plan.Plan.{Plan}
 use Rattle.gc_station.specs.declared.progress.Order.{Order}
 use Rattle.gc_station.specs.declared.progress.Order.TheVariants as order
 use Rattle.gc_station.specs.declared.progress.Progress.{Progress}
+use Rattle.gc_station.specs.declared.progress.Until.{Until}
 use Rattle.gc_links.specs.Acts.{Act, Told, Untold, Put, Cut, Gave, Silent, Ended, Broke, Closed, Opened, Unopened}
 use Rattle.gc_station.specs.Deciding.{later}
 use Rattle.gc_station.specs.Marks.{commands_in}
 use Rattle.gc_station.specs.Parts.{Part, nothing, asking, asking_first, putting}
 use Rattle.gc_station.specs.Progressing.{told, turned, begun, skipped, cleared, probed, asking as went, sent, reckoned_early, loses_all}
 use Rattle.gc_station.specs.Reasons.{IsFor}
-use Rattle.gc_station.specs.Standing.{Standing, order_at, waiting_of, place_next, mark_next, request_text, first_text, Puts, IsTelling, IsOpening, IsReading, Obeys, with_progress, with_moment, with_rest, asks_null, asks_first, asks_next, bound_next, with_records, skips, requests_out, line_came, lines_came, lines_behind, is_heard, came, after_read, after_tell, after_put, after_open, moved, losing, after}
+use Rattle.gc_station.specs.Standing.{Standing, order_at, waiting_of, place_next, mark_next, request_text, first_text, Puts, ReadsClock, IsOpening, IsReading, Obeys, with_progress, with_moment, with_rest, asks_null, asks_first, asks_next, bound_next, with_records, skips, requests_out, line_came, lines_came, lines_behind, is_heard, came, after_read, after_clock, after_put, after_open, moved, losing, after}
 use Rattle.gc_station.proofs.Facts.{order_for}
 use Rattle.gc_station.proofs.Fine.{Fine}
 
@@ -64,7 +65,7 @@ module _ (plan : Plan) (commands : List Task) where
   puts_same want bytes Opened e puts = absurd puts
   puts_same want bytes Unopened e puts = absurd puts
 
-  never_puts : (act : Act) (bytes : List ℕ) → put_by act ≡ Some bytes → (IsTelling act ⊎ (IsOpening act ⊎ (IsReading act ⊎ (act ≡ Closed)))) → ⊥
+  never_puts : (act : Act) (bytes : List ℕ) → put_by act ≡ Some bytes → (ReadsClock act ⊎ (IsOpening act ⊎ (IsReading act ⊎ (act ≡ Closed)))) → ⊥
   never_puts (Put out) bytes e h = elim h [ inl a ↦ a | inr b ↦ elim b [ inl c ↦ c | inr d ↦ elim d [ inl f ↦ f | inr g ↦ cc ] ] ]
   never_puts (Cut out count) bytes e h = elim h [ inl a ↦ a | inr b ↦ elim b [ inl c ↦ c | inr d ↦ elim d [ inl f ↦ f | inr g ↦ cc ] ] ]
   never_puts (Told m) bytes e h = cc
@@ -101,12 +102,11 @@ module _ (plan : Plan) (commands : List Task) where
       let left = drop (place_next commands s.progress) commands in
       let many : length left ≡ length commands - place_next commands s.progress = length-drop (place_next commands s.progress) commands in
       inr (first_put s left bytes (omega (arith, many, is.2, fine.unsent)) is.3.1 (puts_same (first_text s.client left) bytes act e obeys))
-  put_order s order.Tell act bytes fine is obeys e = absurd (never_puts act bytes e (inl obeys))
+  put_order s order.ReadClock act bytes fine is obeys e = absurd (never_puts act bytes e (inl obeys))
   put_order s order.Skip act bytes fine is obeys e = absurd (never_puts act bytes e (inl obeys))
   put_order s order.Begin act bytes fine is obeys e = absurd (never_puts act bytes e (inl obeys))
   put_order s order.Open act bytes fine is obeys e = absurd (never_puts act bytes e (inr (inl obeys)))
-  put_order s order.Read act bytes fine is obeys e = absurd (never_puts act bytes e (inr (inr (inl obeys))))
-  put_order s order.Rest act bytes fine is obeys e = absurd (never_puts act bytes e (inr (inr (inl obeys))))
+  put_order s (order.Read until) act bytes fine is obeys e = absurd (never_puts act bytes e (inr (inr (inl obeys))))
   put_order s (order.Close why) act bytes fine is obeys e = absurd (never_puts act bytes e (inr (inr (inr obeys))))
   put_order s (order.Stop why) act bytes fine is obeys e = absurd obeys
 
@@ -124,30 +124,30 @@ module _ (plan : Plan) (commands : List Task) where
   came_rest true piece m s = lines_keep (with_rest (rest_behind s.rest piece) s) (lines_behind s.rest piece)
   came_rest false piece m s = refl
 
-  read_rest : (s : Standing) (rested : Bool) (act : Act) → IsReading act → (after_read plan rested (with_progress turned s) act).rest ≡ left_of (is_heard s.progress.phase) s.rest act
-  read_rest s rested (Gave bytes m) reads = came_rest (is_heard s.progress.phase) bytes m (with_moment m (with_progress (told m) (with_progress turned s)))
-  read_rest s rested (Silent m) reads = same (is_heard s.progress.phase) where
+  read_rest : (s : Standing) (until : Until) (act : Act) → IsReading act → (after_read plan until (with_progress turned s) act).rest ≡ left_of (is_heard s.progress.phase) s.rest act
+  read_rest s until (Gave bytes m) reads = came_rest (is_heard s.progress.phase) bytes m (with_moment m (with_progress (told m) (with_progress turned s)))
+  read_rest s until (Silent m) reads = same (is_heard s.progress.phase) where
     same : (h : Bool) → s.rest ≡ left_of h s.rest (Silent m)
     same true = refl
     same false = refl
-  read_rest s rested Ended reads = same (is_heard s.progress.phase) where
+  read_rest s until Ended reads = same (is_heard s.progress.phase) where
     same : (h : Bool) → s.rest ≡ left_of h s.rest Ended
     same true = refl
     same false = refl
-  read_rest s rested Broke reads = same (is_heard s.progress.phase) where
+  read_rest s until Broke reads = same (is_heard s.progress.phase) where
     same : (h : Bool) → s.rest ≡ left_of h s.rest Broke
     same true = refl
     same false = refl
-  read_rest s rested Untold reads = same (is_heard s.progress.phase) where
+  read_rest s until Untold reads = same (is_heard s.progress.phase) where
     same : (h : Bool) → s.rest ≡ left_of h s.rest Untold
     same true = refl
     same false = refl
-  read_rest s rested (Told m) reads = absurd reads
-  read_rest s rested (Put bytes) reads = absurd reads
-  read_rest s rested (Cut bytes count) reads = absurd reads
-  read_rest s rested Closed reads = absurd reads
-  read_rest s rested Opened reads = absurd reads
-  read_rest s rested Unopened reads = absurd reads
+  read_rest s until (Told m) reads = absurd reads
+  read_rest s until (Put bytes) reads = absurd reads
+  read_rest s until (Cut bytes count) reads = absurd reads
+  read_rest s until Closed reads = absurd reads
+  read_rest s until Opened reads = absurd reads
+  read_rest s until Unopened reads = absurd reads
 
   -- an act that reads nothing, and isn't a close
   abbrev IsPlain : Act → Type 0
@@ -179,18 +179,18 @@ module _ (plan : Plan) (commands : List Task) where
   plain_rest true rest Unopened plain = refl
   plain_rest false rest Unopened plain = refl
 
-  tell_rest : (s : Standing) (f : Moment → Progress → Progress) (act : Act) → IsTelling act → (after_tell f (with_progress turned s) act).rest ≡ left_of (is_heard s.progress.phase) s.rest act
-  tell_rest s f (Told m) tells = plain_rest (is_heard s.progress.phase) s.rest (Told m) tt
-  tell_rest s f Untold tells = plain_rest (is_heard s.progress.phase) s.rest Untold tt
-  tell_rest s f (Put bytes) tells = absurd tells
-  tell_rest s f (Cut bytes count) tells = absurd tells
-  tell_rest s f (Gave bytes m) tells = absurd tells
-  tell_rest s f (Silent m) tells = absurd tells
-  tell_rest s f Ended tells = absurd tells
-  tell_rest s f Broke tells = absurd tells
-  tell_rest s f Closed tells = absurd tells
-  tell_rest s f Opened tells = absurd tells
-  tell_rest s f Unopened tells = absurd tells
+  clock_rest : (s : Standing) (f : Moment → Progress → Progress) (act : Act) → ReadsClock act → (after_clock f (with_progress turned s) act).rest ≡ left_of (is_heard s.progress.phase) s.rest act
+  clock_rest s f (Told m) tells = plain_rest (is_heard s.progress.phase) s.rest (Told m) tt
+  clock_rest s f Untold tells = plain_rest (is_heard s.progress.phase) s.rest Untold tt
+  clock_rest s f (Put bytes) tells = absurd tells
+  clock_rest s f (Cut bytes count) tells = absurd tells
+  clock_rest s f (Gave bytes m) tells = absurd tells
+  clock_rest s f (Silent m) tells = absurd tells
+  clock_rest s f Ended tells = absurd tells
+  clock_rest s f Broke tells = absurd tells
+  clock_rest s f Closed tells = absurd tells
+  clock_rest s f Opened tells = absurd tells
+  clock_rest s f Unopened tells = absurd tells
 
   open_rest : (s : Standing) (act : Act) → IsOpening act → (after_open plan (with_progress turned s) act).rest ≡ left_of (is_heard s.progress.phase) s.rest act
   open_rest s Opened asked = plain_rest (is_heard s.progress.phase) s.rest Opened tt
@@ -223,9 +223,9 @@ module _ (plan : Plan) (commands : List Task) where
   first_rest s mark (task ∷ others) = refl
 
   order_rest : (s : Standing) (o : Order) (act : Act) → Obeys commands s o act → (moved plan commands o (with_progress turned s) act).rest ≡ left_of (is_heard s.progress.phase) s.rest act
-  order_rest s order.Tell act obeys = tell_rest s (λ m p. reckoned_early plan (commands_in s.marks) (told m p)) act obeys
-  order_rest s order.Skip act obeys = tell_rest (with_records (skips plan commands s.progress act) s) (λ m p. reckoned_early plan (commands_in s.marks) (skipped (bound_next commands s.progress) m p)) act obeys
-  order_rest s order.Begin act obeys = tell_rest s (begun plan (length commands)) act obeys
+  order_rest s order.ReadClock act obeys = clock_rest s (λ m p. reckoned_early plan (commands_in s.marks) (told m p)) act obeys
+  order_rest s order.Skip act obeys = clock_rest (with_records (skips plan commands s.progress act) s) (λ m p. reckoned_early plan (commands_in s.marks) (skipped (bound_next commands s.progress) m p)) act obeys
+  order_rest s order.Begin act obeys = clock_rest s (begun plan (length commands)) act obeys
   order_rest s order.Open act obeys = open_rest s act obeys
   order_rest s order.Clear act obeys = put_rest s (requests_out plan commands s.progress) (with_progress cleared) act (10 ∷ []) obeys refl
   order_rest s order.Probe act obeys = put_rest s (requests_out plan commands s.progress) (λ (x : Standing). with_progress probed (asks_null plan x)) act (request_text s.client NullProc) obeys refl
@@ -233,8 +233,7 @@ module _ (plan : Plan) (commands : List Task) where
   order_rest s order.Send act obeys =
       put_rest s (requests_out plan commands s.progress) (λ (x : Standing). with_progress (sent (bound_next commands x.progress)) (asks_next plan commands x)) act (first_text s.client (drop (place_next commands s.progress) commands)) obeys
       (first_rest (with_progress turned s) (mark_next plan commands s.progress) (drop (place_next commands s.progress) commands))
-  order_rest s order.Read act obeys = read_rest s false act obeys
-  order_rest s order.Rest act obeys = read_rest s true act obeys
+  order_rest s (order.Read until) act obeys = read_rest s until act obeys
   order_rest s (order.Close why) act obeys =
       subst (λ (a : Act). (moved plan commands (order.Close why) (with_progress turned s) a).rest ≡ left_of (is_heard s.progress.phase) s.rest a) (sym obeys) (closed (is_heard s.progress.phase)) where
         closed : (h : Bool) → [] ≡ left_of h s.rest Closed

@@ -115,7 +115,7 @@ pub record Left (c : ById) (x : Settled ById) : Type 0 where
 settle_length : (k : ℕ) (line : List ℕ) (ps : List Pending) → k < length ps → length (settle k line ps) ≡ k + 1
 settle_length k line [] low = absurd (omega (arith, low))
 settle_length zero line (p ∷ ps) low = refl
-settle_length (suc k) line (p ∷ ps) low = let rest = settle_length k line ps (omega (arith, low)) in omega (arith, rest)
+settle_length (suc k) line (p ∷ ps) low = let more = settle_length k line ps (omega (arith, low)) in omega (arith, more)
 
 pub heard_left : (c : ById) (line : List ℕ) (o : Option ℕ) → Left c (hears c line o)
 heard_left c line None = record { count = 0; enough = omega arith; next = refl; waiting = refl; settled = refl }

@@ -16,7 +16,7 @@ use Rattle.gc_texts.specs.Endings.{End}
 use Rattle.gc_station.specs.declared.mark.Mark.{Mark}
 use Rattle.gc_station.specs.declared.plan.Plan.{Plan}
 use Rattle.gc_station.specs.declared.progress.Phase.{Phase}
-use Rattle.gc_station.specs.declared.progress.Phase.TheVariants.{Down, Resting, Clearing, Draining, Probing, Ready, Closing, Over}
+use Rattle.gc_station.specs.declared.progress.Phase.TheVariants.{Down, Pausing, Clearing, Draining, Probing, Ready, Closing, Over}
 use Rattle.gc_station.specs.declared.progress.Progress.{Progress}
 use Rattle.gc_station.specs.Deciding.{is_up}
 use Rattle.gc_station.specs.EachOnce.{sent_by}
@@ -215,7 +215,7 @@ over_down : (p : Progress) (o : Bool) → is_over_in p.phase ≡ o → is_over p
 over_down p true is e = phase_down p.phase is where
   phase_down : (phase : Phase) → is_over_in phase ≡ true → is_up phase ≡ false
   phase_down Down e = cc
-  phase_down Resting e = cc
+  phase_down Pausing e = cc
   phase_down Clearing e = cc
   phase_down Draining e = cc
   phase_down Probing e = cc

@@ -16,15 +16,16 @@ use Rattle.gc_station.specs.declared.progress.Phase.TheVariants as phase
 use Rattle.gc_station.specs.declared.progress.Order.{Order}
 use Rattle.gc_station.specs.declared.progress.Order.TheVariants as orders
 use Rattle.gc_station.specs.declared.progress.Progress.{Progress}
+use Rattle.gc_station.specs.declared.progress.Until.{Until}
 use Rattle.gc_links.specs.Acts.{Act, Told, Untold, Put, Cut, Gave, Silent, Ended, Broke, Opened, Unopened}
 use Rattle.gc_station.specs.Deciding.{is_up, is_past, drain_of, patience_of}
 use Rattle.gc_station.specs.Marks.{commands_in}
-use Rattle.gc_station.specs.Progressing.{turned, told, begun, skipped, reckoned_early, cleared, probed, sent, asking, waited, waiting_on, quieted, is_resting, drained}
+use Rattle.gc_station.specs.Progressing.{turned, told, begun, skipped, reckoned_early, cleared, probed, sent, asking, time_passed, quiet_renewed, quieted, is_idle, drained}
 use Rattle.gc_station.specs.Quiet.{TellsMoment, IsListening, IsSilent, StaysConnected}
 use Rattle.gc_station.specs.Reasons.{IsFor}
 use Rattle.gc_station.specs.Runs.{stood}
 use Rattle.gc_station.specs.Silences.{latest, IsNoReply, BringsNoReply, IsMute, WentBack, IsMuteFor}
-use Rattle.gc_station.specs.Standing.{Standing, opening, order_at, waiting_of, with_progress, with_moment, with_rest, line_came, lines_came, lines_behind, came, is_heard, is_nil, is_reply, asks_null, asks_first, asks_next, with_records, skips, mark_next, place_next, bound_next, after_tell, after_put, after_open, after_read, IsTelling, IsOpening, IsReading, Puts, Obeys, moved, after, after_all, Runs}
+use Rattle.gc_station.specs.Standing.{Standing, opening, order_at, waiting_of, with_progress, with_moment, with_rest, line_came, lines_came, lines_behind, came, is_heard, is_nil, is_reply, asks_null, asks_first, asks_next, with_records, skips, mark_next, place_next, bound_next, after_clock, after_put, after_open, after_read, ReadsClock, IsOpening, IsReading, Puts, Obeys, moved, after, after_all, Runs}
 use Rattle.gc_station.proofs.Closings.{runs_split}
 use Rattle.gc_station.proofs.Drains.{along, progress_behind}
 use Rattle.gc_station.proofs.EachRun.{fine_stood}
@@ -223,19 +224,19 @@ module _ (plan : Plan) (commands : List Task) (scope : Scope) where
   anew_mute true m acts = refl
   anew_mute false m acts = muted_now m.elapsed acts (Silent m) refl
 
-  drained_mute : (b gave_up rested : Bool) (m : Moment) (p : Progress) (acts : List Act) → p.phase ≡ phase.Draining → MuteAt (waiting_on gave_up m (if b then drained (waited rested m p) else waited rested m p)) (acts ++ Silent m ∷ [])
-  drained_mute true gave_up rested m p acts is = anew_mute p.anew m acts
-  drained_mute false gave_up rested m p acts is = subst (λ (x : Phase). Mute p.asked (min p.alive m.elapsed) m.elapsed x (acts ++ Silent m ∷ [])) (sym is) tt
+  drained_mute : (b gave_up : Bool) (until : Until) (m : Moment) (p : Progress) (acts : List Act) → p.phase ≡ phase.Draining → MuteAt (quiet_renewed gave_up m (if b then drained (time_passed until m p) else time_passed until m p)) (acts ++ Silent m ∷ [])
+  drained_mute true gave_up until m p acts is = anew_mute p.anew m acts
+  drained_mute false gave_up until m p acts is = subst (λ (x : Phase). Mute p.asked (min p.alive m.elapsed) m.elapsed x (acts ++ Silent m ∷ [])) (sym is) tt
 
-  rested_mute : (asked : Bool) (alive now : ℕ) (b : Bool) (at : Phase) (acts : List Act) → at ≡ phase.Resting → Mute asked alive now (if b then phase.Down else at) acts
-  rested_mute asked alive now true at acts is = tt
-  rested_mute asked alive now false at acts is = subst (λ (x : Phase). Mute asked alive now x acts) (sym is) tt
+  paused_mute : (asked : Bool) (alive now : ℕ) (b : Bool) (at : Phase) (acts : List Act) → at ≡ phase.Pausing → Mute asked alive now (if b then phase.Down else at) acts
+  paused_mute asked alive now true at acts is = tt
+  paused_mute asked alive now false at acts is = subst (λ (x : Phase). Mute asked alive now x acts) (sym is) tt
 
-  silent_mute : (rested gave_up : Bool) (m : Moment) (p : Progress) (at : Phase) (acts : List Act) → p.phase ≡ at → Mute p.asked p.alive p.moment.elapsed at acts → MuteAt (waiting_on gave_up m (quieted plan at (waited rested m p))) (acts ++ Silent m ∷ [])
-  silent_mute rested gave_up m p phase.Draining acts is q = drained_mute (is_past (drain_of plan (waited rested m p)) (waited rested m p)) gave_up rested m p acts is
-  silent_mute rested gave_up m p phase.Resting acts is q =
-      rested_mute p.asked (min p.alive m.elapsed) m.elapsed (is_past p.pause (waited rested m p) && not (is_resting plan (waited rested m p))) p.phase (acts ++ Silent m ∷ []) is
-  silent_mute rested gave_up m p at acts is q =
+  silent_mute : (until : Until) (gave_up : Bool) (m : Moment) (p : Progress) (at : Phase) (acts : List Act) → p.phase ≡ at → Mute p.asked p.alive p.moment.elapsed at acts → MuteAt (quiet_renewed gave_up m (quieted plan at (time_passed until m p))) (acts ++ Silent m ∷ [])
+  silent_mute until gave_up m p phase.Draining acts is q = drained_mute (is_past (drain_of plan (time_passed until m p)) (time_passed until m p)) gave_up until m p acts is
+  silent_mute until gave_up m p phase.Pausing acts is q =
+      paused_mute p.asked (min p.alive m.elapsed) m.elapsed (is_past p.pause (time_passed until m p) && not (is_idle plan (time_passed until m p))) p.phase (acts ++ Silent m ∷ []) is
+  silent_mute until gave_up m p at acts is q =
       subst (λ (x : Phase). Mute p.asked (min p.alive m.elapsed) m.elapsed x (acts ++ Silent m ∷ [])) (sym is)
       (mute_told p.asked p.alive p.moment.elapsed m at acts (Silent m) refl refl tt tt (λ e. tt) q)
 
@@ -275,18 +276,18 @@ module _ (plan : Plan) (commands : List Task) (scope : Scope) where
   gave_mute s bytes m phase.Probing acts is rest q = subst (λ (x : Phase). Mute s.progress.asked (min s.progress.alive m.elapsed) m.elapsed x (acts ++ Gave bytes m ∷ [])) (sym is) q
   gave_mute s bytes m at acts is rest q = subst (λ (x : Phase). Mute s.progress.asked (min s.progress.alive m.elapsed) m.elapsed x (acts ++ Gave bytes m ∷ [])) (sym is) tt
 
-  read_mute : (rested : Bool) (s : Standing) (act : Act) (acts : List Act) → IsReading act → (stood plan commands scope acts).rest ≡ s.rest → MuteAt s.progress acts → MuteAt (after_read plan rested s act).progress (acts ++ act ∷ [])
-  read_mute rested s (Gave bytes m) acts o rest q = gave_mute s bytes m s.progress.phase acts refl rest q
-  read_mute rested s (Silent m) acts o rest q = silent_mute rested (not (is_nil (expiring m.elapsed s.client.waiting))) m s.progress s.progress.phase acts refl q
-  read_mute rested s Untold acts o rest q = let p = s.progress in mute_failed p.asked p.alive p.moment.elapsed (is_up p.phase) cause.Clock (acts ++ Untold ∷ [])
-  read_mute rested s Ended acts o rest q = let p = s.progress in mute_failed p.asked p.alive p.moment.elapsed (is_up p.phase) cause.End (acts ++ Ended ∷ [])
-  read_mute rested s Broke acts o rest q = let p = s.progress in mute_failed p.asked p.alive p.moment.elapsed (is_up p.phase) cause.Read (acts ++ Broke ∷ [])
-  read_mute rested s act acts o rest q = absurd o
+  read_mute : (until : Until) (s : Standing) (act : Act) (acts : List Act) → IsReading act → (stood plan commands scope acts).rest ≡ s.rest → MuteAt s.progress acts → MuteAt (after_read plan until s act).progress (acts ++ act ∷ [])
+  read_mute until s (Gave bytes m) acts o rest q = gave_mute s bytes m s.progress.phase acts refl rest q
+  read_mute until s (Silent m) acts o rest q = silent_mute until (not (is_nil (expiring m.elapsed s.client.waiting))) m s.progress s.progress.phase acts refl q
+  read_mute until s Untold acts o rest q = let p = s.progress in mute_failed p.asked p.alive p.moment.elapsed (is_up p.phase) cause.Clock (acts ++ Untold ∷ [])
+  read_mute until s Ended acts o rest q = let p = s.progress in mute_failed p.asked p.alive p.moment.elapsed (is_up p.phase) cause.End (acts ++ Ended ∷ [])
+  read_mute until s Broke acts o rest q = let p = s.progress in mute_failed p.asked p.alive p.moment.elapsed (is_up p.phase) cause.Read (acts ++ Broke ∷ [])
+  read_mute until s act acts o rest q = absurd o
 
-  tell_mute : (f : Moment → Progress → Progress) (s : Standing) (act : Act) (acts : List Act) → IsTelling act → ((m : Moment) → MuteAt (f m s.progress) (acts ++ Told m ∷ [])) → MuteAt (after_tell f s act).progress (acts ++ act ∷ [])
-  tell_mute f s (Told m) acts o step = step m
-  tell_mute f s Untold acts o step = let p = s.progress in mute_failed p.asked p.alive p.moment.elapsed (is_up p.phase) cause.Clock (acts ++ Untold ∷ [])
-  tell_mute f s act acts o step = absurd o
+  clock_mute : (f : Moment → Progress → Progress) (s : Standing) (act : Act) (acts : List Act) → ReadsClock act → ((m : Moment) → MuteAt (f m s.progress) (acts ++ Told m ∷ [])) → MuteAt (after_clock f s act).progress (acts ++ act ∷ [])
+  clock_mute f s (Told m) acts o step = step m
+  clock_mute f s Untold acts o step = let p = s.progress in mute_failed p.asked p.alive p.moment.elapsed (is_up p.phase) cause.Clock (acts ++ Untold ∷ [])
+  clock_mute f s act acts o step = absurd o
 
   open_mute : (s : Standing) (act : Act) (acts : List Act) → IsOpening act → MuteAt (after_open plan s act).progress (acts ++ act ∷ [])
   open_mute s Opened acts o = tt
@@ -328,8 +329,8 @@ module _ (plan : Plan) (commands : List Task) (scope : Scope) where
 
   mute_moved : (next : Order) (s : Standing) (act : Act) (acts : List Act) → Obeys commands s next act → IsFor plan s.progress (waiting_of s) next → Tells s.progress acts next → (stood plan commands scope acts).rest ≡ s.rest
       → MuteAt s.progress acts → MuteAt (moved plan commands next (with_progress turned s) act).progress (acts ++ act ∷ [])
-  mute_moved orders.Tell s act acts o needs tells rest q = tell_mute (λ (m : Moment) (p : Progress). reckoned_early plan (commands_in s.marks) (told m p)) (with_progress turned s) act acts o (λ m. told_mute s.progress m acts q)
-  mute_moved orders.Begin s act acts o needs tells rest q = tell_mute (begun plan (length commands)) (with_progress turned s) act acts o (λ m. told_mute s.progress m acts q)
+  mute_moved orders.ReadClock s act acts o needs tells rest q = clock_mute (λ (m : Moment) (p : Progress). reckoned_early plan (commands_in s.marks) (told m p)) (with_progress turned s) act acts o (λ m. told_mute s.progress m acts q)
+  mute_moved orders.Begin s act acts o needs tells rest q = clock_mute (begun plan (length commands)) (with_progress turned s) act acts o (λ m. told_mute s.progress m acts q)
   mute_moved orders.Open s act acts o needs tells rest q = open_mute (with_progress turned s) act acts o
   mute_moved orders.Clear s act acts o needs tells rest q = put_mute _ _ (with_progress cleared) (with_progress turned s) act acts o (λ out. tt)
   mute_moved orders.Probe s act acts o needs tells rest q =
@@ -341,12 +342,11 @@ module _ (plan : Plan) (commands : List Task) (scope : Scope) where
       (λ out. subst (λ (p : Progress). MuteAt (sent (bound_next commands s.progress) p) (acts ++ Put out ∷ [])) (sym (first_progress (mark_next plan commands s.progress) (drop (place_next commands s.progress) commands) (with_progress turned s)))
       (asks_mute s.progress acts out needs.0 tells q))
   mute_moved orders.Skip s act acts o needs tells rest q =
-      tell_mute (λ (m : Moment) (p : Progress). reckoned_early plan (commands_in s.marks) (skipped (bound_next commands s.progress) m p))
+      clock_mute (λ (m : Moment) (p : Progress). reckoned_early plan (commands_in s.marks) (skipped (bound_next commands s.progress) m p))
       (with_records (skips plan commands (turned s.progress) act) (with_progress turned s)) act acts o (λ m. told_mute s.progress m acts q)
   mute_moved orders.Flush s act acts o needs tells rest q =
       put_mute _ _ (λ (x : Standing). with_progress asking (asks_null plan x)) (with_progress turned s) act acts o (λ out. asks_mute s.progress acts out needs.0 tells q)
-  mute_moved orders.Read s act acts o needs tells rest q = read_mute false (with_progress turned s) act acts o rest q
-  mute_moved orders.Rest s act acts o needs tells rest q = read_mute true (with_progress turned s) act acts o rest q
+  mute_moved (orders.Read until) s act acts o needs tells rest q = read_mute until (with_progress turned s) act acts o rest q
   mute_moved (orders.Close why) s act acts o needs tells rest q =
       let p = (moved plan commands (orders.Close why) (with_progress turned s) act).progress in mute_down p.asked p.alive p.moment.elapsed p.phase (acts ++ act ∷ []) (closed_down plan (waiting_of s) why (turned s.progress))
   mute_moved (orders.Stop why) s act acts o needs tells rest q = absurd o

@@ -6,10 +6,11 @@ use Rattle.gc_client.specs.declared.window.TheConstants.{WINDOW}
 use Rattle.gc_station.specs.declared.plan.Plan.{Plan}
 use Rattle.gc_station.specs.declared.cause.Cause.TheVariants as cause
 use Rattle.gc_station.specs.declared.progress.Phase.{Phase}
-use Rattle.gc_station.specs.declared.progress.Phase.TheVariants.{Down, Resting, Clearing, Draining, Probing, Ready, Closing, Over}
+use Rattle.gc_station.specs.declared.progress.Phase.TheVariants.{Down, Pausing, Clearing, Draining, Probing, Ready, Closing, Over}
 use Rattle.gc_station.specs.declared.progress.Order.{Order}
 use Rattle.gc_station.specs.declared.progress.Order.TheVariants as order
 use Rattle.gc_station.specs.declared.progress.Progress.{Progress}
+use Rattle.gc_station.specs.declared.progress.Until.TheVariants.{Limit, Due}
 use Rattle.gc_station.specs.declared.progress.Waiting.{Waiting}
 use Rattle.gc_station.specs.Deciding.{width_of, is_up, is_quiet, is_dead, is_due, has_room, order_of, order_in, order_on, order_told, may_go, order_ready, order_room, order_sent, order_settled, order_done, order_waiting, order_up}
 use Rattle.gc_station.specs.Stations.{IsFitting}
@@ -30,7 +31,7 @@ left_true false b e = cc
 -- with so many requests waiting
 module _ (plan : Plan) (p : Progress) (w : Waiting) where
   waits : IsFitting p w.all (order_waiting plan p w)
-  waits = either (IsFitting p w.all) (order.Close cause.Silence) _ (nat_eq w.current 0 && is_quiet plan p) (λ e. tt) (λ e. either (IsFitting p w.all) (order.Close cause.Dead) order.Read (is_dead plan p w) (λ e. tt) (λ e. tt))
+  waits = either (IsFitting p w.all) (order.Close cause.Silence) _ (nat_eq w.current 0 && is_quiet plan p) (λ e. tt) (λ e. either (IsFitting p w.all) (order.Close cause.Dead) (order.Read Limit) (is_dead plan p w) (λ e. tt) (λ e. tt))
 
   room : (o : Order) → (w.all < WINDOW → IsFitting p w.all o) → IsFitting p w.all (order_room plan p w o)
   room o fits =
@@ -39,8 +40,8 @@ module _ (plan : Plan) (p : Progress) (w : Waiting) where
 
   done : IsFitting p w.all (order_done plan p)
   done =
-      either (IsFitting p w.all) (order.Close cause.Done) (if is_due plan p then order.Begin else order.Rest) (nat_eq p.left 0) (λ e. tt)
-      (λ e. either (IsFitting p w.all) order.Begin order.Rest (is_due plan p) (λ e. tt) (λ e. tt))
+      either (IsFitting p w.all) (order.Close cause.Done) (if is_due plan p then order.Begin else (order.Read Due)) (nat_eq p.left 0) (λ e. tt)
+      (λ e. either (IsFitting p w.all) order.Begin (order.Read Due) (is_due plan p) (λ e. tt) (λ e. tt))
 
   settled : IsFitting p w.all (order_settled plan p w)
   settled =
@@ -61,7 +62,7 @@ module _ (plan : Plan) (p : Progress) (w : Waiting) where
 
   told_fits : (phase : Phase) → IsFitting p w.all (order_told plan phase p w)
   told_fits Down = tt
-  told_fits Resting = tt
+  told_fits Pausing = tt
   told_fits Clearing = tt
   told_fits Draining = tt
   told_fits Probing = room order.Probe (λ few. few)
@@ -76,11 +77,11 @@ module _ (plan : Plan) (p : Progress) (w : Waiting) where
   on_fits : IsFitting p w.all (order_on plan p w)
   on_fits =
       either (IsFitting p w.all) _ _ (nat_eq p.turns 0) (λ e. up_fits (is_up p.phase))
-      (λ e. either (IsFitting p w.all) order.Tell _ p.stale (λ e. tt) (λ e. told_fits p.phase))
+      (λ e. either (IsFitting p w.all) order.ReadClock _ p.stale (λ e. tt) (λ e. told_fits p.phase))
 
   in_fits : (phase : Phase) → IsFitting p w.all (order_in phase plan p w)
   in_fits Down = on_fits
-  in_fits Resting = on_fits
+  in_fits Pausing = on_fits
   in_fits Clearing = on_fits
   in_fits Draining = on_fits
   in_fits Probing = on_fits

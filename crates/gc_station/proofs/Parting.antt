@@ -13,6 +13,7 @@ use Rattle.gc_station.specs.declared.plan.Plan.{Plan}
 use Rattle.gc_station.specs.declared.progress.Order.{Order}
 use Rattle.gc_station.specs.declared.progress.Order.TheVariants as order
 use Rattle.gc_station.specs.declared.progress.Progress.{Progress}
+use Rattle.gc_station.specs.declared.progress.Until.{Until}
 use Rattle.gc_links.specs.Acts.{Act, Told, Untold, Put, Cut, Gave, Silent, Ended, Broke, Closed, Opened, Unopened}
 use Rattle.gc_station.specs.Deciding.{later}
 use Rattle.gc_station.specs.Marks.{commands_in}
@@ -21,7 +22,7 @@ use Rattle.gc_station.specs.Progressing.{told, turned, begun, skipped, skipped_a
 use Rattle.gc_station.specs.Reasons.{IsFor}
 use Rattle.gc_station.specs.Records.{Record}
 use Rattle.gc_station.specs.declared.mark.Mark.{Mark}
-use Rattle.gc_station.specs.Standing.{Standing, waiting_of, place_next, mark_next, request_text, first_text, Puts, IsTelling, IsOpening, IsReading, Obeys, with_progress, with_moment, with_rest, asks_null, asks_first, asks_next, bound_next, with_records, skips, skips_first, line_came, lines_came, lines_behind, is_heard, came, after_read, after_tell, after_put, after_open, moved, requests_out}
+use Rattle.gc_station.specs.Standing.{Standing, waiting_of, place_next, mark_next, request_text, first_text, Puts, ReadsClock, IsOpening, IsReading, Obeys, with_progress, with_moment, with_rest, asks_null, asks_first, asks_next, bound_next, with_records, skips, skips_first, line_came, lines_came, lines_behind, is_heard, came, after_read, after_clock, after_put, after_open, moved, requests_out}
 use Rattle.gc_station.proofs.Booking.{Books, sent_both, sent_records, books_both, books_nothing, books_moment, books_line, books_send}
 use Rattle.gc_station.proofs.Fine.{Fine}
 use Rattle.gc_station.proofs.Hearing.{hears_paired}
@@ -62,37 +63,37 @@ module _ (plan : Plan) (commands : List Task) where
   paired_told s m paired = paired ∙ sym (length-map s.client.waiting (expired m))
 
   -- what was read
-  leads_read : (s : Standing) (rested : Bool) (o : Order) (act : Act) → Paired s → IsReading act → Leads commands s (acting plan commands s o act) (after_read plan rested (with_progress turned s) act)
-  leads_read s rested o (Gave bytes m) paired reads =
+  leads_read : (s : Standing) (until : Until) (o : Order) (act : Act) → Paired s → IsReading act → Leads commands s (acting plan commands s o act) (after_read plan until (with_progress turned s) act)
+  leads_read s until o (Gave bytes m) paired reads =
       let x = with_moment m (with_progress (told m) (with_progress turned s)) in
       let t = came (is_heard s.progress.phase) bytes x in
       books_both s.reads commands s.client x.client t.client s.marks s.marks t.marks (sent_of s.records) (sent_of s.records) (sent_of t.records) (only (Expire m.elapsed ∷ [])) (only (hearing (is_heard s.progress.phase) s.rest bytes))
       (books_moment s.reads commands s.client s.marks (sent_of s.records) m.elapsed)
       (leads_came (is_heard s.progress.phase) bytes x (paired_told s m.elapsed paired))
-  leads_read s rested o (Silent m) paired reads = books_moment s.reads commands s.client s.marks (sent_of s.records) m.elapsed
-  leads_read s rested o Ended paired reads = books_nothing s.reads commands s.client s.marks (sent_of s.records)
-  leads_read s rested o Broke paired reads = books_nothing s.reads commands s.client s.marks (sent_of s.records)
-  leads_read s rested o Untold paired reads = books_nothing s.reads commands s.client s.marks (sent_of s.records)
-  leads_read s rested o (Told m) paired reads = absurd reads
-  leads_read s rested o (Put bytes) paired reads = absurd reads
-  leads_read s rested o (Cut bytes count) paired reads = absurd reads
-  leads_read s rested o Closed paired reads = absurd reads
-  leads_read s rested o Opened paired reads = absurd reads
-  leads_read s rested o Unopened paired reads = absurd reads
+  leads_read s until o (Silent m) paired reads = books_moment s.reads commands s.client s.marks (sent_of s.records) m.elapsed
+  leads_read s until o Ended paired reads = books_nothing s.reads commands s.client s.marks (sent_of s.records)
+  leads_read s until o Broke paired reads = books_nothing s.reads commands s.client s.marks (sent_of s.records)
+  leads_read s until o Untold paired reads = books_nothing s.reads commands s.client s.marks (sent_of s.records)
+  leads_read s until o (Told m) paired reads = absurd reads
+  leads_read s until o (Put bytes) paired reads = absurd reads
+  leads_read s until o (Cut bytes count) paired reads = absurd reads
+  leads_read s until o Closed paired reads = absurd reads
+  leads_read s until o Opened paired reads = absurd reads
+  leads_read s until o Unopened paired reads = absurd reads
 
   -- the clock was read
-  leads_tell : (s : Standing) (f : Moment → Progress → Progress) (o : Order) (act : Act) → IsTelling act → Leads commands s (acting plan commands s o act) (after_tell f (with_progress turned s) act)
-  leads_tell s f o (Told m) tells = books_moment s.reads commands s.client s.marks (sent_of s.records) m.elapsed
-  leads_tell s f o Untold tells = books_nothing s.reads commands s.client s.marks (sent_of s.records)
-  leads_tell s f o (Put bytes) tells = absurd tells
-  leads_tell s f o (Cut bytes count) tells = absurd tells
-  leads_tell s f o (Gave bytes m) tells = absurd tells
-  leads_tell s f o (Silent m) tells = absurd tells
-  leads_tell s f o Ended tells = absurd tells
-  leads_tell s f o Broke tells = absurd tells
-  leads_tell s f o Closed tells = absurd tells
-  leads_tell s f o Opened tells = absurd tells
-  leads_tell s f o Unopened tells = absurd tells
+  leads_clock : (s : Standing) (f : Moment → Progress → Progress) (o : Order) (act : Act) → ReadsClock act → Leads commands s (acting plan commands s o act) (after_clock f (with_progress turned s) act)
+  leads_clock s f o (Told m) tells = books_moment s.reads commands s.client s.marks (sent_of s.records) m.elapsed
+  leads_clock s f o Untold tells = books_nothing s.reads commands s.client s.marks (sent_of s.records)
+  leads_clock s f o (Put bytes) tells = absurd tells
+  leads_clock s f o (Cut bytes count) tells = absurd tells
+  leads_clock s f o (Gave bytes m) tells = absurd tells
+  leads_clock s f o (Silent m) tells = absurd tells
+  leads_clock s f o Ended tells = absurd tells
+  leads_clock s f o Broke tells = absurd tells
+  leads_clock s f o Closed tells = absurd tells
+  leads_clock s f o Opened tells = absurd tells
+  leads_clock s f o Unopened tells = absurd tells
 
   -- a connection was asked for
   leads_open : (s : Standing) (o : Order) (act : Act) → IsOpening act → Leads commands s (acting plan commands s o act) (after_open plan (with_progress turned s) act)
@@ -164,8 +165,8 @@ module _ (plan : Plan) (commands : List Task) where
   -- an act of each order
   leads_order : (s : Standing) (o : Order) (act : Act) → Fine plan commands s → IsFor plan s.progress (waiting_of s) o → Obeys commands s o act
       → Leads commands s (acting plan commands s o act) (moved plan commands o (with_progress turned s) act)
-  leads_order s order.Tell act fine is obeys = leads_tell s (λ m p. reckoned_early plan (commands_in s.marks) (told m p)) order.Tell act obeys
-  leads_order s order.Begin act fine is obeys = leads_tell s (begun plan (length commands)) order.Begin act obeys
+  leads_order s order.ReadClock act fine is obeys = leads_clock s (λ m p. reckoned_early plan (commands_in s.marks) (told m p)) order.ReadClock act obeys
+  leads_order s order.Begin act fine is obeys = leads_clock s (begun plan (length commands)) order.Begin act obeys
   leads_order s order.Open act fine is obeys = leads_open s order.Open act obeys
   leads_order s order.Clear act fine is obeys =
       leads_put s order.Clear (requests_out plan commands s.progress) (with_progress cleared) act (10 ∷ []) obeys (books_nothing s.reads commands s.client s.marks (sent_of s.records))
@@ -180,9 +181,8 @@ module _ (plan : Plan) (commands : List Task) where
       (leads_first s left refl (omega (arith, many, is.2, fine.unsent)) is.3.1)
   leads_order s order.Skip act fine is obeys =
       subst (λ (rs : List Record). Books s.reads commands s.client s.marks rs (acting plan commands s order.Skip act) (skipped_to s act).client (skipped_to s act).marks (sent_of (skipped_to s act).records)) (none_sent s.records (skips plan commands s.progress act) (skips_unsent s act))
-      (leads_tell (with_records (skips plan commands s.progress act) s) (λ m p. reckoned_early plan (commands_in s.marks) (skipped (bound_next commands s.progress) m p)) order.Skip act obeys)
-  leads_order s order.Read act fine is obeys = leads_read s false order.Read act fine.paired obeys
-  leads_order s order.Rest act fine is obeys = leads_read s true order.Rest act fine.paired obeys
+      (leads_clock (with_records (skips plan commands s.progress act) s) (λ m p. reckoned_early plan (commands_in s.marks) (skipped (bound_next commands s.progress) m p)) order.Skip act obeys)
+  leads_order s (order.Read until) act fine is obeys = leads_read s until (order.Read until) act fine.paired obeys
   leads_order s (order.Close why) act fine is obeys =
       subst (λ (a : Act). Leads commands s (acting plan commands s (order.Close why) a) (moved plan commands (order.Close why) (with_progress turned s) a)) (sym obeys) (books_nothing s.reads commands s.client s.marks (sent_of s.records))
   leads_order s (order.Stop why) act fine is obeys = absurd obeys

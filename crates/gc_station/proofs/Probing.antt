@@ -14,14 +14,15 @@ use Rattle.gc_station.specs.declared.progress.Phase.TheVariants as phase
 use Rattle.gc_station.specs.declared.progress.Order.{Order}
 use Rattle.gc_station.specs.declared.progress.Order.TheVariants as orders
 use Rattle.gc_station.specs.declared.progress.Progress.{Progress}
+use Rattle.gc_station.specs.declared.progress.Until.{Until}
 use Rattle.gc_links.specs.Acts.{Act, Told, Untold, Put, Cut, Gave, Silent, Ended, Broke, Closed, Opened, Unopened}
 use Rattle.gc_station.specs.Deciding.{is_up, drain_of, is_past, order_in}
 use Rattle.gc_station.specs.Marks.{commands_in}
 use Rattle.gc_station.specs.Probing.{KeepsOpen, IsAsking, IsAnsweredWithin}
-use Rattle.gc_station.specs.Progressing.{turned, told, begun, skipped, reckoned_early, cleared, probed, sent, asking, waited, quieted, loses_all}
+use Rattle.gc_station.specs.Progressing.{turned, told, begun, skipped, reckoned_early, cleared, probed, sent, asking, time_passed, quieted, loses_all}
 use Rattle.gc_station.specs.Reasons.{IsFor}
 use Rattle.gc_station.specs.Runs.{stood}
-use Rattle.gc_station.specs.Standing.{Standing, opening, order_at, waiting_of, with_progress, with_rest, line_came, lines_came, lines_behind, came, is_heard, asks_null, asks_first, asks_next, with_records, skips, mark_next, place_next, bound_next, after_tell, after_put, after_open, after_read, Obeys, moved, losing, after, after_all, Runs}
+use Rattle.gc_station.specs.Standing.{Standing, opening, order_at, waiting_of, with_progress, with_rest, line_came, lines_came, lines_behind, came, is_heard, asks_null, asks_first, asks_next, with_records, skips, mark_next, place_next, bound_next, after_clock, after_put, after_open, after_read, Obeys, moved, losing, after, after_all, Runs}
 use Rattle.gc_station.proofs.Going.{after_all-append}
 use Rattle.gc_station.proofs.Pieces.{id_digit, piece_before}
 use Rattle.gc_station.proofs.EachRun.{fine_stood}
@@ -91,18 +92,18 @@ some_wait alone n is one = rw (is, one) refl
 abbrev pub Goes : Standing → Act → Standing → Type 0
 Goes s act t = ((piece : List ℕ) × (m : Moment) × (act ≡ Gave piece m) × Comes (lines_behind s.rest piece)) ⊎ (t.progress.alone ≡ true)
 
-alone_tell : (f : Moment → Progress → Progress) (s : Standing) (act : Act) → ((m : Moment) → (f m s.progress).alone ≡ s.progress.alone) → s.progress.alone ≡ true → (after_tell f s act).progress.alone ≡ true
-alone_tell f s (Told m) same w = same m ∙ w
-alone_tell f s Untold same w = w
-alone_tell f s (Put out) same w = w
-alone_tell f s (Cut out n) same w = w
-alone_tell f s (Gave bytes m) same w = w
-alone_tell f s (Silent m) same w = w
-alone_tell f s Ended same w = w
-alone_tell f s Broke same w = w
-alone_tell f s Closed same w = w
-alone_tell f s Opened same w = w
-alone_tell f s Unopened same w = w
+alone_clock : (f : Moment → Progress → Progress) (s : Standing) (act : Act) → ((m : Moment) → (f m s.progress).alone ≡ s.progress.alone) → s.progress.alone ≡ true → (after_clock f s act).progress.alone ≡ true
+alone_clock f s (Told m) same w = same m ∙ w
+alone_clock f s Untold same w = w
+alone_clock f s (Put out) same w = w
+alone_clock f s (Cut out n) same w = w
+alone_clock f s (Gave bytes m) same w = w
+alone_clock f s (Silent m) same w = w
+alone_clock f s Ended same w = w
+alone_clock f s Broke same w = w
+alone_clock f s Closed same w = w
+alone_clock f s Opened same w = w
+alone_clock f s Unopened same w = w
 
 alone_open : (plan : Plan) (s : Standing) (act : Act) → s.progress.alone ≡ true → (after_open plan s act).progress.alone ≡ true
 alone_open plan s (Told m) w = w
@@ -141,7 +142,7 @@ drained_or_not plan p q false a b = b
 
 alone_quieted : (plan : Plan) (at : Phase) (p : Progress) → p.alone ≡ true → (quieted plan at p).alone ≡ true
 alone_quieted plan phase.Down p w = w
-alone_quieted plan phase.Resting p w = w
+alone_quieted plan phase.Pausing p w = w
 alone_quieted plan phase.Clearing p w = w
 alone_quieted plan phase.Draining p w = drained_or_not plan _ p (is_past (drain_of plan p) p) w w
 alone_quieted plan phase.Probing p w = w
@@ -149,39 +150,38 @@ alone_quieted plan phase.Ready p w = w
 alone_quieted plan (phase.Closing why) p w = w
 alone_quieted plan (phase.Over why) p w = w
 
-alone_read : (plan : Plan) (rested : Bool) (s : Standing) (act : Act) → Alone s → Goes s act (after_read plan rested (with_progress turned s) act)
-alone_read plan rested s (Told m) w = inr w.0
-alone_read plan rested s Untold w = inr w.0
-alone_read plan rested s (Put out) w = inr w.0
-alone_read plan rested s (Cut out n) w = inr w.0
-alone_read plan rested s (Gave bytes m) w = on (alone_came (is_heard s.progress.phase) bytes (piece_before m s) (w.0, alone_told s.client m.elapsed w.1)) where
+alone_read : (plan : Plan) (until : Until) (s : Standing) (act : Act) → Alone s → Goes s act (after_read plan until (with_progress turned s) act)
+alone_read plan until s (Told m) w = inr w.0
+alone_read plan until s Untold w = inr w.0
+alone_read plan until s (Put out) w = inr w.0
+alone_read plan until s (Cut out n) w = inr w.0
+alone_read plan until s (Gave bytes m) w = on (alone_came (is_heard s.progress.phase) bytes (piece_before m s) (w.0, alone_told s.client m.elapsed w.1)) where
   on : Comes (lines_behind s.rest bytes) ⊎ Alone (came (is_heard s.progress.phase) bytes (piece_before m s))
-      → Goes s (Gave bytes m) (after_read plan rested (with_progress turned s) (Gave bytes m))
+      → Goes s (Gave bytes m) (after_read plan until (with_progress turned s) (Gave bytes m))
   on (inl c) = inl (bytes, m, refl, c)
   on (inr x) = let t = came (is_heard s.progress.phase) bytes (piece_before m s) in inr (some_wait t.progress.alone (length t.client.waiting) x.0 x.1.1)
-alone_read plan rested s (Silent m) w = inr (alone_quieted plan s.progress.phase (waited rested m (turned s.progress)) w.0)
-alone_read plan rested s Ended w = inr w.0
-alone_read plan rested s Broke w = inr w.0
-alone_read plan rested s Closed w = inr w.0
-alone_read plan rested s Opened w = inr w.0
-alone_read plan rested s Unopened w = inr w.0
+alone_read plan until s (Silent m) w = inr (alone_quieted plan s.progress.phase (time_passed until m (turned s.progress)) w.0)
+alone_read plan until s Ended w = inr w.0
+alone_read plan until s Broke w = inr w.0
+alone_read plan until s Closed w = inr w.0
+alone_read plan until s Opened w = inr w.0
+alone_read plan until s Unopened w = inr w.0
 
 not_closed : (act : Act) → act ≡ Closed → KeepsOpen act → ⊥
 not_closed act is open_ = subst KeepsOpen is open_
 
 pub alone_moved : (plan : Plan) (commands : List Task) (s : Standing) (order : Order) (act : Act) → Obeys commands s order act → KeepsOpen act → Alone s → Goes s act (moved plan commands order (with_progress turned s) act)
-alone_moved plan commands s orders.Tell act o open_ w = inr (alone_tell (λ m p. reckoned_early plan (commands_in s.marks) (told m p)) (with_progress turned s) act (λ m. refl) w.0)
-alone_moved plan commands s orders.Begin act o open_ w = inr (alone_tell (begun plan (length commands)) (with_progress turned s) act (λ m. refl) w.0)
+alone_moved plan commands s orders.ReadClock act o open_ w = inr (alone_clock (λ m p. reckoned_early plan (commands_in s.marks) (told m p)) (with_progress turned s) act (λ m. refl) w.0)
+alone_moved plan commands s orders.Begin act o open_ w = inr (alone_clock (begun plan (length commands)) (with_progress turned s) act (λ m. refl) w.0)
 alone_moved plan commands s orders.Open act o open_ w = inr (alone_open plan (with_progress turned s) act w.0)
 alone_moved plan commands s orders.Clear act o open_ w = inr (alone_put _ (with_progress cleared) (with_progress turned s) act w.0)
 alone_moved plan commands s orders.Probe act o open_ w = inr (alone_put _ (λ (x : Standing). with_progress probed (asks_null plan x)) (with_progress turned s) act refl)
 alone_moved plan commands s orders.Send act o open_ w =
     inr (alone_put _ (λ (x : Standing). with_progress (sent (bound_next commands x.progress)) (asks_next plan commands x)) (with_progress turned s) act (alone_sent plan commands (drop (place_next commands s.progress) commands) (with_progress turned s) (with_progress turned s) w.0))
 alone_moved plan commands s orders.Skip act o open_ w =
-    inr (alone_tell (λ (m : Moment) (p : Progress). reckoned_early plan (commands_in s.marks) (skipped (bound_next commands s.progress) m p)) (with_records (skips plan commands (turned s.progress) act) (with_progress turned s)) act (λ m. refl) w.0)
+    inr (alone_clock (λ (m : Moment) (p : Progress). reckoned_early plan (commands_in s.marks) (skipped (bound_next commands s.progress) m p)) (with_records (skips plan commands (turned s.progress) act) (with_progress turned s)) act (λ m. refl) w.0)
 alone_moved plan commands s orders.Flush act o open_ w = inr (alone_put _ (λ (x : Standing). with_progress asking (asks_null plan x)) (with_progress turned s) act w.0)
-alone_moved plan commands s orders.Read act o open_ w = alone_read plan false s act w
-alone_moved plan commands s orders.Rest act o open_ w = alone_read plan true s act w
+alone_moved plan commands s (orders.Read until) act o open_ w = alone_read plan until s act w
 alone_moved plan commands s (orders.Close why) act o open_ w = absurd (not_closed act o open_)
 alone_moved plan commands s (orders.Stop why) act o open_ w = absurd o
 
@@ -195,20 +195,19 @@ no_asking : (plan : Plan) (s : Standing) (order : Order) → IsFor plan s.progre
 no_asking plan s orders.Send needs w asks = clash s.progress.alone w needs.1
 no_asking plan s orders.Flush needs w asks = clash s.progress.alone w needs.1
 no_asking plan s orders.Skip needs w asks = asks
-no_asking plan s orders.Tell needs w asks = asks
+no_asking plan s orders.ReadClock needs w asks = asks
 no_asking plan s orders.Begin needs w asks = asks
 no_asking plan s orders.Open needs w asks = asks
 no_asking plan s orders.Clear needs w asks = asks
 no_asking plan s orders.Probe needs w asks = asks
-no_asking plan s orders.Read needs w asks = asks
-no_asking plan s orders.Rest needs w asks = asks
+no_asking plan s (orders.Read until) needs w asks = asks
 no_asking plan s (orders.Close why) needs w asks = asks
 no_asking plan s (orders.Stop why) needs w asks = asks
 
 -- it isn't answered, and something is to be done: so there is a connection
 still_up : (at : Phase) (alone : Bool) → (is_bare at ≡ true → alone ≡ false) → alone ≡ true → ((why : Cause) → at ≡ phase.Over why → ⊥) → is_up at ≡ true
 still_up phase.Down alone bare is on = absurd (clash alone is (bare refl))
-still_up phase.Resting alone bare is on = absurd (clash alone is (bare refl))
+still_up phase.Pausing alone bare is on = absurd (clash alone is (bare refl))
 still_up phase.Clearing alone bare is on = refl
 still_up phase.Draining alone bare is on = refl
 still_up phase.Probing alone bare is on = refl

@@ -16,16 +16,18 @@ use Rattle.gc_station.specs.declared.progress.Phase.TheVariants as phase
 use Rattle.gc_station.specs.declared.progress.Order.{Order}
 use Rattle.gc_station.specs.declared.progress.Order.TheVariants as orders
 use Rattle.gc_station.specs.declared.progress.Progress.{Progress}
+use Rattle.gc_station.specs.declared.progress.Until.{Until}
+use Rattle.gc_station.specs.declared.progress.Until.TheVariants.{Limit, Due}
 use Rattle.gc_station.specs.declared.progress.Waiting.{Waiting}
 use Rattle.gc_links.specs.Acts.{Act, Told, Untold, Put, Cut, Gave, Silent, Ended, Broke, Closed, Opened, Unopened}
 use Rattle.gc_station.specs.Deciding.{is_up, is_past, is_quiet, is_dead, is_due, drain_of, has_room, order_in, order_on, order_told, may_go, order_ready, order_sent, order_settled, order_done, order_room, order_waiting, order_up}
 use Rattle.gc_station.specs.Marks.{commands_in}
-use Rattle.gc_station.specs.Progressing.{turned, told, begun, skipped, reckoned_early, cleared, probed, sent, asking, waited, waiting_on, quieted, is_resting, drained}
+use Rattle.gc_station.specs.Progressing.{turned, told, begun, skipped, reckoned_early, cleared, probed, sent, asking, time_passed, quiet_renewed, quieted, is_idle, drained}
 use Rattle.gc_station.specs.Beginnings.{IsUnasked}
 use Rattle.gc_station.specs.Quiet.{IsRequest, AsksNothing, TellsMoment, IsListening, IsSilent, StaysConnected, IsClearedAndQuiet}
 use Rattle.gc_station.specs.Reasons.{IsFor}
 use Rattle.gc_station.specs.Runs.{stood}
-use Rattle.gc_station.specs.Standing.{Standing, opening, order_at, waiting_of, with_progress, with_moment, with_rest, line_came, lines_came, lines_behind, came, is_heard, is_nil, asks_null, asks_first, asks_next, with_records, skips, mark_next, place_next, bound_next, after_tell, after_put, after_open, after_read, IsTelling, IsOpening, IsReading, Puts, Obeys, moved, Runs}
+use Rattle.gc_station.specs.Standing.{Standing, opening, order_at, waiting_of, with_progress, with_moment, with_rest, line_came, lines_came, lines_behind, came, is_heard, is_nil, asks_null, asks_first, asks_next, with_records, skips, mark_next, place_next, bound_next, after_clock, after_put, after_open, after_read, ReadsClock, IsOpening, IsReading, Puts, Obeys, moved, Runs}
 use Rattle.gc_station.proofs.Closings.{runs_split}
 use Rattle.gc_station.proofs.Drains.{along, progress_behind, drains_once}
 use Rattle.gc_station.proofs.Facts.{either, order_for}
@@ -40,22 +42,21 @@ abbrev pub Reads : Progress → Type 0
 Reads p = (p.stale ≡ false) × (p.phase ≡ phase.Clearing → ⊥)
 
 abbrev pub Timely : Progress → Order → Type 0
-Timely p orders.Tell = p.stale ≡ true
+Timely p orders.ReadClock = p.stale ≡ true
 Timely p orders.Open = p.stale ≡ false
-Timely p orders.Read = Reads p
-Timely p orders.Rest = Reads p
+Timely p (orders.Read until) = Reads p
 Timely p _ = Unit {0}
 
 waiting_timely : (plan : Plan) (p : Progress) (w : Waiting) → Reads p → Timely p (order_waiting plan p w)
 waiting_timely plan p w r =
     either (Timely p) (orders.Close cause.Silence) _ (nat_eq w.current 0 && is_quiet plan p) (λ e. tt)
-    (λ e. either (Timely p) (orders.Close cause.Dead) orders.Read (is_dead plan p w) (λ d. tt) (λ d. r))
+    (λ e. either (Timely p) (orders.Close cause.Dead) (orders.Read Limit) (is_dead plan p w) (λ d. tt) (λ d. r))
 
 room_timely : (plan : Plan) (p : Progress) (w : Waiting) (o : Order) → Reads p → Timely p o → Timely p (order_room plan p w o)
 room_timely plan p w o r x = either (Timely p) o _ (has_room plan w) (λ e. x) (λ e. waiting_timely plan p w r)
 
 done_timely : (plan : Plan) (p : Progress) → Reads p → Timely p (order_done plan p)
-done_timely plan p r = either (Timely p) (orders.Close cause.Done) _ (nat_eq p.left 0) (λ e. tt) (λ e. either (Timely p) orders.Begin orders.Rest (is_due plan p) (λ d. tt) (λ d. r))
+done_timely plan p r = either (Timely p) (orders.Close cause.Done) _ (nat_eq p.left 0) (λ e. tt) (λ e. either (Timely p) orders.Begin (orders.Read Due) (is_due plan p) (λ d. tt) (λ d. r))
 
 settled_timely : (plan : Plan) (p : Progress) (w : Waiting) → Reads p → Timely p (order_settled plan p w)
 settled_timely plan p w r =
@@ -74,7 +75,7 @@ ready_timely plan p w r =
 
 told_timely : (plan : Plan) (at : Phase) (p : Progress) (w : Waiting) → p.phase ≡ at → p.stale ≡ false → Timely p (order_told plan at p w)
 told_timely plan phase.Down p w is now = now
-told_timely plan phase.Resting p w is now = (now, λ c. let other : phase.Resting ≡ phase.Clearing = sym is ∙ c in cc)
+told_timely plan phase.Pausing p w is now = (now, λ c. let other : phase.Pausing ≡ phase.Clearing = sym is ∙ c in cc)
 told_timely plan phase.Clearing p w is now = tt
 told_timely plan phase.Draining p w is now = (now, λ c. let other : phase.Draining ≡ phase.Clearing = sym is ∙ c in cc)
 told_timely plan phase.Probing p w is now = room_timely plan p w orders.Probe (now, λ c. let other : phase.Probing ≡ phase.Clearing = sym is ∙ c in cc) tt
@@ -89,7 +90,7 @@ up_timely p false = tt
 on_timely : (plan : Plan) (p : Progress) (w : Waiting) → Timely p (order_on plan p w)
 on_timely plan p w =
     either (Timely p) _ _ (nat_eq p.turns 0) (λ e. up_timely p (is_up p.phase))
-    (λ e. either (Timely p) orders.Tell _ p.stale (λ old. old) (λ now. told_timely plan p.phase p w refl now))
+    (λ e. either (Timely p) orders.ReadClock _ p.stale (λ old. old) (λ now. told_timely plan p.phase p w refl now))
 
 pub in_timely : (plan : Plan) (at : Phase) (p : Progress) (w : Waiting) → Timely p (order_in at plan p w)
 in_timely plan (phase.Closing why) p w = tt
@@ -192,7 +193,7 @@ silent_listening : (act : Act) → IsSilent act → IsListening act
 silent_listening (Silent m) e = tt
 silent_listening act e = absurd e
 
--- the time of quiet begins anew
+-- the quiet time begins anew
 drained_anew : (since now : ℕ) (acts : List Act) (act : Act) → TellsMoment now act → IsDrained since acts → IsDrained now (acts ++ act ∷ [])
 drained_anew since now acts act tells d = record {
   before = d.before;
@@ -280,7 +281,7 @@ drain_long : (plan : Plan) (anew : Bool) (drain : ℕ) → plan.quiet ≤ 184467
 drain_long plan true drain small once = let often : 1 * plan.quiet ≤ drain * plan.quiet = mul-le-mul_right plan.quiet once in le-min (omega (arith, often)) small
 drain_long plan false drain small once = omega arith
 
--- the time of quiet is not the longer for a clock that went back
+-- the quiet time is not the longer for a clock that went back
 pub not_longer : (now since : ℕ) (b : Bool) → nat_le since now ≡ b → now - min since now ≡ now - since
 not_longer now since true e = ap (λ n. now - n) (min-eq_left (leb-true since now e))
 not_longer now since false e =
@@ -288,7 +289,7 @@ not_longer now since false e =
     let less : now ≤ since = omega (arith, low) in
     ap (λ n. now - n) (min-eq_right less) ∙ omega (arith, low)
 
--- the time of quiet where a read gave nothing: it goes on, or begins anew where the clock went back
+-- the quiet time where a read gave nothing: it goes on, or begins anew where the clock went back
 silent_on : (since : ℕ) (m : Moment) (acts : List Act) (b : Bool) → nat_le since m.elapsed ≡ b → IsDrained since acts → IsDrained (min since m.elapsed) (acts ++ Silent m ∷ [])
 silent_on since m acts true e d = subst (λ n. IsDrained n (acts ++ Silent m ∷ [])) (sym (min-eq_left (leb-true since m.elapsed e))) (drained_longer since acts m d)
 silent_on since m acts false e d =
@@ -305,33 +306,33 @@ anew_or_not : (quiet : ℕ) (stale : Bool) (since : ℕ) (anew : Bool) (acts : L
 anew_or_not quiet stale since true acts c = c
 anew_or_not quiet stale since false acts c = c.0
 
-silent_drained : (plan : Plan) (rested gave_up : Bool) (m : Moment) (p : Progress) (acts : List Act) (b : Bool) → is_past (drain_of plan (waited rested m p)) (waited rested m p) ≡ b
+silent_drained : (plan : Plan) (until : Until) (gave_up : Bool) (m : Moment) (p : Progress) (acts : List Act) (b : Bool) → is_past (drain_of plan (time_passed until m p)) (time_passed until m p) ≡ b
     → plan.quiet ≤ 18446744073709551615 → 1 ≤ p.drain → p.phase ≡ phase.Draining → IsDrained p.since acts
-    → StageAt plan.quiet (waiting_on gave_up m (if b then drained (waited rested m p) else waited rested m p)) (acts ++ Silent m ∷ [])
-silent_drained plan rested gave_up m p acts true past small once is d =
+    → StageAt plan.quiet (quiet_renewed gave_up m (if b then drained (time_passed until m p) else time_passed until m p)) (acts ++ Silent m ∷ [])
+silent_drained plan until gave_up m p acts true past small once is d =
     let enough = drain_long plan p.anew p.drain small once in
-    let long = leb-true (drain_of plan (waited rested m p)) (m.elapsed - min p.since m.elapsed) past in
+    let long = leb-true (drain_of plan (time_passed until m p)) (m.elapsed - min p.since m.elapsed) past in
     let same = not_longer m.elapsed p.since (nat_le p.since m.elapsed) refl in
     anew_or_not plan.quiet false (if gave_up then m.elapsed else min p.since m.elapsed) p.anew (acts ++ Silent m ∷ []) (quiet_now plan.quiet p.since acts m (omega (arith, enough, long, same)) d, tt)
-silent_drained plan rested gave_up m p acts false past small once is d =
+silent_drained plan until gave_up m p acts false past small once is d =
     subst (λ (at : Phase). Stage plan.quiet false (if gave_up then m.elapsed else min p.since m.elapsed) at (acts ++ Silent m ∷ [])) (sym is) (silent_given_up gave_up p.since m acts d)
 
-rested_stage : (quiet : ℕ) (stale : Bool) (since : ℕ) (b : Bool) (at : Phase) (acts : List Act) → at ≡ phase.Resting → Stage quiet stale since (if b then phase.Down else at) acts
-rested_stage quiet stale since true at acts is = tt
-rested_stage quiet stale since false at acts is = subst (λ (x : Phase). Stage quiet stale since x acts) (sym is) tt
+paused_stage : (quiet : ℕ) (stale : Bool) (since : ℕ) (b : Bool) (at : Phase) (acts : List Act) → at ≡ phase.Pausing → Stage quiet stale since (if b then phase.Down else at) acts
+paused_stage quiet stale since true at acts is = tt
+paused_stage quiet stale since false at acts is = subst (λ (x : Phase). Stage quiet stale since x acts) (sym is) tt
 
-stage_silent : (plan : Plan) (rested gave_up : Bool) (m : Moment) (p : Progress) (at : Phase) (acts : List Act) → p.phase ≡ at → plan.quiet ≤ 18446744073709551615 → 1 ≤ p.drain → Reads p → Stage plan.quiet p.stale p.since at acts
-    → StageAt plan.quiet (waiting_on gave_up m (quieted plan at (waited rested m p))) (acts ++ Silent m ∷ [])
-stage_silent plan rested gave_up m p phase.Clearing acts is small once r st = absurd (r.1 is)
-stage_silent plan rested gave_up m p phase.Draining acts is small once r st =
-    silent_drained plan rested gave_up m p acts (is_past (drain_of plan (waited rested m p)) (waited rested m p)) refl small once is (draining_read p.stale p.since acts r.0 st)
-stage_silent plan rested gave_up m p phase.Resting acts is small once r st =
-    rested_stage plan.quiet false (if gave_up then m.elapsed else min p.since m.elapsed) (is_past p.pause (waited rested m p) && not (is_resting plan (waited rested m p))) p.phase (acts ++ Silent m ∷ []) is
-stage_silent plan rested gave_up m p phase.Probing acts is small once r st =
+stage_silent : (plan : Plan) (until : Until) (gave_up : Bool) (m : Moment) (p : Progress) (at : Phase) (acts : List Act) → p.phase ≡ at → plan.quiet ≤ 18446744073709551615 → 1 ≤ p.drain → Reads p → Stage plan.quiet p.stale p.since at acts
+    → StageAt plan.quiet (quiet_renewed gave_up m (quieted plan at (time_passed until m p))) (acts ++ Silent m ∷ [])
+stage_silent plan until gave_up m p phase.Clearing acts is small once r st = absurd (r.1 is)
+stage_silent plan until gave_up m p phase.Draining acts is small once r st =
+    silent_drained plan until gave_up m p acts (is_past (drain_of plan (time_passed until m p)) (time_passed until m p)) refl small once is (draining_read p.stale p.since acts r.0 st)
+stage_silent plan until gave_up m p phase.Pausing acts is small once r st =
+    paused_stage plan.quiet false (if gave_up then m.elapsed else min p.since m.elapsed) (is_past p.pause (time_passed until m p) && not (is_idle plan (time_passed until m p))) p.phase (acts ++ Silent m ∷ []) is
+stage_silent plan until gave_up m p phase.Probing acts is small once r st =
     subst (λ (x : Phase). Stage plan.quiet false (if gave_up then m.elapsed else min p.since m.elapsed) x (acts ++ Silent m ∷ [])) (sym is) (more_unasked plan.quiet acts (Silent m) tt (λ e. e) st)
-stage_silent plan rested gave_up m p phase.Ready acts is small once r st =
+stage_silent plan until gave_up m p phase.Ready acts is small once r st =
     subst (λ (x : Phase). Stage plan.quiet false (if gave_up then m.elapsed else min p.since m.elapsed) x (acts ++ Silent m ∷ [])) (sym is) (more plan.quiet acts (Silent m) tt st)
-stage_silent plan rested gave_up m p at acts is small once r st =
+stage_silent plan until gave_up m p at acts is small once r st =
     subst (λ (x : Phase). Stage plan.quiet false (if gave_up then m.elapsed else min p.since m.elapsed) x (acts ++ Silent m ∷ [])) (sym is) tt
 
 lines_stage : (quiet : ℕ) (s : Standing) (lines : List (List ℕ)) (acts : List Act) → StageAt quiet s.progress acts → StageAt quiet (lines_came s lines).progress acts
@@ -342,21 +343,21 @@ came_stage : (quiet : ℕ) (heard : Bool) (piece : List ℕ) (s : Standing) (act
 came_stage quiet true piece s acts st = lines_stage quiet (with_rest (rest_behind s.rest piece) s) (lines_behind s.rest piece) acts st
 came_stage quiet false piece s acts st = st
 
-read_stage : (plan : Plan) (rested : Bool) (s : Standing) (act : Act) (acts : List Act) → IsReading act → plan.quiet ≤ 18446744073709551615 → 1 ≤ s.progress.drain → Reads s.progress → StageAt plan.quiet s.progress acts
-    → StageAt plan.quiet (after_read plan rested s act).progress (acts ++ act ∷ [])
-read_stage plan rested s (Gave bytes m) acts o small once r st =
+read_stage : (plan : Plan) (until : Until) (s : Standing) (act : Act) (acts : List Act) → IsReading act → plan.quiet ≤ 18446744073709551615 → 1 ≤ s.progress.drain → Reads s.progress → StageAt plan.quiet s.progress acts
+    → StageAt plan.quiet (after_read plan until s act).progress (acts ++ act ∷ [])
+read_stage plan until s (Gave bytes m) acts o small once r st =
     came_stage plan.quiet (is_heard s.progress.phase) bytes (with_moment m (with_progress (told m) s)) (acts ++ Gave bytes m ∷ []) (stage_gave plan.quiet s.progress.stale s.progress.since s.progress.phase bytes m acts r.0 r.1 st)
-read_stage plan rested s (Silent m) acts o small once r st = stage_silent plan rested (not (is_nil (expiring m.elapsed s.client.waiting))) m s.progress s.progress.phase acts refl small once r st
-read_stage plan rested s Untold acts o small once r st = stage_failed plan.quiet s.progress.stale s.progress.since (is_up s.progress.phase) cause.Clock (acts ++ Untold ∷ [])
-read_stage plan rested s Ended acts o small once r st = stage_failed plan.quiet s.progress.stale s.progress.since (is_up s.progress.phase) cause.End (acts ++ Ended ∷ [])
-read_stage plan rested s Broke acts o small once r st = stage_failed plan.quiet s.progress.stale s.progress.since (is_up s.progress.phase) cause.Read (acts ++ Broke ∷ [])
-read_stage plan rested s act acts o small once r st = absurd o
+read_stage plan until s (Silent m) acts o small once r st = stage_silent plan until (not (is_nil (expiring m.elapsed s.client.waiting))) m s.progress s.progress.phase acts refl small once r st
+read_stage plan until s Untold acts o small once r st = stage_failed plan.quiet s.progress.stale s.progress.since (is_up s.progress.phase) cause.Clock (acts ++ Untold ∷ [])
+read_stage plan until s Ended acts o small once r st = stage_failed plan.quiet s.progress.stale s.progress.since (is_up s.progress.phase) cause.End (acts ++ Ended ∷ [])
+read_stage plan until s Broke acts o small once r st = stage_failed plan.quiet s.progress.stale s.progress.since (is_up s.progress.phase) cause.Read (acts ++ Broke ∷ [])
+read_stage plan until s act acts o small once r st = absurd o
 
-tell_stage : (plan : Plan) (f : Moment → Progress → Progress) (s : Standing) (act : Act) (acts : List Act) → IsTelling act → ((m : Moment) → StageAt plan.quiet (f m s.progress) (acts ++ Told m ∷ []))
-    → StageAt plan.quiet (after_tell f s act).progress (acts ++ act ∷ [])
-tell_stage plan f s (Told m) acts o step = step m
-tell_stage plan f s Untold acts o step = stage_failed plan.quiet s.progress.stale s.progress.since (is_up s.progress.phase) cause.Clock (acts ++ Untold ∷ [])
-tell_stage plan f s act acts o step = absurd o
+clock_stage : (plan : Plan) (f : Moment → Progress → Progress) (s : Standing) (act : Act) (acts : List Act) → ReadsClock act → ((m : Moment) → StageAt plan.quiet (f m s.progress) (acts ++ Told m ∷ []))
+    → StageAt plan.quiet (after_clock f s act).progress (acts ++ act ∷ [])
+clock_stage plan f s (Told m) acts o step = step m
+clock_stage plan f s Untold acts o step = stage_failed plan.quiet s.progress.stale s.progress.since (is_up s.progress.phase) cause.Clock (acts ++ Untold ∷ [])
+clock_stage plan f s act acts o step = absurd o
 
 open_stage : (plan : Plan) (s : Standing) (act : Act) (acts : List Act) → IsOpening act → s.progress.stale ≡ false → StageAt plan.quiet (after_open plan s act).progress (acts ++ act ∷ [])
 open_stage plan s Opened acts o now = (now, record { before = acts; order = refl })
@@ -387,11 +388,11 @@ stage_in quiet p at acts is st = subst (λ (x : Phase). Stage quiet p.stale p.si
 stage_moved : (plan : Plan) (commands : List Task) (next : Order) (s : Standing) (act : Act) (acts : List Act) → plan.quiet ≤ 18446744073709551615 → 1 ≤ s.progress.drain
     → Obeys commands s next act → IsFor plan s.progress (waiting_of s) next → Timely s.progress next → StageAt plan.quiet s.progress acts
     → StageAt plan.quiet (moved plan commands next (with_progress turned s) act).progress (acts ++ act ∷ [])
-stage_moved plan commands orders.Tell s act acts small once o needs time st =
-    tell_stage plan (λ (m : Moment) (p : Progress). reckoned_early plan (commands_in s.marks) (told m p)) (with_progress turned s) act acts o
+stage_moved plan commands orders.ReadClock s act acts small once o needs time st =
+    clock_stage plan (λ (m : Moment) (p : Progress). reckoned_early plan (commands_in s.marks) (told m p)) (with_progress turned s) act acts o
     (λ m. stage_told plan.quiet s.progress.stale s.progress.since s.progress.phase m acts time st)
 stage_moved plan commands orders.Begin s act acts small once o needs time st =
-    tell_stage plan (begun plan (length commands)) (with_progress turned s) act acts o
+    clock_stage plan (begun plan (length commands)) (with_progress turned s) act acts o
     (λ m. subst (λ (at : Phase). Stage plan.quiet false m.elapsed at (acts ++ Told m ∷ [])) (sym needs.0) (more plan.quiet acts (Told m) tt (stage_in plan.quiet s.progress phase.Ready acts needs.0 st)))
 stage_moved plan commands orders.Open s act acts small once o needs time st = open_stage plan (with_progress turned s) act acts o time
 stage_moved plan commands orders.Clear s act acts small once o needs time st = clear_stage plan _ (with_progress turned s) act acts o (stage_in plan.quiet s.progress phase.Clearing acts needs st).1
@@ -401,13 +402,12 @@ stage_moved plan commands orders.Send s act acts small once o needs time st =
     put_stage plan _ _ (λ (x : Standing). with_progress (sent (bound_next commands x.progress)) (asks_next plan commands x)) (with_progress turned s) act acts o
     (first_phase (mark_next plan commands s.progress) (drop (place_next commands s.progress) commands) (with_progress turned s) ∙ needs.0) (stage_in plan.quiet s.progress phase.Ready acts needs.0 st)
 stage_moved plan commands orders.Skip s act acts small once o needs time st =
-    tell_stage plan (λ (m : Moment) (p : Progress). reckoned_early plan (commands_in s.marks) (skipped (bound_next commands s.progress) m p))
+    clock_stage plan (λ (m : Moment) (p : Progress). reckoned_early plan (commands_in s.marks) (skipped (bound_next commands s.progress) m p))
     (with_records (skips plan commands (turned s.progress) act) (with_progress turned s)) act acts o
     (λ m. subst (λ (at : Phase). Stage plan.quiet false m.elapsed at (acts ++ Told m ∷ [])) (sym needs.0) (more plan.quiet acts (Told m) tt (stage_in plan.quiet s.progress phase.Ready acts needs.0 st)))
 stage_moved plan commands orders.Flush s act acts small once o needs time st =
     put_stage plan _ _ (λ (x : Standing). with_progress asking (asks_null plan x)) (with_progress turned s) act acts o needs.0 (stage_in plan.quiet s.progress phase.Ready acts needs.0 st)
-stage_moved plan commands orders.Read s act acts small once o needs time st = read_stage plan false (with_progress turned s) act acts o small once time st
-stage_moved plan commands orders.Rest s act acts small once o needs time st = read_stage plan true (with_progress turned s) act acts o small once time st
+stage_moved plan commands (orders.Read until) s act acts small once o needs time st = read_stage plan until (with_progress turned s) act acts o small once time st
 stage_moved plan commands (orders.Close why) s act acts small once o needs time st =
     let t = moved plan commands (orders.Close why) (with_progress turned s) act in
     stage_down plan.quiet t.progress.stale t.progress.since t.progress.phase (acts ++ act ∷ []) (closed_down plan (waiting_of s) why (turned s.progress))
@@ -436,10 +436,10 @@ asks_in : (quiet : ℕ) (p : Progress) (acts : List Act) → Asks p.phase → St
 asks_in quiet p acts (inl is) st = (stage_in quiet p phase.Probing acts is st).0
 asks_in quiet p acts (inr is) st = stage_in quiet p phase.Ready acts is st
 
-pub not_telling : (act : Act) → IsTelling act → IsRequest act → ⊥
-not_telling (Put out) o asks = o
-not_telling (Cut out n) o asks = o
-not_telling act o asks = asks
+pub not_clock : (act : Act) → ReadsClock act → IsRequest act → ⊥
+not_clock (Put out) o asks = o
+not_clock (Cut out n) o asks = o
+not_clock act o asks = asks
 
 pub not_opening : (act : Act) → IsOpening act → IsRequest act → ⊥
 not_opening (Put out) o asks = o
@@ -460,16 +460,15 @@ pub not_closing : (act : Act) → act ≡ Closed → IsRequest act → ⊥
 not_closing act o asks = subst IsRequest o asks
 
 pub asks_there : (plan : Plan) (commands : List Task) (next : Order) (s : Standing) (act : Act) → Obeys commands s next act → IsRequest act → IsFor plan s.progress (waiting_of s) next → Asks s.progress.phase
-asks_there plan commands orders.Tell s act o asks needs = absurd (not_telling act o asks)
-asks_there plan commands orders.Begin s act o asks needs = absurd (not_telling act o asks)
+asks_there plan commands orders.ReadClock s act o asks needs = absurd (not_clock act o asks)
+asks_there plan commands orders.Begin s act o asks needs = absurd (not_clock act o asks)
 asks_there plan commands orders.Open s act o asks needs = absurd (not_opening act o asks)
 asks_there plan commands orders.Clear s act o asks needs = absurd (not_clearing act o asks)
 asks_there plan commands orders.Probe s act o asks needs = inl needs.0
 asks_there plan commands orders.Send s act o asks needs = inr needs.0
-asks_there plan commands orders.Skip s act o asks needs = absurd (not_telling act o asks)
+asks_there plan commands orders.Skip s act o asks needs = absurd (not_clock act o asks)
 asks_there plan commands orders.Flush s act o asks needs = inr needs.0
-asks_there plan commands orders.Read s act o asks needs = absurd (not_reading act o asks)
-asks_there plan commands orders.Rest s act o asks needs = absurd (not_reading act o asks)
+asks_there plan commands (orders.Read until) s act o asks needs = absurd (not_reading act o asks)
 asks_there plan commands (orders.Close why) s act o asks needs = absurd (not_closing act o asks)
 asks_there plan commands (orders.Stop why) s act o asks needs = absurd o
 

@@ -21,7 +21,7 @@ use Rattle.gc_station.specs.declared.tally.Tally.{Tally}
 pub commands-append : (xs ys : List (Option Mark)) → commands_in (xs ++ ys) ≡ commands_in xs + commands_in ys
 commands-append [] ys = omega arith
 commands-append (None ∷ xs) ys = commands-append xs ys
-commands-append (Some m ∷ xs) ys = let rest = commands-append xs ys in omega (arith, rest)
+commands-append (Some m ∷ xs) ys = let more = commands-append xs ys in omega (arith, more)
 
 -- a mark is a command's, or none
 commands_one : (mark : Option Mark) (b : Bool) → is_some mark ≡ b → commands_in (mark ∷ []) ≡ (if b then 1 else 0)
@@ -72,9 +72,9 @@ front_more reads utc marks ss i s mark below is here =
     ∙ ap (λ rs. records_of reads utc marks front ++ rs) here
 
 -- those in front of place i, and the others
-pub front_rest : (reads : Call → List ℕ → Reading) (utc : ℕ) (marks : List (Option Mark)) (ss : List Settlement) (i : ℕ)
+pub front_left : (reads : Call → List ℕ → Reading) (utc : ℕ) (marks : List (Option Mark)) (ss : List Settlement) (i : ℕ)
     → records_of reads utc marks (map settlement_seen ss) ≡ records_of reads utc marks (map settlement_seen (take i ss)) ++ records_of reads utc (drop (length (map settlement_seen (take i ss))) marks) (map settlement_seen (drop i ss))
-front_rest reads utc marks ss i =
+front_left reads utc marks ss i =
     ap (λ xs. records_of reads utc marks (map settlement_seen xs)) (sym (take-append-drop i ss))
     ∙ ap (records_of reads utc marks) (map-append settlement_seen (take i ss) (drop i ss))
     ∙ records-append reads utc marks (map settlement_seen (take i ss)) (map settlement_seen (drop i ss))

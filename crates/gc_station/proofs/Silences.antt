@@ -17,17 +17,19 @@ use Rattle.gc_station.specs.declared.progress.Phase.TheVariants as phase
 use Rattle.gc_station.specs.declared.progress.Order.{Order}
 use Rattle.gc_station.specs.declared.progress.Order.TheVariants as orders
 use Rattle.gc_station.specs.declared.progress.Progress.{Progress}
+use Rattle.gc_station.specs.declared.progress.Until.{Until}
+use Rattle.gc_station.specs.declared.progress.Until.TheVariants.{Limit, Due}
 use Rattle.gc_station.specs.declared.progress.Waiting.{Waiting}
 use Rattle.gc_links.specs.Acts.{Act, Told, Untold, Put, Cut, Gave, Silent, Ended, Broke, Opened, Unopened}
 use Rattle.gc_station.specs.Closing.{Shows}
 use Rattle.gc_station.specs.Deciding.{is_up, is_past, is_quiet, is_dead, is_due, drain_of, has_room, order_in, order_on, order_told, may_go, order_ready, order_sent, order_settled, order_done, order_room, order_waiting, order_up}
 use Rattle.gc_station.specs.Marks.{commands_in}
-use Rattle.gc_station.specs.Progressing.{turned, told, begun, skipped, reckoned_early, cleared, probed, sent, asking, waited, waiting_on, quieted, is_resting, drained, is_over, is_over_in, loses_all}
+use Rattle.gc_station.specs.Progressing.{turned, told, begun, skipped, reckoned_early, cleared, probed, sent, asking, time_passed, quiet_renewed, quieted, is_idle, drained, is_over, is_over_in, loses_all}
 use Rattle.gc_station.specs.Quiet.{TellsMoment, IsSilent}
 use Rattle.gc_station.specs.Reasons.{IsAtItsEnd}
 use Rattle.gc_station.specs.Runs.{stood}
 use Rattle.gc_station.specs.Silences.{latest, IsSilentFor}
-use Rattle.gc_station.specs.Standing.{Standing, opening, order_at, waiting_of, with_progress, with_moment, with_rest, line_came, lines_came, lines_behind, came, is_heard, is_nil, asks_null, asks_next, with_records, skips, after_tell, after_put, after_open, after_read, IsTelling, IsOpening, IsReading, Puts, Obeys, moved, losing, ended, after, Runs, bound_next}
+use Rattle.gc_station.specs.Standing.{Standing, opening, order_at, waiting_of, with_progress, with_moment, with_rest, line_came, lines_came, lines_behind, came, is_heard, is_nil, asks_null, asks_next, with_records, skips, after_clock, after_put, after_open, after_read, ReadsClock, IsOpening, IsReading, Puts, Obeys, moved, losing, ended, after, Runs, bound_next}
 use Rattle.gc_station.proofs.Closings.{runs_split, closing_shown, needs_of}
 use Rattle.gc_station.proofs.Drains.{along, progress_behind}
 use Rattle.gc_station.proofs.EachRun.{fine_stood}
@@ -56,13 +58,13 @@ Wakes p _ = Unit {0}
 waiting_wakes : (plan : Plan) (p : Progress) (w : Waiting) → Awake p → Wakes p (order_waiting plan p w)
 waiting_wakes plan p w a =
     either (Wakes p) (orders.Close cause.Silence) _ (nat_eq w.current 0 && is_quiet plan p) (λ e. inr a)
-    (λ e. either (Wakes p) (orders.Close cause.Dead) orders.Read (is_dead plan p w) (λ d. inr a) (λ d. tt))
+    (λ e. either (Wakes p) (orders.Close cause.Dead) (orders.Read Limit) (is_dead plan p w) (λ d. inr a) (λ d. tt))
 
 room_wakes : (plan : Plan) (p : Progress) (w : Waiting) (o : Order) → Awake p → Wakes p o → Wakes p (order_room plan p w o)
 room_wakes plan p w o a x = either (Wakes p) o _ (has_room plan w) (λ e. x) (λ e. waiting_wakes plan p w a)
 
 done_wakes : (plan : Plan) (p : Progress) → Wakes p (order_done plan p)
-done_wakes plan p = either (Wakes p) (orders.Close cause.Done) _ (nat_eq p.left 0) (λ e. tt) (λ e. either (Wakes p) orders.Begin orders.Rest (is_due plan p) (λ d. tt) (λ d. tt))
+done_wakes plan p = either (Wakes p) (orders.Close cause.Done) _ (nat_eq p.left 0) (λ e. tt) (λ e. either (Wakes p) orders.Begin (orders.Read Due) (is_due plan p) (λ d. tt) (λ d. tt))
 
 settled_wakes : (plan : Plan) (p : Progress) (w : Waiting) → Awake p → Wakes p (order_settled plan p w)
 settled_wakes plan p w a =
@@ -86,7 +88,7 @@ closing_wakes p why is = tt
 
 told_wakes : (plan : Plan) (at : Phase) (p : Progress) (w : Waiting) → p.phase ≡ at → p.stale ≡ false → Wakes p (order_told plan at p w)
 told_wakes plan phase.Down p w is now = tt
-told_wakes plan phase.Resting p w is now = tt
+told_wakes plan phase.Pausing p w is now = tt
 told_wakes plan phase.Clearing p w is now = tt
 told_wakes plan phase.Draining p w is now = tt
 told_wakes plan phase.Probing p w is now = room_wakes plan p w orders.Probe (now, inl is) (now, inl is)
@@ -101,14 +103,14 @@ up_wakes p false = tt
 on_wakes : (plan : Plan) (p : Progress) (w : Waiting) → Wakes p (order_on plan p w)
 on_wakes plan p w =
     either (Wakes p) _ _ (nat_eq p.turns 0) (λ e. up_wakes p (is_up p.phase))
-    (λ e. either (Wakes p) orders.Tell _ p.stale (λ old. tt) (λ now. told_wakes plan p.phase p w refl now))
+    (λ e. either (Wakes p) orders.ReadClock _ p.stale (λ old. tt) (λ now. told_wakes plan p.phase p w refl now))
 
 pub in_wakes : (plan : Plan) (at : Phase) (p : Progress) (w : Waiting) → p.phase ≡ at → Wakes p (order_in at plan p w)
 in_wakes plan (phase.Closing why) p w is = closing_wakes p why is
 in_wakes plan (phase.Over why) p w is = tt
 in_wakes plan at p w is = on_wakes plan p w
 
--- What was told, and came, behind the moment at which the time of quiet began.
+-- What was told, and came, behind the moment at which the quiet time began.
 
 pub latest_more : (now : ℕ) (acts : List Act) (act : Act) → latest now (acts ++ act ∷ []) ≡ latest (latest now acts) (act ∷ [])
 latest_more now [] act = refl
@@ -144,7 +146,7 @@ same_deadlines now (p ∷ ps) none = by_case p.given_up (nat_le p.deadline now) 
 
 up_goes_on : (at : Phase) (none : Bool) → is_up at ≡ true → (is_over_in at || (not (is_up at) && none)) ≡ false
 up_goes_on phase.Down none up = cc
-up_goes_on phase.Resting none up = cc
+up_goes_on phase.Pausing none up = cc
 up_goes_on (phase.Over why) none up = cc
 up_goes_on at none up = refl
 
@@ -160,21 +162,21 @@ drained_up : (b : Bool) (p : Progress) → p.phase ≡ phase.Draining → is_up 
 drained_up true p is = anew_up p.anew
 drained_up false p is = ap is_up is
 
-rested_up : (b : Bool) (at : Phase) → at ≡ phase.Resting → is_up (if b then phase.Down else at) ≡ false
-rested_up true at is = refl
-rested_up false at is = ap is_up is
+paused_up : (b : Bool) (at : Phase) → at ≡ phase.Pausing → is_up (if b then phase.Down else at) ≡ false
+paused_up true at is = refl
+paused_up false at is = ap is_up is
 
 pub quieted_up : (plan : Plan) (at : Phase) (p : Progress) → p.phase ≡ at → is_up (quieted plan at p).phase ≡ is_up at
-quieted_up plan phase.Resting p is = rested_up (is_past p.pause p && not (is_resting plan p)) p.phase is
+quieted_up plan phase.Pausing p is = paused_up (is_past p.pause p && not (is_idle plan p)) p.phase is
 quieted_up plan phase.Draining p is = drained_up (is_past (drain_of plan p) p) p is
 quieted_up plan at p is = ap is_up is
 
 -- a read gives nothing, on a connection, and gives nothing up
-silent_keeps : (plan : Plan) (commands : List Task) (rested : Bool) (s : Standing) (m : Moment) → Fine plan commands s → is_up s.progress.phase ≡ true → not (is_nil (expiring m.elapsed s.client.waiting)) ≡ false
-    → deadlines (ended (after_read plan rested (with_progress turned s) (Silent m))).client.waiting ≡ deadlines s.client.waiting
-silent_keeps plan commands rested s m fine up none = lost_deadlines t (loses_all t.progress) (deadlines s.client.waiting) (λ e. same_deadlines m.elapsed s.client.waiting (nil_is (is_nil (expiring m.elapsed s.client.waiting)) none)) fresh where
+silent_keeps : (plan : Plan) (commands : List Task) (until : Until) (s : Standing) (m : Moment) → Fine plan commands s → is_up s.progress.phase ≡ true → not (is_nil (expiring m.elapsed s.client.waiting)) ≡ false
+    → deadlines (ended (after_read plan until (with_progress turned s) (Silent m))).client.waiting ≡ deadlines s.client.waiting
+silent_keeps plan commands until s m fine up none = lost_deadlines t (loses_all t.progress) (deadlines s.client.waiting) (λ e. same_deadlines m.elapsed s.client.waiting (nil_is (is_nil (expiring m.elapsed s.client.waiting)) none)) fresh where
   t : Standing
-  t = after_read plan rested (with_progress turned s) (Silent m)
+  t = after_read plan until (with_progress turned s) (Silent m)
 
   nil_is : (b : Bool) → not b ≡ false → b ≡ true
   nil_is true e = refl
@@ -186,10 +188,10 @@ silent_keeps plan commands rested s m fine up none = lost_deadlines t (loses_all
 
   fresh : loses_all t.progress ≡ true → deadlines s.client.waiting ≡ []
   fresh all =
-      let still : is_up t.progress.phase ≡ true = quieted_up plan s.progress.phase (waited rested m (turned s.progress)) refl ∙ up in
+      let still : is_up t.progress.phase ≡ true = quieted_up plan s.progress.phase (time_passed until m (turned s.progress)) refl ∙ up in
       let goes : is_over t.progress ≡ false = up_goes_on t.progress.phase (nat_eq t.progress.turns 0) still in
       let anew = left_true t.progress.anew (is_over t.progress) all goes in
-      ap (λ (c : ById). deadlines c.waiting) (fine.anew (sym (quieted_anew plan s.progress.phase (waited rested m (turned s.progress))) ∙ anew)).0
+      ap (λ (c : ById). deadlines c.waiting) (fine.anew (sym (quieted_anew plan s.progress.phase (time_passed until m (turned s.progress))) ∙ anew)).0
 
 module _ (plan : Plan) (commands : List Task) (scope : Scope) where
   -- behind an act that told a moment all reads gave nothing, and no request was given up; this moment was told last
@@ -288,27 +290,27 @@ module _ (plan : Plan) (commands : List Task) (scope : Scope) where
   heard_fresh true since now acts fresh h = cc
   heard_fresh false since now acts fresh h = h
 
-  hush_drained : (b gave_up rested : Bool) (m : Moment) (p : Progress) (acts : List Act) → (gave_up ≡ false → Keeps acts m) → IsHushed p.since p.moment.elapsed acts
-      → HushAt (waiting_on gave_up m (if b then drained (waited rested m p) else waited rested m p)) (acts ++ Silent m ∷ [])
-  hush_drained true gave_up rested m p acts keeps h =
+  hush_drained : (b gave_up : Bool) (until : Until) (m : Moment) (p : Progress) (acts : List Act) → (gave_up ≡ false → Keeps acts m) → IsHushed p.since p.moment.elapsed acts
+      → HushAt (quiet_renewed gave_up m (if b then drained (time_passed until m p) else time_passed until m p)) (acts ++ Silent m ∷ [])
+  hush_drained true gave_up until m p acts keeps h =
       hush_there (if gave_up then m.elapsed else min p.since m.elapsed) m.elapsed (if p.anew then phase.Probing else phase.Ready) (acts ++ Silent m ∷ []) (hushed_silent gave_up p.since p.moment.elapsed m acts keeps h)
-  hush_drained false gave_up rested m p acts keeps h = hush_there (if gave_up then m.elapsed else min p.since m.elapsed) m.elapsed p.phase (acts ++ Silent m ∷ []) (hushed_silent gave_up p.since p.moment.elapsed m acts keeps h)
+  hush_drained false gave_up until m p acts keeps h = hush_there (if gave_up then m.elapsed else min p.since m.elapsed) m.elapsed p.phase (acts ++ Silent m ∷ []) (hushed_silent gave_up p.since p.moment.elapsed m acts keeps h)
 
-  hush_rested : (stale : Bool) (since now : ℕ) (b : Bool) (at : Phase) (acts : List Act) → at ≡ phase.Resting → Hush stale since now (if b then phase.Down else at) acts
-  hush_rested stale since now true at acts is = tt
-  hush_rested stale since now false at acts is = subst (λ (x : Phase). Hush stale since now x acts) (sym is) tt
+  hush_paused : (stale : Bool) (since now : ℕ) (b : Bool) (at : Phase) (acts : List Act) → at ≡ phase.Pausing → Hush stale since now (if b then phase.Down else at) acts
+  hush_paused stale since now true at acts is = tt
+  hush_paused stale since now false at acts is = subst (λ (x : Phase). Hush stale since now x acts) (sym is) tt
 
-  hush_silent : (rested gave_up : Bool) (m : Moment) (p : Progress) (at : Phase) (acts : List Act) → p.phase ≡ at → p.stale ≡ false → (is_up at ≡ true → gave_up ≡ false → Keeps acts m) → Hush p.stale p.since p.moment.elapsed at acts
-      → HushAt (waiting_on gave_up m (quieted plan at (waited rested m p))) (acts ++ Silent m ∷ [])
-  hush_silent rested gave_up m p phase.Draining acts is fresh keeps h =
-      hush_drained (is_past (drain_of plan (waited rested m p)) (waited rested m p)) gave_up rested m p acts (keeps refl) (heard_fresh p.stale p.since p.moment.elapsed acts fresh h)
-  hush_silent rested gave_up m p phase.Resting acts is fresh keeps h =
-      hush_rested false (if gave_up then m.elapsed else min p.since m.elapsed) m.elapsed (is_past p.pause (waited rested m p) && not (is_resting plan (waited rested m p))) p.phase (acts ++ Silent m ∷ []) is
-  hush_silent rested gave_up m p phase.Probing acts is fresh keeps h =
+  hush_silent : (until : Until) (gave_up : Bool) (m : Moment) (p : Progress) (at : Phase) (acts : List Act) → p.phase ≡ at → p.stale ≡ false → (is_up at ≡ true → gave_up ≡ false → Keeps acts m) → Hush p.stale p.since p.moment.elapsed at acts
+      → HushAt (quiet_renewed gave_up m (quieted plan at (time_passed until m p))) (acts ++ Silent m ∷ [])
+  hush_silent until gave_up m p phase.Draining acts is fresh keeps h =
+      hush_drained (is_past (drain_of plan (time_passed until m p)) (time_passed until m p)) gave_up until m p acts (keeps refl) (heard_fresh p.stale p.since p.moment.elapsed acts fresh h)
+  hush_silent until gave_up m p phase.Pausing acts is fresh keeps h =
+      hush_paused false (if gave_up then m.elapsed else min p.since m.elapsed) m.elapsed (is_past p.pause (time_passed until m p) && not (is_idle plan (time_passed until m p))) p.phase (acts ++ Silent m ∷ []) is
+  hush_silent until gave_up m p phase.Probing acts is fresh keeps h =
       hush_there (if gave_up then m.elapsed else min p.since m.elapsed) m.elapsed p.phase (acts ++ Silent m ∷ []) (hushed_silent gave_up p.since p.moment.elapsed m acts (keeps refl) (heard_fresh p.stale p.since p.moment.elapsed acts fresh h))
-  hush_silent rested gave_up m p phase.Ready acts is fresh keeps h =
+  hush_silent until gave_up m p phase.Ready acts is fresh keeps h =
       hush_there (if gave_up then m.elapsed else min p.since m.elapsed) m.elapsed p.phase (acts ++ Silent m ∷ []) (hushed_silent gave_up p.since p.moment.elapsed m acts (keeps refl) (heard_fresh p.stale p.since p.moment.elapsed acts fresh h))
-  hush_silent rested gave_up m p at acts is fresh keeps h =
+  hush_silent until gave_up m p at acts is fresh keeps h =
       subst (λ (x : Phase). Hush false (if gave_up then m.elapsed else min p.since m.elapsed) m.elapsed x (acts ++ Silent m ∷ [])) (sym is) tt
 
   lines_hush : (s : Standing) (lines : List (List ℕ)) (acts : List Act) → HushAt s.progress acts → HushAt (lines_came s lines).progress acts
@@ -324,21 +326,21 @@ module _ (plan : Plan) (commands : List Task) (scope : Scope) where
   KeepsAt s (Silent m) acts = is_up s.progress.phase ≡ true → not (is_nil (expiring m.elapsed s.client.waiting)) ≡ false → Keeps acts m
   KeepsAt s act acts = Unit {0}
 
-  read_hush : (rested : Bool) (s : Standing) (act : Act) (acts : List Act) → IsReading act → s.progress.stale ≡ false → KeepsAt s act acts → HushAt s.progress acts → HushAt (after_read plan rested s act).progress (acts ++ act ∷ [])
-  read_hush rested s (Gave bytes m) acts o fresh keeps h =
+  read_hush : (until : Until) (s : Standing) (act : Act) (acts : List Act) → IsReading act → s.progress.stale ≡ false → KeepsAt s act acts → HushAt s.progress acts → HushAt (after_read plan until s act).progress (acts ++ act ∷ [])
+  read_hush until s (Gave bytes m) acts o fresh keeps h =
       came_hush (is_heard s.progress.phase) bytes (with_moment m (with_progress (told m) s)) (acts ++ Gave bytes m ∷ [])
       (hush_there m.elapsed m.elapsed s.progress.phase (acts ++ Gave bytes m ∷ []) (hushed_now m.elapsed acts (Gave bytes m) refl))
-  read_hush rested s (Silent m) acts o fresh keeps h = hush_silent rested (not (is_nil (expiring m.elapsed s.client.waiting))) m s.progress s.progress.phase acts refl fresh keeps h
-  read_hush rested s Untold acts o fresh keeps h = hush_failed s.progress.stale s.progress.since s.progress.moment.elapsed (is_up s.progress.phase) cause.Clock (acts ++ Untold ∷ [])
-  read_hush rested s Ended acts o fresh keeps h = hush_failed s.progress.stale s.progress.since s.progress.moment.elapsed (is_up s.progress.phase) cause.End (acts ++ Ended ∷ [])
-  read_hush rested s Broke acts o fresh keeps h = hush_failed s.progress.stale s.progress.since s.progress.moment.elapsed (is_up s.progress.phase) cause.Read (acts ++ Broke ∷ [])
-  read_hush rested s act acts o fresh keeps h = absurd o
+  read_hush until s (Silent m) acts o fresh keeps h = hush_silent until (not (is_nil (expiring m.elapsed s.client.waiting))) m s.progress s.progress.phase acts refl fresh keeps h
+  read_hush until s Untold acts o fresh keeps h = hush_failed s.progress.stale s.progress.since s.progress.moment.elapsed (is_up s.progress.phase) cause.Clock (acts ++ Untold ∷ [])
+  read_hush until s Ended acts o fresh keeps h = hush_failed s.progress.stale s.progress.since s.progress.moment.elapsed (is_up s.progress.phase) cause.End (acts ++ Ended ∷ [])
+  read_hush until s Broke acts o fresh keeps h = hush_failed s.progress.stale s.progress.since s.progress.moment.elapsed (is_up s.progress.phase) cause.Read (acts ++ Broke ∷ [])
+  read_hush until s act acts o fresh keeps h = absurd o
 
-  tell_hush : (f : Moment → Progress → Progress) (s : Standing) (act : Act) (acts : List Act) → IsTelling act → ((m : Moment) → IsHushed m.elapsed m.elapsed (acts ++ Told m ∷ []) → HushAt (f m s.progress) (acts ++ Told m ∷ []))
-      → HushAt (after_tell f s act).progress (acts ++ act ∷ [])
-  tell_hush f s (Told m) acts o step = step m (hushed_now m.elapsed acts (Told m) refl)
-  tell_hush f s Untold acts o step = hush_failed s.progress.stale s.progress.since s.progress.moment.elapsed (is_up s.progress.phase) cause.Clock (acts ++ Untold ∷ [])
-  tell_hush f s act acts o step = absurd o
+  clock_hush : (f : Moment → Progress → Progress) (s : Standing) (act : Act) (acts : List Act) → ReadsClock act → ((m : Moment) → IsHushed m.elapsed m.elapsed (acts ++ Told m ∷ []) → HushAt (f m s.progress) (acts ++ Told m ∷ []))
+      → HushAt (after_clock f s act).progress (acts ++ act ∷ [])
+  clock_hush f s (Told m) acts o step = step m (hushed_now m.elapsed acts (Told m) refl)
+  clock_hush f s Untold acts o step = hush_failed s.progress.stale s.progress.since s.progress.moment.elapsed (is_up s.progress.phase) cause.Clock (acts ++ Untold ∷ [])
+  clock_hush f s act acts o step = absurd o
 
   open_hush : (s : Standing) (act : Act) (acts : List Act) → IsOpening act → HushAt (after_open plan s act).progress (acts ++ act ∷ [])
   open_hush s Opened acts o = tt
@@ -366,32 +368,30 @@ module _ (plan : Plan) (commands : List Task) (scope : Scope) where
 
     keeps : is_up (stood plan commands scope done).progress.phase ≡ true → not (is_nil (expiring m.elapsed (stood plan commands scope done).client.waiting)) ≡ false → Keeps done m
     keeps up none = by_order (order_at plan s) refl o where
-      read : (rested : Bool) → after plan commands s (Silent m) ≡ ended (after_read plan rested (with_progress turned s) (Silent m)) → Keeps done m
-      read rested is = ap (λ (x : Standing). deadlines x.client.waiting) (there ∙ is) ∙ silent_keeps plan commands rested s m (fine_stood plan commands scope done) up none
+      read : (until : Until) → after plan commands s (Silent m) ≡ ended (after_read plan until (with_progress turned s) (Silent m)) → Keeps done m
+      read until is = ap (λ (x : Standing). deadlines x.client.waiting) (there ∙ is) ∙ silent_keeps plan commands until s m (fine_stood plan commands scope done) up none
 
       by_order : (next : Order) → order_at plan s ≡ next → Obeys commands s next (Silent m) → Keeps done m
-      by_order orders.Read is o = read false (ap (λ (next : Order). ended (moved plan commands next (with_progress turned s) (Silent m))) is)
-      by_order orders.Rest is o = read true (ap (λ (next : Order). ended (moved plan commands next (with_progress turned s) (Silent m))) is)
+      by_order (orders.Read until) is o = read until (ap (λ (next : Order). ended (moved plan commands next (with_progress turned s) (Silent m))) is)
       by_order (orders.Close why) is o = cc
       by_order next is o = absurd o
   keeps_stood done act o = tt
 
   hush_moved : (next : Order) (s : Standing) (act : Act) (acts : List Act) → Obeys commands s next act → Timely s.progress next → KeepsAt s act acts
       → HushAt s.progress acts → HushAt (moved plan commands next (with_progress turned s) act).progress (acts ++ act ∷ [])
-  hush_moved orders.Tell s act acts o time keeps h =
-      tell_hush (λ (m : Moment) (p : Progress). reckoned_early plan (commands_in s.marks) (told m p)) (with_progress turned s) act acts o (λ m now. hush_there m.elapsed m.elapsed s.progress.phase (acts ++ Told m ∷ []) now)
+  hush_moved orders.ReadClock s act acts o time keeps h =
+      clock_hush (λ (m : Moment) (p : Progress). reckoned_early plan (commands_in s.marks) (told m p)) (with_progress turned s) act acts o (λ m now. hush_there m.elapsed m.elapsed s.progress.phase (acts ++ Told m ∷ []) now)
   hush_moved orders.Begin s act acts o time keeps h =
-      tell_hush (begun plan (length commands)) (with_progress turned s) act acts o (λ m now. hush_there m.elapsed m.elapsed s.progress.phase (acts ++ Told m ∷ []) now)
+      clock_hush (begun plan (length commands)) (with_progress turned s) act acts o (λ m now. hush_there m.elapsed m.elapsed s.progress.phase (acts ++ Told m ∷ []) now)
   hush_moved orders.Open s act acts o time keeps h = open_hush (with_progress turned s) act acts o
   hush_moved orders.Clear s act acts o time keeps h = put_hush _ _ (with_progress cleared) (with_progress turned s) act acts o refl
   hush_moved orders.Probe s act acts o time keeps h = put_hush _ _ (λ (x : Standing). with_progress probed (asks_null plan x)) (with_progress turned s) act acts o refl
   hush_moved orders.Send s act acts o time keeps h = put_hush _ _ (λ (x : Standing). with_progress (sent (bound_next commands x.progress)) (asks_next plan commands x)) (with_progress turned s) act acts o refl
   hush_moved orders.Skip s act acts o time keeps h =
-      tell_hush (λ (m : Moment) (p : Progress). reckoned_early plan (commands_in s.marks) (skipped (bound_next commands s.progress) m p))
+      clock_hush (λ (m : Moment) (p : Progress). reckoned_early plan (commands_in s.marks) (skipped (bound_next commands s.progress) m p))
       (with_records (skips plan commands (turned s.progress) act) (with_progress turned s)) act acts o (λ m now. hush_there m.elapsed m.elapsed s.progress.phase (acts ++ Told m ∷ []) now)
   hush_moved orders.Flush s act acts o time keeps h = put_hush _ _ (λ (x : Standing). with_progress asking (asks_null plan x)) (with_progress turned s) act acts o refl
-  hush_moved orders.Read s act acts o time keeps h = read_hush false (with_progress turned s) act acts o time.0 (keeps_turned s act acts keeps) h
-  hush_moved orders.Rest s act acts o time keeps h = read_hush true (with_progress turned s) act acts o time.0 (keeps_turned s act acts keeps) h
+  hush_moved (orders.Read until) s act acts o time keeps h = read_hush until (with_progress turned s) act acts o time.0 (keeps_turned s act acts keeps) h
   hush_moved (orders.Close why) s act acts o time keeps h =
       let p = (moved plan commands (orders.Close why) (with_progress turned s) act).progress in hush_down p.stale p.since p.moment.elapsed p.phase (acts ++ act ∷ []) (closed_down plan (waiting_of s) why (turned s.progress))
   hush_moved (orders.Stop why) s act acts o time keeps h = absurd o

@@ -16,16 +16,17 @@ use Rattle.gc_station.specs.declared.progress.Phase.TheVariants as phase
 use Rattle.gc_station.specs.declared.progress.Order.{Order}
 use Rattle.gc_station.specs.declared.progress.Order.TheVariants as orders
 use Rattle.gc_station.specs.declared.progress.Progress.{Progress}
+use Rattle.gc_station.specs.declared.progress.Until.{Until}
 use Rattle.gc_station.specs.declared.progress.Waiting.{Waiting}
 use Rattle.gc_links.specs.Acts.{Act, Told, Untold, Put, Cut, Gave, Silent, Ended, Broke, Closed, Opened, Unopened}
 use Rattle.gc_station.specs.Closing.{Shows, EndsDone, EndsBehind, commands_behind}
 use Rattle.gc_station.specs.Deciding.{is_up, is_past, drain_of}
 use Rattle.gc_station.specs.EachOnce.{still_waiting, of_record, sent_by}
 use Rattle.gc_station.specs.Marks.{commands_in}
-use Rattle.gc_station.specs.Progressing.{turned, told, begun, skipped, reckoned_early, cleared, probed, sent, asking, waited, quieted, drained, is_resting, begins_anew, closed_again, closed, is_over, loses_all}
+use Rattle.gc_station.specs.Progressing.{turned, told, begun, skipped, reckoned_early, cleared, probed, sent, asking, time_passed, quieted, drained, is_idle, begins_anew, closed_again, closed, is_over, loses_all}
 use Rattle.gc_station.specs.Records.{Record}
 use Rattle.gc_station.specs.Runs.{stood}
-use Rattle.gc_station.specs.Standing.{Standing, opening, order_at, waiting_of, place_next, bound_next, mark_next, with_progress, with_moment, with_rest, line_came, lines_came, lines_behind, came, is_heard, asks_null, asks_first, asks_next, with_records, skips, after_tell, after_put, after_open, after_read, piece_at, IsTelling, IsOpening, IsReading, Puts, Obeys, moved, losing, after, after_all, Runs}
+use Rattle.gc_station.specs.Standing.{Standing, opening, order_at, waiting_of, place_next, bound_next, mark_next, with_progress, with_moment, with_rest, line_came, lines_came, lines_behind, came, is_heard, asks_null, asks_first, asks_next, with_records, skips, after_clock, after_put, after_open, after_read, piece_at, ReadsClock, IsOpening, IsReading, Puts, Obeys, moved, losing, after, after_all, Runs}
 use Rattle.gc_station.specs.Tries.{IsTried, IsEnding, ends_in, opens_in, SettlesNone, NoneSettled, EndsSettled, AllTried}
 use Rattle.gc_station.proofs.Beginning.{over_stays}
 use Rattle.gc_station.proofs.Closings.{runs_split, needs_of, end_of, Decided, after_decided, done_sent}
@@ -55,14 +56,14 @@ abbrev Took : Plan → Standing → Act → Standing → Type 0
 Took plan s (Gave bytes m) t = Hears plan s t
 Took plan s act t = s.progress.tries ≤ t.progress.tries + ends_in (act ∷ [])
 
-tell_took : (plan : Plan) (f : Moment → Progress → Progress) (s : Standing) (act : Act) → IsTelling act → ((m : Moment) → (f m s.progress).tries ≡ s.progress.tries) → Took plan s act (after_tell f s act)
-tell_took plan f s (Told m) o same = let e = same m in omega (arith, e)
-tell_took plan f s Untold o same = omega arith
-tell_took plan f s act o same = absurd o
+clock_took : (plan : Plan) (f : Moment → Progress → Progress) (s : Standing) (act : Act) → ReadsClock act → ((m : Moment) → (f m s.progress).tries ≡ s.progress.tries) → Took plan s act (after_clock f s act)
+clock_took plan f s (Told m) o same = let e = same m in omega (arith, e)
+clock_took plan f s Untold o same = omega arith
+clock_took plan f s act o same = absurd o
 
 -- what is written down takes none, either
-skip_took : (plan : Plan) (f : Moment → Progress → Progress) (records : List Record) (s : Standing) (act : Act) → IsTelling act → ((m : Moment) → (f m s.progress).tries ≡ s.progress.tries)
-    → Took plan s act (after_tell f (with_records records s) act)
+skip_took : (plan : Plan) (f : Moment → Progress → Progress) (records : List Record) (s : Standing) (act : Act) → ReadsClock act → ((m : Moment) → (f m s.progress).tries ≡ s.progress.tries)
+    → Took plan s act (after_clock f (with_records records s) act)
 skip_took plan f records s (Told m) o same = let e = same m in omega (arith, e)
 skip_took plan f records s Untold o same = omega arith
 skip_took plan f records s act o same = absurd o
@@ -93,8 +94,8 @@ given_back : (b : Bool) (after before retries new old : ℕ) → nat_lt after be
 given_back true after before retries new old e same = inl (ltb-true after before e, refl)
 given_back false after before retries new old e same = inr (ltb-false after before e, same)
 
-gave_took : (plan : Plan) (rested : Bool) (s : Standing) (bytes : List ℕ) (m : Moment) → Hears plan s (piece_at plan rested bytes m s)
-gave_took plan rested s bytes m =
+gave_took : (plan : Plan) (until : Until) (s : Standing) (bytes : List ℕ) (m : Moment) → Hears plan s (piece_at plan until bytes m s)
+gave_took plan until s bytes m =
     let heard = is_heard s.progress.phase in
     let mid = with_moment m (with_progress (told m) s) in
     let kept = came_kept heard bytes mid in
@@ -111,17 +112,17 @@ drained_tries true p = refl
 drained_tries false p = refl
 
 quieted_tries : (plan : Plan) (at : Phase) (p : Progress) → (quieted plan at p).tries ≡ p.tries
-quieted_tries plan phase.Resting p = refl
+quieted_tries plan phase.Pausing p = refl
 quieted_tries plan phase.Draining p = drained_tries (is_past (drain_of plan p) p) p
 quieted_tries plan at p = refl
 
-read_took : (plan : Plan) (rested : Bool) (s : Standing) (act : Act) → IsReading act → Took plan s act (after_read plan rested s act)
-read_took plan rested s (Gave bytes m) o = gave_took plan rested s bytes m
-read_took plan rested s (Silent m) o = let same = quieted_tries plan s.progress.phase (waited rested m s.progress) in omega (arith, same)
-read_took plan rested s Untold o = omega arith
-read_took plan rested s Ended o = omega arith
-read_took plan rested s Broke o = omega arith
-read_took plan rested s act o = absurd o
+read_took : (plan : Plan) (until : Until) (s : Standing) (act : Act) → IsReading act → Took plan s act (after_read plan until s act)
+read_took plan until s (Gave bytes m) o = gave_took plan until s bytes m
+read_took plan until s (Silent m) o = let same = quieted_tries plan s.progress.phase (time_passed until m s.progress) in omega (arith, same)
+read_took plan until s Untold o = omega arith
+read_took plan until s Ended o = omega arith
+read_took plan until s Broke o = omega arith
+read_took plan until s act o = absurd o
 
 one_less : (b : Bool) (n : ℕ) → n ≤ (if b then n else n - 1) + 1
 one_less true n = omega arith
@@ -130,8 +131,8 @@ one_less false n = omega arith
 again_took : (plan : Plan) (w : Waiting) (why : Cause) (b : Bool) (p : Progress) → p.tries ≤ (closed_again plan w why b p).tries + 1
 again_took plan w cause.Open true p = omega arith
 again_took plan w cause.Open false p = omega arith
-again_took plan w why true p = one_less (is_resting plan p) p.tries
-again_took plan w why false p = one_less (is_resting plan p) p.tries
+again_took plan w why true p = one_less (is_idle plan p) p.tries
+again_took plan w why false p = one_less (is_idle plan p) p.tries
 
 close_took : (plan : Plan) (w : Waiting) (why : Cause) (p : Progress) → p.tries ≤ (closed plan w why p).tries + 1
 close_took plan w cause.Done p = omega arith
@@ -140,8 +141,8 @@ close_took plan w cause.Turns p = omega arith
 close_took plan w why p = again_took plan w why (begins_anew why p) p
 
 took_moved : (plan : Plan) (commands : List Task) (next : Order) (s : Standing) (act : Act) → Obeys commands s next act → Took plan (with_progress turned s) act (moved plan commands next (with_progress turned s) act)
-took_moved plan commands orders.Tell s act o = tell_took plan (λ (m : Moment) (p : Progress). reckoned_early plan (commands_in s.marks) (told m p)) (with_progress turned s) act o (λ m. refl)
-took_moved plan commands orders.Begin s act o = tell_took plan (begun plan (length commands)) (with_progress turned s) act o (λ m. refl)
+took_moved plan commands orders.ReadClock s act o = clock_took plan (λ (m : Moment) (p : Progress). reckoned_early plan (commands_in s.marks) (told m p)) (with_progress turned s) act o (λ m. refl)
+took_moved plan commands orders.Begin s act o = clock_took plan (begun plan (length commands)) (with_progress turned s) act o (λ m. refl)
 took_moved plan commands orders.Open s act o = open_took plan (with_progress turned s) act o
 took_moved plan commands orders.Clear s act o = put_took plan _ _ (with_progress cleared) (with_progress turned s) act o refl
 took_moved plan commands orders.Probe s act o = put_took plan _ _ (λ (x : Standing). with_progress probed (asks_null plan x)) (with_progress turned s) act o refl
@@ -152,8 +153,7 @@ took_moved plan commands orders.Skip s act o =
     skip_took plan (λ (m : Moment) (p : Progress). reckoned_early plan (commands_in s.marks) (skipped (bound_next commands s.progress) m p)) (skips plan commands (turned s.progress) act)
     (with_progress turned s) act o (λ m. refl)
 took_moved plan commands orders.Flush s act o = put_took plan _ _ (λ (x : Standing). with_progress asking (asks_null plan x)) (with_progress turned s) act o refl
-took_moved plan commands orders.Read s act o = read_took plan false (with_progress turned s) act o
-took_moved plan commands orders.Rest s act o = read_took plan true (with_progress turned s) act o
+took_moved plan commands (orders.Read until) s act o = read_took plan until (with_progress turned s) act o
 took_moved plan commands (orders.Close why) s act o =
     subst (λ (x : Act). Took plan (with_progress turned s) x (moved plan commands (orders.Close why) (with_progress turned s) act)) (sym o) (close_took plan (waiting_of s) why (turned s.progress))
 took_moved plan commands (orders.Stop why) s act o = absurd o

@@ -28,7 +28,7 @@ up_least : (b : Bool) → up_count b ≤ 1
 up_least true = omega arith
 up_least false = omega arith
 
-phase_down : (done some : Bool) (why : Cause) → is_up (if done then phase.Over cause.Done else if some then phase.Resting else phase.Over why) ≡ false
+phase_down : (done some : Bool) (why : Cause) → is_up (if done then phase.Over cause.Done else if some then phase.Pausing else phase.Over why) ≡ false
 phase_down true some why = refl
 phase_down false true why = refl
 phase_down false false why = refl
@@ -67,7 +67,7 @@ on_closes plan commands s t p false act other e obeys = cc
 phase_closes : (plan : Plan) (commands : List Task) (s t : Standing) (p : Progress) (phase : Phase) (w : Waiting) (act : Act) → nat_eq p.turns 0 ≡ true → p.phase ≡ phase
     → Obeys commands t (order_in phase plan p w) act → (is_up phase ≡ true) × (is_up (moved plan commands (order_in phase plan p w) s act).progress.phase ≡ false)
 phase_closes plan commands s t p phase.Down w act none is obeys = let c = on_closes plan commands s t p (nat_eq p.turns 0) act _ none obeys in (ap is_up (sym is) ∙ c.0, c.1)
-phase_closes plan commands s t p phase.Resting w act none is obeys = let c = on_closes plan commands s t p (nat_eq p.turns 0) act _ none obeys in (ap is_up (sym is) ∙ c.0, c.1)
+phase_closes plan commands s t p phase.Pausing w act none is obeys = let c = on_closes plan commands s t p (nat_eq p.turns 0) act _ none obeys in (ap is_up (sym is) ∙ c.0, c.1)
 phase_closes plan commands s t p phase.Clearing w act none is obeys = let c = on_closes plan commands s t p (nat_eq p.turns 0) act _ none obeys in (ap is_up (sym is) ∙ c.0, c.1)
 phase_closes plan commands s t p phase.Draining w act none is obeys = let c = on_closes plan commands s t p (nat_eq p.turns 0) act _ none obeys in (ap is_up (sym is) ∙ c.0, c.1)
 phase_closes plan commands s t p phase.Probing w act none is obeys = let c = on_closes plan commands s t p (nat_eq p.turns 0) act _ none obeys in (ap is_up (sym is) ∙ c.0, c.1)

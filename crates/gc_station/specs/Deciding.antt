@@ -7,8 +7,9 @@ use Rattle.gc_station.specs.declared.cause.Cause.TheVariants.{Done, Silence, Dea
 use Rattle.gc_station.specs.declared.progress.Phase.{Phase}
 use Rattle.gc_station.specs.declared.progress.Phase.TheVariants as phase
 use Rattle.gc_station.specs.declared.progress.Order.{Order}
-use Rattle.gc_station.specs.declared.progress.Order.TheVariants.{Tell, Begin, Open, Clear, Probe, Send, Skip, Flush, Read, Rest, Close, Stop}
+use Rattle.gc_station.specs.declared.progress.Order.TheVariants.{ReadClock, Begin, Open, Clear, Probe, Send, Skip, Flush, Read, Close, Stop}
 use Rattle.gc_station.specs.declared.progress.Progress.{Progress}
+use Rattle.gc_station.specs.declared.progress.Until.TheVariants.{Limit, Due}
 use Rattle.gc_station.specs.declared.progress.Waiting.{Waiting}
 
 -- how many requests may be under way: as the plan has it, at least one and at most seven
@@ -22,7 +23,7 @@ later moment wait = min (moment + wait) 18446744073709551615
 -- whether there is a connection
 abbrev pub is_up : Phase → Bool
 is_up phase.Down = false
-is_up phase.Resting = false
+is_up phase.Pausing = false
 is_up phase.Clearing = true
 is_up phase.Draining = true
 is_up phase.Probing = true
@@ -52,7 +53,7 @@ is_dead plan p w = nat_lt 0 w.all && nat_le (patience_of plan) (p.moment.elapsed
 
 -- nothing may go out: a reply may still come, unless all that wait are given up and the line is quiet, or the line is dead
 abbrev pub order_waiting : Plan → Progress → Waiting → Order
-order_waiting plan p w = if nat_eq w.current 0 && is_quiet plan p then Close Silence else if is_dead plan p w then Close Dead else Read
+order_waiting plan p w = if nat_eq w.current 0 && is_quiet plan p then Close Silence else if is_dead plan p w then Close Dead else Read Limit
 
 -- the first cycle begins at once, and each other one so long after the one before it began
 abbrev pub is_due : Plan → Progress → Bool
@@ -60,7 +61,7 @@ is_due plan p = if nat_eq p.left plan.cycles then true else nat_le plan.every (p
 
 -- each command of the cycle is settled
 abbrev pub order_done : Plan → Progress → Order
-order_done plan p = if nat_eq p.left 0 then Close Done else if is_due plan p then Begin else Rest
+order_done plan p = if nat_eq p.left 0 then Close Done else if is_due plan p then Begin else Read Due
 
 -- another request may go out: fewer are under way than the plan has it, and fewer wait in all than the window is wide
 abbrev pub has_room : Plan → Waiting → Bool
@@ -99,9 +100,9 @@ order_ready plan p w =
 -- with turns left, and a moment that was told after all that was done
 abbrev pub order_told : Plan → Phase → Progress → Waiting → Order
 order_told plan phase.Down p w = Open
-order_told plan phase.Resting p w = Read
+order_told plan phase.Pausing p w = Read Limit
 order_told plan phase.Clearing p w = Clear
-order_told plan phase.Draining p w = Read
+order_told plan phase.Draining p w = Read Limit
 order_told plan phase.Probing p w = order_room plan p w Probe
 order_told plan phase.Ready p w = order_ready plan p w
 order_told plan (phase.Closing cause) p w = Close cause
@@ -116,7 +117,7 @@ order_up false = Stop Turns
 abbrev pub order_on : Plan → Progress → Waiting → Order
 order_on plan p w =
     if nat_eq p.turns 0 then order_up (is_up p.phase)
-    else if p.stale then Tell
+    else if p.stale then ReadClock
     else order_told plan p.phase p w
 
 abbrev pub order_in : Phase → Plan → Progress → Waiting → Order

@@ -91,11 +91,11 @@ pub record IsOvertaken (plan : Plan) (commands : List Task) (scope : Scope) (bef
   pub came : Brings plan commands scope (before ++ request ∷ between) piece (stood plan commands scope (before ++ request ∷ first)).client.next
 
 -- behind these acts, this act closes the connection since nothing may go out, all that wait are given up, and the line is quiet; then the
--- station rests, and its next connection begins anew
+-- station pauses, and its next connection begins anew
 pub record BeginsAnew (plan : Plan) (commands : List Task) (scope : Scope) (acts : List Act) (act : Act) : Type 0 where
   pub closes : order_at plan (stood plan commands scope acts) ≡ Close cause.Silence
   pub closed : act ≡ Closed
-  pub rests : (stood plan commands scope (acts ++ act ∷ [])).progress.phase ≡ phase.Resting
+  pub pauses : (stood plan commands scope (acts ++ act ∷ [])).progress.phase ≡ phase.Pausing
   pub anew : (stood plan commands scope (acts ++ act ∷ [])).progress.anew ≡ true
 
 -- behind these acts, this act is the last one: none follows, and the run stops

@@ -63,9 +63,9 @@ pending_behind p [] = p
 pending_behind p (b ∷ bs) = pending_behind (pending_at p b) bs
 
 -- which line is written where no more comes
-abbrev pub entries_of_rest : Way → List ℕ → List Entry
-entries_of_rest way [] = []
-entries_of_rest way (b ∷ bs) = entry (part_mark way) (b ∷ bs) ∷ []
+abbrev pub entries_of_pending : Way → List ℕ → List Entry
+entries_of_pending way [] = []
+entries_of_pending way (b ∷ bs) = entry (part_mark way) (b ∷ bs) ∷ []
 
 -- the text of lines that are written at a moment
 abbrev pub log_text_of : ℕ → List Entry → List ℕ
@@ -118,7 +118,7 @@ entries_of_act went came (Cut bytes count) = entries Went went (take count bytes
 entries_of_act went came (Gave bytes m) = entries Came came bytes
 entries_of_act went came Ended = link_entry (codes "ended") ∷ []
 entries_of_act went came Broke = link_entry (codes "failed") ∷ []
-entries_of_act went came Closed = entries_of_rest Went went.bytes.items ++ entries_of_rest Came came.bytes.items ++ link_entry (codes "closed") ∷ []
+entries_of_act went came Closed = entries_of_pending Went went.bytes.items ++ entries_of_pending Came came.bytes.items ++ link_entry (codes "closed") ∷ []
 entries_of_act went came Opened = link_entry (codes "open") ∷ []
 entries_of_act went came Unopened = link_entry (codes "not open") ∷ []
 entries_of_act went came _ = []

@@ -4,8 +4,10 @@ use Rattle.gc_station.specs.declared.plan.Plan.{Plan}
 use Rattle.gc_station.specs.declared.progress.Phase.{Phase}
 use Rattle.gc_station.specs.declared.progress.Phase.TheVariants as phase
 use Rattle.gc_station.specs.declared.progress.Progress.{Progress}
+use Rattle.gc_station.specs.declared.progress.Until.{Until}
+use Rattle.gc_station.specs.declared.progress.Until.TheVariants.{Limit, Due}
 use Rattle.gc_station.specs.Deciding.{later, drain_of, patience_of, is_due}
-use Rattle.gc_station.specs.Progressing.{is_resting}
+use Rattle.gc_station.specs.Progressing.{is_idle}
 
 -- the moment at which the line counts as quiet, at which it is dead, and at which the next cycle is due
 abbrev pub quiet_at : Plan → Progress → ℕ
@@ -17,29 +19,31 @@ dead_at plan p = later p.alive (patience_of plan)
 abbrev pub due_at : Plan → Progress → ℕ
 due_at plan p = later p.began plan.every
 
--- the moment at which a rest without a connection is over: where none is wanted before the next cycle is due, the later of both
-abbrev pub rested_at : Plan → Progress → ℕ
-rested_at plan p = if is_resting plan p then max (later p.since p.pause) (due_at plan p) else later p.since p.pause
+-- the moment at which the next connection is tried: when the pause is over, and where none is wanted before the next cycle is due, then at
+-- the earliest
+abbrev pub retry_at : Plan → Progress → ℕ
+retry_at plan p = if is_idle plan p then max (later p.since p.pause) (due_at plan p) else later p.since p.pause
 
--- the moment at which a read that brings nothing is over at the latest, whatever deadlines there are: at the end of a rest or a drain, or
+-- the moment at which a read that brings nothing is over at the latest, whatever deadlines there are: at the end of a pause or a drain, or
 -- where the line is dead, or quiet while all that wait are given up
 abbrev pub ends_in : Phase → Plan → Progress → Bool → ℕ
-ends_in phase.Resting plan p hopeless = rested_at plan p
+ends_in phase.Pausing plan p hopeless = retry_at plan p
 ends_in phase.Draining plan p hopeless = later p.since (drain_of plan p)
 ends_in _ plan p hopeless = if hopeless then min (quiet_at plan p) (dead_at plan p) else dead_at plan p
 
 -- the due moment, where all that is left is to wait for it
-abbrev pub ends_without_deadline : Plan → Progress → Bool → Bool → ℕ
-ends_without_deadline plan p rested hopeless = if rested then due_at plan p else ends_in p.phase plan p hopeless
+abbrev pub ends_without_deadline : Plan → Progress → Until → Bool → ℕ
+ends_without_deadline plan p Due hopeless = due_at plan p
+ends_without_deadline plan p Limit hopeless = ends_in p.phase plan p hopeless
 
 -- the moment at which it is over, where this is the next deadline, if a request still has one
-abbrev pub ends_at : Plan → Progress → Bool → Option ℕ → ℕ
-ends_at plan p rested (Some deadline) = min deadline (ends_without_deadline plan p rested false)
-ends_at plan p rested None = ends_without_deadline plan p rested true
+abbrev pub ends_at : Plan → Progress → Until → Option ℕ → ℕ
+ends_at plan p until (Some deadline) = min deadline (ends_without_deadline plan p until false)
+ends_at plan p until None = ends_without_deadline plan p until true
 
 -- how many milliseconds it waits: until that moment, at least one, and at most a minute
-abbrev pub patience : Plan → Progress → Bool → Option ℕ → ℕ
-patience plan p rested deadline = min (max (ends_at plan p rested deadline - p.moment.elapsed) 1) 60000
+abbrev pub patience : Plan → Progress → Until → Option ℕ → ℕ
+patience plan p until deadline = min (max (ends_at plan p until deadline - p.moment.elapsed) 1) 60000
 
 -- the cycle that began last
 abbrev pub cycle_of : Plan → Progress → ℕ

@@ -7,6 +7,8 @@ use Rattle.gc_station.specs.declared.cause.Cause.TheVariants as cause
 use Rattle.gc_station.specs.declared.progress.Phase.{Phase}
 use Rattle.gc_station.specs.declared.progress.Phase.TheVariants as phase
 use Rattle.gc_station.specs.declared.progress.Progress.{Progress}
+use Rattle.gc_station.specs.declared.progress.Until.{Until}
+use Rattle.gc_station.specs.declared.progress.Until.TheVariants.{Limit, Due}
 use Rattle.gc_station.specs.declared.progress.Waiting.{Waiting}
 use Rattle.gc_station.specs.Deciding.{later, is_up, is_past, is_due, drain_of}
 
@@ -39,25 +41,25 @@ at_start plan turns = record {
 abbrev pub turned : Progress → Progress
 turned p = record p { turns = p.turns - 1 }
 
--- the moment was told behind bytes that went, or a connection that was closed or not made: the time of quiet begins. Where the
+-- the moment was told, behind bytes that went or came, or a connection that was closed or not made: the quiet time begins now. Where the
 -- clock went back, the cycle began now at the latest, so that the next one isn't put off, and the line was alive now at the latest
 abbrev pub told : Moment → Progress → Progress
 told m p = record p { moment = m; since = m.elapsed; alive = min p.alive m.elapsed; began = min p.began m.elapsed; stale = false }
 
--- when a cycle begins that begins at this moment: the first one, and each where cycles have no due moment, now; and any other when it
--- was due, and now at the latest
+-- when a cycle begins that begins at this moment. The first one, and each where cycles have no due moment: now. Any other: when it was
+-- due, and now at the latest
 abbrev pub beginning : Plan → Moment → Progress → ℕ
 beginning plan m p = if nat_eq p.left plan.cycles || nat_eq plan.every 0 then m.elapsed else min (later p.began plan.every) m.elapsed
 
--- it is missed where the one behind it is due by now
+-- a cycle that would begin at this moment is missed where the one behind it is due by now
 abbrev pub is_missing : Plan → Moment → Progress → Bool
 is_missing plan m p = nat_lt 0 plan.every && nat_le plan.every (m.elapsed - beginning plan m p)
 
--- when it was due, by the clock of time stamps
+-- when a cycle that begins at this moment was due, by the clock of time stamps
 abbrev pub due_of : Plan → Moment → Progress → ℕ
 due_of plan m p = m.utc - (m.elapsed - beginning plan m p)
 
--- a cycle of so many commands began; where it is missed, none of them goes out
+-- a cycle of so many commands began. Where it is missed, none of them goes out
 abbrev pub begun : Plan → ℕ → Moment → Progress → Progress
 begun plan count m p =
     let q = told m p in
@@ -76,11 +78,11 @@ begun plan count m p =
 abbrev pub skipped_at : Moment → Progress → ℕ
 skipped_at m p = if p.missed then p.due else m.utc
 
--- the next command isn't sent; the one behind it goes out only once it was answered well, or doesn't
+-- the next command isn't sent. `bound`: the one behind it goes out only once this one was answered well
 abbrev pub skipped : Bool → Moment → Progress → Progress
 skipped bound m p = let q = told m p in record q { unsent = p.unsent - 1; bound = bound; whole = false }
 
--- it can't go on so: the connection is to be closed, if there is one
+-- it can't go on, for this cause: the connection is to be closed, and where there is none it is over
 abbrev pub failing : Cause → Progress → Progress
 failing cause p = record p { phase = if is_up p.phase then phase.Closing cause else phase.Over cause }
 
@@ -93,27 +95,27 @@ abbrev pub is_finished : ℕ → Progress → Bool
 is_finished commands p = nat_eq p.left 0 && nat_eq p.unsent 0 && nat_eq commands 0
 
 -- the cycle was done before the next was due, and that isn't due yet: no connection is wanted
-abbrev pub is_resting : Plan → Progress → Bool
-is_resting plan p = p.early && not (is_due plan p)
+abbrev pub is_idle : Plan → Progress → Bool
+is_idle plan p = p.early && not (is_due plan p)
 
--- a close is spared where no connection is wanted; that none could be made isn't
+-- whether the next connection takes no try: one was closed while none is wanted. That none could be made takes one
 abbrev pub is_spared : Plan → Cause → Progress → Bool
 is_spared plan cause.Open p = false
-is_spared plan _ p = is_resting plan p
+is_spared plan _ p = is_idle plan p
 
--- where a station is that has no connection, while so many commands wait: it is done, tries again, or doesn't
+-- where a station is that has no connection, while so many commands wait: it is done, tries again, or is over for this cause
 abbrev pub phase_again : Plan → ℕ → Cause → Progress → Phase
 phase_again plan commands why p =
     if is_finished commands p then phase.Over cause.Done
-    else if is_spared plan why p || nat_lt 0 p.tries then phase.Resting
+    else if is_spared plan why p || nat_lt 0 p.tries then phase.Pausing
     else phase.Over why
 
--- how long it rests before the next connection: the quiet time, and at each further failure twice as long as the last time, up to a
--- minute and never below the quiet time. Where none is wanted, as long as the last time
+-- how long the pause before the next connection is: the quiet time, and at each further failure twice as long as the last one, up to a
+-- minute and never below the quiet time. Where none is wanted: as long as the last one
 abbrev pub pause_again : Plan → Cause → Progress → ℕ
 pause_again plan why p = if is_spared plan why p then max p.pause plan.quiet else max (min (later p.pause p.pause) 60000) plan.quiet
 
--- none was made, or one was closed: that takes a try, unless it is spared
+-- no connection could be made, or one was closed: the next one takes a try, unless it is spared
 abbrev pub again : Plan → ℕ → Cause → Progress → Progress
 again plan commands why p = record p {
   phase = phase_again plan commands why p;
@@ -127,7 +129,7 @@ again plan commands why p = record p {
 abbrev pub cleared : Progress → Progress
 cleared p = record p { phase = phase.Draining; stale = true }
 
--- a request went out: where none did since the last reply line, the time of a dead line begins
+-- a request went out. Where none did since the last reply line, the time of a dead line begins
 abbrev pub asking : Progress → Progress
 asking p = record p { alive = if p.asked then p.alive else p.moment.elapsed; asked = true; stale = true }
 
@@ -135,73 +137,78 @@ asking p = record p { alive = if p.asked then p.alive else p.moment.elapsed; ask
 abbrev pub probed : Progress → Progress
 probed p = let q = asking p in record q { phase = phase.Ready; anew = false; alone = true }
 
--- the next command went out; the one behind it goes out only once it was answered well, or doesn't
+-- the next command went out. `bound`: the one behind it goes out only once this one was answered well
 abbrev pub sent : Bool → Progress → Progress
 sent bound p = let q = asking p in record q { unsent = p.unsent - 1; bound = bound; whole = true }
 
--- a line was heard: a reply line shows that the line is alive
+-- a line was heard. A reply line shows that the line is alive
 abbrev pub noted : Bool → Progress → Progress
 noted is_reply p = record p { alive = if is_reply then p.moment.elapsed else p.alive; asked = if is_reply then false else p.asked }
 
--- bytes came, so many commands waited before them, and so many requests wait behind them: where a command was settled, all tries are
--- left again, and the next rest is short
-abbrev pub gave : Plan → Bool → ℕ → Waiting → Progress → Progress
-gave plan rested before after p = record p {
+-- a read until the next cycle is due shows that this one was done before that
+abbrev pub early_behind : Until → Bool → Bool
+early_behind Due early = true
+early_behind Limit early = early
+
+-- bytes came. So many commands waited before them, and so many requests wait behind them: where a command was settled, all tries are
+-- left again, and the next pause is short
+abbrev pub gave : Plan → Until → ℕ → Waiting → Progress → Progress
+gave plan until before after p = record p {
   alone = p.alone && not (nat_eq after.all 0);
-  early = if rested then true else p.early;
+  early = early_behind until p.early;
   tries = if nat_lt after.commands before then plan.retries else p.tries;
   pause = if nat_lt after.commands before then 0 else p.pause;
 }
 
--- it rested long enough, and connects anew where a connection is wanted
-abbrev pub rested_down : Plan → Progress → Progress
-rested_down plan p = record p { phase = if is_past p.pause p && not (is_resting plan p) then phase.Down else p.phase }
+-- the pause was long enough: it connects again, where a connection is wanted
+abbrev pub pause_ended : Plan → Progress → Progress
+pause_ended plan p = record p { phase = if is_past p.pause p && not (is_idle plan p) then phase.Down else p.phase }
 
--- the connection was drained until it was quiet: where it begins anew, a null procedure is next; else requests go out at once
+-- the connection was drained until it was quiet. Where it begins anew, a null procedure is next; else requests go out at once
 abbrev pub drained : Progress → Progress
 drained p = record p { phase = if p.anew then phase.Probing else phase.Ready; alive = p.moment.elapsed; asked = false }
 
--- where a station is once nothing came until this moment
+-- nothing came until this moment: a pause, or a drain, that was long enough ends
 abbrev pub quieted : Plan → Phase → Progress → Progress
-quieted plan phase.Resting p = rested_down plan p
+quieted plan phase.Pausing p = pause_ended plan p
 quieted plan phase.Draining p = if is_past (drain_of plan p) p then drained p else p
 quieted plan _ p = p
 
--- the moment was told behind a read that gave nothing. Where the clock went back, the time of quiet, and the cycle, began now at the
--- latest, and the line was alive now at the latest
-abbrev pub waited : Bool → Moment → Progress → Progress
-waited rested m p = record p {
+-- the moment was told behind a read that gave nothing: the quiet time goes on. Where the clock went back, the quiet time, and the cycle,
+-- began now at the latest, and the line was alive now at the latest
+abbrev pub time_passed : Until → Moment → Progress → Progress
+time_passed until m p = record p {
   moment = m;
   since = min p.since m.elapsed;
   alive = min p.alive m.elapsed;
   began = min p.began m.elapsed;
   stale = false;
-  early = if rested then true else p.early;
+  early = early_behind until p.early;
 }
 
--- nothing came
-abbrev pub silent : Plan → Bool → Moment → Progress → Progress
-silent plan rested m p = quieted plan p.phase (waited rested m p)
+-- a read gave nothing
+abbrev pub silent : Plan → Until → Moment → Progress → Progress
+silent plan until m p = quieted plan p.phase (time_passed until m p)
 
--- a moment gave requests up, or didn't: for the replies that are a little late the time of quiet begins anew
-abbrev pub waiting_on : Bool → Moment → Progress → Progress
-waiting_on gave_up m p = record p { since = if gave_up then m.elapsed else p.since }
+-- a moment gave requests up, or didn't. Where it did, the quiet time begins anew, for replies that are a little late
+abbrev pub quiet_renewed : Bool → Moment → Progress → Progress
+quiet_renewed gave_up m p = record p { since = if gave_up then m.elapsed else p.since }
 
--- so many commands wait: where the cycle is done, and the next isn't due yet, it was done early
+-- so many commands wait. Where the cycle is done, and the next isn't due yet, it was done early
 abbrev pub reckoned_early : Plan → ℕ → Progress → Progress
 reckoned_early plan commands p = record p { early = p.early || (nat_eq commands 0 && nat_eq p.unsent 0 && not (is_due plan p)) }
 
--- the next connection begins anew: seven were given up, or this one hasn't begun
+-- whether the next connection begins anew, where this one is closed for a cause: for silence, and where this one hasn't begun
 abbrev pub begins_anew : Cause → Progress → Bool
 begins_anew cause.Silence p = true
 begins_anew _ p = p.alone || p.anew
 
--- the next connection begins anew, while so many requests wait, and is drained the longer the more do; where this one hadn't been
--- drained, as long as that
+-- the next connection begins anew, while so many requests wait. It is drained for one quiet time each; where this one began anew, too, and
+-- its null procedure didn't go out, for as long as this one
 abbrev pub beginning_anew : ℕ → Progress → Progress
 beginning_anew waiting p = record p { anew = true; alone = false; drain = if p.anew then p.drain else waiting }
 
--- a connection that ended is to be made again, anew or not; all that wait are lost where it begins anew
+-- a connection that ended is to be made again, anew or not. All that wait are lost where it begins anew
 abbrev pub closed_again : Plan → Waiting → Cause → Bool → Progress → Progress
 closed_again plan w cause true p = again plan 0 cause (beginning_anew w.all p)
 closed_again plan w cause false p = again plan w.commands cause p
@@ -210,7 +217,7 @@ closed_again plan w cause false p = again plan w.commands cause p
 abbrev pub ended_for : Cause → Progress → Progress
 ended_for why p = record p { phase = phase.Over why; whole = false }
 
--- the connection was closed: after these causes for good, and else to be made again
+-- the connection was closed: for these causes for good, and for any other to be made again
 abbrev pub closed : Plan → Waiting → Cause → Progress → Progress
 closed plan w cause.Done p = ended_for cause.Done p
 closed plan w cause.Clock p = ended_for cause.Clock p
@@ -220,7 +227,7 @@ closed plan w cause p = closed_again plan w cause (begins_anew cause p) p
 -- the end is decided
 abbrev pub is_over_in : Phase → Bool
 is_over_in phase.Down = false
-is_over_in phase.Resting = false
+is_over_in phase.Pausing = false
 is_over_in phase.Clearing = false
 is_over_in phase.Draining = false
 is_over_in phase.Probing = false

@@ -41,7 +41,7 @@ IsAtItsEnd plan p w _ = ⊥
 
 -- where an order is next, with so many requests waiting
 abbrev pub IsFor : Plan → Progress → Waiting → Order → Type 0
-IsFor plan p w order.Tell = Unit {0}
+IsFor plan p w order.ReadClock = Unit {0}
 IsFor plan p w order.Begin = (p.phase ≡ phase.Ready) × (p.alone ≡ false) × (p.unsent ≡ 0) × (w.commands ≡ 0) × (0 < p.left)
 IsFor plan p w order.Open = p.phase ≡ phase.Down
 IsFor plan p w order.Clear = p.phase ≡ phase.Clearing
@@ -49,7 +49,6 @@ IsFor plan p w order.Probe = (p.phase ≡ phase.Probing) × HasRoom plan w
 IsFor plan p w order.Send = (p.phase ≡ phase.Ready) × (p.alone ≡ false) × (0 < p.unsent) × HasRoom plan w × MayGo p w
 IsFor plan p w order.Skip = (p.phase ≡ phase.Ready) × (p.alone ≡ false) × (0 < p.unsent) × (w.commands ≡ 0) × (p.bound ≡ true) × (may_go p w ≡ false)
 IsFor plan p w order.Flush = (p.phase ≡ phase.Ready) × (p.alone ≡ false) × IsHeld p × (0 < w.commands) × (w.current ≡ 0) × HasRoom plan w
-IsFor plan p w order.Read = Unit {0}
-IsFor plan p w order.Rest = Unit {0}
+IsFor plan p w (order.Read until) = Unit {0}
 IsFor plan p w (order.Close cause) = (is_up p.phase ≡ true) × ((p.phase ≡ phase.Closing cause) ⊎ IsAtItsEnd plan p w cause)
 IsFor plan p w (order.Stop cause) = (is_up p.phase ≡ false) × ((p.phase ≡ phase.Over cause) ⊎ ((cause ≡ Turns) × (p.turns ≡ 0)))

@@ -20,14 +20,15 @@ use Rattle.gc_station.specs.declared.cause.Cause.TheVariants as cause
 use Rattle.gc_station.specs.declared.progress.Phase.{Phase}
 use Rattle.gc_station.specs.declared.progress.Phase.TheVariants as phase
 use Rattle.gc_station.specs.declared.progress.Order.{Order}
-use Rattle.gc_station.specs.declared.progress.Order.TheVariants.{Tell, Begin, Open, Clear, Probe, Send, Skip, Flush, Read, Rest, Close, Stop}
+use Rattle.gc_station.specs.declared.progress.Order.TheVariants.{ReadClock, Begin, Open, Clear, Probe, Send, Skip, Flush, Read, Close, Stop}
 use Rattle.gc_station.specs.declared.progress.Progress.{Progress}
+use Rattle.gc_station.specs.declared.progress.Until.{Until}
 use Rattle.gc_station.specs.declared.progress.Waiting.{Waiting}
 use Rattle.gc_station.specs.declared.mark.Mark.{Mark}
 use Rattle.gc_links.specs.Acts.{Act, Told, Untold, Put, Cut, Gave, Silent, Ended, Broke, Closed, Opened, Unopened}
 use Rattle.gc_station.specs.Deciding.{later, order_of}
 use Rattle.gc_station.specs.Marks.{commands_in, records_of, last_well}
-use Rattle.gc_station.specs.Progressing.{at_start, turned, told, begun, skipped, skipped_at, failing, opened, again, cleared, asking, probed, sent, noted, gave, silent, waiting_on, reckoned_early, closed, loses_all}
+use Rattle.gc_station.specs.Progressing.{at_start, turned, told, begun, skipped, skipped_at, failing, opened, again, cleared, asking, probed, sent, noted, gave, silent, quiet_renewed, reckoned_early, closed, loses_all}
 use Rattle.gc_station.specs.Records.{Record}
 use Rattle.gc_station.specs.Scopes.{Scope}
 use Rattle.gc_texts.specs.Endings.{Skipped, Missed}
@@ -105,10 +106,10 @@ Puts bytes (Put out) = out ≡ bytes
 Puts bytes (Cut out count) = (out ≡ bytes) × (count < length bytes)
 Puts bytes _ = ⊥
 
-abbrev pub IsTelling : Act → Type 0
-IsTelling (Told m) = Unit {0}
-IsTelling Untold = Unit {0}
-IsTelling _ = ⊥
+abbrev pub ReadsClock : Act → Type 0
+ReadsClock (Told m) = Unit {0}
+ReadsClock Untold = Unit {0}
+ReadsClock _ = ⊥
 
 abbrev pub IsOpening : Act → Type 0
 IsOpening Opened = Unit {0}
@@ -125,16 +126,15 @@ IsReading _ = ⊥
 
 -- the act is that of this order
 abbrev pub Obeys : List Task → Standing → Order → Act → Type 0
-Obeys commands s Tell act = IsTelling act
-Obeys commands s Begin act = IsTelling act
+Obeys commands s ReadClock act = ReadsClock act
+Obeys commands s Begin act = ReadsClock act
 Obeys commands s Open act = IsOpening act
 Obeys commands s Clear act = Puts (10 ∷ []) act
 Obeys commands s Probe act = Puts (request_text s.client NullProc) act
 Obeys commands s Send act = Puts (first_text s.client (drop (place_next commands s.progress) commands)) act
-Obeys commands s Skip act = IsTelling act
+Obeys commands s Skip act = ReadsClock act
 Obeys commands s Flush act = Puts (request_text s.client NullProc) act
-Obeys commands s Read act = IsReading act
-Obeys commands s Rest act = IsReading act
+Obeys commands s (Read until) act = IsReading act
 Obeys commands s (Close cause) act = act ≡ Closed
 Obeys commands s (Stop cause) act = ⊥
 
@@ -219,7 +219,7 @@ abbrev pub lines_came : Standing → List (List ℕ) → Standing
 lines_came s [] = s
 lines_came s (line ∷ others) = lines_came (line_came s line) others
 
--- the lines that a piece completes behind a rest
+-- the lines that a piece completes behind the bytes since the last line feed
 abbrev pub lines_behind : List ℕ → List ℕ → List (List ℕ)
 lines_behind rest piece = filter_map line_in (frames_behind rest piece)
 
@@ -233,7 +233,7 @@ piece_came piece s = lines_came (with_rest (rest_behind s.rest piece) s) (lines_
 -- what comes is heard where requests go out, and is dropped before that
 abbrev pub is_heard : Phase → Bool
 is_heard phase.Down = false
-is_heard phase.Resting = false
+is_heard phase.Pausing = false
 is_heard phase.Clearing = false
 is_heard phase.Draining = false
 is_heard phase.Probing = false
@@ -246,27 +246,27 @@ came true piece s = piece_came piece s
 came false piece s = s
 
 -- how far a station is once it heard a piece, before which so many commands waited
-abbrev pub reckoned : Plan → Bool → ℕ → Standing → Standing
-reckoned plan rested before s = with_progress (λ p. reckoned_early plan (commands_in s.marks) (gave plan rested before (waiting_of s) p)) s
+abbrev pub reckoned : Plan → Until → ℕ → Standing → Standing
+reckoned plan until before s = with_progress (λ p. reckoned_early plan (commands_in s.marks) (gave plan until before (waiting_of s) p)) s
 
 -- a piece came, and then it was this moment: it gives up what has reached its deadline, and then hears
-abbrev pub piece_at : Plan → Bool → List ℕ → Moment → Standing → Standing
-piece_at plan rested piece m s =
-    reckoned plan rested (commands_in s.marks) (came (is_heard s.progress.phase) piece (with_moment m (with_progress (told m) s)))
+abbrev pub piece_at : Plan → Until → List ℕ → Moment → Standing → Standing
+piece_at plan until piece m s =
+    reckoned plan until (commands_in s.marks) (came (is_heard s.progress.phase) piece (with_moment m (with_progress (told m) s)))
 
 -- what was read
-abbrev pub after_read : Plan → Bool → Standing → Act → Standing
-after_read plan rested s (Gave bytes m) = piece_at plan rested bytes m s
-after_read plan rested s (Silent m) =
-    with_moment m (with_progress (λ p. waiting_on (not (is_nil (expiring m.elapsed s.client.waiting))) m (silent plan rested m p)) s)
-after_read plan rested s Ended = with_progress (failing cause.End) s
-after_read plan rested s Broke = with_progress (failing cause.Read) s
-after_read plan rested s _ = with_progress (failing cause.Clock) s
+abbrev pub after_read : Plan → Until → Standing → Act → Standing
+after_read plan until s (Gave bytes m) = piece_at plan until bytes m s
+after_read plan until s (Silent m) =
+    with_moment m (with_progress (λ p. quiet_renewed (not (is_nil (expiring m.elapsed s.client.waiting))) m (silent plan until m p)) s)
+after_read plan until s Ended = with_progress (failing cause.End) s
+after_read plan until s Broke = with_progress (failing cause.Read) s
+after_read plan until s _ = with_progress (failing cause.Clock) s
 
 -- the clock was read
-abbrev pub after_tell : (Moment → Progress → Progress) → Standing → Act → Standing
-after_tell f s (Told m) = with_moment m (with_progress (f m) s)
-after_tell f s _ = with_progress (failing cause.Clock) s
+abbrev pub after_clock : (Moment → Progress → Progress) → Standing → Act → Standing
+after_clock f s (Told m) = with_moment m (with_progress (f m) s)
+after_clock f s _ = with_progress (failing cause.Clock) s
 
 -- bytes were put, which does this; where they were cut, the connection is to be closed, behind so many requests
 abbrev pub after_put : ℕ → (Standing → Standing) → Standing → Act → Standing
@@ -284,17 +284,16 @@ after_close plan cause s = with_progress (closed plan (waiting_of s) cause) (wit
 
 -- what an act of this order does, apart from the turn
 abbrev pub moved : Plan → List Task → Order → Standing → Act → Standing
-moved plan commands Tell s act = after_tell (λ m p. reckoned_early plan (commands_in s.marks) (told m p)) s act
-moved plan commands Begin s act = after_tell (begun plan (length commands)) s act
+moved plan commands ReadClock s act = after_clock (λ m p. reckoned_early plan (commands_in s.marks) (told m p)) s act
+moved plan commands Begin s act = after_clock (begun plan (length commands)) s act
 moved plan commands Open s act = after_open plan s act
 moved plan commands Clear s act = after_put (requests_out plan commands s.progress) (with_progress cleared) s act
 moved plan commands Probe s act = after_put (requests_out plan commands s.progress) (λ (s : Standing). with_progress probed (asks_null plan s)) s act
 moved plan commands Send s act = after_put (requests_out plan commands s.progress) (λ (s : Standing). with_progress (sent (bound_next commands s.progress)) (asks_next plan commands s)) s act
 moved plan commands Skip s act =
-    after_tell (λ m p. reckoned_early plan (commands_in s.marks) (skipped (bound_next commands s.progress) m p)) (with_records (skips plan commands s.progress act) s) act
+    after_clock (λ m p. reckoned_early plan (commands_in s.marks) (skipped (bound_next commands s.progress) m p)) (with_records (skips plan commands s.progress act) s) act
 moved plan commands Flush s act = after_put (requests_out plan commands s.progress) (λ (s : Standing). with_progress asking (asks_null plan s)) s act
-moved plan commands Read s act = after_read plan false s act
-moved plan commands Rest s act = after_read plan true s act
+moved plan commands (Read until) s act = after_read plan until s act
 moved plan commands (Close cause) s act = after_close plan cause s
 moved plan commands (Stop cause) s act = s
 

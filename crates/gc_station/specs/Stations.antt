@@ -1,5 +1,5 @@
 -- No part of a promise: what the functions of a station say of it, in the words of where it stands.
-use Rattle.std.specs.Prelude.{◌≡◌, ℕ, ◌<◌, Bool, true, false, List, [], ◌∷◌, length, Option, Result, Ok, Err}
+use Rattle.std.specs.Prelude.{◌≡◌, ℕ, ◌<◌, false, List, [], ◌∷◌, length, Option, Result, Ok, Err}
 use Rattle.std.specs.Io.KnownBytes.{Appends}
 use Rattle.gc_lines.specs.Assembler.{StandsFor}
 use Rattle.gc_client.specs.Rule.{deadlines}
@@ -8,7 +8,7 @@ use Rattle.gc_texts.specs.declared.tasks.Task.{Task}
 use Rattle.gc_station.specs.declared.plan.Plan.{Plan}
 use Rattle.gc_station.specs.declared.cause.Cause.TheVariants as cause
 use Rattle.gc_station.specs.declared.progress.Order.{Order}
-use Rattle.gc_station.specs.declared.progress.Order.TheVariants.{Send, Skip, Probe, Flush, Read, Rest, Stop}
+use Rattle.gc_station.specs.declared.progress.Order.TheVariants.{Send, Skip, Probe, Flush, Stop}
 use Rattle.gc_station.specs.declared.progress.Progress.{Progress}
 use Rattle.gc_station.specs.declared.progress.Waiting.{Waiting}
 use Rattle.gc_station.specs.declared.station.Station.{Station}
@@ -53,28 +53,38 @@ Took text start taken s = AreReadings s.reads → Appends start taken (texts_of 
 abbrev pub TookPart : (Record → List ℕ) → List Record → Option (List ℕ) → Option (List ℕ) → Standing → Type 0
 TookPart text before start taken s = AreReadings s.reads → WritesPart text before s.records start taken
 
+-- what is seen of a station at a time: what its link told, how its book writes a record and which bytes it took, and the station itself
+pub record Seen : Type 0 where
+  pub acts : Option (List Act)
+  pub text : Record → List ℕ
+  pub taken : Option (List ℕ)
+  pub station : Station
+
+abbrev pub seen : Option (List Act) → (Record → List ℕ) → Option (List ℕ) → Station → Seen
+seen acts text taken station = record { acts = acts; text = text; taken = taken; station = station }
+
 -- a link told one act of this order, and the station went on as this says; a book took what that writes down
-pub record Makes (commands : List Task) (order : Order) (next : Standing → Act → Standing) (text : Record → List ℕ) (acts acts' : Option (List Act)) (taken taken' : Option (List ℕ)) (station station' : Station) : Type 0 where
+pub record Makes (commands : List Task) (order : Order) (next : Standing → Act → Standing) (old new : Seen) : Type 0 where
   pub act : Act
-  pub tells : Tells acts acts' (act ∷ [])
-  pub goes : (s : Standing) (start : Option (List ℕ)) → Stands station s → Took text start taken s
-      → Obeys commands s order act × Stands station' (next s act) × Took text start taken' (next s act)
+  pub tells : Tells old.acts new.acts (act ∷ [])
+  pub goes : (s : Standing) (start : Option (List ℕ)) → Stands old.station s → Took old.text start old.taken s
+      → Obeys commands s order act × Stands new.station (next s act) × Took new.text start new.taken (next s act)
 
 -- a link told one act of this order, and a book failed at a record that this writes down
-pub record Breaks (commands : List Task) (order : Order) (next : Standing → Act → Standing) (text : Record → List ℕ) (acts acts' : Option (List Act)) (taken taken' : Option (List ℕ)) (station : Station) : Type 0 where
+pub record Breaks (commands : List Task) (order : Order) (next : Standing → Act → Standing) (old : Seen) (told : Option (List Act)) (taken : Option (List ℕ)) : Type 0 where
   pub act : Act
-  pub tells : Tells acts acts' (act ∷ [])
-  pub goes : (s : Standing) (start : Option (List ℕ)) → Stands station s → Took text start taken s
-      → Obeys commands s order act × TookPart text s.records start taken' (next s act)
+  pub tells : Tells old.acts told (act ∷ [])
+  pub goes : (s : Standing) (start : Option (List ℕ)) → Stands old.station s → Took old.text start old.taken s
+      → Obeys commands s order act × TookPart old.text s.records start taken (next s act)
 
 -- one or the other
-abbrev pub Made : {X E : Type 0} → List Task → Order → (Standing → Act → Standing) → (Record → List ℕ) → Option (List Act) → Option (List Act) → Option (List ℕ) → Option (List ℕ) → Station → Station → Result X E → Type 0
-Made commands order next text acts acts' taken taken' station station' (Ok _) = Makes commands order next text acts acts' taken taken' station station'
-Made commands order next text acts acts' taken taken' station station' (Err _) = Breaks commands order next text acts acts' taken taken' station
+abbrev pub Made : {X E : Type 0} → List Task → Order → (Standing → Act → Standing) → Seen → Seen → Result X E → Type 0
+Made commands order next old new (Ok _) = Makes commands order next old new
+Made commands order next old new (Err _) = Breaks commands order next old new.acts new.taken
 
 -- the station did what an act of this order does
-abbrev pub Does : Plan → List Task → Order → (Record → List ℕ) → Option (List Act) → Option (List Act) → Option (List ℕ) → Option (List ℕ) → Station → Station → Type 0
-Does plan commands order text acts acts' taken taken' station station' = Makes commands order (moved plan commands order) text acts acts' taken taken' station station'
+abbrev pub Does : Plan → List Task → Order → Seen → Seen → Type 0
+Does plan commands order old new = Makes commands order (moved plan commands order) old new
 
 -- a turn with an act of this order
 abbrev pub stepped : Plan → List Task → Order → Standing → Act → Standing
@@ -102,8 +112,3 @@ Follows text before station start taken s (Err _) = TookPart text before start t
 abbrev pub OnCall : Order → Type 0 → Type 0
 OnCall (Stop cause) claim = Unit {0}
 OnCall _ claim = claim
-
--- a read, while the next cycle isn't due or otherwise
-abbrev pub read_order : Bool → Order
-read_order true = Rest
-read_order false = Read

@@ -1,7 +1,7 @@
 //! A log of what is on a link: how the bytes of each way are cut into its lines.
 
 ghost use Rattle.std.specs.Prelude.{◌≡◌, ◌++◌, ◌≤◌, [], ◌∷◌, length, codes};
-ghost use Rattle.gc_station.specs.Logging.{entry, line_mark, part_mark, nothing, entry_of_line, entries_at, pending_at, entries, pending_behind, entries_of_rest, log_text_of, Takes};
+ghost use Rattle.gc_station.specs.Logging.{entry, line_mark, part_mark, nothing, entry_of_line, entries_at, pending_at, entries, pending_behind, entries_of_pending, log_text_of, Takes};
 ghost use Rattle.gc_texts.specs.Logs.{log_line};
 ghost use Rattle.gc_texts.specs.declared.log_line.LogMark.TheVariants as mark;
 ghost use Rattle.gc_station.specs.declared.logging.Way.TheVariants.{Went, Came};
@@ -109,13 +109,13 @@ impl<K: Sink> Log<K> {
     // No more comes or goes: what is pending is written as it is.
     pub(crate) fn cut(&mut self)
         ensures took { Takes (K.taken self.old.sink) (K.taken self.new.sink) (K.failed self.old.sink) (K.failed self.new.sink)
-            (log_text_of self.old.utc (entries_of_rest Went self.old.went.bytes.items ++ entries_of_rest Came self.old.came.bytes.items)) }
+            (log_text_of self.old.utc (entries_of_pending Went self.old.went.bytes.items ++ entries_of_pending Came self.old.came.bytes.items)) }
         ensures went { self.new.went ≡ nothing }
         ensures came { self.new.came ≡ nothing }
         ensures utc { self.new.utc ≡ self.old.utc }
     {
-        log_rest(&mut self.sink, self.utc, Way::Went, &mut self.went);
-        log_rest(&mut self.sink, self.utc, Way::Came, &mut self.came);
+        log_pending(&mut self.sink, self.utc, Way::Went, &mut self.went);
+        log_pending(&mut self.sink, self.utc, Way::Came, &mut self.came);
     }
 
     // Something became of the connection.
@@ -179,8 +179,8 @@ fn log_line_end<K: Sink>(sink: &mut K, utc: u64, way: Way, pending: &mut Pending
 }
 
 // Writes what has no end.
-fn log_rest<K: Sink>(sink: &mut K, utc: u64, way: Way, pending: &mut Pending)
-    ensures took { Takes (K.taken sink.old) (K.taken sink.new) (K.failed sink.old) (K.failed sink.new) (log_text_of utc (entries_of_rest way pending.old.bytes.items)) }
+fn log_pending<K: Sink>(sink: &mut K, utc: u64, way: Way, pending: &mut Pending)
+    ensures took { Takes (K.taken sink.old) (K.taken sink.new) (K.failed sink.old) (K.failed sink.new) (log_text_of utc (entries_of_pending way pending.old.bytes.items)) }
     ensures pending { pending.new ≡ nothing }
 {
     if !pending.bytes.is_empty() {

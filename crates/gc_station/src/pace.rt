@@ -5,11 +5,11 @@ ghost use Rattle.std.specs.Prelude.{◌≡◌, ℕ, Option};
 ghost use Rattle.std.specs.Option.{option_to_list};
 ghost use Rattle.std.specs.Io.KnownBytes.{Appends};
 ghost use Rattle.gc_client.specs.Rule.{IsEarliest, deadlines};
-ghost use Rattle.gc_station.specs.Pace.{quiet_at, dead_at, due_at, rested_at, ends_in, ends_without_deadline, ends_at, patience, cycle_of, overrun, told_then};
+ghost use Rattle.gc_station.specs.Pace.{quiet_at, dead_at, due_at, retry_at, ends_in, ends_without_deadline, ends_at, patience, cycle_of, overrun, told_then};
 
 use crate::book::{Book, Sight};
 use crate::plan::Plan;
-use crate::progress::{Phase, Progress, patience_of};
+use crate::progress::{Phase, Progress, Until, patience_of};
 use crate::progressing::later;
 use crate::station::Station;
 
@@ -35,15 +35,15 @@ impl Progress {
         later(self.began, plan.every)
     }
 
-    // When a rest without a connection is over.
-    fn rested_at(&self, plan: &Plan) -> u64
-        ensures { result ≡ rested_at plan.now self.now }
+    // When the next connection is tried: the pause is over, and one is wanted.
+    fn retry_at(&self, plan: &Plan) -> u64
+        ensures { result ≡ retry_at plan.now self.now }
     {
-        let rested = later(self.since, self.pause);
-        if self.is_resting(plan) {
-            rested.max(self.due_at(plan))
+        let retry = later(self.since, self.pause);
+        if self.is_idle(plan) {
+            retry.max(self.due_at(plan))
         } else {
-            rested
+            retry
         }
     }
 
@@ -53,7 +53,7 @@ impl Progress {
         ensures { result ≡ ends_in self.now.phase plan.now self.now hopeless }
     {
         match self.phase {
-            Phase::Resting => self.rested_at(plan),
+            Phase::Pausing => self.retry_at(plan),
             Phase::Draining => later(self.since, self.drain(plan)),
             _ => {
                 if hopeless {
@@ -66,23 +66,22 @@ impl Progress {
     }
 
     // The same, and where all that is left is to wait for the next cycle, when that is due.
-    fn ends_without_deadline(&self, plan: &Plan, rested: bool, hopeless: bool) -> u64
-        ensures { result ≡ ends_without_deadline plan.now self.now rested hopeless }
+    fn ends_without_deadline(&self, plan: &Plan, until: Until, hopeless: bool) -> u64
+        ensures { result ≡ ends_without_deadline plan.now self.now until hopeless }
     {
-        if rested {
-            self.due_at(plan)
-        } else {
-            self.ends(plan, hopeless)
+        match until {
+            Until::Due => self.due_at(plan),
+            Until::Limit => self.ends(plan, hopeless),
         }
     }
 
     // When it is over, where this is the next deadline, if a request still has one.
-    fn ends_at(&self, plan: &Plan, rested: bool, deadline: Option<u64>) -> u64
-        ensures { result ≡ ends_at plan.now self.now rested deadline }
+    fn ends_at(&self, plan: &Plan, until: Until, deadline: Option<u64>) -> u64
+        ensures { result ≡ ends_at plan.now self.now until deadline }
     {
         match deadline {
-            Some(deadline) => deadline.min(self.ends_without_deadline(plan, rested, false)),
-            None => self.ends_without_deadline(plan, rested, true),
+            Some(deadline) => deadline.min(self.ends_without_deadline(plan, until, false)),
+            None => self.ends_without_deadline(plan, until, true),
         }
     }
 
@@ -112,13 +111,13 @@ impl Progress {
 
 impl Station {
     // How many milliseconds to wait for bytes.
-    pub(crate) fn patience(&self, plan: &Plan, rested: bool) -> u64
+    pub(crate) fn patience(&self, plan: &Plan, until: Until) -> u64
         ensures { (deadline : Option ℕ) × IsEarliest (deadlines self.now.client.ids.waiting) deadline
-            × (result ≡ patience plan.now self.now.progress rested deadline) }
+            × (result ≡ patience plan.now self.now.progress until deadline) }
     {
         let deadline = self.client.next_deadline();
         self.progress
-            .ends_at(plan, rested, deadline)
+            .ends_at(plan, until, deadline)
             .saturating_sub(self.progress.moment.elapsed)
             .max(1)
             .min(60_000)
@@ -127,8 +126,8 @@ impl Station {
     // How things stand.
     fn sight(&self, plan: &Plan) -> Sight {
         match self.progress.phase {
-            Phase::Down | Phase::Resting if self.progress.is_resting(plan) => Sight::Fine,
-            Phase::Down | Phase::Resting => Sight::Unconnected,
+            Phase::Down | Phase::Pausing if self.progress.is_idle(plan) => Sight::Fine,
+            Phase::Down | Phase::Pausing => Sight::Unconnected,
             Phase::Clearing | Phase::Draining => Sight::Unquiet,
             _ if self.progress.asked => Sight::Unheard,
             _ => Sight::Fine,

@@ -12,7 +12,7 @@ pub struct Plan {
     pub every: u64,
     /// How many cycles are measured or missed.
     pub cycles: u64,
-    /// How long nothing may come or go, and no request be given up, before the line counts as quiet. So long it rests before
+    /// How long nothing may come or go, and no request be given up, before the line counts as quiet. So long it pauses before
     /// it connects again, too; twice as long at each further failure, up to a minute.
     pub quiet: u64,
     /// How many times in a row it connects anew without a reply that settles a command's request. A connection that ends

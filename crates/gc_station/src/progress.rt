@@ -1,4 +1,33 @@
 //! Progress: how far a station is, and what it does next. All decisions are made here, by looking at nothing else.
+//!
+//! The table has the orders that may come in each phase, the first that fits, and the phase behind each. In all phases but `Closing` and
+//! `Over` two come first: where no turn is left, `Close(Turns)`, or without a connection `Stop(Turns)`; and where something was done since a
+//! moment was told (`stale`), `ReadClock`, which gives up what has reached its deadline. It changes no phase.
+//!
+//! | Phase | Where | Order | It | Next phase |
+//! |---|---|---|---|---|
+//! | `Down` | | `Open` | makes a connection | `Clearing`; where none could be made, as behind `Close(Open)` |
+//! | `Pausing` | | `Read(Limit)` | waits | `Down`, once the pause is over and a connection is wanted |
+//! | `Clearing` | | `Clear` | sends a lone line feed | `Draining` |
+//! | `Draining` | | `Read(Limit)` | drops what comes | once nothing came for long enough: `Probing` where it begins anew, else `Ready` |
+//! | `Probing` | there is room | `Probe` | sends a null procedure | `Ready`, `alone` until it is answered |
+//! | | else | as where it waits | | |
+//! | `Ready` | it is `alone` | as where it waits | | |
+//! | | a command is unsent, and not `bound` | with room `Send`, else as where it waits | sends the next command | `Ready` |
+//! | | commands wait, and all that waits is given up | with room `Flush`, else as where it waits | sends a null procedure behind them | `Ready` |
+//! | | commands wait, and something isn't given up | as where it waits | | |
+//! | | no command waits, one is unsent, and may go | with room `Send`, else as where it waits | sends the next command | `Ready` |
+//! | | no command waits, one is unsent, and may not go | `Skip` | reads the clock, and writes the command down | `Ready` |
+//! | | no command waits or is unsent, and no cycle is left | `Close(Done)` | closes the connection | `Over(Done)` |
+//! | | no command waits or is unsent, and the next cycle is due | `Begin` | reads the clock, and begins the cycle | `Ready` |
+//! | | no command waits or is unsent, and the next cycle isn't due | `Read(Due)` | hears what comes | `Ready` |
+//! | it waits | all that wait are given up, and the line is quiet | `Close(Silence)` | closes the connection | as below |
+//! | | the line is dead | `Close(Dead)` | closes the connection | as below |
+//! | | else | `Read(Limit)` | hears what comes | the same |
+//! | `Closing` | | `Close` for its cause | closes the connection | for `Done`, `Clock` and `Turns`: `Over` for that cause. Else `Over(Done)` where nothing is left to be sent and no command waits, `Pausing` where a try is left or none is needed, and else `Over` for that cause |
+//! | `Over` | | `Stop` for its cause | does nothing: the run is over | |
+//!
+//! Where a call of the link fails, or a write is cut, `Closing` for that cause follows, and without a connection `Over`.
 
 ghost use Rattle.std.specs.Prelude.{◌≡◌};
 ghost use Rattle.gc_station.specs.Deciding.{width_of, is_up, is_past, is_quiet, drain_of, patience_of, is_dead, is_due, has_room, may_go, order_of, order_on, order_ready, order_room, order_sent, order_settled, order_done, order_waiting};
@@ -16,8 +45,8 @@ use gc_links::Moment;
 pub(crate) enum Phase {
     /// Without a connection, and one is to be made.
     Down,
-    /// Without a connection, and one is to be made after a rest.
-    Resting,
+    /// Without a connection, and one is to be made after a pause.
+    Pausing,
     /// A connection was made; the line feed that clears half a request is to go out.
     Clearing,
     /// What comes is dropped until the line is quiet.
@@ -36,7 +65,7 @@ pub(crate) enum Phase {
 #[derive(Clone, Copy)]
 pub(crate) enum Order {
     /// To read the clock.
-    Tell,
+    ReadClock,
     /// To read the clock, and to begin a cycle.
     Begin,
     /// To make a connection.
@@ -52,13 +81,20 @@ pub(crate) enum Order {
     /// To send a null procedure behind requests that are all given up: its reply settles them.
     Flush,
     /// To read.
-    Read,
-    /// To read while the next cycle isn't due.
-    Rest,
+    Read(Until),
     /// To close the connection.
     Close(Cause),
     /// To do nothing any more.
     Stop(Cause),
+}
+
+/// How long a read lasts at most that brings nothing.
+#[derive(Clone, Copy)]
+pub(crate) enum Until {
+    /// Until something may have to be done: a deadline is reached, a pause or a drain is over, or the line is quiet or dead.
+    Limit,
+    /// Until the next cycle is due: each command of this one is settled.
+    Due,
 }
 
 /// How many requests wait, and how the command ended that was written down last.
@@ -113,7 +149,7 @@ pub(crate) struct Progress {
     pub whole: bool,
     /// How many times more it may connect anew.
     pub tries: u32,
-    /// How long it rests, or rested last, before it connects again. 0: a reply settled a command since.
+    /// How long it pauses, or paused last, before it connects again. 0: a reply settled a command since.
     pub pause: u64,
     /// How many turns are left.
     pub turns: u64,
@@ -140,7 +176,7 @@ impl Phase {
     {
         match self {
             Phase::Down => false,
-            Phase::Resting => false,
+            Phase::Pausing => false,
             Phase::Clearing => true,
             Phase::Draining => true,
             Phase::Probing => true,
@@ -156,7 +192,7 @@ impl Phase {
     {
         match self {
             Phase::Down => false,
-            Phase::Resting => false,
+            Phase::Pausing => false,
             Phase::Clearing => false,
             Phase::Draining => false,
             Phase::Probing => false,
@@ -261,13 +297,13 @@ impl Progress {
             };
         }
         if self.stale {
-            return Order::Tell;
+            return Order::ReadClock;
         }
         match self.phase {
             Phase::Down => Order::Open,
-            Phase::Resting => Order::Read,
+            Phase::Pausing => Order::Read(Until::Limit),
             Phase::Clearing => Order::Clear,
-            Phase::Draining => Order::Read,
+            Phase::Draining => Order::Read(Until::Limit),
             Phase::Probing => self.order_room(plan, waiting, Order::Probe),
             Phase::Ready => self.order_ready(plan, waiting),
             Phase::Closing(cause) => Order::Close(cause),
@@ -342,7 +378,7 @@ impl Progress {
         } else if self.is_due(plan) {
             Order::Begin
         } else {
-            Order::Rest
+            Order::Read(Until::Due)
         }
     }
 
@@ -355,7 +391,7 @@ impl Progress {
         } else if self.is_dead(plan, waiting) {
             Order::Close(Cause::Dead)
         } else {
-            Order::Read
+            Order::Read(Until::Limit)
         }
     }
 }

@@ -5,12 +5,12 @@ ghost use Rattle.gc_client.specs.Hearing.{HearsInto};
 ghost use Rattle.gc_client.specs.Rule.{ById};
 ghost use Rattle.gc_client.specs.declared.settlement.Settlement.{Settlement};
 ghost use Rattle.gc_station.specs.Deciding.{later};
-ghost use Rattle.gc_station.specs.Progressing.{turned, told, beginning, is_missing, due_of, begun, skipped, skipped_at, failing, opened, is_finished, is_resting, is_spared, phase_again, pause_again, again, cleared, asking, probed, sent, noted, gave, rested_down, drained, quieted, waited, silent, waiting_on, reckoned_early, begins_anew, beginning_anew, closed_again, ended_for, closed, is_over, loses_all};
+ghost use Rattle.gc_station.specs.Progressing.{turned, told, beginning, is_missing, due_of, begun, skipped, skipped_at, failing, opened, is_finished, is_idle, is_spared, phase_again, pause_again, again, cleared, asking, probed, sent, noted, early_behind, gave, pause_ended, drained, quieted, time_passed, silent, quiet_renewed, reckoned_early, begins_anew, beginning_anew, closed_again, ended_for, closed, is_over, loses_all};
 ghost use Rattle.gc_station.specs.Standing.{is_reply};
 
 use crate::cause::Cause;
 use crate::plan::Plan;
-use crate::progress::{Phase, Progress, Waiting};
+use crate::progress::{Phase, Progress, Until, Waiting};
 use gc_client::Hearing;
 use gc_links::Moment;
 
@@ -19,6 +19,16 @@ pub(crate) fn later(moment: u64, wait: u64) -> u64
     ensures { result ≡ later moment wait }
 {
     moment.saturating_add(wait)
+}
+
+// A read until the next cycle is due shows that this one was done before that.
+fn early_behind(until: Until, early: bool) -> bool
+    ensures { result ≡ early_behind until early }
+{
+    match until {
+        Until::Due => true,
+        Until::Limit => early,
+    }
 }
 
 // Whether a line was a reply: then the line is alive.
@@ -33,12 +43,16 @@ pub(crate) fn is_reply(hearing: Hearing) -> bool
 }
 
 impl Progress {
+    // A turn was made.
     pub(crate) fn turn(&mut self)
         ensures { self.new ≡ turned self.old }
     {
         self.turns = self.turns.saturating_sub(1);
     }
 
+    // The moment was told, behind bytes that went or came, or a connection that was closed or not made: the quiet time begins now.
+    // Where the clock went back, the cycle began now at the latest, so that the next one isn't put off, and the line was alive now at
+    // the latest.
     pub(crate) fn tell(&mut self, moment: Moment)
         ensures { self.new ≡ told moment self.old }
     {
@@ -49,7 +63,8 @@ impl Progress {
         self.stale = false;
     }
 
-    // When a cycle begins that begins at this moment: when it was due, and the first one, or where none is due, now.
+    // When a cycle begins that begins at this moment. The first one, and each where cycles have no due moment: now. Any other: when it
+    // was due, and now at the latest.
     fn beginning(&self, plan: &Plan, moment: Moment) -> u64
         ensures { result ≡ beginning plan.now moment self.now }
     {
@@ -60,7 +75,7 @@ impl Progress {
         }
     }
 
-    // Whether a cycle is missed that would begin at this moment: the one behind it is due.
+    // Whether a cycle that would begin at this moment is missed: the one behind it is due by now.
     fn is_missing(&self, plan: &Plan, moment: Moment) -> bool
         ensures { result ≡ is_missing plan.now moment self.now }
     {
@@ -68,7 +83,7 @@ impl Progress {
         plan.every > 0 && plan.every <= late
     }
 
-    // When it was due, in milliseconds since 1970-01-01, UTC.
+    // When a cycle that begins at this moment was due, in milliseconds since 1970-01-01, UTC.
     fn due_of(&self, plan: &Plan, moment: Moment) -> u64
         ensures { result ≡ due_of plan.now moment self.now }
     {
@@ -76,6 +91,7 @@ impl Progress {
         moment.utc.saturating_sub(late)
     }
 
+    // A cycle of so many commands began. Where it is missed, none of them goes out.
     pub(crate) fn begin(&mut self, plan: &Plan, count: usize, moment: Moment)
         ensures { self.new ≡ begun plan.now count moment self.old }
     {
@@ -100,7 +116,7 @@ impl Progress {
         if self.missed { self.due } else { moment.utc }
     }
 
-    // Where the command behind it goes out only once it was answered well, or doesn't.
+    // The next command isn't sent. `bound`: the one behind it goes out only once this one was answered well.
     pub(crate) fn skip(&mut self, bound: bool, moment: Moment)
         ensures { self.new ≡ skipped bound moment self.old }
     {
@@ -110,6 +126,7 @@ impl Progress {
         self.whole = false;
     }
 
+    // It can't go on, for this cause: the connection is to be closed, and where there is none it is over.
     pub(crate) fn fail(&mut self, cause: Cause)
         ensures { self.new ≡ failing cause self.old }
     {
@@ -120,6 +137,7 @@ impl Progress {
         };
     }
 
+    // A connection was made.
     pub(crate) fn open(&mut self)
         ensures { self.new ≡ opened self.old }
     {
@@ -134,36 +152,37 @@ impl Progress {
     }
 
     // Whether no connection is wanted: the cycle was done before the next was due, and that isn't due yet.
-    pub(crate) fn is_resting(&self, plan: &Plan) -> bool
-        ensures { result ≡ is_resting plan.now self.now }
+    pub(crate) fn is_idle(&self, plan: &Plan) -> bool
+        ensures { result ≡ is_idle plan.now self.now }
     {
         self.early && !self.is_due(plan)
     }
 
-    // Whether it takes no try: a connection was closed while none is wanted.
+    // Whether the next connection takes no try: one was closed while none is wanted. That none could be made takes one.
     fn is_spared(&self, plan: &Plan, cause: Cause) -> bool
         ensures { result ≡ is_spared plan.now cause self.now }
     {
         match cause {
             Cause::Open => false,
-            _ => self.is_resting(plan),
+            _ => self.is_idle(plan),
         }
     }
 
-    // Where a station is that has no connection, while so many commands wait.
+    // Where a station is that has no connection, while so many commands wait: it is done, tries again, or is over for this cause.
     fn phase_again(&self, plan: &Plan, commands: usize, cause: Cause) -> Phase
         ensures { result ≡ phase_again plan.now commands cause self.now }
     {
         if self.is_finished(commands) {
             Phase::Over(Cause::Done)
         } else if self.is_spared(plan, cause) || self.tries > 0 {
-            Phase::Resting
+            Phase::Pausing
         } else {
             Phase::Over(cause)
         }
     }
 
-    // How long it rests before the next connection.
+    // How long the pause before the next connection is: the quiet time, and at each further failure twice as long as the last one, up to a
+    // minute and never below the quiet time. Where none is wanted: as long as the last one.
     fn pause_again(&self, plan: &Plan, cause: Cause) -> u64
         ensures { result ≡ pause_again plan.now cause self.now }
     {
@@ -174,6 +193,7 @@ impl Progress {
         }
     }
 
+    // No connection could be made, or one was closed: the next one takes a try, unless it is spared.
     pub(crate) fn try_again(&mut self, plan: &Plan, commands: usize, cause: Cause)
         ensures { self.new ≡ again plan.now commands cause self.old }
     {
@@ -187,6 +207,7 @@ impl Progress {
         }
     }
 
+    // The line feed went out.
     pub(crate) fn clear(&mut self)
         ensures { self.new ≡ cleared self.old }
     {
@@ -194,6 +215,7 @@ impl Progress {
         self.stale = true;
     }
 
+    // A request went out. Where none did since the last reply line, the time of a dead line begins.
     pub(crate) fn ask(&mut self)
         ensures { self.new ≡ asking self.old }
     {
@@ -204,6 +226,7 @@ impl Progress {
         self.stale = true;
     }
 
+    // The null procedure went out with which it begins anew.
     pub(crate) fn probe(&mut self)
         ensures { self.new ≡ probed self.old }
     {
@@ -213,7 +236,7 @@ impl Progress {
         self.alone = true;
     }
 
-    // Where the command behind it goes out only once it was answered well, or doesn't.
+    // The next command went out. `bound`: the one behind it goes out only once this one was answered well.
     pub(crate) fn send(&mut self, bound: bool)
         ensures { self.new ≡ sent bound self.old }
     {
@@ -223,6 +246,7 @@ impl Progress {
         self.whole = true;
     }
 
+    // A line was heard. A reply line shows that the line is alive.
     pub(crate) fn note(&mut self, is_reply: bool)
         ensures { self.new ≡ noted is_reply self.old }
     {
@@ -232,29 +256,29 @@ impl Progress {
         }
     }
 
-    pub(crate) fn give(&mut self, plan: &Plan, rested: bool, before: usize, after: Waiting)
-        ensures { self.new ≡ gave plan.now rested before after self.old }
+    // Bytes came. So many commands waited before them, and so many requests wait behind them: where a command was settled, all tries are
+    // left again, and the next pause is short.
+    pub(crate) fn give(&mut self, plan: &Plan, until: Until, before: usize, after: Waiting)
+        ensures { self.new ≡ gave plan.now until before after self.old }
     {
         if after.commands < before {
             self.tries = plan.retries;
             self.pause = 0;
         }
         self.alone = self.alone && after.all != 0;
-        if rested {
-            self.early = true;
-        }
+        self.early = early_behind(until, self.early);
     }
 
-    // It rested long enough, and connects anew where a connection is wanted.
-    fn end_rest(&mut self, plan: &Plan)
-        ensures { self.new ≡ rested_down plan.now self.old }
+    // The pause was long enough: it connects again, where a connection is wanted.
+    fn end_pause(&mut self, plan: &Plan)
+        ensures { self.new ≡ pause_ended plan.now self.old }
     {
-        if self.is_past(self.pause) && !self.is_resting(plan) {
+        if self.is_past(self.pause) && !self.is_idle(plan) {
             self.phase = Phase::Down;
         }
     }
 
-    // The connection was drained until it was quiet.
+    // The connection was drained until it was quiet. Where it begins anew, a null procedure is next; else requests go out at once.
     fn end_drain(&mut self)
         ensures { self.new ≡ drained self.old }
     {
@@ -267,11 +291,12 @@ impl Progress {
         self.asked = false;
     }
 
+    // Nothing came until this moment: a pause, or a drain, that was long enough ends.
     fn quiet(&mut self, plan: &Plan)
         ensures { self.new ≡ quieted plan.now self.old.phase self.old }
     {
         match self.phase {
-            Phase::Resting => self.end_rest(plan),
+            Phase::Pausing => self.end_pause(plan),
             Phase::Draining => {
                 if self.is_past(self.drain(plan)) {
                     self.end_drain();
@@ -281,41 +306,44 @@ impl Progress {
         }
     }
 
-    fn wait(&mut self, rested: bool, moment: Moment)
-        ensures { self.new ≡ waited rested moment self.old }
+    // The moment was told behind a read that gave nothing: the quiet time goes on. Where the clock went back, the quiet time, and the
+    // cycle, began now at the latest, and the line was alive now at the latest.
+    fn pass_time(&mut self, until: Until, moment: Moment)
+        ensures { self.new ≡ time_passed until moment self.old }
     {
         self.moment = moment;
         self.since = self.since.min(moment.elapsed);
         self.alive = self.alive.min(moment.elapsed);
         self.began = self.began.min(moment.elapsed);
         self.stale = false;
-        if rested {
-            self.early = true;
-        }
+        self.early = early_behind(until, self.early);
     }
 
-    pub(crate) fn be_silent(&mut self, plan: &Plan, rested: bool, moment: Moment)
-        ensures { self.new ≡ silent plan.now rested moment self.old }
+    // A read gave nothing.
+    pub(crate) fn be_silent(&mut self, plan: &Plan, until: Until, moment: Moment)
+        ensures { self.new ≡ silent plan.now until moment self.old }
     {
-        self.wait(rested, moment);
+        self.pass_time(until, moment);
         self.quiet(plan);
     }
 
-    pub(crate) fn wait_on(&mut self, gave_up: bool, moment: Moment)
-        ensures { self.new ≡ waiting_on gave_up moment self.old }
+    // A moment gave requests up, or didn't. Where it did, the quiet time begins anew, for replies that are a little late.
+    pub(crate) fn renew_quiet(&mut self, gave_up: bool, moment: Moment)
+        ensures { self.new ≡ quiet_renewed gave_up moment self.old }
     {
         if gave_up {
             self.since = moment.elapsed;
         }
     }
 
+    // So many commands wait. Where the cycle is done, and the next isn't due yet, it was done early.
     pub(crate) fn reckon_early(&mut self, plan: &Plan, commands: usize)
         ensures { self.new ≡ reckoned_early plan.now commands self.old }
     {
         self.early = self.early || (commands == 0 && self.unsent == 0 && !self.is_due(plan));
     }
 
-    // Whether the next connection begins anew, where this one is closed for a cause.
+    // Whether the next connection begins anew, where this one is closed for a cause: for silence, and where this one hasn't begun.
     fn begins_anew(&self, cause: Cause) -> bool
         ensures { result ≡ begins_anew cause self.now }
     {
@@ -325,6 +353,8 @@ impl Progress {
         }
     }
 
+    // The next connection begins anew, while so many requests wait. It is drained for one quiet time each; where this one began anew, too,
+    // and its null procedure didn't go out, for as long as this one.
     fn begin_anew(&mut self, waiting: usize)
         ensures { self.new ≡ beginning_anew waiting self.old }
     {
@@ -335,7 +365,7 @@ impl Progress {
         self.alone = false;
     }
 
-    // A connection that ended is to be made again, anew or not.
+    // A connection that ended is to be made again, anew or not. All that wait are lost where it begins anew.
     fn close_again(&mut self, plan: &Plan, waiting: Waiting, cause: Cause, anew: bool)
         ensures { self.new ≡ closed_again plan.now waiting cause anew self.old }
     {
@@ -347,6 +377,7 @@ impl Progress {
         }
     }
 
+    // The connection was closed: for `Done`, `Clock` and `Turns` for good, and for any other cause to be made again.
     pub(crate) fn close(&mut self, plan: &Plan, waiting: Waiting, cause: Cause)
         ensures { self.new ≡ closed plan.now waiting cause self.old }
     {

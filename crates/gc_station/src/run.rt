@@ -66,8 +66,8 @@ pub(crate) fn run<L: Link, B: Book>(
 /// again in its cycle.
 ///
 /// A connection that failed, ended or is dead is closed, and what waits goes on waiting on the next one, with ids that go on.
-/// Before that it rests: for the quiet time, at each further failure twice as long, up to a minute, and once a cycle is done
-/// not before the next is due. It begins anew where nothing may go out, all that wait are given up, and the line is quiet:
+/// Before that it pauses: for the quiet time, at each further failure twice as long, up to a minute. Once a cycle is done it
+/// connects again only when the next is due. It begins anew where nothing may go out, all that wait are given up, and the line is quiet:
 /// then all that wait are lost, and the next connection is drained for as many quiet times as waited. Where nothing is left
 /// to be sent then, the run is done in its place. A beginning that was cut begins again.
 ///

@@ -1,53 +1,37 @@
 //! A station's steps: each makes the one call of the link that is next, and does by the client what came of it.
 
-ghost use Rattle.std.specs.Prelude.{◌≡◌, ℕ, ◌<◌, ◌≤◌, ◌++◌, List, [], ◌∷◌, length, drop, map, Option, OnOk, All, true, false};
-ghost use Rattle.std.specs.Option.{option_to_list};
+ghost use Rattle.std.specs.Prelude.{◌≡◌, ℕ, ◌<◌, ◌≤◌, ◌++◌, List, length, drop, map, Option, OnOk, All, true, false};
 ghost use Rattle.std.specs.Io.KnownBytes.{Appends};
-ghost use Rattle.gc_lines.specs.Frames.{line_in};
-ghost use Rattle.gc_lines.specs.Lent.{lent_seen, IsLineWithin};
 ghost use Rattle.gc_lines.specs.Ports.{FailsWith};
-ghost use Rattle.gc_client.specs.Rule.{sends};
 ghost use Rattle.gc_catalogue.specs.declared.answer.Reading.{Reading};
 ghost use Rattle.gc_catalogue.specs.declared.call.Call.{Call};
-ghost use Rattle.gc_catalogue.specs.declared.call.Call.TheVariants.{NullProc};
 ghost use Rattle.gc_client.specs.Settlements.{settlement_seen, IsWellRead};
-ghost use Rattle.gc_links.specs.Acts.{Tells, put_as, IsPart};
-ghost use Rattle.gc_station.specs.Deciding.{later, order_of};
+ghost use Rattle.gc_station.specs.Deciding.{order_of};
 ghost use Rattle.gc_links.specs.Acts.{Told};
 ghost use Rattle.gc_station.specs.Marks.{commands_in, records_of, last_well};
 ghost use Rattle.gc_station.specs.Scopes.{AreReadings};
 ghost use Rattle.gc_station.specs.Records.{Record, texts_of, WritesAll};
-ghost use Rattle.gc_station.specs.Standing.{Standing, opening, order_at, place_next, mark_next, requests_out, request_text, is_chained, bound_next, skips, client_sent, is_heard, lines_came, piece_came, came, piece_at, moved, ended};
-ghost use Rattle.gc_station.specs.Stations.{waiting_in, IsPaired, Stands, Took, Does, Made, stepped, OnCall, Follows, IsFitting, cut_progress, read_order};
+ghost use Rattle.gc_station.specs.Standing.{Standing, opening, order_at, place_next, mark_next, requests_out, is_chained, bound_next, skips, moved, ended};
+ghost use Rattle.gc_station.specs.Stations.{waiting_in, IsPaired, Stands, Took, Does, Made, stepped, OnCall, Follows, IsFitting, seen};
 ghost use Rattle.gc_station.specs.Tallies.{tallied};
-ghost use Rattle.gc_station.specs.declared.progress.Order.TheVariants.{Tell, Begin, Open, Clear, Probe, Send, Skip, Flush, Close};
+ghost use Rattle.gc_station.specs.declared.progress.Order.TheVariants.{ReadClock, Begin, Open, Skip, Close};
 ghost use Rattle.gc_texts.specs.declared.tasks.Task.{Task};
-ghost use Rattle.gc_texts.specs.Endings.{ending_seen};
+
+mod hearing;
+mod sending;
 
 use crate::book::{Book, Stamp};
 use crate::cause::Cause;
 use crate::mark::{Mark, commands_in};
 use crate::plan::Plan;
 use crate::progress::{Order, Progress, Waiting};
-use crate::progressing::{is_reply, later};
 use crate::tally::Tally;
 use crate::writing::write_settlements;
 use arrayvec::ArrayVec;
-use gc_catalogue::Call;
 use gc_client::{Client, Settlement, Slots, WINDOW};
-use gc_lines::{Assembler, Lent, Line, PortFailed, append};
-use gc_links::{Came, Link, Moment};
-use gc_texts::{Command, Ending, Task};
-
-// The null procedure, for no target.
-fn null_command() -> Command
-    ensures { result ≡ record { target = 0; call = NullProc } }
-{
-    Command {
-        target: 0,
-        call: Call::NullProc,
-    }
-}
+use gc_lines::{Assembler, PortFailed};
+use gc_links::{Link, Moment};
+use gc_texts::{Ending, Task};
 
 // Whether a command at this place goes out only once the one before it was answered well.
 fn is_chained(commands: &[Task], place: usize) -> bool
@@ -154,9 +138,9 @@ impl Station {
     }
 
     // Reads the clock.
-    fn tell<L: Link>(&mut self, link: &mut L, plan: &Plan)
+    fn read_clock<L: Link>(&mut self, link: &mut L, plan: &Plan)
         ensures { (commands : List Task) (text : Record → List ℕ) (known : Option (List ℕ))
-            → Does plan.now commands Tell text (L.acts link.old) (L.acts link.new) known known self.old self.new }
+            → Does plan.now commands ReadClock (seen (L.acts link.old) text known self.old) (seen (L.acts link.new) text known self.new) }
     {
         match link.now() {
             Ok(moment) => {
@@ -172,7 +156,7 @@ impl Station {
     // Reads the clock, and begins a cycle.
     fn begin<L: Link>(&mut self, link: &mut L, plan: &Plan, commands: &[Task])
         ensures { (text : Record → List ℕ) (known : Option (List ℕ))
-            → Does plan.now commands.now Begin text (L.acts link.old) (L.acts link.new) known known self.old self.new }
+            → Does plan.now commands.now Begin (seen (L.acts link.old) text known self.old) (seen (L.acts link.new) text known self.new) }
     {
         match link.now() {
             Ok(moment) => {
@@ -186,102 +170,13 @@ impl Station {
     // Makes a connection.
     fn open<L: Link>(&mut self, link: &mut L, plan: &Plan)
         ensures { (commands : List Task) (text : Record → List ℕ) (known : Option (List ℕ))
-            → Does plan.now commands Open text (L.acts link.old) (L.acts link.new) known known self.old self.new }
+            → Does plan.now commands Open (seen (L.acts link.old) text known self.old) (seen (L.acts link.new) text known self.new) }
     {
         let commands = self.commands();
         match link.open() {
             Ok(()) => self.progress.open(),
             Err(_) => self.progress.try_again(plan, commands, Cause::Open),
         }
-    }
-
-    // The connection is to be closed where a write was cut.
-    fn cut(&mut self, put: Result<(), usize>, requests: usize)
-        ensures { self.new ≡ record self.old { progress = cut_progress put requests self.old.progress } }
-    {
-        if let Err(bytes) = put {
-            self.progress.fail(Cause::Write { requests, bytes });
-        }
-    }
-
-    // Sends a lone line feed.
-    fn clear<L: Link>(&mut self, link: &mut L, plan: &Plan, commands: &[Task])
-        ensures { (text : Record → List ℕ) (known : Option (List ℕ))
-            → Does plan.now commands.now Clear text (L.acts link.old) (L.acts link.new) known known self.old self.new }
-    {
-        let requests = self.requests_out(plan, commands);
-        let put = link.put(b"\n");
-        self.progress.clear();
-        self.cut(put, requests);
-    }
-
-    // Sends a request, which has this mark.
-    fn ask<L: Link>(
-        &mut self,
-        link: &mut L,
-        command: &Command,
-        wait: u64,
-        mark: Option<Mark>,
-    ) -> Result<(), usize>
-        requires width { self.old.client.width ≡ WINDOW }
-        requires room { length self.old.client.ids.waiting < WINDOW }
-        requires paired { IsPaired self.old }
-        ensures tells { Tells (L.acts link.old) (L.acts link.new) (put_as result (request_text self.old.client.ids command.now.call) ∷ []) }
-        ensures part { IsPart result (request_text self.old.client.ids command.now.call) }
-        ensures asks { self.new ≡ record self.old {
-          client = record self.old.client {
-            ids =
-                client_sent self.old.client.ids (sends self.old.client.width self.old.client.ids command.now.target command.now.call (later self.old.progress.moment.elapsed wait));
-          };
-          marks = record { items = self.old.marks.items ++ mark ∷ [] };
-        } }
-    {
-        let deadline = later(self.progress.moment.elapsed, wait);
-        let mut line = Line::new();
-        let Ok(()) = self
-            .client
-            .send_into(command.target, &command.call, deadline, &mut line)
-        else {
-            unreachable!()
-        };
-        self.marks.push(mark);
-        let mut text = ArrayVec::<u8, 514>::new();
-        append(&mut text, &line);
-        append(&mut text, b"\r\n");
-        link.put(text.as_slice())
-    }
-
-    // Sends the null procedure with which it begins anew.
-    fn probe<L: Link>(&mut self, link: &mut L, plan: &Plan, commands: &[Task])
-        requires width { self.old.client.width ≡ WINDOW }
-        requires room { length self.old.client.ids.waiting < WINDOW }
-        requires paired { IsPaired self.old }
-        ensures { (text : Record → List ℕ) (known : Option (List ℕ))
-            → Does plan.now commands.now Probe text (L.acts link.old) (L.acts link.new) known known self.old self.new }
-    {
-        let requests = self.requests_out(plan, commands);
-        let put = self.ask(link, &null_command(), plan.deadline, None);
-        self.progress.probe();
-        self.cut(put, requests);
-    }
-
-    // Sends the next command.
-    fn send<L: Link>(&mut self, link: &mut L, plan: &Plan, commands: &[Task])
-        requires width { self.old.client.width ≡ WINDOW }
-        requires room { length self.old.client.ids.waiting < WINDOW }
-        requires paired { IsPaired self.old }
-        requires unsent { 0 < self.old.progress.unsent }
-        requires within { self.old.progress.unsent ≤ length commands.now }
-        ensures { (text : Record → List ℕ) (known : Option (List ℕ))
-            → Does plan.now commands.now Send text (L.acts link.old) (L.acts link.new) known known self.old self.new }
-    {
-        let requests = self.requests_out(plan, commands);
-        let mark = self.mark(plan, commands);
-        let task = &commands[self.place(commands)];
-        let bound = self.bound_next(commands);
-        let put = self.ask(link, &task.command, task.deadline, Some(mark));
-        self.progress.send(bound);
-        self.cut(put, requests);
     }
 
     // Reads the clock, and writes the next command down without sending it.
@@ -294,7 +189,7 @@ impl Station {
     ) -> Result<(), PortFailed>
         requires unsent { 0 < self.old.progress.unsent }
         requires within { self.old.progress.unsent ≤ length commands.now }
-        ensures does { Made commands.now Skip (moved plan.now commands.now Skip) (B.text book.old) (L.acts link.old) (L.acts link.new) (B.taken book.old) (B.taken book.new) self.old self.new result }
+        ensures does { Made commands.now Skip (moved plan.now commands.now Skip) (seen (L.acts link.old) (B.text book.old) (B.taken book.old) self.old) (seen (L.acts link.new) (B.text book.old) (B.taken book.new) self.new) result }
         ensures fails { FailsWith result (B.failed book.old) (B.failed book.new) }
         ensures form { B.text book.new ≡ B.text book.old }
     {
@@ -357,20 +252,6 @@ impl Station {
         Ok(())
     }
 
-    // Sends a null procedure behind requests that are all given up.
-    fn flush<L: Link>(&mut self, link: &mut L, plan: &Plan, commands: &[Task])
-        requires width { self.old.client.width ≡ WINDOW }
-        requires room { length self.old.client.ids.waiting < WINDOW }
-        requires paired { IsPaired self.old }
-        ensures { (text : Record → List ℕ) (known : Option (List ℕ))
-            → Does plan.now commands.now Flush text (L.acts link.old) (L.acts link.new) known known self.old self.new }
-    {
-        let requests = self.requests_out(plan, commands);
-        let put = self.ask(link, &null_command(), plan.deadline, None);
-        self.progress.ask();
-        self.cut(put, requests);
-    }
-
     // Writes down what was settled, by the marks of the oldest that waited, which go.
     fn write<B: Book>(&mut self, book: &mut B) -> Result<(), PortFailed>
         requires { All (λ s. IsWellRead s.call s.outcome) self.old.settled.items }
@@ -400,125 +281,10 @@ impl Station {
         )
     }
 
-    // Takes the line of a frame, if it is one, and writes down what it settles.
-    fn hear<B: Book>(&mut self, book: &mut B, frame: Lent<'_>) -> Result<(), PortFailed>
-        requires { IsLineWithin frame }
-        ensures hears { (s : Standing) (start : Option (List ℕ)) → Stands self.old s → Took (B.text book.old) start (B.taken book.old) s
-            → Follows (B.text book.old) s.records self.new start (B.taken book.new) (lines_came s (option_to_list (line_in (lent_seen frame.entry)))) result }
-        ensures fails { FailsWith result (B.failed book.old) (B.failed book.new) }
-        ensures form { B.text book.new ≡ B.text book.old }
-    {
-        let Lent::Line(line) = frame else {
-            return Ok(());
-        };
-        let hearing = self.client.hear(line, &mut self.settled);
-        if let Err(failed) = self.write(book) {
-            return Err(failed);
-        }
-        self.progress.note(is_reply(hearing));
-        Ok(())
-    }
-
-    // Takes the lines of a piece.
-    fn listen<B: Book>(&mut self, book: &mut B, piece: &[u8]) -> Result<(), PortFailed>
-        ensures listens { (s : Standing) (start : Option (List ℕ)) → Stands self.old s → Took (B.text book.old) start (B.taken book.old) s
-            → Follows (B.text book.old) s.records self.new start (B.taken book.new) (piece_came piece.now s) result }
-        ensures fails { FailsWith result (B.failed book.old) (B.failed book.new) }
-        ensures form { B.text book.new ≡ B.text book.old }
-    {
-        let mut cut = Line::new();
-        let mut at = 0;
-        while at < piece.len() {
-            let (used, frame) = self.assembler.next(&piece[at..], &mut cut);
-            at += used;
-            if let Err(failed) = self.hear(book, frame) {
-                return Err(failed);
-            }
-        }
-        Ok(())
-    }
-
-    // Takes the lines of a piece where they are heard.
-    fn take_lines<B: Book>(&mut self, book: &mut B, piece: &[u8]) -> Result<(), PortFailed>
-        ensures takes { (s : Standing) (start : Option (List ℕ)) → Stands self.old s → Took (B.text book.old) start (B.taken book.old) s
-            → Follows (B.text book.old) s.records self.new start (B.taken book.new) (came (is_heard s.progress.phase) piece.now s) result }
-        ensures fails { FailsWith result (B.failed book.old) (B.failed book.new) }
-        ensures form { B.text book.new ≡ B.text book.old }
-    {
-        if !self.progress.phase.is_heard() {
-            return Ok(());
-        }
-        self.listen(book, piece)
-    }
-
-    // Takes a piece, behind which it was this moment.
-    fn take_piece<B: Book>(
-        &mut self,
-        book: &mut B,
-        plan: &Plan,
-        rested: bool,
-        piece: &[u8],
-        now: Moment,
-    ) -> Result<(), PortFailed>
-        ensures takes { (s : Standing) (start : Option (List ℕ)) → Stands self.old s → Took (B.text book.old) start (B.taken book.old) s
-            → Follows (B.text book.old) s.records self.new start (B.taken book.new) (piece_at plan.now rested piece.now now s) result }
-        ensures fails { FailsWith result (B.failed book.old) (B.failed book.new) }
-        ensures form { B.text book.new ≡ B.text book.old }
-    {
-        let before = self.commands();
-        self.progress.tell(now);
-        self.client.expire(now.elapsed);
-        if let Err(failed) = self.take_lines(book, piece) {
-            return Err(failed);
-        }
-        let after = self.waiting();
-        self.progress.give(plan, rested, before, after);
-        self.progress.reckon_early(plan, after.commands);
-        Ok(())
-    }
-
-    // Reads, and takes what came.
-    fn read<L: Link, B: Book>(
-        &mut self,
-        link: &mut L,
-        book: &mut B,
-        plan: &Plan,
-        rested: bool,
-    ) -> Result<(), PortFailed>
-        ensures does { (commands : List Task)
-            → Made commands (read_order rested) (moved plan.now commands (read_order rested)) (B.text book.old) (L.acts link.old) (L.acts link.new) (B.taken book.old) (B.taken book.new) self.old self.new result }
-        ensures fails { FailsWith result (B.failed book.old) (B.failed book.new) }
-        ensures form { B.text book.new ≡ B.text book.old }
-    {
-        let mut buf = [0u8; 256];
-        let millis = self.patience(plan, rested);
-        match link.read(&mut buf, millis) {
-            Came::Bytes(n, moment) => self.take_piece(book, plan, rested, &buf[..n], moment),
-            Came::Silence(moment) => {
-                let given_up = self.client.expire(moment.elapsed);
-                self.progress.be_silent(plan, rested, moment);
-                self.progress.wait_on(!given_up.is_empty(), moment);
-                Ok(())
-            }
-            Came::End => {
-                self.progress.fail(Cause::End);
-                Ok(())
-            }
-            Came::Failure => {
-                self.progress.fail(Cause::Read);
-                Ok(())
-            }
-            Came::NoMoment => {
-                self.progress.fail(Cause::Clock);
-                Ok(())
-            }
-        }
-    }
-
     // Closes the connection. What waits goes on waiting.
     fn close<L: Link>(&mut self, link: &mut L, plan: &Plan, cause: Cause)
         ensures { (commands : List Task) (text : Record → List ℕ) (known : Option (List ℕ))
-            → Does plan.now commands (Close cause) text (L.acts link.old) (L.acts link.new) known known self.old self.new }
+            → Does plan.now commands (Close cause) (seen (L.acts link.old) text known self.old) (seen (L.acts link.new) text known self.new) }
     {
         link.close();
         let waiting = self.waiting();
@@ -539,13 +305,13 @@ impl Station {
         requires paired { IsPaired self.old }
         requires within { self.old.progress.unsent ≤ length commands.now }
         requires room { IsFitting self.old.progress (length self.old.client.ids.waiting) order }
-        ensures does { OnCall order (Made commands.now order (moved plan.now commands.now order) (B.text book.old) (L.acts link.old) (L.acts link.new) (B.taken book.old) (B.taken book.new) self.old self.new result) }
+        ensures does { OnCall order (Made commands.now order (moved plan.now commands.now order) (seen (L.acts link.old) (B.text book.old) (B.taken book.old) self.old) (seen (L.acts link.new) (B.text book.old) (B.taken book.new) self.new) result) }
         ensures fails { FailsWith result (B.failed book.old) (B.failed book.new) }
         ensures form { B.text book.new ≡ B.text book.old }
     {
         match order {
-            Order::Tell => {
-                self.tell(link, plan);
+            Order::ReadClock => {
+                self.read_clock(link, plan);
                 Ok(())
             }
             Order::Begin => {
@@ -573,8 +339,7 @@ impl Station {
                 self.flush(link, plan, commands);
                 Ok(())
             }
-            Order::Read => self.read(link, book, plan, false),
-            Order::Rest => self.read(link, book, plan, true),
+            Order::Read(until) => self.read(link, book, plan, until),
             Order::Close(cause) => {
                 self.close(link, plan, cause);
                 Ok(())
@@ -612,7 +377,7 @@ impl Station {
         requires paired { IsPaired self.old }
         requires within { self.old.progress.unsent ≤ length commands.now }
         requires room { IsFitting self.old.progress (length self.old.client.ids.waiting) order }
-        ensures does { OnCall order (Made commands.now order (stepped plan.now commands.now order) (B.text book.old) (L.acts link.old) (L.acts link.new) (B.taken book.old) (B.taken book.new) self.old self.new result) }
+        ensures does { OnCall order (Made commands.now order (stepped plan.now commands.now order) (seen (L.acts link.old) (B.text book.old) (B.taken book.old) self.old) (seen (L.acts link.new) (B.text book.old) (B.taken book.new) self.new) result) }
         ensures fails { FailsWith result (B.failed book.old) (B.failed book.new) }
         ensures form { B.text book.new ≡ B.text book.old }
     {

@@ -24,6 +24,7 @@ pub struct Tally {
 }
 
 impl Tally {
+    // No command ended yet.
     pub(crate) fn new() -> Tally
         ensures { result ≡ none_yet }
     {
@@ -37,6 +38,7 @@ impl Tally {
         }
     }
 
+    // A command ended so.
     pub(crate) fn count(&mut self, ending: Ending<'_>)
         ensures { self.new ≡ counted (ending_seen ending.entry) self.old }
     {

@@ -24,7 +24,7 @@ use gc_texts::{Command, Ending};
 
 // The mark of the oldest request that waits, which goes.
 fn take_mark(marks: &mut ArrayVec<Option<Mark>, WINDOW>) -> Option<Mark>
-    ensures rest { marks.new.items ≡ drop 1 marks.old.items }
+    ensures goes { marks.new.items ≡ drop 1 marks.old.items }
     ensures records { (reads : Call → List ℕ → Reading) (utc : ℕ) (settlement : Rule.Settlement)
         → records_of reads utc marks.old.items (settlement ∷ []) ≡ records_of reads utc (result ∷ []) (settlement ∷ []) }
 {

@@ -1,4 +1,4 @@
-//! What a lost reply costs, when a line is dead, and how long a station rests before it tries again.
+//! What a lost reply costs, when a line is dead, and how long a station pauses before it tries again.
 
 use super::drills::eight;
 use super::script::Step;
@@ -233,7 +233,7 @@ fn dead_lines(rt: HostRuntime) -> Result<(), Fail> {
 
 // The quiet time, doubled at each failure up to a minute, and never less than the quiet time.
 #[test]
-fn rests_before_a_new_try(rt: HostRuntime) -> Result<(), Fail> {
+fn pauses_before_a_new_try(rt: HostRuntime) -> Result<(), Fail> {
     let mut link = failing([].as_slice(), 16, 0, false);
     link.timed = true;
     runs_to(
@@ -269,7 +269,7 @@ fn rests_before_a_new_try(rt: HostRuntime) -> Result<(), Fail> {
     };
     runs_to(
         &rt,
-        "a command that is settled gives back all tries, and the short rest",
+        "a command that is settled gives back all tries, and the short pause",
         twice,
         timed([
             QUIET,

@@ -4,7 +4,7 @@ use Rattle.gc_client.specs.Settlements.{settlement_seen}
 use Rattle.gc_station.specs.Marks.{records_of, last_well}
 use Rattle.gc_station.specs.Records.{texts_of}
 use Rattle.gc_station.specs.Tallies.{tallied}
-use Rattle.gc_station.proofs.Records.{records-none, front_more, front_rest, texts_more, part_behind, tallied_more, last_more}
+use Rattle.gc_station.proofs.Records.{records-none, front_more, front_left, texts_more, part_behind, tallied_more, last_more}
 use Rattle.gc_station.proofs.writing.write_settlements.Goals as goal
 
 pub loop-settlement-init : goal.loop-settlement-init
@@ -31,7 +31,7 @@ returns-in-Err-clause-wrote g c reads start before are so =
     let here = ap (λ ms. records_of reads utc ms (settlement_seen s ∷ [])) (sym b.marks) ∙ c.take_mark-mark.ensures.records reads utc (settlement_seen s) in
     let more = front_more reads utc marks ss i s c.take_mark-mark.result c.loop-settlement-test.true c.settlement-item.is here in
     let front = records_of reads utc marks (map settlement_seen (take i ss)) in
-    part_behind (g.B.Book.text c.args.book.now) before front _ _ _ _ start (g.B.Book.taken c.write_one.new.book) more (front_rest reads utc marks ss (i + 1)) ((rw b.form at c.in-Err.ensures.wrote) reads start (before ++ front) are (b.wrote reads start before are so))
+    part_behind (g.B.Book.text c.args.book.now) before front _ _ _ _ start (g.B.Book.taken c.write_one.new.book) more (front_left reads utc marks ss (i + 1)) ((rw b.form at c.in-Err.ensures.wrote) reads start (before ++ front) are (b.wrote reads start before are so))
 
 pub loop-settlement-preserved : goal.loop-settlement-preserved
 loop-settlement-preserved g c =
@@ -59,7 +59,7 @@ loop-settlement-preserved g c =
           let front = records_of reads utc marks (map settlement_seen (take i ss)) in
           let one = records_of reads utc (c.take_mark-mark.result ∷ []) (settlement_seen s ∷ []) in
           last_more reads c.args.well.now c.loop-settlement.well c.write_one.new.well front one _ (b.well reads are) (c.in_default.ensures.well reads are) more;
-      marks = c.take_mark-mark.ensures.rest ∙ ap (drop 1) b.marks ∙ drop-drop 1 i marks;
+      marks = c.take_mark-mark.ensures.goes ∙ ap (drop 1) b.marks ∙ drop-drop 1 i marks;
       form = c.in_default.ensures.form ∙ b.form;
       failed = c.in_default.ensures.fails ∙ b.failed;
     }

@@ -1,7 +1,7 @@
 use Rattle.gc_station.proofs.station.Station.obey.Goals as goal
 
-pub returns-in-Tell-clause-does : goal.returns-in-Tell-clause-does
-returns-in-Tell-clause-does g c = rw c.in-Tell.is (c.tell.ensures c.args.commands.now (g.B.Book.text c.args.book.now) (g.B.Book.taken c.args.book.now))
+pub returns-in-ReadClock-clause-does : goal.returns-in-ReadClock-clause-does
+returns-in-ReadClock-clause-does g c = rw c.in-ReadClock.is (c.read_clock.ensures c.args.commands.now (g.B.Book.text c.args.book.now) (g.B.Book.taken c.args.book.now))
 
 pub returns-in-Begin-clause-does : goal.returns-in-Begin-clause-does
 returns-in-Begin-clause-does g c = rw c.in-Begin.is (c.begin.ensures (g.B.Book.text c.args.book.now) (g.B.Book.taken c.args.book.now))
@@ -26,9 +26,6 @@ returns-in-Flush-clause-does g c = rw c.in-Flush.is (c.flush.ensures (g.B.Book.t
 
 pub returns-in-Read-clause-does : goal.returns-in-Read-clause-does
 returns-in-Read-clause-does g c = rw c.in-Read.is (c.read.ensures.does c.args.commands.now)
-
-pub returns-in-Rest-clause-does : goal.returns-in-Rest-clause-does
-returns-in-Rest-clause-does g c = rw c.in-Rest.is (c.read-in-Rest.ensures.does c.args.commands.now)
 
 pub returns-in-Close-clause-does : goal.returns-in-Close-clause-does
 returns-in-Close-clause-does g c = rw c.in-Close.is (c.close.ensures c.args.commands.now (g.B.Book.text c.args.book.now) (g.B.Book.taken c.args.book.now))

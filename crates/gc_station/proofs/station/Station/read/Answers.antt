@@ -2,7 +2,7 @@ use Rattle.std.proofs.Common.{ℕ, List, length, nat_eq, take, not, ap, ◌∙�
 use Rattle.gc_client.specs.Rule.{ById, expiring}
 use Rattle.gc_station.specs.declared.cause.Cause.TheVariants.{Clock, End, Read}
 use Rattle.gc_links.specs.Acts.{Gave, Silent, Ended, Broke, Untold}
-use Rattle.gc_station.specs.Progressing.{failing, silent, waiting_on}
+use Rattle.gc_station.specs.Progressing.{failing, silent, quiet_renewed}
 use Rattle.gc_station.specs.Standing.{is_nil}
 use Rattle.gc_station.proofs.Hearing.{stands_expired}
 use Rattle.gc_station.proofs.Making.{stands_with, makes_read, made_read, nil_count}
@@ -10,34 +10,34 @@ use Rattle.gc_station.proofs.station.Station.read.Goals as goal
 
 pub returns-in-End-clause-does : goal.returns-in-End-clause-does
 returns-in-End-clause-does g c commands =
-    makes_read c.args.plan.now commands c.args.rested (g.B.Book.text c.args.book.now) (g.L.Link.acts c.args.link.now) (g.L.Link.acts c.read.new.self) (g.B.Book.taken c.args.book.now) (g.B.Book.taken c.args.book.now) c.args.self.now _ Ended c.in-End.ensures.tells tt
+    makes_read c.args.plan.now commands c.args.until (g.B.Book.text c.args.book.now) (g.L.Link.acts c.args.link.now) (g.L.Link.acts c.read.new.self) (g.B.Book.taken c.args.book.now) (g.B.Book.taken c.args.book.now) c.args.self.now _ Ended c.in-End.ensures.tells tt
     (λ s start stands so. (stands_with c.args.self.now c.fail.new.self (failing End) s stands c.fail.ensures, so))
 
 pub returns-in-Failure-clause-does : goal.returns-in-Failure-clause-does
 returns-in-Failure-clause-does g c commands =
-    makes_read c.args.plan.now commands c.args.rested (g.B.Book.text c.args.book.now) (g.L.Link.acts c.args.link.now) (g.L.Link.acts c.read.new.self) (g.B.Book.taken c.args.book.now) (g.B.Book.taken c.args.book.now) c.args.self.now _ Broke c.in-Failure.ensures.tells tt
+    makes_read c.args.plan.now commands c.args.until (g.B.Book.text c.args.book.now) (g.L.Link.acts c.args.link.now) (g.L.Link.acts c.read.new.self) (g.B.Book.taken c.args.book.now) (g.B.Book.taken c.args.book.now) c.args.self.now _ Broke c.in-Failure.ensures.tells tt
     (λ s start stands so. (stands_with c.args.self.now c.fail-in-Failure.new.self (failing Read) s stands c.fail-in-Failure.ensures, so))
 
 pub returns-in-NoMoment-clause-does : goal.returns-in-NoMoment-clause-does
 returns-in-NoMoment-clause-does g c commands =
-    makes_read c.args.plan.now commands c.args.rested (g.B.Book.text c.args.book.now) (g.L.Link.acts c.args.link.now) (g.L.Link.acts c.read.new.self) (g.B.Book.taken c.args.book.now) (g.B.Book.taken c.args.book.now) c.args.self.now _ Untold c.in-NoMoment.ensures.tells tt
+    makes_read c.args.plan.now commands c.args.until (g.B.Book.text c.args.book.now) (g.L.Link.acts c.args.link.now) (g.L.Link.acts c.read.new.self) (g.B.Book.taken c.args.book.now) (g.B.Book.taken c.args.book.now) c.args.self.now _ Untold c.in-NoMoment.ensures.tells tt
     (λ s start stands so. (stands_with c.args.self.now c.fail-in-NoMoment.new.self (failing Clock) s stands c.fail-in-NoMoment.ensures, so))
 
 pub returns-in-Bytes-clause-does : goal.returns-in-Bytes-clause-does
 returns-in-Bytes-clause-does g c commands =
-    made_read c.args.plan.now commands c.args.rested (g.B.Book.text c.args.book.now) (g.L.Link.acts c.args.link.now) (g.L.Link.acts c.read.new.self) (g.B.Book.taken c.args.book.now) (g.B.Book.taken c.take_piece.new.book) c.args.self.now c.take_piece.new.self
+    made_read c.args.plan.now commands c.args.until (g.B.Book.text c.args.book.now) (g.L.Link.acts c.args.link.now) (g.L.Link.acts c.read.new.self) (g.B.Book.taken c.args.book.now) (g.B.Book.taken c.take_piece.new.book) c.args.self.now c.take_piece.new.self
     (Gave (take c.in-Bytes.n c.read.new.buf) c.in-Bytes.moment) c.take_piece.result c.in-Bytes.ensures.tells tt c.take_piece.ensures.takes
 
 pub returns-in-Silence-clause-does : goal.returns-in-Silence-clause-does
 returns-in-Silence-clause-does g c commands =
     let old = c.args.self.now in
     let plan = c.args.plan.now in
-    let rested = c.args.rested in
+    let until = c.args.until in
     let m = c.in-Silence.moment in
-    makes_read plan commands rested (g.B.Book.text c.args.book.now) (g.L.Link.acts c.args.link.now) (g.L.Link.acts c.read.new.self) (g.B.Book.taken c.args.book.now) (g.B.Book.taken c.args.book.now) old _ (Silent m) c.in-Silence.ensures.tells tt
+    makes_read plan commands until (g.B.Book.text c.args.book.now) (g.L.Link.acts c.args.link.now) (g.L.Link.acts c.read.new.self) (g.B.Book.taken c.args.book.now) (g.B.Book.taken c.args.book.now) old _ (Silent m) c.in-Silence.ensures.tells tt
     (λ s start stands so.
     let none = c.is_empty.ensures ∙ ap (λ (xs : List ℕ). nat_eq (length xs) 0) (c.expire-given_up.ensures.targets ∙ ap (λ (ids : ById). expiring m.elapsed ids.waiting) stands.ids) ∙ nil_count (expiring m.elapsed s.client.waiting) in
     let progress =
-    c.wait_on.ensures ∙ ap (λ b. waiting_on (not b) m c.be_silent.new.self) none
-    ∙ ap (waiting_on (not (is_nil (expiring m.elapsed s.client.waiting))) m) (c.be_silent.ensures ∙ ap (silent plan rested m) stands.progress) in
-    (stands_expired old c.wait_on.new.self (waiting_on (not (is_nil (expiring m.elapsed s.client.waiting))) m (silent plan rested m s.progress)) c.expire-given_up.new.self m s stands progress c.expire-given_up.ensures.client, so))
+    c.renew_quiet.ensures ∙ ap (λ b. quiet_renewed (not b) m c.be_silent.new.self) none
+    ∙ ap (quiet_renewed (not (is_nil (expiring m.elapsed s.client.waiting))) m) (c.be_silent.ensures ∙ ap (silent plan until m) stands.progress) in
+    (stands_expired old c.renew_quiet.new.self (quiet_renewed (not (is_nil (expiring m.elapsed s.client.waiting))) m (silent plan until m s.progress)) c.expire-given_up.new.self m s stands progress c.expire-given_up.ensures.client, so))

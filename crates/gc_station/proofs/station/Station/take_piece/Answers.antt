@@ -16,7 +16,7 @@ pub returns-clause-takes : goal.returns-clause-takes
 returns-clause-takes g c s start stands so =
     let m = c.args.now in
     let plan = c.args.plan.now in
-    let rested = c.args.rested in
+    let until = c.args.until in
     let t =
     c.in_default.ensures.takes (with_moment m (with_progress (told m) s)) start
     (stands_expired c.args.self.now c.tell.new.self (told m s.progress) c.expire.new.self m s stands (c.tell.ensures ∙ ap (told m) stands.progress) c.expire.ensures.client) so in
@@ -26,7 +26,7 @@ returns-clause-takes g c s start stands so =
     let commands = ap (λ (w : Waiting). w.commands) c.waiting-after.ensures ∙ commands_same c.take_lines.new.self heard t.0 in (
       record {
         progress = c.reckon_early.ensures ∙ ap (reckoned_early plan c.waiting-after.result.commands) c.give.ensures
-            ∙ reckoned_same plan rested c.commands-before.result (commands_in s.marks) c.waiting-after.result (waiting_of heard) c.take_lines.new.self.progress heard.progress before all commands t.0.progress;
+            ∙ reckoned_same plan until c.commands-before.result (commands_in s.marks) c.waiting-after.result (waiting_of heard) c.take_lines.new.self.progress heard.progress before all commands t.0.progress;
         ids = t.0.ids;
         width = t.0.width;
         marks = t.0.marks;

@@ -1,4 +1,4 @@
-//! Rests between two cycles: what becomes of a connection then, and when a cycle that takes too long is told.
+//! Idle between two cycles: what becomes of a connection then, and when a cycle that takes too long is told.
 
 use super::script::{Script, Step};
 use super::{BEGUN, FIRST, FOURTH, QUIET, SECOND, THIRD, comes_to, null, plan, runs_to, timed};
@@ -17,10 +17,10 @@ fn two_cycles(every: u64, retries: u32) -> Plan {
 }
 
 #[test]
-fn rests_between_cycles(rt: HostRuntime) -> Result<(), Fail> {
+fn idle_between_cycles(rt: HostRuntime) -> Result<(), Fail> {
     runs_to(
         &rt,
-        "an end in a rest takes no try, and the next connection is made when the cycle is due",
+        "an end while it is idle takes no try, and the next connection is made when the cycle is due",
         two_cycles(1000, 0),
         timed([
             QUIET,
@@ -41,7 +41,7 @@ fn rests_between_cycles(rt: HostRuntime) -> Result<(), Fail> {
     );
     runs_to(
         &rt,
-        "an end behind the rest takes a try",
+        "an end once the cycle is due takes a try",
         two_cycles(1000, 1),
         timed([
             QUIET,

@@ -1,0 +1,137 @@
+//! What a station hears: a piece, its lines, and what they settle.
+
+ghost use Rattle.std.specs.Prelude.{◌≡◌, ℕ, List, Option};
+ghost use Rattle.std.specs.Option.{option_to_list};
+ghost use Rattle.gc_lines.specs.Frames.{line_in};
+ghost use Rattle.gc_lines.specs.Lent.{lent_seen, IsLineWithin};
+ghost use Rattle.gc_lines.specs.Ports.{FailsWith};
+ghost use Rattle.gc_station.specs.Standing.{Standing, is_heard, lines_came, piece_came, came, piece_at, moved};
+ghost use Rattle.gc_station.specs.Stations.{Stands, Took, Made, Follows, seen};
+ghost use Rattle.gc_station.specs.declared.progress.Order.TheVariants.{Read};
+ghost use Rattle.gc_texts.specs.declared.tasks.Task.{Task};
+
+use super::Station;
+use crate::book::Book;
+use crate::cause::Cause;
+use crate::plan::Plan;
+use crate::progress::Until;
+use crate::progressing::is_reply;
+use gc_lines::{Lent, Line, PortFailed};
+use gc_links::{Came, Link, Moment};
+
+impl Station {
+    // Takes the line of a frame, if it is one, and writes down what it settles.
+    fn hear<B: Book>(&mut self, book: &mut B, frame: Lent<'_>) -> Result<(), PortFailed>
+        requires { IsLineWithin frame }
+        ensures hears { (s : Standing) (start : Option (List ℕ)) → Stands self.old s → Took (B.text book.old) start (B.taken book.old) s
+            → Follows (B.text book.old) s.records self.new start (B.taken book.new) (lines_came s (option_to_list (line_in (lent_seen frame.entry)))) result }
+        ensures fails { FailsWith result (B.failed book.old) (B.failed book.new) }
+        ensures form { B.text book.new ≡ B.text book.old }
+    {
+        let Lent::Line(line) = frame else {
+            return Ok(());
+        };
+        let hearing = self.client.hear(line, &mut self.settled);
+        if let Err(failed) = self.write(book) {
+            return Err(failed);
+        }
+        self.progress.note(is_reply(hearing));
+        Ok(())
+    }
+
+    // Takes the lines of a piece.
+    fn listen<B: Book>(&mut self, book: &mut B, piece: &[u8]) -> Result<(), PortFailed>
+        ensures listens { (s : Standing) (start : Option (List ℕ)) → Stands self.old s → Took (B.text book.old) start (B.taken book.old) s
+            → Follows (B.text book.old) s.records self.new start (B.taken book.new) (piece_came piece.now s) result }
+        ensures fails { FailsWith result (B.failed book.old) (B.failed book.new) }
+        ensures form { B.text book.new ≡ B.text book.old }
+    {
+        let mut cut = Line::new();
+        let mut at = 0;
+        while at < piece.len() {
+            let (used, frame) = self.assembler.next(&piece[at..], &mut cut);
+            at += used;
+            if let Err(failed) = self.hear(book, frame) {
+                return Err(failed);
+            }
+        }
+        Ok(())
+    }
+
+    // Takes the lines of a piece where they are heard.
+    fn take_lines<B: Book>(&mut self, book: &mut B, piece: &[u8]) -> Result<(), PortFailed>
+        ensures takes { (s : Standing) (start : Option (List ℕ)) → Stands self.old s → Took (B.text book.old) start (B.taken book.old) s
+            → Follows (B.text book.old) s.records self.new start (B.taken book.new) (came (is_heard s.progress.phase) piece.now s) result }
+        ensures fails { FailsWith result (B.failed book.old) (B.failed book.new) }
+        ensures form { B.text book.new ≡ B.text book.old }
+    {
+        if !self.progress.phase.is_heard() {
+            return Ok(());
+        }
+        self.listen(book, piece)
+    }
+
+    // Takes a piece, behind which it was this moment.
+    fn take_piece<B: Book>(
+        &mut self,
+        book: &mut B,
+        plan: &Plan,
+        until: Until,
+        piece: &[u8],
+        now: Moment,
+    ) -> Result<(), PortFailed>
+        ensures takes { (s : Standing) (start : Option (List ℕ)) → Stands self.old s → Took (B.text book.old) start (B.taken book.old) s
+            → Follows (B.text book.old) s.records self.new start (B.taken book.new) (piece_at plan.now until piece.now now s) result }
+        ensures fails { FailsWith result (B.failed book.old) (B.failed book.new) }
+        ensures form { B.text book.new ≡ B.text book.old }
+    {
+        let before = self.commands();
+        self.progress.tell(now);
+        self.client.expire(now.elapsed);
+        if let Err(failed) = self.take_lines(book, piece) {
+            return Err(failed);
+        }
+        let after = self.waiting();
+        self.progress.give(plan, until, before, after);
+        self.progress.reckon_early(plan, after.commands);
+        Ok(())
+    }
+
+    // Reads, and takes what came.
+    pub(super) fn read<L: Link, B: Book>(
+        &mut self,
+        link: &mut L,
+        book: &mut B,
+        plan: &Plan,
+        until: Until,
+    ) -> Result<(), PortFailed>
+        ensures does { (commands : List Task)
+            → Made commands (Read until) (moved plan.now commands (Read until)) (seen (L.acts link.old) (B.text book.old) (B.taken book.old) self.old) (seen (L.acts link.new) (B.text book.old) (B.taken book.new) self.new) result }
+        ensures fails { FailsWith result (B.failed book.old) (B.failed book.new) }
+        ensures form { B.text book.new ≡ B.text book.old }
+    {
+        let mut buf = [0u8; 256];
+        let millis = self.patience(plan, until);
+        match link.read(&mut buf, millis) {
+            Came::Bytes(n, moment) => self.take_piece(book, plan, until, &buf[..n], moment),
+            Came::Silence(moment) => {
+                let given_up = self.client.expire(moment.elapsed);
+                self.progress.be_silent(plan, until, moment);
+                self.progress.renew_quiet(!given_up.is_empty(), moment);
+                Ok(())
+            }
+            Came::End => {
+                self.progress.fail(Cause::End);
+                Ok(())
+            }
+            Came::Failure => {
+                self.progress.fail(Cause::Read);
+                Ok(())
+            }
+            Came::NoMoment => {
+                self.progress.fail(Cause::Clock);
+                Ok(())
+            }
+        }
+    }
+}

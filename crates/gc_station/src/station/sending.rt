@@ -1,0 +1,138 @@
+//! What a station sends: the line feed that clears half a request, and requests.
+
+ghost use Rattle.std.specs.Prelude.{◌≡◌, ℕ, ◌<◌, ◌≤◌, ◌++◌, List, [], ◌∷◌, length, Option};
+ghost use Rattle.gc_client.specs.Rule.{sends};
+ghost use Rattle.gc_client.specs.declared.window.TheConstants.{WINDOW};
+ghost use Rattle.gc_catalogue.specs.declared.call.Call.TheVariants.{NullProc};
+ghost use Rattle.gc_links.specs.Acts.{Tells, put_as, IsPart};
+ghost use Rattle.gc_station.specs.Deciding.{later};
+ghost use Rattle.gc_station.specs.Records.{Record};
+ghost use Rattle.gc_station.specs.Standing.{request_text, client_sent};
+ghost use Rattle.gc_station.specs.Stations.{IsPaired, Does, cut_progress, seen};
+ghost use Rattle.gc_station.specs.declared.progress.Order.TheVariants.{Clear, Probe, Send, Flush};
+
+use super::Station;
+use crate::cause::Cause;
+use crate::mark::Mark;
+use crate::plan::Plan;
+use crate::progressing::later;
+use arrayvec::ArrayVec;
+use gc_catalogue::Call;
+use gc_lines::{Line, append};
+use gc_links::Link;
+use gc_texts::{Command, Task};
+
+// The null procedure, for no target.
+fn null_command() -> Command
+    ensures { result ≡ record { target = 0; call = NullProc } }
+{
+    Command {
+        target: 0,
+        call: Call::NullProc,
+    }
+}
+
+impl Station {
+    // The connection is to be closed where a write was cut.
+    fn cut(&mut self, put: Result<(), usize>, requests: usize)
+        ensures { self.new ≡ record self.old { progress = cut_progress put requests self.old.progress } }
+    {
+        if let Err(bytes) = put {
+            self.progress.fail(Cause::Write { requests, bytes });
+        }
+    }
+
+    // Sends a lone line feed.
+    pub(super) fn clear<L: Link>(&mut self, link: &mut L, plan: &Plan, commands: &[Task])
+        ensures { (text : Record → List ℕ) (known : Option (List ℕ))
+            → Does plan.now commands.now Clear (seen (L.acts link.old) text known self.old) (seen (L.acts link.new) text known self.new) }
+    {
+        let requests = self.requests_out(plan, commands);
+        let put = link.put(b"\n");
+        self.progress.clear();
+        self.cut(put, requests);
+    }
+
+    // Sends a request, which has this mark.
+    fn ask<L: Link>(
+        &mut self,
+        link: &mut L,
+        command: &Command,
+        wait: u64,
+        mark: Option<Mark>,
+    ) -> Result<(), usize>
+        requires width { self.old.client.width ≡ WINDOW }
+        requires room { length self.old.client.ids.waiting < WINDOW }
+        requires paired { IsPaired self.old }
+        ensures tells { Tells (L.acts link.old) (L.acts link.new) (put_as result (request_text self.old.client.ids command.now.call) ∷ []) }
+        ensures part { IsPart result (request_text self.old.client.ids command.now.call) }
+        ensures asks { self.new ≡ record self.old {
+          client = record self.old.client {
+            ids =
+                client_sent self.old.client.ids (sends self.old.client.width self.old.client.ids command.now.target command.now.call (later self.old.progress.moment.elapsed wait));
+          };
+          marks = record { items = self.old.marks.items ++ mark ∷ [] };
+        } }
+    {
+        let deadline = later(self.progress.moment.elapsed, wait);
+        let mut line = Line::new();
+        let Ok(()) = self
+            .client
+            .send_into(command.target, &command.call, deadline, &mut line)
+        else {
+            unreachable!()
+        };
+        self.marks.push(mark);
+        let mut text = ArrayVec::<u8, 514>::new();
+        append(&mut text, &line);
+        append(&mut text, b"\r\n");
+        link.put(text.as_slice())
+    }
+
+    // Sends the null procedure with which it begins anew.
+    pub(super) fn probe<L: Link>(&mut self, link: &mut L, plan: &Plan, commands: &[Task])
+        requires width { self.old.client.width ≡ WINDOW }
+        requires room { length self.old.client.ids.waiting < WINDOW }
+        requires paired { IsPaired self.old }
+        ensures { (text : Record → List ℕ) (known : Option (List ℕ))
+            → Does plan.now commands.now Probe (seen (L.acts link.old) text known self.old) (seen (L.acts link.new) text known self.new) }
+    {
+        let requests = self.requests_out(plan, commands);
+        let put = self.ask(link, &null_command(), plan.deadline, None);
+        self.progress.probe();
+        self.cut(put, requests);
+    }
+
+    // Sends the next command.
+    pub(super) fn send<L: Link>(&mut self, link: &mut L, plan: &Plan, commands: &[Task])
+        requires width { self.old.client.width ≡ WINDOW }
+        requires room { length self.old.client.ids.waiting < WINDOW }
+        requires paired { IsPaired self.old }
+        requires unsent { 0 < self.old.progress.unsent }
+        requires within { self.old.progress.unsent ≤ length commands.now }
+        ensures { (text : Record → List ℕ) (known : Option (List ℕ))
+            → Does plan.now commands.now Send (seen (L.acts link.old) text known self.old) (seen (L.acts link.new) text known self.new) }
+    {
+        let requests = self.requests_out(plan, commands);
+        let mark = self.mark(plan, commands);
+        let task = &commands[self.place(commands)];
+        let bound = self.bound_next(commands);
+        let put = self.ask(link, &task.command, task.deadline, Some(mark));
+        self.progress.send(bound);
+        self.cut(put, requests);
+    }
+
+    // Sends a null procedure behind requests that are all given up.
+    pub(super) fn flush<L: Link>(&mut self, link: &mut L, plan: &Plan, commands: &[Task])
+        requires width { self.old.client.width ≡ WINDOW }
+        requires room { length self.old.client.ids.waiting < WINDOW }
+        requires paired { IsPaired self.old }
+        ensures { (text : Record → List ℕ) (known : Option (List ℕ))
+            → Does plan.now commands.now Flush (seen (L.acts link.old) text known self.old) (seen (L.acts link.new) text known self.new) }
+    {
+        let requests = self.requests_out(plan, commands);
+        let put = self.ask(link, &null_command(), plan.deadline, None);
+        self.progress.ask();
+        self.cut(put, requests);
+    }
+}
