@@ -327,6 +327,11 @@ fn reconnections(rt: HostRuntime) -> Result<(), Fail> {
         b"10l 11a ",
         None,
     );
+    Ok(())
+}
+
+#[test]
+fn drained_connections(rt: HostRuntime) -> Result<(), Fail> {
     runs_to(
         &rt,
         "what came while the new connection was drained is dropped",

@@ -1,14 +1,12 @@
 -- The trouble of parameters is that of their call, and that is its line's.
-use Rattle.std.proofs.Common.{◌≡◌, ℕ, List, inr, refl, subst, sym}
+use Rattle.std.proofs.Common.{◌≡◌, ℕ, List, refl, subst, sym}
 use Rattle.gc_catalogue.specs.Calls.{IsRefusal}
 use Rattle.gc_catalogue.specs.declared.fault.CallFault.{CallFault}
 use Rattle.gc_catalogue.specs.declared.fault.CallFault.TheVariants.{Parameters}
 use Rattle.gc_values.specs.declared.fault.ValueFault.{ValueFault}
 use Rattle.gc_values.specs.declared.fault.ValueFault.TheVariants as fault
-use Rattle.gc_texts.specs.Procedures.{IsNumber}
-use Rattle.gc_texts.specs.Troubles.{IsCallTrouble, IsTrouble, list_trouble, second_word, words_behind}
+use Rattle.gc_texts.specs.Troubles.{IsCallTrouble, list_trouble}
 use Rattle.gc_texts.specs.declared.trouble.Trouble.{Trouble}
-use Rattle.gc_texts.specs.declared.trouble.Trouble.TheVariants as trouble
 
 of_fault : (rpc : ℕ) (params : List ℕ) (e : ValueFault) → IsRefusal rpc params (Parameters e) → IsCallTrouble rpc params (list_trouble rpc e)
 of_fault rpc params fault.Spelling refused = record { fault = fault.Spelling; refused = refused; is = refl }
@@ -21,14 +19,3 @@ of_fault rpc params fault.Count refused = record { fault = fault.Count; refused 
 pub list_is : (rpc : ℕ) (params : List ℕ) (of : CallFault) (e : ValueFault) (t : Trouble) → IsRefusal rpc params of → of ≡ Parameters e → t ≡ list_trouble rpc e → IsCallTrouble rpc params t
 list_is rpc params of e t refused same is =
     subst (λ (x : Trouble). IsCallTrouble rpc params x) (sym is) (of_fault rpc params e (subst (λ (f : CallFault). IsRefusal rpc params f) same refused))
-
--- the second word is the number, and the parameters stand behind it
-pub asked_is : (line : List ℕ) (rpc : ℕ) (t : Trouble) → IsNumber (second_word line) rpc 65535 → IsCallTrouble rpc (words_behind line) t → IsTrouble line t
-asked_is line rpc (trouble.NoProcedure n) number is = record { rpc = rpc; number = number; is = is }
-asked_is line rpc (trouble.Wants n count) number is = record { rpc = rpc; number = number; is = is }
-asked_is line rpc trouble.Parameters number is = record { rpc = rpc; number = number; is = is }
-asked_is line rpc trouble.NoForm number is = inr (record { rpc = rpc; number = number; is = is })
-asked_is line rpc trouble.Number number is = absurd is
-asked_is line rpc trouble.Target number is = absurd is
-asked_is line rpc trouble.Deadline number is = absurd is
-asked_is line rpc trouble.Name number is = absurd is

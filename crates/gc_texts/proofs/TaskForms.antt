@@ -17,9 +17,6 @@ use Rattle.gc_texts.proofs.Procedures.{one_number}
 pub deadline_digits : (line rest : List ℕ) (deadline : ℕ) → line ≡ codes "deadline " ++ rest → (is : IsDeadline line deadline) → is.digits ≡ rest
 deadline_digits line rest deadline e is = append_cancel_left (codes "deadline ") is.digits rest (sym is.line_is ∙ e)
 
-pub no_deadline : (line rest : List ℕ) → line ≡ codes "deadline " ++ rest → ((n : ℕ) → IsNumber rest n 86400000 → ⊥) → (deadline : ℕ) → IsDeadline line deadline → ⊥
-no_deadline line rest e none deadline is = none deadline (subst (λ (ds : List ℕ). IsNumber ds deadline 86400000) (deadline_digits line rest deadline e is) is.number)
-
 -- a deadline of 0 is none
 pub no_zero : (line rest : List ℕ) (n : ℕ) → line ≡ codes "deadline " ++ rest → IsNumber rest n 86400000 → n ≡ 0 → (deadline : ℕ) → IsDeadline line deadline → ⊥
 no_zero line rest n e number zero deadline is =

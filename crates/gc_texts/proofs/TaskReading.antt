@@ -1,16 +1,16 @@
 -- The tasks and names of lines that stand one behind the other, and how far the reading of a station's text has come.
-use Rattle.std.proofs.Common.{◌≡◌, ◌+◌, ◌≤◌, ℕ, List, [], ◌∷◌, ◌++◌, length, Option, Some, None, Bool, true, false, refl, ap, subst, sym, ◌∙◌, append_assoc, append-nil}
-use Rattle.std.specs.Prelude.{filter, not}
+use Rattle.std.proofs.Common.{◌≡◌, ◌+◌, ◌≤◌, ℕ, List, [], ◌∷◌, ◌++◌, length, Option, Some, Bool, true, false, refl, ap, subst, sym, ◌∙◌, append_assoc, append-nil}
+use Rattle.std.specs.Prelude.{not}
 use Rattle.gc_texts.specs.Cuts.{Cuts}
-use Rattle.gc_texts.specs.LineForms.{text_lines, is_skipped, is_kept, without_cr, AreItems}
+use Rattle.gc_texts.specs.LineForms.{text_lines, is_skipped, is_kept, without_cr}
 use Rattle.gc_texts.specs.TaskLines.{IsTaskLine}
-use Rattle.gc_texts.specs.Tasks.{opening, behind, task_at, tasks_of, name_at, names_of, may_stand, MayFollow, IsTasks, IsFirstFaultyTask, IsBehindATask}
+use Rattle.gc_texts.specs.Tasks.{behind, task_at, tasks_of, name_at, names_of, may_stand, MayFollow, IsFirstFaultyTask, IsBehindATask}
 use Rattle.gc_texts.specs.declared.name.Name.{Name}
 use Rattle.gc_texts.specs.declared.task_line.TaskLine.{TaskLine}
 use Rattle.gc_texts.specs.declared.tasks.Mode.{Mode}
 use Rattle.gc_texts.specs.declared.tasks.Task.{Task}
 use Rattle.gc_texts.proofs.TaskForms.{one_said}
-use Rattle.gc_texts.proofs.TextLines.{Reads, reads_none, reads_few, lines_left, lines-cut, turn_skips, turn_reads}
+use Rattle.gc_texts.proofs.TextLines.{Reads, reads_few, lines_left, lines-cut, turn_skips, turn_reads}
 
 -- what holds behind lines
 abbrev pub behind_all : Mode → List TaskLine → Mode
@@ -45,27 +45,9 @@ pub record ReadsTasks (text : List ℕ) (first : Mode) (left : Option (List ℕ)
   pub names_are : names ≡ names_of said
   pub mode_is : mode ≡ behind_all first said
 
--- at the beginning all lines are left
-pub tasks_none : (text : List ℕ) (first : Mode) → ReadsTasks text first (Some text) 0 [] [] first
-tasks_none text first = record { said = []; reads = reads_none IsTaskLine text; follow = tt; tasks_are = refl; names_are = refl; mode_is = refl }
-
 -- of a text within the limit no more lines are read than a u32 counts
 pub tasks_few : (text : List ℕ) (first : Mode) (left : Option (List ℕ)) (number : ℕ) (tasks : List Task) (names : List Name) (mode : Mode) → length text ≤ 65536 → ReadsTasks text first left number tasks names mode → number ≤ 65537
 tasks_few text first left number tasks names mode within r = reads_few IsTaskLine text left number r.said within r.reads
-
-opening_is : (first : Mode) → first.row ≡ None → first ≡ opening first.deadline first.chained
-opening_is first none = ap (λ row. record { deadline = first.deadline; chained = first.chained; row = row }) none
-
--- all lines are read: these are the text's tasks and names
-pub tasks_all : (text : List ℕ) (first : Mode) (number : ℕ) (tasks : List Task) (names : List Name) (mode : Mode) → first.row ≡ None → ReadsTasks text first None number tasks names mode → IsTasks text first.deadline first.chained tasks names
-tasks_all text first number tasks names mode none r =
-    let all : text_lines text ≡ r.reads.read = r.reads.lines_are ∙ append-nil r.reads.read in
-    record {
-      said = r.said;
-      lines = record { forms = subst (λ ls. AreItems IsTaskLine (filter is_kept ls) r.said) (sym all) r.reads.items_are; follow = r.follow };
-      tasks_are = r.tasks_are ∙ ap (λ m. tasks_of m r.said) (opening_is first none);
-      names_are = r.names_are;
-    }
 
 -- one turn of the reading: a line that stands at the front of what is left
 module _

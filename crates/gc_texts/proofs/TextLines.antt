@@ -3,7 +3,7 @@ use Rattle.std.proofs.Common.{◌≡◌, ◌≢◌, ◌≤◌, ◌+◌, ℕ, Lis
 use Rattle.std.specs.Prelude.{filter, not}
 use Rattle.std.proofs.lemmas.List.{length-map}
 use Rattle.gc_texts.specs.Cuts.{Cuts, Lacks}
-use Rattle.gc_texts.specs.LineForms.{Form, text_pieces, without_cr, text_lines, is_skipped, is_kept, AreItems, IsText, FirstFaulty, BehindAnItem}
+use Rattle.gc_texts.specs.LineForms.{Form, text_pieces, without_cr, text_lines, is_skipped, is_kept, AreItems, FirstFaulty, BehindAnItem}
 
 -- the lines of what is left of a text
 abbrev pub lines_left : Option (List ℕ) → List (List ℕ)
@@ -102,12 +102,6 @@ skipped_line form line skipped = subst (λ ls. AreItems form ls []) (sym (ap (λ
 -- and a line that isn't has its own
 pub kept_line : {Item : Type 0} (form : Form Item) (line : List ℕ) (item : Item) → is_skipped line ≡ false → form line item → LineItems form line (item ∷ [])
 kept_line form line item kept is = subst (λ ls. AreItems form ls (item ∷ [])) (sym (ap (λ t. cond (not t) (line ∷ []) []) kept)) (is, tt)
-
--- all lines are read: these are the text's items
-pub reads_all : {Item : Type 0} (form : Form Item) (text : List ℕ) (number : ℕ) (items : List Item) → Reads form text None number items → IsText form text items
-reads_all form text number items r =
-    let all : text_lines text ≡ r.read = r.lines_are ∙ append-nil r.read in
-    subst (λ ls. AreItems form (filter is_kept ls) items) (sym all) r.items_are
 
 -- the next line has the form of no item
 pub first_faulty : {Item : Type 0} (form : Form Item) (text now line : List ℕ) (rest : Option (List ℕ)) (number : ℕ) (items : List Item) → Reads form text (Some now) number items → Cuts 10 now line rest → is_skipped (without_cr line) ≡ false → ((e : Item) → form (without_cr line) e → ⊥) → FirstFaulty form text (number + 1)

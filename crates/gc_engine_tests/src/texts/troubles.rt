@@ -1,11 +1,27 @@
 //! Which field of a faulty line is at fault.
 
 use gc_texts::{Trouble, trouble_of};
+use std::alloc::Global;
+use std::process::Abort;
 use std::test::Fail;
 
+// Each line has this trouble, which is told in these words.
+fn troubles(rt: &impl Abort, alloc: Global, rows: &[(&[u8], Trouble, &str)]) -> Result<(), Fail> {
+    for (line, trouble, text) in rows {
+        let found = trouble_of(line);
+        assert_eq!(rt; found, *trouble, "{text}");
+        let mut told = Vec::new(alloc);
+        found.tell(3, &mut told)?;
+        let told = str::from_utf8(told.as_slice()).expect(rt, text);
+        let line = format!(in alloc; "geocom: line 3: {text}\n")?;
+        assert_eq!(rt; told, line.as_str());
+    }
+    Ok(())
+}
+
 #[test]
-fn each_field_at_fault(rt: HostRuntime) -> Result<(), Fail> {
-    let rows: [(&[u8], Trouble, &str); 20] = [
+fn parameters_at_fault(rt: HostRuntime) -> Result<(), Fail> {
+    let rows: [(&[u8], Trouble, &str); 9] = [
         (b"7 5002", Trouble::NoProcedure(5002), "no procedure 5002"),
         (
             b"7 5003 1",
@@ -47,6 +63,13 @@ fn each_field_at_fault(rt: HostRuntime) -> Result<(), Fail> {
             Trouble::Parameters,
             "spelling of the parameters",
         ),
+    ];
+    troubles(&rt, rt.alloc(), rows.as_slice())
+}
+
+#[test]
+fn other_fields_at_fault(rt: HostRuntime) -> Result<(), Fail> {
+    let rows: [(&[u8], Trouble, &str); 11] = [
         (b"7 65536", Trouble::Number, "procedure"),
         (b"7  5003", Trouble::Number, "procedure"),
         (b"4294967296 5003", Trouble::Target, "target"),
@@ -59,15 +82,5 @@ fn each_field_at_fault(rt: HostRuntime) -> Result<(), Fail> {
         (b"chained ", Trouble::NoForm, "no form"),
         (b"7", Trouble::NoForm, "no form"),
     ];
-    for (line, trouble, text) in rows {
-        let alloc = rt.alloc();
-        let found = trouble_of(line);
-        assert_eq!(rt; found, trouble, "{text}");
-        let mut told = Vec::new(alloc);
-        found.tell(3, &mut told)?;
-        let told = str::from_utf8(told.as_slice()).expect(&rt, text);
-        let line = format!(in alloc; "geocom: line 3: {text}\n")?;
-        assert_eq!(rt; told, line.as_str());
-    }
-    Ok(())
+    troubles(&rt, rt.alloc(), rows.as_slice())
 }

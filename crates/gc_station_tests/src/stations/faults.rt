@@ -89,11 +89,7 @@ fn failing_opens_and_clocks(rt: HostRuntime) -> Result<(), Fail> {
 }
 
 #[test]
-fn cut_writes(rt: HostRuntime) -> Result<(), Fail> {
-    let once = Plan {
-        retries: 0,
-        ..plan()
-    };
+fn cut_line_feeds(rt: HostRuntime) -> Result<(), Fail> {
     runs_to(
         &rt,
         "a cut line feed",
@@ -106,7 +102,10 @@ fn cut_writes(rt: HostRuntime) -> Result<(), Fail> {
     runs_to(
         &rt,
         "a cut line feed, and no new try",
-        once,
+        Plan {
+            retries: 0,
+            ..plan()
+        },
         failing([].as_slice(), 0, 1, false),
         b"open cut close ",
         b"",
@@ -115,6 +114,11 @@ fn cut_writes(rt: HostRuntime) -> Result<(), Fail> {
             bytes: 0,
         }),
     );
+    Ok(())
+}
+
+#[test]
+fn cut_requests(rt: HostRuntime) -> Result<(), Fail> {
     runs_to(
         &rt,
         "a cut request",
@@ -160,7 +164,10 @@ fn cut_writes(rt: HostRuntime) -> Result<(), Fail> {
     runs_to(
         &rt,
         "a cut request, and no new try",
-        once,
+        Plan {
+            retries: 0,
+            ..plan()
+        },
         failing([QUIET, BEGUN].as_slice(), 0, 3, false),
         b"open lf %R1Q,0,0: cut close ",
         b"10x ",

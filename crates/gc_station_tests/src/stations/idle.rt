@@ -59,6 +59,11 @@ fn idle_between_cycles(rt: HostRuntime) -> Result<(), Fail> {
         b"10a 11a ",
         Some(RunFault::LinkClosed),
     );
+    Ok(())
+}
+
+#[test]
+fn an_overrun_told_once(rt: HostRuntime) -> Result<(), Fail> {
     runs_to(
         &rt,
         "a cycle that isn't done is told once, when the next is due",

@@ -129,10 +129,9 @@ fn a_request_cut_at_every_place_and_no_new_try(rt: HostRuntime) -> Result<(), Fa
     Ok(())
 }
 
-// The next cycle begins anew to count. A line feed that is cut doesn't change what the cycle's requests count to.
+// The next cycle begins anew to count.
 #[test]
 fn a_later_put_cut(rt: HostRuntime) -> Result<(), Fail> {
-    let none = b"".as_slice();
     stalls(
         &rt,
         twice(0),
@@ -162,6 +161,13 @@ fn a_later_put_cut(rt: HostRuntime) -> Result<(), Fail> {
         b"10a 11x ",
         None,
     );
+    Ok(())
+}
+
+// It doesn't change what the cycle's requests count to.
+#[test]
+fn a_later_line_feed_cut(rt: HostRuntime) -> Result<(), Fail> {
+    let none = b"".as_slice();
     stalls(
         &rt,
         plan(),

@@ -125,6 +125,12 @@ fn null_procedures_over_cycles(rt: HostRuntime) -> Result<(), Fail> {
         FOUR_ANSWERED,
         None,
     );
+    Ok(())
+}
+
+// The same, where the next cycle isn't due yet.
+#[test]
+fn null_procedures_between_cycles(rt: HostRuntime) -> Result<(), Fail> {
     runs_to(
         &rt,
         "it is given up between two cycles",
@@ -263,6 +269,12 @@ fn pauses_before_a_new_try(rt: HostRuntime) -> Result<(), Fail> {
         b"",
         Some(RunFault::Socket),
     );
+    Ok(())
+}
+
+// What gives back the tries.
+#[test]
+fn tries_given_back(rt: HostRuntime) -> Result<(), Fail> {
     let twice = Plan {
         retries: 2,
         ..plan()

@@ -4,8 +4,7 @@ use Rattle.std.specs.Fmt.{decimal}
 use Rattle.std.specs.Io.KnownBytes.{Appends}
 use Rattle.gc_lines.specs.Answering.{numbered}
 use Rattle.gc_lines.specs.declared.served.TheConstants.{WRITE_FAILED}
-use Rattle.gc_texts.specs.Faults.{run_fault_number, run_fault_text, fault_detail, fault_line}
-use Rattle.gc_texts.specs.declared.fault.RunFault.{RunFault}
+use Rattle.gc_texts.specs.Faults.{run_fault_number, run_fault_text, fault_line}
 use Rattle.gc_texts.proofs.FaultLines.{plain_detail, line_with}
 use Rattle.gc_texts.proofs.fault.RunFault.tell.Goals as goal
 
