@@ -2,10 +2,10 @@
 use Rattle.std.proofs.Common.{◌≡◌, ◌≢◌, ◌≤◌, ℕ, List, ◌+◌, ◌++◌, Some, Ok, Err, length, take, drop, ◌∙◌, sym, ap, arith}
 use Rattle.std.proofs.lemmas.List.{take_all, take-append-le, drop-drop}
 use Rattle.gc_values.specs.declared.fault.ValueFault.TheVariants.{Spelling, Range, OpenQuote, TooMany, Count}
+use Rattle.gc_catalogue.specs.CallFault.{refusal_number}
 use Rattle.gc_catalogue.specs.declared.fault.CallFault.{CallFault}
 use Rattle.gc_catalogue.specs.declared.fault.CallFault.TheVariants.{Unknown, Parameters}
 use Rattle.gc_client.specs.Rule.{Windowed}
-use Rattle.geocom_c.specs.Sending.{refusal_number}
 
 -- a client of the same width
 pub same_width : (c d : Windowed) → d.width ≡ c.width → d ≡ record c { ids = d.ids }

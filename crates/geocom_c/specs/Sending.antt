@@ -1,20 +1,12 @@
 -- What a send gives, this project's own.
 use Rattle.std.specs.Prelude.{◌≡◌, ℕ, List, length, take, Option, Some, None}
 use Rattle.gc_lines.specs.Lines.{with_end}
-use Rattle.gc_values.specs.ValueFault.{fault_number}
 use Rattle.gc_catalogue.specs.declared.call.Call.{Call}
-use Rattle.gc_catalogue.specs.declared.fault.CallFault.{CallFault}
-use Rattle.gc_catalogue.specs.declared.fault.CallFault.TheVariants.{Unknown, Parameters}
 use Rattle.gc_catalogue.specs.Texts.{request_line}
 use Rattle.gc_client.specs.Rule.{ById, Windowed, Sending}
 use Rattle.geocom_c.specs.State.{StandsFor}
 use Rattle.geocom_c.specs.declared.answers.GeocomCount.{GeocomCount}
 use Rattle.geocom_c.specs.declared.state.GeocomClient.{GeocomClient}
-
--- the fault of a procedure and parameters that are no call's: 21 where no procedure has the number, else the parameters' own
-abbrev pub refusal_number : CallFault → ℕ
-refusal_number Unknown = 21
-refusal_number (Parameters e) = fault_number e
 
 -- a send that the rule refused has fault 31 and changes nothing; else the line was written with its CR LF, and the state is the rule's
 abbrev pub IsSent : (c : Windowed) (rest : List ℕ) (call : Call) → Option (Sending ById) → (old new : GeocomClient) (before after : List ℕ) → GeocomCount → Type 0

@@ -3,18 +3,19 @@
 ghost use Rattle.std.specs.Prelude.{◌≡◌, ◌≢◌, ◌↔◌, ◌<◌, ◌≤◌, ℕ, List, length, drop};
 ghost use Rattle.gc_catalogue.specs.declared.call.Call.{Call};
 ghost use Rattle.gc_catalogue.specs.declared.fault.CallFault.{CallFault};
+ghost use Rattle.gc_catalogue.specs.CallFault.{refusal_number};
 ghost use Rattle.gc_catalogue.specs.Calls.{IsCall, IsRefusal};
 ghost use Rattle.gc_client.specs.Rule.{Windowed, sends};
 ghost use Rattle.geocom_c.specs.Rest.{IsRest};
 ghost use Rattle.geocom_c.specs.State.{StandsFor, IsAstray};
-ghost use Rattle.geocom_c.specs.Sending.{refusal_number, IsSent};
+ghost use Rattle.geocom_c.specs.Sending.{IsSent};
 ghost use Rattle.geocom_c.specs.declared.faults.TheConstants.{NO_ROOM, NO_CLIENT};
 
 use crate::answers::{GeocomCount, counted, refused};
 use crate::faults::{NO_CLIENT, NO_ROOM};
 use crate::rest::put;
 use crate::state::{GeocomClient, load, store};
-use gc_catalogue::{Call, CallFault, decode_call};
+use gc_catalogue::{Call, decode_call};
 use gc_client::{Client, Slots};
 use gc_lines::Request;
 
@@ -22,16 +23,6 @@ use gc_lines::Request;
 pub const LINE_ROOM: usize = 514;
 
 ghost use Rattle.geocom_c.specs.declared.sends.TheConstants.{LINE_ROOM};
-
-// The number of a refusal.
-fn number_of(fault: CallFault) -> u32
-    ensures { result ≡ refusal_number fault }
-{
-    match fault {
-        CallFault::Unknown => 21,
-        CallFault::Parameters(fault) => u32::from(fault.number()),
-    }
-}
 
 // Sends a call.
 fn send_call(
@@ -106,6 +97,6 @@ pub extern "C" fn geocom_client_send(
     };
     match decode_call(&request) {
         Ok(call) => send_call(state, client, target, deadline, call, line),
-        Err(fault) => refused(number_of(fault)),
+        Err(fault) => refused(u32::from(fault.refusal_number())),
     }
 }

@@ -9,9 +9,9 @@ ghost use Rattle.geocom_c.specs.FirstAre.{FirstAre};
 ghost use Rattle.geocom_c.specs.Settled.{IsTold, IsKind, IsAnswered, IsUnanswered, IsRecord, IsBy, AreBy};
 
 use crate::listed::{GeocomItem, NOWHERE, Told};
-use gc_catalogue::{Call, Reading, encode_call};
+use gc_catalogue::Reading;
 use gc_client::{Outcome, Settlement};
-use gc_lines::{Line, read_request};
+use gc_lines::Line;
 use gc_values::MOST_ITEMS;
 
 /// How a request ended.
@@ -38,16 +38,6 @@ pub struct GeocomSettlement {
     pub reading: u8,
 }
 
-// The number of a call's procedure.
-fn procedure_of(call: &Call) -> u16
-    ensures { result ≡ (call_fields call.now).number }
-{
-    match read_request(&encode_call(None, call)) {
-        Ok(request) => request.rpc,
-        Err(_) => 0,
-    }
-}
-
 // The record of a request that ended so, without an answer.
 fn unanswered(settlement: &Settlement, outcome: u8) -> GeocomSettlement
     ensures target { result.target ≡ settlement.now.target }
@@ -56,7 +46,7 @@ fn unanswered(settlement: &Settlement, outcome: u8) -> GeocomSettlement
 {
     GeocomSettlement {
         target: settlement.target,
-        procedure: procedure_of(&settlement.call),
+        procedure: settlement.call.number(),
         code: 0,
         line_length: 0,
         items: 0,
@@ -94,7 +84,7 @@ fn answered(
     let (kind, code) = kind_of(reading);
     GeocomSettlement {
         target: settlement.target,
-        procedure: procedure_of(&settlement.call),
+        procedure: settlement.call.number(),
         code,
         line_length: line.len() as u16,
         items: if kind == 1 { told.items } else { 0 },

@@ -26,4 +26,4 @@ pub returns-in_default-clause-astray : goal.returns-in_default-clause-astray
 returns-in_default-clause-astray c = (λ _. (c.if-line-lt-LINE_ROOM.false, c.load.ensures.none c.in_default.is), λ _. c.refused-in_default.ensures.fault)
 
 pub returns-in-Err-clause-astray : goal.returns-in-Err-clause-astray
-returns-in-Err-clause-astray c = (λ e. absurd (no_refusal_63 c.in-Err.fault (sym c.number_of.ensures ∙ sym c.refused-in-Err.ensures.fault ∙ e)), λ both. absurd (both.1 _ _ c.in-Some.ensures.found))
+returns-in-Err-clause-astray c = (λ e. absurd (no_refusal_63 c.in-Err.fault (sym c.refusal_number.ensures ∙ sym c.refused-in-Err.ensures.fault ∙ e)), λ both. absurd (both.1 _ _ c.in-Some.ensures.found))
