@@ -1,6 +1,9 @@
 //! What a call answers, in plain fields.
 
 ghost use Rattle.std.specs.Prelude.{◌≡◌};
+ghost use Rattle.geocom_c.specs.declared.header.TheConstants.{MORE};
+
+use crate::header::MORE;
 
 /// A fault or 0, and how many there are of what the call gives.
 #[repr(C)]
@@ -60,13 +63,13 @@ pub(crate) fn heard(kind: u32, line_fault: u32, count: u32) -> GeocomHeard
 }
 
 pub(crate) fn unheard(fault: u32) -> GeocomHeard
-    ensures { result ≡ record { used = 0; fault = fault; count = 0; kind = 0; line_fault = 0 } }
+    ensures { result ≡ record { used = 0; fault = fault; count = 0; kind = MORE; line_fault = 0 } }
 {
     GeocomHeard {
         used: 0,
         fault,
         count: 0,
-        kind: 0,
+        kind: MORE,
         line_fault: 0,
     }
 }

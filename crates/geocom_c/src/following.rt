@@ -9,8 +9,9 @@ ghost use Rattle.geocom_c.specs.Following.{hearing, FedTo, Follows, Reached};
 
 use crate::calls::{geocom_client_expire, geocom_client_init};
 use crate::feeding::{geocom_client_feed, geocom_client_restart};
-use crate::listed::{NOWHERE, TEXT_ROOM};
-use crate::sends::{LINE_ROOM, geocom_client_send};
+use crate::header::{LINE_ROOM, NONE, TEXT_ROOM};
+use crate::listed::NOWHERE;
+use crate::sends::geocom_client_send;
 use crate::settled::GeocomSettlement;
 use crate::state::GeocomClient;
 use gc_client::WINDOW;
@@ -39,7 +40,7 @@ pub(crate) const VACANT: GeocomSettlement = GeocomSettlement {
     items: 0,
     places: [NOWHERE; MOST_ITEMS],
     outcome: 0,
-    reading: 0,
+    reading: NONE,
 };
 
 // Feeds bytes through the first line feed, and says how many were used.

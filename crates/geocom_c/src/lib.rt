@@ -5,9 +5,9 @@
 
 mod answers;
 mod calls;
-mod faults;
 mod feeding;
 mod following;
+mod header;
 pub mod laws;
 mod listed;
 mod rest;
@@ -22,9 +22,9 @@ pub use calls::{
     geocom_client_expire, geocom_client_init, geocom_client_next_deadline, geocom_client_waiting,
     geocom_version,
 };
-pub use faults::numbers;
 pub use feeding::{geocom_client_feed, geocom_client_restart};
 pub use following::{Step, follow};
+pub use header::numbers;
 pub use listed::GeocomItem;
 pub use rest::GeocomRest;
 pub use sends::geocom_client_send;

@@ -6,13 +6,12 @@ ghost use Rattle.gc_values.specs.Lists.{AreParams};
 ghost use Rattle.gc_values.specs.declared.value.Value.{Value};
 ghost use Rattle.geocom_c.specs.FirstAre.{FirstAre};
 ghost use Rattle.geocom_c.specs.Settled.{StandsAt, AreListed, total, IsTold};
+ghost use Rattle.geocom_c.specs.declared.header.TheConstants.{TEXT_ROOM};
 
+use crate::header::TEXT_ROOM;
 use arrayvec::ArrayVec;
 use gc_lines::{Line, append, read_reply};
 use gc_values::{Items, MOST_ITEMS, split};
-
-/// How much room a line and its items take: the items are parts of the line.
-pub const TEXT_ROOM: usize = 1024;
 
 /// Where an item stands in a text.
 #[repr(C)]

@@ -9,20 +9,15 @@ ghost use Rattle.gc_client.specs.Rule.{Windowed, sends};
 ghost use Rattle.geocom_c.specs.Rest.{IsRest};
 ghost use Rattle.geocom_c.specs.State.{StandsFor, IsAstray};
 ghost use Rattle.geocom_c.specs.Sending.{IsSent};
-ghost use Rattle.geocom_c.specs.declared.faults.TheConstants.{NO_ROOM, NO_CLIENT};
+ghost use Rattle.geocom_c.specs.declared.header.TheConstants.{LINE_ROOM, WINDOW_FULL, NO_ROOM, NO_CLIENT};
 
 use crate::answers::{GeocomCount, counted, refused};
-use crate::faults::{NO_CLIENT, NO_ROOM};
+use crate::header::{LINE_ROOM, NO_CLIENT, NO_ROOM};
 use crate::rest::put;
 use crate::state::{GeocomClient, load, store};
 use gc_catalogue::{Call, decode_call};
 use gc_client::{Client, Slots};
 use gc_lines::Request;
-
-/// How much room a request line takes with its CR LF.
-pub const LINE_ROOM: usize = 514;
-
-ghost use Rattle.geocom_c.specs.declared.sends.TheConstants.{LINE_ROOM};
 
 // Sends a call.
 fn send_call(
@@ -38,9 +33,9 @@ fn send_call(
         → IsSent client rest call (sends client.width client.ids target call deadline) state.old state.new line.old line.new result }
     ensures untouched { drop result.count line.new ≡ drop result.count line.old }
     ensures length { length line.new ≡ length line.old }
-    ensures full { result.fault ≡ 31 → length client.ids.waiting ≡ client.width }
+    ensures full { result.fault ≡ WINDOW_FULL → length client.ids.waiting ≡ client.width }
     ensures done { result.fault ≡ 0 → length client.ids.waiting < client.width }
-    ensures either { (result.fault ≢ 0) → result.fault ≡ 31 }
+    ensures either { (result.fault ≢ 0) → result.fault ≡ WINDOW_FULL }
     ensures refused { result.fault ≢ 0 → (result.count ≡ 0) × (state.new ≡ state.old) × (line.new ≡ line.old) }
 {
     match client.send(target, call, deadline) {
@@ -74,11 +69,11 @@ pub extern "C" fn geocom_client_send(
         → IsRefusal procedure params.now e → result.fault ≡ refusal_number e }
     ensures room { (result.fault ≡ NO_ROOM) ↔ (length line.old < LINE_ROOM) }
     ensures astray { (result.fault ≡ NO_CLIENT) ↔ ((LINE_ROOM ≤ length line.old) × IsAstray state.old) }
-    ensures full { result.fault ≡ 31 → (c : Windowed) × (rest : List ℕ) × (call : Call) × StandsFor state.old c rest
+    ensures full { result.fault ≡ WINDOW_FULL → (c : Windowed) × (rest : List ℕ) × (call : Call) × StandsFor state.old c rest
         × IsCall procedure params.now call × (length c.ids.waiting ≡ c.width) }
     ensures done { result.fault ≡ 0 → (c : Windowed) × (rest : List ℕ) × (call : Call) × StandsFor state.old c rest
         × IsCall procedure params.now call × (length c.ids.waiting < c.width) }
-    ensures refusal { result.fault ≢ 0 → result.fault ≢ 31 → result.fault ≢ NO_ROOM → result.fault ≢ NO_CLIENT
+    ensures refusal { result.fault ≢ 0 → result.fault ≢ WINDOW_FULL → result.fault ≢ NO_ROOM → result.fault ≢ NO_CLIENT
         → (e : CallFault) × IsRefusal procedure params.now e × (result.fault ≡ refusal_number e) }
     ensures refused { result.fault ≢ 0 → (result.count ≡ 0) × (state.new ≡ state.old) × (line.new ≡ line.old) }
     ensures untouched { drop result.count line.new ≡ drop result.count line.old }

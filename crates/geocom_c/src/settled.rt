@@ -8,6 +8,7 @@ ghost use Rattle.gc_client.specs.Settlements.{IsWellRead, ReadsAs, settlement_se
 ghost use Rattle.geocom_c.specs.FirstAre.{FirstAre};
 ghost use Rattle.geocom_c.specs.Settled.{IsTold, IsKind, IsAnswered, IsUnanswered, IsRecord, IsBy, AreBy};
 
+use crate::header::{ANSWERED, COM_FAULT, LATE, LOST, NONE, REFUSED, UNREADABLE, VALUE};
 use crate::listed::{GeocomItem, NOWHERE, Told};
 use gc_catalogue::Reading;
 use gc_client::{Outcome, Settlement};
@@ -52,7 +53,7 @@ fn unanswered(settlement: &Settlement, outcome: u8) -> GeocomSettlement
         items: 0,
         places: [NOWHERE; MOST_ITEMS],
         outcome,
-        reading: 0,
+        reading: NONE,
     }
 }
 
@@ -61,10 +62,10 @@ fn kind_of(reading: &Reading) -> (u8, u16)
     ensures { IsKind reading.now result.0 result.1 }
 {
     match reading {
-        Reading::Value(_) => (1, 0),
-        Reading::Refused(code) => (2, *code),
-        Reading::ComFault(code) => (3, *code),
-        Reading::Unreadable(fault) => (4, u16::from(fault.number())),
+        Reading::Value(_) => (VALUE, 0),
+        Reading::Refused(code) => (REFUSED, *code),
+        Reading::ComFault(code) => (COM_FAULT, *code),
+        Reading::Unreadable(fault) => (UNREADABLE, u16::from(fault.number())),
     }
 }
 
@@ -87,9 +88,9 @@ fn answered(
         procedure: settlement.call.number(),
         code,
         line_length: line.len() as u16,
-        items: if kind == 1 { told.items } else { 0 },
+        items: if kind == VALUE { told.items } else { 0 },
         places: told.places,
-        outcome: 1,
+        outcome: ANSWERED,
         reading: kind,
     }
 }
@@ -101,8 +102,8 @@ fn record_of(settlement: &Settlement, told: &Told) -> GeocomSettlement
 {
     match &settlement.outcome {
         Outcome::Answered(reading, line) => answered(settlement, reading, line, told),
-        Outcome::Late => unanswered(settlement, 2),
-        Outcome::Lost => unanswered(settlement, 3),
+        Outcome::Late => unanswered(settlement, LATE),
+        Outcome::Lost => unanswered(settlement, LOST),
     }
 }
 
@@ -129,6 +130,6 @@ pub(crate) fn put_lost(records: &mut [GeocomSettlement], settled: &[Settlement])
     ensures length { length records.new ≡ length records.old }
 {
     for k in 0..settled.len() {
-        records[k] = unanswered(&settled[k], 3);
+        records[k] = unanswered(&settled[k], LOST);
     }
 }

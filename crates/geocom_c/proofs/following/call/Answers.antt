@@ -9,6 +9,7 @@ use Rattle.gc_client.specs.OneForOne as one
 use Rattle.geocom_c.specs.State.{StandsFor}
 use Rattle.geocom_c.specs.Following.{hearing, Follows, Reached}
 use Rattle.geocom_c.specs.declared.following.Step.{Step}
+use Rattle.geocom_c.specs.declared.header.TheConstants.{WINDOW_FULL}
 use Rattle.geocom_c.specs.declared.state.GeocomClient.{GeocomClient}
 use Rattle.geocom_c.proofs.Hearings.{decided, sent_course}
 use Rattle.geocom_c.proofs.following.call.Goals as goal
@@ -49,7 +50,7 @@ returns-in-Send c = λ width x rest steps s.
       on = λ z end f. subst (λ (t : Step). Follows width x rest (t ∷ steps) z end) (sym c.in-Send.is) (inl (call, is, f));
     } in
     decided n 0 (λ e. let d = sent.ensures.done e in by d.2 d.4)
-    (λ no. decided n 31 (λ e. let d = sent.ensures.full e in by d.2 d.4)
+    (λ no. decided n WINDOW_FULL (λ e. let d = sent.ensures.full e in by d.2 d.4)
     (λ not_full. let r = sent.ensures.refusal no not_full (λ e. let short = sent.ensures.room.0 e in absurd (search rules)) (λ e. absurd ((sent.ensures.astray.0 e).1 client rest s)) in
     record {
       reached = x;
