@@ -32,12 +32,12 @@ pub data IsLineVerdict (line : List ℕ) (v : Verdict) : Type 0 where
   request : (q : RequestFields) → IsRequest line q → IsRequestVerdict q v → IsLineVerdict line v
   -- it reads as a reply
   reply : (r : ReplyFields) → IsReply line r → v ≡ verdict.Reply r.rc_com r.rc → IsLineVerdict line v
-  -- it begins as a reply, and its first bad field as one is named
+  -- it begins as a reply, and the first field that is bad in a reply is named
   no_reply : (fault : LineFault) → BeginsAsReply line → FirstBadOfReply line fault → v ≡ verdict.Fault fault → IsLineVerdict line v
-  -- it doesn't, and its first bad field as a request is named
+  -- it doesn't, and the first field that is bad in a request is named
   no_request : (fault : LineFault) → ¬ BeginsAsReply line → FirstBadOfRequest line fault → v ≡ verdict.Fault fault → IsLineVerdict line v
 
--- what is said of a frame; a stream has none that no line feed has ended
+-- what is said of a frame: nothing where no line feed has ended it, and a stream has no such frame
 abbrev pub IsVerdict : Frame → Verdict → Type 0
 IsVerdict (Line line) v = IsLineVerdict line.items v
 IsVerdict Cleared v = v ≡ verdict.Cleared
