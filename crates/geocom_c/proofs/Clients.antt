@@ -19,7 +19,7 @@ from_some x y e = cc
 pub full_alone : (n : ℕ) → (n ≢ 0 → n ≡ WINDOW_FULL) → n ≡ NO_CLIENT → ⊥
 full_alone n either e = let f : n ≡ WINDOW_FULL = either (λ z. (cc)) in cc
 
--- no refusal of a call has the number 63
+-- no refusal of a call has the number of no client
 refusal_below : (e : CallFault) → refusal_number e ≤ 22
 refusal_below Unknown = omega arith
 refusal_below (Parameters Spelling) = omega arith

@@ -9,7 +9,7 @@ use Rattle.geocom_c.specs.declared.answers.GeocomCount.{GeocomCount}
 use Rattle.geocom_c.specs.declared.header.TheConstants.{WINDOW_FULL}
 use Rattle.geocom_c.specs.declared.state.GeocomClient.{GeocomClient}
 
--- a send that the rule refused has fault 31 and changes nothing; else the line was written with its CR LF, and the state is the rule's
+-- a send that the rule refuses is told that the window is full, and changes nothing; else the line was written with its CR LF, and the state is the rule's
 abbrev pub IsSent : (c : Windowed) (rest : List ℕ) (call : Call) → Option (Sending ById) → (old new : GeocomClient) (before after : List ℕ) → GeocomCount → Type 0
 IsSent c rest call None old new before after r = (r.fault ≡ WINDOW_FULL) × (new ≡ old) × (after ≡ before)
 IsSent c rest call (Some s) old new before after r =

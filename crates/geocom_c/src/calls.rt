@@ -28,7 +28,7 @@ pub extern "C" fn geocom_version() -> u32
     VERSION
 }
 
-/// Makes a client that has sent nothing, and lets so many requests wait, 1 to 7.
+/// Makes a client that has sent nothing. It lets `width` requests wait, 1 to 7.
 ///
 /// Fault 61: another width; the state is as it was.
 #[unsafe(no_mangle)]
@@ -53,8 +53,8 @@ fn put_targets(targets: &mut [u32], due: &[u32])
     targets[..due.len()].copy_from_slice(due);
 }
 
-/// Gives up what is due at a moment, and writes the targets of what wasn't given up before, `count` of them. What stands
-/// behind these stays.
+/// Gives up each request whose deadline is at most `now`, and writes the targets of those that weren't given up before,
+/// `count` of them. What stands behind these stays.
 ///
 /// Faults: 62, `targets` has fewer than seven places; 63, the state is no client's. After a fault nothing has changed.
 #[unsafe(no_mangle)]

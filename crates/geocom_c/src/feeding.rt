@@ -125,9 +125,9 @@ fn feed(
 
 /// Takes bytes as they come, through the first line feed, and writes a record for each request that the line settles.
 ///
-/// `used` says how many bytes were used: those through the first line feed, or all where there is none. Call again with
-/// what is left, where something is. A line settles at most seven requests; where it settled, it stands at the front of
-/// `text`, and behind it the items of its parameters. Else nothing is written; and behind the `count` records never.
+/// `used` says how many bytes were used: those through the first line feed, or all where there is none. Where some are left,
+/// call again with these. A line settles at most seven requests. One that settles stands at the front of `text`, and behind it
+/// the items of its parameters. One that doesn't writes nothing. Behind the `count` records nothing is written.
 ///
 /// Faults: 62, `settlements` has fewer than seven places or `text` fewer than 1024 bytes; 63, the state is no client's.
 /// After a fault nothing has changed, and nothing was used.
@@ -167,11 +167,11 @@ pub extern "C" fn geocom_client_feed(
     }
 }
 
-/// Settles all that wait as lost, in order, writes a record for each, `count` of them and nothing behind these, and begins
-/// anew at id 0 and at the start of a line. The width stays.
+/// Settles all that wait as lost, in order, and writes a record for each: `count` of them, and nothing behind these. Then it
+/// begins anew, at id 0 and at the start of a line. The width stays.
 ///
 /// The caller vouches that no byte is under way in either direction, and that the instrument starts anew too, or keeps no
-/// replies.
+/// replies, or that a null procedure is sent next, and nothing else until it is answered.
 ///
 /// Faults: 62, `settlements` has fewer than seven places; 63, the state is no client's. After a fault nothing has changed.
 #[unsafe(no_mangle)]

@@ -32,6 +32,7 @@ pub enum Step<'a> {
     Restart,
 }
 
+// What stands in a place that no settlement was written to.
 pub(crate) const VACANT: GeocomSettlement = GeocomSettlement {
     target: 0,
     procedure: 0,
@@ -113,9 +114,9 @@ fn step_at<'a>(steps: &[Step<'a>], k: usize) -> Step<'a>
     steps[k]
 }
 
-/// Makes a client of this width, and then these calls, each with ample room. The state stands for the client that the rule
-/// makes of these calls, whatever they are, and for the bytes that came since the last line feed: what was settled, and behind
-/// it the requests that wait, are the sends that weren't refused, in order, each once.
+/// Makes a client of this width, and then these calls, each with ample room. Whatever the calls are, the state stands for the
+/// client that the rule makes of them, and for the bytes that came since the last line feed. What was settled, and behind it
+/// the requests that wait, are the sends that weren't refused, in order, each once.
 pub fn follow(state: &mut GeocomClient, width: u8, steps: &[Step<'_>])
     ensures { IsWidth width → (x : Course) × (rest : List ℕ) × Follows width begun [] steps.now x rest
         × StandsFor state.new (record { width = width; ids = x.client }) rest × IsOneForOne x }

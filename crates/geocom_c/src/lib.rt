@@ -1,6 +1,6 @@
 //! The client for C, C++ and Python: a static library over `gc_client`, with the names of `library/include/geocom.h`. The state
-//! is the caller's, plain bytes of a fixed size, and whatever stands in them a call returns: no call takes memory, starts a
-//! thread or opens anything. A pointer and a length stand for a slice.
+//! is the caller's: plain bytes of a fixed size. Whatever stands in them, a call returns. No call takes memory, starts a thread
+//! or opens anything. A pointer and a length stand for a slice.
 #![tactic(auto)]
 
 mod answers;

@@ -27,7 +27,7 @@ pub(crate) const NOWHERE: GeocomItem = GeocomItem {
     length: 0,
 };
 
-// A line with items behind it, how many items these are, and where they stand.
+// A line with the items of its parameters behind it, how many these are, and where they stand.
 #[derive(Drop)]
 pub(crate) struct Told {
     pub text: ArrayVec<u8, TEXT_ROOM>,
@@ -69,7 +69,7 @@ fn list(told: &mut Told, params: &[u8])
     }
 }
 
-// The text of a line.
+// A line, with the items of its parameters behind it where it is a reply.
 pub(crate) fn tell(line: &Line) -> Told
     ensures { IsTold result.text.items result.items result.places line.now.items }
 {

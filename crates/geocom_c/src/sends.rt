@@ -49,7 +49,7 @@ fn send_call(
     }
 }
 
-/// Sends a request, and writes its line with CR LF into `line`, `count` bytes of it and nothing behind these.
+/// Sends a request, and writes its line with CR LF into `line`: `count` bytes, and nothing behind these.
 ///
 /// Faults: 62, `line` has fewer than 514 bytes; 63, the state is no client's; 21, no procedure has the number; 11 to 15,
 /// the parameters don't read; 31, as many requests wait as the width allows. After a fault nothing has changed.

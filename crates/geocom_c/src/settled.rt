@@ -32,10 +32,9 @@ pub struct GeocomSettlement {
     pub items: u16,
     /// Where they stand in the text.
     pub places: [GeocomItem; MOST_ITEMS],
-    /// 1 answered, 2 late, 3 lost.
+    /// [`ANSWERED`], [`LATE`] or [`LOST`].
     pub outcome: u8,
-    /// What the answer says: 0 there is none, 1 a value, 2 a refusal, 3 a fault of communication, 4 its parameters don't
-    /// read.
+    /// What the answer says: [`NONE`] to [`UNREADABLE`].
     pub reading: u8,
 }
 
