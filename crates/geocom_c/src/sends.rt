@@ -30,7 +30,8 @@ fn send_call(
 ) -> GeocomCount
     requires { LINE_ROOM ≤ length line.old }
     ensures sent { (rest : List ℕ) → IsRest state.old.rest rest
-        → IsSent client rest call (sends client.width client.ids target call deadline) state.old state.new line.old line.new result }
+        → IsSent client rest call (sends client.width client.ids target call deadline)
+        (record { old = state.old; new = state.new; before = line.old; after = line.new; told = result }) }
     ensures untouched { drop result.count line.new ≡ drop result.count line.old }
     ensures length { length line.new ≡ length line.old }
     ensures full { result.fault ≡ WINDOW_FULL → length client.ids.waiting ≡ client.width }
@@ -64,7 +65,8 @@ pub extern "C" fn geocom_client_send(
 ) -> GeocomCount
     ensures sent { LINE_ROOM ≤ length line.old → (c : Windowed) (rest : List ℕ) (call : Call) → StandsFor state.old c rest
         → IsCall procedure params.now call
-        → IsSent c rest call (sends c.width c.ids target call deadline) state.old state.new line.old line.new result }
+        → IsSent c rest call (sends c.width c.ids target call deadline)
+        (record { old = state.old; new = state.new; before = line.old; after = line.new; told = result }) }
     ensures call { LINE_ROOM ≤ length line.old → (c : Windowed) (rest : List ℕ) (e : CallFault) → StandsFor state.old c rest
         → IsRefusal procedure params.now e → result.fault ≡ refusal_number e }
     ensures room { (result.fault ≡ NO_ROOM) ↔ (length line.old < LINE_ROOM) }
