@@ -23,8 +23,14 @@ public:
     const std::uint32_t number;
 };
 
-enum class outcome : std::uint8_t { answered = 1, late = 2, lost = 3 };
-enum class reading : std::uint8_t { none = 0, value = 1, refused = 2, com_fault = 3, unreadable = 4 };
+enum class outcome : std::uint8_t { answered = GEOCOM_ANSWERED, late = GEOCOM_LATE, lost = GEOCOM_LOST };
+enum class reading : std::uint8_t {
+    none = GEOCOM_NONE,
+    value = GEOCOM_VALUE,
+    refused = GEOCOM_REFUSED,
+    com_fault = GEOCOM_COM_FAULT,
+    unreadable = GEOCOM_UNREADABLE
+};
 
 // The end of a request.
 struct settlement {
@@ -116,7 +122,7 @@ private:
 
     geocom_client state_;
     std::array<geocom_settlement, GEOCOM_WINDOW> records_;
-    std::array<std::uint64_t, 6> kinds_{};
+    std::array<std::uint64_t, GEOCOM_OVERLONG + 1> kinds_{};
 };
 
 } // namespace geocom

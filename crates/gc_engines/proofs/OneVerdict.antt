@@ -1,6 +1,5 @@
 -- A frame has one verdict, and a stream one list of their lines.
 use Rattle.std.proofs.Common.{◌≡◌, ℕ, List, [], ◌∷◌, Result, Ok, Err, drop, slice_index, arith, refl, sym, ap, ◌∙◌, subst}
-use Rattle.gc_lines.specs.Faults.{fault_number}
 use Rattle.gc_lines.specs.Frames.{frames}
 use Rattle.gc_lines.specs.Readers.{request_at, reply_at}
 use Rattle.gc_lines.specs.Replies.{ReplyFields, IsReply}
@@ -13,7 +12,7 @@ use Rattle.gc_lines.proofs.Replies.{reply_one, reply_again, reply_bad}
 use Rattle.gc_catalogue.proofs.CallLaws.{one_refusal, no_refusal}
 use Rattle.gc_catalogue.specs.declared.fault.CallFault.{CallFault}
 use Rattle.gc_engines.specs.Laws.{OneVerdict}
-use Rattle.gc_engines.specs.Verdicts.{IsRequestVerdict, reads, refuses, BeginsAsReply, IsLineVerdict, request, reply, no_reply, no_request, IsVerdict, AreVerdicts, AreVerdictLines, lines_from, refusal_number}
+use Rattle.gc_engines.specs.Verdicts.{IsRequestVerdict, reads, refuses, BeginsAsReply, IsLineVerdict, request, reply, no_reply, no_request, IsVerdict, AreVerdicts, AreVerdictLines, lines_from}
 use Rattle.gc_engines.specs.declared.verdict.Verdict.{Verdict}
 use Rattle.gc_engines.specs.declared.verdict.Verdict.TheVariants as verdict
 
@@ -39,7 +38,7 @@ one_of_request q v w (reads c is says) (reads d other tells) = says ∙ sym tell
 one_of_request q v w (reads c is says) (refuses e other tells) = absurd (no_refusal q.rpc q.params c e is other)
 one_of_request q v w (refuses e is says) (reads c other tells) = absurd (no_refusal q.rpc q.params c e other is)
 one_of_request q v w (refuses e is says) (refuses f other tells) =
-    says ∙ ap (λ (g : CallFault). verdict.RequestFault q.rpc (refusal_number g)) (one_refusal q.rpc q.params e f is other) ∙ sym tells
+    says ∙ ap (λ (g : CallFault). verdict.RequestFault q.rpc g) (one_refusal q.rpc q.params e f is other) ∙ sym tells
 
 one_of_line : (line : List ℕ) (v w : Verdict) → IsLineVerdict line v → IsLineVerdict line w → v ≡ w
 one_of_line line v w (request q is says) (request p other tells) = one_of_request q v w says (subst (λ (f : RequestFields). IsRequestVerdict f w) (request_one line p q other is) tells)
@@ -53,13 +52,13 @@ one_of_line line v w (reply r is says) (no_request f none bad tells) = absurd (n
 one_of_line line v w (no_reply e so bad says) (request q other tells) = absurd (no_both line q other so)
 one_of_line line v w (no_reply e so bad says) (reply r other tells) = absurd (never (reply_at line) r e (reply_again line r other) (reply_bad line e bad))
 one_of_line line v w (no_reply e so bad says) (no_reply f also worse tells) =
-    says ∙ ap (λ (g : LineFault). verdict.Fault (fault_number g)) (one_fault (reply_at line) e f (reply_bad line e bad) (reply_bad line f worse)) ∙ sym tells
+    says ∙ ap (λ (g : LineFault). verdict.Fault g) (one_fault (reply_at line) e f (reply_bad line e bad) (reply_bad line f worse)) ∙ sym tells
 one_of_line line v w (no_reply e so bad says) (no_request f none worse tells) = absurd (none so)
 one_of_line line v w (no_request e none bad says) (request q other tells) = absurd (never (request_at line) q e (request_again line q other) (request_bad line e bad))
 one_of_line line v w (no_request e none bad says) (reply r other tells) = absurd (none (begins line r other))
 one_of_line line v w (no_request e none bad says) (no_reply f so worse tells) = absurd (none so)
 one_of_line line v w (no_request e none bad says) (no_request f nothing worse tells) =
-    says ∙ ap (λ (g : LineFault). verdict.Fault (fault_number g)) (one_fault (request_at line) e f (request_bad line e bad) (request_bad line f worse)) ∙ sym tells
+    says ∙ ap (λ (g : LineFault). verdict.Fault g) (one_fault (request_at line) e f (request_bad line e bad) (request_bad line f worse)) ∙ sym tells
 
 one_of_frame : (seen : Frame) (v w : Verdict) → IsVerdict seen v → IsVerdict seen w → v ≡ w
 one_of_frame (Line line) v w says tells = one_of_line line.items v w says tells

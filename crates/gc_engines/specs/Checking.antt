@@ -19,7 +19,7 @@ pub record ChecksAll (given : List ℕ) (old new : Option (List ℕ)) (count : �
   pub counts : count ≡ length lines
   pub took : Appends old new (all_of lines)
 
--- the first frames' lines went out, count of them whole, and of the last the first bytes, which aren't all
+-- the lines of the verdicts on the first frames went out: count of them whole, and of one more the first bytes, which aren't all of it
 pub record ChecksPart (given : List ℕ) (old new : Option (List ℕ)) (count bytes : ℕ) : Type 0 where
   pub seen : List Frame
   pub later : List Frame
@@ -31,19 +31,19 @@ pub record ChecksPart (given : List ℕ) (old new : Option (List ℕ)) (count by
   pub not_all : bytes < length line
   pub took : Appends old new (all_of whole ++ take bytes line)
 
--- what was done with the frames of what was read
+-- what went out of the frames of these bytes, by the result
 abbrev pub Checks : List ℕ → Option (List ℕ) → Option (List ℕ) → Result Served ServeFault → Type 0
 Checks given old new (Ok served) = ChecksAll given old new served.replies
 Checks given old new (Err (Read count)) = ChecksAll given old new count
 Checks given old new (Err (Write count bytes)) = ChecksPart given old new count bytes
 Checks given old new (Err (TooManyReads count)) = ChecksAll given old new count
 
--- a check in at most most reads took the ports from old to new, and gave this result
+-- a check that may make so many reads took the ports from old to new, and gave this result
 pub record IsChecking (old new : Ports) (most : ℕ) (result : Result Served ServeFault) : Type 0 where
-  -- of the bytes that the source gave, the sink took the lines of the verdicts, or the part that the fault says
+  -- the sink took the lines of the verdicts on the bytes that the source gave, or the part of them that the fault says
   pub checks : (given : List ℕ) × Consumes old.remaining new.remaining given
       × (length given ≤ 256 * (new.reads - old.reads)) × Checks given old.taken new.taken result
-  -- why it ended, with which result exactly where, and what the ports then are
+  -- why it ended; over ports that hadn't failed before, each result comes exactly where its cause is
   pub ended : HasEnded old new most result
 
 -- No part of a promise: what is kept from one frame to the next is how many there were, as far as 64 bits count.

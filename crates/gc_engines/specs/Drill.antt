@@ -32,7 +32,7 @@ drill_text width events totals = drill_text_on simulator_opening width events to
 abbrev pub TookPart : Option (List ℕ) → Option (List ℕ) → List ℕ → Type 0
 TookPart old new text = (n : ℕ) × (n < length text) × Appends old new (take n text)
 
--- what became of the bytes that were given, with an instrument that starts so and a window of this width, and what a sink took
+-- what became of the bytes that were given, played on an instrument that starts so with a window of this width, and what a sink took
 abbrev pub DrillsOn : State → ℕ → List ℕ → Bool → Option (List ℕ) → Option (List ℕ) → Result (Unit {0}) RunFault → Type 0
 DrillsOn opening width given totals old new (Ok _) = (length given ≤ TEXT_LIMIT) × ((events : List Event) × IsSchedule given events × Appends old new (drill_text_on opening width events totals))
 DrillsOn opening width given totals old new (Err Read) = (length given ≤ TEXT_LIMIT) × (new ≡ old)
@@ -53,11 +53,12 @@ is_read_whole (Err (Schedule n)) = true
 is_read_whole (Err Output) = true
 is_read_whole (Err _) = false
 
--- whether the source has failed after this end, and whether the sink has
+-- whether the source has failed after this end, if it had so before
 abbrev pub source_failed : Result (Unit {0}) RunFault → Bool → Bool
 source_failed (Err Read) failed = true
 source_failed _ failed = failed
 
+-- the same of the sink
 abbrev pub sink_failed : Result (Unit {0}) RunFault → Bool → Bool
 sink_failed (Err Output) failed = true
 sink_failed _ failed = failed

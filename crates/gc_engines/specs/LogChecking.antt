@@ -2,8 +2,7 @@
 use Rattle.std.specs.Prelude.{◌≡◌, ℕ, ◌+◌, ◌*◌, ◌-◌, ◌<◌, ◌≤◌, ◌==◌, ◌&&◌, Bool, true, false, not, nat_lt, List, [], ◌∷◌, ◌++◌, length, take, get_or, Option, Result, Ok, Err, if◌then◌else◌, codes}
 use Rattle.std.specs.Io.KnownBytes.{Appends, Consumes}
 use Rattle.gc_lines.specs.Answering.{Ports, HasEnded, all_of}
-use Rattle.gc_lines.specs.Frames.{ends_in_return, pieces_behind, rest_behind}
-use Rattle.gc_lines.specs.Ports.{TakesFront}
+use Rattle.gc_lines.specs.Frames.{ends_in_return, pieces_behind}
 use Rattle.gc_lines.specs.declared.served.Served.{Served}
 use Rattle.gc_lines.specs.declared.served.ServeFault.{ServeFault}
 use Rattle.gc_lines.specs.declared.served.ServeFault.TheVariants.{Read, Write, TooManyReads}
@@ -49,19 +48,19 @@ AreSaid [] (t ∷ ts) = ⊥
 AreSaid (l ∷ ls) [] = ⊥
 AreSaid (l ∷ ls) (t ∷ ts) = IsLogVerdict l t × AreSaid ls ts
 
--- the bytes since the last line feed, as they are kept: whole, or that they are more than a log line has
+-- what is kept of the bytes since the last line feed: all of them, or that they are more than a log line has
 pub record KeepsLine (kept : Underway) (rest : List ℕ) : Type 0 where
   pub whole : kept.is_long ≡ false → rest ≡ kept.bytes.items
   pub long : kept.is_long ≡ true → 2100 < length rest
 
--- of some bytes behind others that no line feed ended, each line's text went out
+-- some bytes came behind others that no line feed has ended: what is said of each line that ends in them went out
 pub record SaysAll (rest piece : List ℕ) (old new : Option (List ℕ)) (before count : ℕ) : Type 0 where
   pub texts : List (List ℕ)
   pub are : AreSaid (pieces_behind rest piece) texts
   pub took : Appends old new (all_of texts)
   pub counts : count ≡ before + length texts
 
--- the first lines' texts went out, and of the last of them the first bytes, which aren't all
+-- what is said of the first of these lines went out, and of one more the first bytes, which aren't all of it
 pub record SaysPart (rest piece : List ℕ) (old new : Option (List ℕ)) (before count bytes : ℕ) : Type 0 where
   pub seen : List (List ℕ)
   pub later : List (List ℕ)
@@ -73,14 +72,16 @@ pub record SaysPart (rest piece : List ℕ) (old new : Option (List ℕ)) (befor
   pub not_all : bytes < length line
   pub took : Appends old new (all_of whole ++ take bytes line)
 
--- what was written of the lines of a log, which are what its line feeds end
+-- what went out of the lines of a log, by the result; a line is what a line feed ends
 abbrev pub ChecksLog : List ℕ → Option (List ℕ) → Option (List ℕ) → Result Served ServeFault → Type 0
 ChecksLog given old new (Ok served) = SaysAll [] given old new 0 served.replies
 ChecksLog given old new (Err (Read count)) = SaysAll [] given old new 0 count
 ChecksLog given old new (Err (Write count bytes)) = SaysPart [] given old new 0 count bytes
 ChecksLog given old new (Err (TooManyReads count)) = SaysAll [] given old new 0 count
 
--- a check of a log in at most most reads took the ports from old to new, and gave this result
+-- a check of a log that may make so many reads took the ports from old to new, and gave this result
 pub record IsCheckingLog (old new : Ports) (most : ℕ) (result : Result Served ServeFault) : Type 0 where
+  -- the sink took what is said of the lines of the bytes that the source gave, or the part of it that the fault says
   pub checks : (given : List ℕ) × Consumes old.remaining new.remaining given × (length given ≤ 256 * (new.reads - old.reads)) × ChecksLog given old.taken new.taken result
+  -- why it ended; over ports that hadn't failed before, each result comes exactly where its cause is
   pub ended : HasEnded old new most result

@@ -37,7 +37,7 @@ pub record IsPrism (words : List ℕ) (target : Target) : Type 0 where
   pub v_is : Spells v_text target.v.digits target.v.scale
   pub distance_is : Spells distance_text target.distance.digits target.distance.scale
 
--- `target`, and where it stands
+-- `target HZ V DISTANCE`
 pub record IsTarget (line : List ℕ) (target : Target) : Type 0 where
   pub words : List ℕ
   pub line_is : line ≡ codes "target " ++ words
@@ -49,14 +49,14 @@ IsSceneLine line (says.Serial n) = IsSerial line n
 IsSceneLine line (says.Name bytes) = IsName line bytes
 IsSceneLine line (says.Target target) = IsTarget line target
 
--- the serial number that the last of these lines with one says, and else this one
+-- the serial number of the last of these lines that says one, else this one
 abbrev pub serial_of : ℤ → List SceneLine → ℤ
 serial_of n [] = n
 serial_of n (says.Serial m ∷ rest) = serial_of m rest
 serial_of n (says.Name bytes ∷ rest) = serial_of n rest
 serial_of n (says.Target target ∷ rest) = serial_of n rest
 
--- the name that the last of these lines with one says, and else this one
+-- the name of the last of these lines that says one, else this one
 abbrev pub name_of : List ℕ → List SceneLine → List ℕ
 name_of name [] = name
 name_of name (says.Serial m ∷ rest) = name_of name rest
@@ -70,7 +70,7 @@ targets_of (says.Serial m ∷ rest) = targets_of rest
 targets_of (says.Name bytes ∷ rest) = targets_of rest
 targets_of (says.Target target ∷ rest) = target ∷ targets_of rest
 
--- the opening state of the instrument that these lines set up: what they don't say of the serial number and the name is the
+-- the opening state of the instrument that these lines set up: a serial number or a name that they don't say is the
 -- simulator's, and the targets are theirs alone
 abbrev pub scene_opening : List SceneLine → State
 scene_opening lines = opening (serial_of simulator_opening.serial lines) (name_of simulator_opening.name lines) (targets_of lines)
@@ -88,7 +88,7 @@ pub record IsFullScene (text : List ℕ) : Type 0 where
   pub are : IsText IsSceneLine text lines
   pub many : 32 < length (targets_of lines)
 
--- why a text sets up no instrument, or none was set up
+-- why no instrument came of a text
 abbrev pub SceneFault : List ℕ → RunFault → Type 0
 SceneFault text SceneFull = (length text ≤ TEXT_LIMIT) × IsFullScene text
 SceneFault text fault = TextFault IsSceneLine text fault

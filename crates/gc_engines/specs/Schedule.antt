@@ -6,7 +6,7 @@ use Rattle.gc_texts.specs.Procedures.{IsNumber, IsProcedure}
 use Rattle.gc_world.specs.declared.event.Event.{Event}
 use Rattle.gc_world.specs.declared.event.Event.TheVariants.{Send, UpDeliver, UpBytes, UpLose, UpRepeat, DownDeliver, DownBytes, DownLose, DownRepeat, Expire, RestartClient, RestartInstrument}
 
--- a word and then a number, at most max
+-- a word, and behind it a number of at most max
 pub record IsNumbered (word line : List ℕ) (n max : ℕ) : Type 0 where
   pub digits : List ℕ
   pub line_is : line ≡ word ++ digits
@@ -22,7 +22,7 @@ pub record IsRequested (text : List ℕ) (target : ℕ) (call : Call) (deadline 
   pub deadline_is : IsNumber deadline_text deadline 18446744073709551615
   pub procedure_is : IsProcedure procedure call
 
--- `send`, and what is requested
+-- `send T D RPC` or `send T D RPC PARAMS`
 pub record IsSend (line : List ℕ) (target : ℕ) (call : Call) (deadline : ℕ) : Type 0 where
   pub rest : List ℕ
   pub line_is : line ≡ codes "send " ++ rest

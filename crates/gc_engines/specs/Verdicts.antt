@@ -8,25 +8,19 @@ use Rattle.gc_lines.specs.Requests.{RequestFields, IsRequest, FirstBadOfRequest}
 use Rattle.gc_lines.specs.declared.fault.LineFault.{LineFault}
 use Rattle.gc_lines.specs.declared.frame.Frame.{Frame}
 use Rattle.gc_lines.specs.declared.frame.Frame.TheVariants.{Line, Cleared, Overlong, More}
-use Rattle.gc_values.specs.ValueFault.{fault_number as value_fault_number}
+use Rattle.gc_catalogue.specs.CallFault.{refusal_number}
 use Rattle.gc_catalogue.specs.Calls.{IsCall, IsRefusal}
 use Rattle.gc_catalogue.specs.declared.call.Call.{Call}
 use Rattle.gc_catalogue.specs.declared.fault.CallFault.{CallFault}
-use Rattle.gc_catalogue.specs.declared.fault.CallFault.TheVariants.{Unknown, Parameters}
 use Rattle.gc_engines.specs.declared.verdict.Verdict.{Verdict}
 use Rattle.gc_engines.specs.declared.verdict.Verdict.TheVariants as verdict
-
--- the number of the fault by which a request names no call: 21, or that of the parameters' fault, 11 to 15
-abbrev pub refusal_number : CallFault → ℕ
-refusal_number Unknown = 21
-refusal_number (Parameters fault) = value_fault_number fault
 
 -- what is said of a request
 pub data IsRequestVerdict (q : RequestFields) (v : Verdict) : Type 0 where
   -- its call reads
   reads : (call : Call) → IsCall q.rpc q.params call → v ≡ verdict.Request q.rpc → IsRequestVerdict q v
   -- its call doesn't
-  refuses : (fault : CallFault) → IsRefusal q.rpc q.params fault → v ≡ verdict.RequestFault q.rpc (refusal_number fault) → IsRequestVerdict q v
+  refuses : (fault : CallFault) → IsRefusal q.rpc q.params fault → v ≡ verdict.RequestFault q.rpc fault → IsRequestVerdict q v
 
 -- a line begins as a reply does
 abbrev pub BeginsAsReply : List ℕ → Type 0
@@ -38,12 +32,12 @@ pub data IsLineVerdict (line : List ℕ) (v : Verdict) : Type 0 where
   request : (q : RequestFields) → IsRequest line q → IsRequestVerdict q v → IsLineVerdict line v
   -- it reads as a reply
   reply : (r : ReplyFields) → IsReply line r → v ≡ verdict.Reply r.rc_com r.rc → IsLineVerdict line v
-  -- it begins as a reply, and its first bad field as one is named
-  no_reply : (fault : LineFault) → BeginsAsReply line → FirstBadOfReply line fault → v ≡ verdict.Fault (fault_number fault) → IsLineVerdict line v
-  -- it doesn't, and its first bad field as a request is named
-  no_request : (fault : LineFault) → ¬ BeginsAsReply line → FirstBadOfRequest line fault → v ≡ verdict.Fault (fault_number fault) → IsLineVerdict line v
+  -- it begins as a reply, and the first field that is bad in a reply is named
+  no_reply : (fault : LineFault) → BeginsAsReply line → FirstBadOfReply line fault → v ≡ verdict.Fault fault → IsLineVerdict line v
+  -- it doesn't, and the first field that is bad in a request is named
+  no_request : (fault : LineFault) → ¬ BeginsAsReply line → FirstBadOfRequest line fault → v ≡ verdict.Fault fault → IsLineVerdict line v
 
--- what is said of a frame; a stream has none that no line feed has ended
+-- what is said of a frame: nothing where no line feed has ended it, and a stream has no such frame
 abbrev pub IsVerdict : Frame → Verdict → Type 0
 IsVerdict (Line line) v = IsLineVerdict line.items v
 IsVerdict Cleared v = v ≡ verdict.Cleared
@@ -57,14 +51,14 @@ AreVerdicts [] (v ∷ vs) = ⊥
 AreVerdicts (frame ∷ later) [] = ⊥
 AreVerdicts (frame ∷ later) (v ∷ vs) = IsVerdict frame v × AreVerdicts later vs
 
--- a verdict in words
+-- a verdict in words; a fault is told by its number
 abbrev pub verdict_text : Verdict → List ℕ
 verdict_text verdict.Cleared = codes "cleared"
 verdict_text verdict.Overlong = codes "overlong"
 verdict_text (verdict.Request rpc) = codes "request " ++ decimal rpc ++ codes " ok"
-verdict_text (verdict.RequestFault rpc fault) = codes "request " ++ decimal rpc ++ codes " fault " ++ decimal fault
+verdict_text (verdict.RequestFault rpc fault) = codes "request " ++ decimal rpc ++ codes " fault " ++ decimal (refusal_number fault)
 verdict_text (verdict.Reply rc_com rc) = codes "reply " ++ decimal rc_com ++ codes " " ++ decimal rc
-verdict_text (verdict.Fault fault) = codes "fault " ++ decimal fault
+verdict_text (verdict.Fault fault) = codes "fault " ++ decimal (fault_number fault)
 
 -- the line of the verdict on frame n
 abbrev pub verdict_line : ℕ → Verdict → List ℕ

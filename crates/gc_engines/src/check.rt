@@ -6,7 +6,7 @@ ghost use Rattle.gc_engines.specs.Checking.{IsChecking};
 use crate::verdict::{push_decimal, push_verdict, verdict_of};
 use gc_lines::{Answers, Lent, Outgoing, ServeFault, Served, Sink, Source, answer_frames};
 
-// Judges frames, and counts them. The count ends at 2^64 - 1, which a run of less than 2^32 reads of 256 bytes can't reach.
+// Judges frames, and counts them. The count stays at 2^64 - 1, which no run reaches: it makes less than 2^32 reads of 256 bytes.
 #[derive(Drop)]
 struct Judge {
     frames: u64,
@@ -17,6 +17,7 @@ impl Answers for Judge {
 
     ghost answers = { JudgesFrame };
 
+    // Appends the frame's number and its verdict, where a line feed has ended it.
     fn answer(&mut self, frame: Lent<'_>, text: &mut Outgoing) -> bool {
         let Some(verdict) = verdict_of(frame) else {
             return false;
@@ -30,8 +31,8 @@ impl Answers for Judge {
     }
 }
 
-/// Checks the frames of a source until its end, in at most `max_reads` reads of at most 256 bytes, and writes a line with LF
-/// for each of them into a sink: `N VERDICT`, N counted from 1.
+/// Checks the frames of a source until its end, in at most `max_reads` reads of at most 256 bytes. For each frame it writes a
+/// line with LF into a sink: `N VERDICT`, N counted from 1.
 ///
 /// | Frame | Verdict |
 /// |---|---|
@@ -43,12 +44,12 @@ impl Answers for Judge {
 /// | another line that begins with `%R1P,` | `fault F`, F being its fault as a reply, 2 to 5 |
 /// | any other line | `fault F`, F being its fault as a request, 1 to 4 |
 ///
-/// A rest without a line feed at the end of the input gets no line. `replies` in an answer counts the lines that went out
-/// whole. The lines of one read go out together, before the next read. Takes no memory. N can't pass 2^40, since each
-/// frame has a byte at least and there are less than 2^32 reads.
+/// Bytes behind the last line feed get no line. `replies` in an answer counts the lines that went out whole. The lines of one
+/// read go out together, before the next read. It takes no memory. N can't pass 2^40, since each frame has a byte at least and
+/// there are less than 2^32 reads.
 ///
-/// [`Served`] exactly where the last read was the end, 42 exactly where the source failed, 43 exactly where the sink did, and
-/// 44 exactly where all reads were answered and none was the end.
+/// [`Served`] comes exactly where the last read was the end. Over ports that hadn't failed before, 42 comes exactly where the
+/// source failed, 43 exactly where the sink did, and 44 exactly where all reads were answered and none was the end.
 pub fn run_check<S: Source, K: Sink>(
     source: &mut S,
     sink: &mut K,

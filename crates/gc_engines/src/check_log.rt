@@ -12,7 +12,7 @@ use arrayvec::ArrayVec;
 use gc_lines::{Outgoing, ServeFault, Served, Sink, Source, append, write_whole};
 use gc_texts::{LogLine, LogMark, append_escaped, read_log_line};
 
-// How many bytes are read at a time at most.
+// The most bytes of one read.
 const PIECE: usize = 256;
 
 // The bytes of the longest line of a log, without its line feed, and some to spare.
@@ -49,8 +49,8 @@ impl Underway {
 }
 
 /// Checks the lines of a log, as `station --log` writes them, until the end of a source, in at most `max_reads` reads of at
-/// most 256 bytes, and writes a line with LF for each of them into a sink: the moment and the mark as they stand, and what the
-/// bytes are.
+/// most 256 bytes. For each line it writes one with LF into a sink: the moment and the mark as they stand, and what is said of
+/// the bytes.
 ///
 /// | Mark | What is said |
 /// |---|---|
@@ -58,11 +58,11 @@ impl Underway {
 /// | `>\|`, `<\|` | `cleared` where the bytes end in a line feed without a CR before it, else `part` |
 /// | `-` | the words as they stand in the log |
 ///
-/// Of a line that is none of a log it writes `no log line`. A rest without a line feed at the end of the input gets no line.
-/// `replies` in an answer counts the lines that went out whole. Takes no memory.
+/// Of a line that is none of a log it writes `no log line`. Bytes behind the last line feed get no line. `replies` in an answer
+/// counts the lines that went out whole. It takes no memory.
 ///
-/// [`Served`] exactly where the last read was the end, 42 exactly where the source failed, 43 exactly where the sink did, and
-/// 44 exactly where all reads were answered and none was the end.
+/// [`Served`] comes exactly where the last read was the end. Over ports that hadn't failed before, 42 comes exactly where the
+/// source failed, 43 exactly where the sink did, and 44 exactly where all reads were answered and none was the end.
 pub fn run_check_log<S: Source, K: Sink>(
     source: &mut S,
     sink: &mut K,

@@ -16,14 +16,13 @@ use gc_texts::{RunFault, read_text};
 use gc_world::{Event, play_width};
 use std::alloc::{AllocError, Global};
 
-/// Plays the schedule that a source gives on an instrument and a client that lets `width` requests wait, and writes one
-/// line for each settlement, then with `totals` one more line. Nothing is written before the whole schedule was read and
-/// played, and its whole text made.
+/// Plays the schedule that a source gives, on an instrument and with a client that lets `width` requests wait. It writes a
+/// line for each settlement, and with `totals` one more line behind them. Nothing is written before the whole schedule was
+/// read and played, and the whole text made. The lines are this project's own.
 ///
-/// `Read` comes where the source failed, `InputTooLong` where it gave more than 65,536 bytes, and `Schedule` at the first
-/// line that has the form of no event, counted from 1; then, and after `Memory`, which comes only where a growth was
-/// refused, the sink has taken nothing. `Output` comes where the sink failed; it has taken a part of the text. The lines
-/// are this project's own.
+/// `Read` comes where the source failed, and `InputTooLong` where it gave more than 65,536 bytes. `Schedule` names the first
+/// line that has the form of no event, counted from 1. `Memory` comes only where a growth was refused. After each of these
+/// the sink has taken nothing. `Output` comes where the sink failed, and then it has taken a part of the text.
 pub fn run_drill_on<S: Source, K: Sink>(
     alloc: Global,
     instrument: Instrument,
@@ -35,8 +34,8 @@ pub fn run_drill_on<S: Source, K: Sink>(
     requires least { 1 ≤ width }
     requires most { width ≤ WINDOW }
 
-    // What the bytes that the source gave were, and what of their schedule's output the sink took. Each read gave a byte at
-    // least, but the last where it was the end: behind the end nothing was read.
+    // What the bytes were that the source gave, and what the sink took of their schedule's output. Each read gave a byte at
+    // least, except a last one that was the end. Behind the end nothing was read.
     ensures drills { (given : List ℕ) × Consumes (S.remaining source.old) (S.remaining source.new) given
         × (S.reads source.new ≤ S.reads source.old + length given + end_reads (S.ended source.new))
         × DrillsOn instrument width given totals (K.taken sink.old) (K.taken sink.new) result }

@@ -10,7 +10,7 @@ use gc_catalogue::Call;
 use gc_texts::{LineForm, TARGET_MAX, cut_at, number_of, read_procedure};
 use gc_world::Event;
 
-// The greatest place of a line under way, and the greatest number of bytes.
+// The greatest place of a line under way, and the greatest count of bytes.
 const COUNT_MAX: u64 = 4294967295;
 
 // What stands behind a word, where the line begins with it.
@@ -52,6 +52,7 @@ fn read_requested(text: &[u8]) -> Option<(u32, Call, u64)>
     }
 }
 
+// `send T D RPC` or `send T D RPC PARAMS`.
 fn read_send(line: &[u8]) -> Option<(u32, Call, u64)>
     ensures { MatchOption result ((t : ℕ) (call : Call) (d : ℕ) → IsSend line.now t call d → ⊥) (λ r. IsSend line.now r.0 r.1 r.2) }
 {
@@ -123,6 +124,7 @@ impl LineForm for EventForm {
 
     ghost form = { IsEvent };
 
+    // The event that a line is.
     fn read(line: &[u8]) -> Option<Event> {
         read_event(line)
     }

@@ -7,8 +7,8 @@ use gc_instrument::{Instrument, ServeFault, Served, serve};
 use gc_lines::{Sink, Source};
 
 /// Serves the requests of a source with [`Instrument::simulator`] until its end, in at most `max_reads` reads of at most
-/// 256 bytes, and writes the replies into a sink, each with its CR LF. It is [`serve`] on the simulator: a rest without a
-/// line feed at the end of the input is dropped, and a fault says what was written. Takes no memory.
+/// 256 bytes. The replies go into a sink, each with its CR LF. It is [`serve`] on the simulator: bytes behind the last line
+/// feed are dropped, and a fault says what was written. It takes no memory.
 pub fn run_exec<S: Source, K: Sink>(
     source: &mut S,
     sink: &mut K,

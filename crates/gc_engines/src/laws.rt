@@ -11,12 +11,12 @@ pub fn schedule_has_one_reading()
     ensures { OneSchedule }
 {}
 
-/// A text sets up one instrument at most, and then it has no more targets than one has.
+/// A text sets up one instrument at most, and none where it has more targets than an instrument can have.
 pub fn scene_has_one_reading()
     ensures { OneScene }
 {}
 
-/// A frame has one verdict at most, and a stream one list of their lines.
+/// A frame has one verdict at most, and a stream one list of verdicts' lines.
 pub fn one_verdict()
     ensures { OneVerdict }
 {}

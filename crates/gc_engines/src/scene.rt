@@ -20,12 +20,12 @@ const MOST_TARGETS: usize = 32;
 /// Reads the text of a scene, and gives the instrument that it sets up, in its opening state.
 ///
 /// A line is `serial N`, `name TEXT` or `target HZ V DISTANCE`, with angles in radians and the slope distance in metres. Of
-/// several serial numbers, or names, the last one counts; where there is none it is the simulator's. The targets are those of
+/// several serial numbers, or names, the last one counts. Where there is none it is the simulator's. The targets are those of
 /// the text alone, in its order.
 ///
-/// Refused are a text of more than 65,536 bytes (`InputTooLong`, before any line is looked at), the first line that has no form
-/// (`Schedule`, with its number counted from 1), and where each line has one, more than 32 targets (`SceneFull`). `Memory`
-/// comes only where a growth was refused, behind a line that has a form.
+/// `InputTooLong` refuses a text of more than 65,536 bytes, before any line is looked at. `Schedule` names the first line that
+/// has no form, counted from 1. `SceneFull` refuses more than 32 targets, where each line has a form. `Memory` comes only where
+/// a growth was refused, behind a line that has a form.
 pub fn read_scene(alloc: Global, text: &[u8]) -> Result<Instrument, RunFault>
     ensures found { IfOk result (λ instrument. IsScene text.now instrument) }
     ensures fits { IfOk result (λ instrument. IsFittingState instrument) }

@@ -32,6 +32,7 @@ impl LineForm for SceneForm {
 
     ghost form = { IsSceneLine };
 
+    // What a line says of the instrument.
     fn read(line: &[u8]) -> Option<SceneLine> {
         read_scene_line(line)
     }
@@ -123,7 +124,7 @@ fn read_prism(words: &[u8]) -> Option<Target>
     }
 }
 
-// A decimal of a scene.
+// A decimal, which is an angle or a distance.
 fn decimal_of(text: &[u8]) -> Option<Decimal>
     ensures { MatchOption result ((d : Decimal) → Spells text.now d.digits d.scale → ⊥) (λ d. Spells text.now d.digits d.scale) }
 {

@@ -5,7 +5,7 @@ ghost use Rattle.gc_lines.specs.Lent.{lent_seen};
 ghost use Rattle.gc_lines.specs.Replies.{FirstBadOfReply};
 ghost use Rattle.gc_lines.specs.Requests.{request_seen};
 ghost use Rattle.gc_lines.specs.declared.frame.Frame.{Frame};
-ghost use Rattle.gc_engines.specs.Verdicts.{IsRequestVerdict, BeginsAsReply, IsLineVerdict, IsVerdict, refusal_number, verdict_text};
+ghost use Rattle.gc_engines.specs.Verdicts.{IsRequestVerdict, BeginsAsReply, IsLineVerdict, IsVerdict, verdict_text};
 
 use gc_catalogue::{CallFault, decode_call};
 use gc_lines::{Lent, LineFault, Outgoing, Request, append, read_reply, read_request};
@@ -20,12 +20,12 @@ pub(crate) enum Verdict {
     Overlong,
     /// A request whose call reads.
     Request { rpc: u16 },
-    /// A request whose call doesn't: fault 21, or 11 to 15.
-    RequestFault { rpc: u16, fault: u8 },
+    /// A request whose call doesn't.
+    RequestFault { rpc: u16, fault: CallFault },
     /// A reply.
     Reply { rc_com: u16, rc: u16 },
-    /// A line that is neither: fault 1 to 5.
-    Fault { fault: u8 },
+    /// A line that is neither. It has the fault of a reply where it begins as one, else that of a request.
+    Fault { fault: LineFault },
 }
 
 // The verdict on a frame, if a line feed has ended it.
@@ -63,9 +63,7 @@ fn faulty_verdict(line: &[u8], fault: LineFault) -> Verdict
 {
     match fault {
         LineFault::Signature => no_reply_verdict(line),
-        _ => Verdict::Fault {
-            fault: fault.number(),
-        },
+        _ => Verdict::Fault { fault },
     }
 }
 
@@ -77,9 +75,7 @@ fn no_reply_verdict(line: &[u8]) -> Verdict
 {
     match read_request(line) {
         Ok(request) => request_verdict(&request),
-        Err(fault) => Verdict::Fault {
-            fault: fault.number(),
-        },
+        Err(fault) => Verdict::Fault { fault },
     }
 }
 
@@ -92,18 +88,8 @@ fn request_verdict(request: &Request<'_>) -> Verdict
         Ok(_) => Verdict::Request { rpc: request.rpc },
         Err(fault) => Verdict::RequestFault {
             rpc: request.rpc,
-            fault: refusal_number(fault),
+            fault,
         },
-    }
-}
-
-// The number of the fault by which a request names no call: 21, or that of its parameters.
-fn refusal_number(fault: CallFault) -> u8
-    ensures { result ≡ refusal_number fault }
-{
-    match fault {
-        CallFault::Unknown => 21,
-        CallFault::Parameters(fault) => fault.number(),
     }
 }
 
@@ -123,13 +109,13 @@ pub(crate) fn push_verdict(text: &mut Outgoing, verdict: Verdict)
         }
         Verdict::RequestFault { rpc, fault } => {
             push_number(text, b"request ", rpc);
-            push_number(text, b" fault ", fault);
+            push_number(text, b" fault ", fault.refusal_number());
         }
         Verdict::Reply { rc_com, rc } => {
             push_number(text, b"reply ", rc_com);
             push_number(text, b" ", rc);
         }
-        Verdict::Fault { fault } => push_number(text, b"fault ", fault),
+        Verdict::Fault { fault } => push_number(text, b"fault ", fault.number()),
     }
 }
 

@@ -2,10 +2,11 @@
 use Rattle.std.proofs.Common.{◌≡◌, ◌≢◌, ◌≤◌, ℕ, List, ◌+◌, ◌++◌, Some, Ok, Err, length, take, drop, ◌∙◌, sym, ap, arith}
 use Rattle.std.proofs.lemmas.List.{take_all, take-append-le, drop-drop}
 use Rattle.gc_values.specs.declared.fault.ValueFault.TheVariants.{Spelling, Range, OpenQuote, TooMany, Count}
+use Rattle.gc_catalogue.specs.CallFault.{refusal_number}
 use Rattle.gc_catalogue.specs.declared.fault.CallFault.{CallFault}
 use Rattle.gc_catalogue.specs.declared.fault.CallFault.TheVariants.{Unknown, Parameters}
 use Rattle.gc_client.specs.Rule.{Windowed}
-use Rattle.geocom_c.specs.Sending.{refusal_number}
+use Rattle.geocom_c.specs.declared.header.TheConstants.{WINDOW_FULL, NO_CLIENT}
 
 -- a client of the same width
 pub same_width : (c d : Windowed) → d.width ≡ c.width → d ≡ record c { ids = d.ids }
@@ -14,11 +15,11 @@ same_width c d e = ap (λ w. let x : Windowed = record { width = w; ids = d.ids 
 pub from_some : {A : Type 0} (x y : A) → Some x ≡ Some y → x ≡ y
 from_some x y e = cc
 
--- a fault that is 31 where it isn't 0 is not 63
-pub not_63 : (n : ℕ) → (n ≢ 0 → n ≡ 31) → n ≡ 63 → ⊥
-not_63 n either e = let f : n ≡ 31 = either (λ z. (cc)) in cc
+-- where a fault can only be that of a full window, it isn't that of no client
+pub full_alone : (n : ℕ) → (n ≢ 0 → n ≡ WINDOW_FULL) → n ≡ NO_CLIENT → ⊥
+full_alone n either e = let f : n ≡ WINDOW_FULL = either (λ z. (cc)) in cc
 
--- no refusal of a call has the number 63
+-- no refusal of a call has the number of no client
 refusal_below : (e : CallFault) → refusal_number e ≤ 22
 refusal_below Unknown = omega arith
 refusal_below (Parameters Spelling) = omega arith
@@ -27,8 +28,8 @@ refusal_below (Parameters OpenQuote) = omega arith
 refusal_below (Parameters TooMany) = omega arith
 refusal_below (Parameters Count) = omega arith
 
-pub no_refusal_63 : (e : CallFault) → refusal_number e ≡ 63 → ⊥
-no_refusal_63 e f = absurd (omega (arith, f, refusal_below e))
+pub no_refusal_astray : (e : CallFault) → refusal_number e ≡ NO_CLIENT → ⊥
+no_refusal_astray e f = absurd (omega (arith, f, refusal_below e))
 
 pub never_ok : {A E : Type 0} (e : E) (x : A) → Err e ≡ Ok x → ⊥
 never_ok e x f = cc

@@ -12,8 +12,7 @@ use Rattle.gc_client.specs.OneForOne.{Course, goes, course, sent_on}
 use Rattle.gc_client.specs.OneForOne as one
 use Rattle.geocom_c.specs.Feeding.{behind}
 use Rattle.geocom_c.specs.State.{StandsFor}
-use Rattle.geocom_c.specs.Sending.{IsSent}
-use Rattle.geocom_c.specs.declared.answers.GeocomCount.{GeocomCount}
+use Rattle.geocom_c.specs.Sending.{Sent, IsSent}
 use Rattle.geocom_c.specs.Following.{hearing, FedTo}
 use Rattle.geocom_c.specs.declared.state.GeocomClient.{GeocomClient}
 
@@ -100,11 +99,11 @@ fed_all width x rest bytes left state f none =
     subst (λ (y : Course). StandsFor state (record { width = width; ids = y.client }) (rest_behind rest bytes)) same (subst (λ (r : List ℕ). StandsFor state (record { width = width; ids = f.reached.client }) r) behind f.stands)
 
 -- a send that the rule takes or refuses
-pub sent_course : (width : ℕ) (x : Course) (rest : List ℕ) (call : Call) (target : ℕ) (o : Option (Sending ById)) (old new : GeocomClient) (before after : List ℕ) (r : GeocomCount)
-    → StandsFor old (record { width = width; ids = x.client }) rest → IsSent (record { width = width; ids = x.client }) rest call o old new before after r
-    → StandsFor new (record { width = width; ids = (sent_on x target call o).client }) rest
-sent_course width x rest call target None old new before after r s is = subst (λ (t : GeocomClient). StandsFor t (record { width = width; ids = x.client }) rest) (sym is.1) s
-sent_course width x rest call target (Some q) old new before after r s is = is.1
+pub sent_course : (width : ℕ) (x : Course) (rest : List ℕ) (call : Call) (target : ℕ) (o : Option (Sending ById)) (sent : Sent)
+    → StandsFor sent.old (record { width = width; ids = x.client }) rest → IsSent (record { width = width; ids = x.client }) rest call o sent
+    → StandsFor sent.new (record { width = width; ids = (sent_on x target call o).client }) rest
+sent_course width x rest call target None sent s is = subst (λ (t : GeocomClient). StandsFor t (record { width = width; ids = x.client }) rest) (sym is.1) s
+sent_course width x rest call target (Some q) sent s is = is.1
 
 -- a number is another, or not
 pub decided : {P : Type 0} (n m : ℕ) → (n ≡ m → P) → (n ≢ m → P) → P

@@ -2,7 +2,7 @@
 use Rattle.std.proofs.Common.{◌≡◌, ℕ, zero, suc, ◌<◌, List, [], ◌∷◌, ◌++◌, map, length, refl, sym, ap, subst, ◌∙◌, arith}
 use Rattle.std.specs.Prelude.{Some, slice_get}
 use Rattle.std.specs.List.{AllByRecursion}
-use Rattle.gc_client.specs.OneForOne.{Course, Asked, begun, course, of_settled}
+use Rattle.gc_client.specs.OneForOne.{Course, begun, course, of_settled}
 use Rattle.gc_client.specs.Rule.{Settlement, Answered, Lost, lost}
 use Rattle.gc_client.specs.declared.pending.Pending.{Pending}
 use Rattle.gc_instrument.specs.State.{State, IsFittingState}
@@ -10,7 +10,7 @@ use Rattle.gc_world.specs.Clients.{ends}
 use Rattle.gc_world.specs.World.{Sent}
 use Rattle.gc_field.specs.Laws.{IsFaithful, asked}
 use Rattle.gc_field.specs.Stretches.{Stretch, steps_over, settled_over, AreFaithful}
-use Rattle.geocom_c.specs.Laws.{world, IsItsOwn, IsOwnAnswer, AreOwn}
+use Rattle.geocom_c.specs.Laws.{world, IsOwnAnswer, AreOwn}
 use Rattle.geocom_c.proofs.Places.{got}
 
 -- what holds of each by its place, and what follows from it

@@ -13,7 +13,7 @@ use Rattle.gc_catalogue.specs.declared.call.Call.{Call}
 use Rattle.gc_catalogue.specs.Answers.{answer_fields}
 use Rattle.gc_catalogue.specs.Readings.{IsReading}
 use Rattle.gc_client.specs.declared.pending.Pending.{Pending}
-use Rattle.gc_client.specs.Rule.{ById, Settlement, lost, met, settle, place_in, place, id_settled, hears, heard, id_in, fits}
+use Rattle.gc_client.specs.Rule.{ById, Settlement, lost, settle, place_in, id_settled, hears, id_in, fits}
 use Rattle.gc_client.specs.Rule
 use Rattle.geocom_c.specs.Feeding.{line_kind, number_in}
 use Rattle.geocom_c.specs.Settled.{StandsAt, AreListed, IsKind, HasReading, IsTold, HasOutcome, IsRecord, IsBy, AreBy}

@@ -11,7 +11,7 @@ use Rattle.gc_client.specs.declared.window.TheConstants.{WINDOW}
 use Rattle.geocom_c.specs.FirstAre.{FirstAre}
 use Rattle.geocom_c.specs.Settled.{IsRecord}
 use Rattle.geocom_c.specs.declared.answers.GeocomHeard.{GeocomHeard}
-use Rattle.geocom_c.specs.declared.listed.TheConstants.{TEXT_ROOM}
+use Rattle.geocom_c.specs.declared.header.TheConstants.{TEXT_ROOM, MORE, SETTLED, STRAY, UNREAD, CLEARED, OVERLONG}
 use Rattle.geocom_c.specs.declared.settled.GeocomSettlement.{GeocomSettlement}
 
 -- there is room for what a line can settle
@@ -19,24 +19,25 @@ pub record HasRoom (settlements : List GeocomSettlement) (text : List ℕ) : Typ
   pub for_records : WINDOW ≤ length settlements
   pub for_text : TEXT_ROOM ≤ length text
 
--- the kind of a line that reads so, where it fits a request that waits or doesn't: 1 it settles, 2 a stray, 3 no reply
+-- the kind of a line that reads so, where it fits a request that waits or doesn't
 abbrev pub line_kind : Result ReplyFields LineFault → Bool → ℕ
-line_kind (Ok reply) true = 1
-line_kind (Ok reply) false = 2
-line_kind (Err fault) fit = 3
+line_kind (Ok reply) true = SETTLED
+line_kind (Ok reply) false = STRAY
+line_kind (Err fault) fit = UNREAD
 
--- the number of a frame's kind: 0 none, 4 cleared, 5 overlong
+-- the kind of a frame
 abbrev pub frame_kind : Windowed → Frame → ℕ
 frame_kind c (Line line) = line_kind (reply_at line.items) (fits c.ids (heard line.items))
-frame_kind c Cleared = 4
-frame_kind c Overlong = 5
-frame_kind c More = 0
+frame_kind c Cleared = CLEARED
+frame_kind c Overlong = OVERLONG
+frame_kind c More = MORE
 
--- the number of a line's fault, where it is no reply
+-- the number of a line's fault where it is no reply, else 0
 abbrev pub number_in : Result ReplyFields LineFault → ℕ
 number_in (Ok reply) = 0
 number_in (Err fault) = fault_number fault
 
+-- the same of a frame's line
 abbrev pub frame_fault : Frame → ℕ
 frame_fault (Line line) = number_in (reply_at line.items)
 frame_fault Cleared = 0

@@ -19,7 +19,8 @@ lines_behind rest bytes = filter_map line_in (map frame_of (pieces_behind rest b
 abbrev pub hearing : ℕ → Course → List ℕ → List ℕ → Course
 hearing width x rest bytes = course width x (map one.Hear (lines_behind rest bytes))
 
--- no part of a promise: of bytes some were fed, and the state stands for a client that makes of those left what the one before makes of all
+-- no part of a promise: some of the bytes were fed, and the state stands for a client that makes of those left what the client before makes
+-- of all
 pub record FedTo (width : ℕ) (x : Course) (rest bytes : List ℕ) (state : GeocomClient) (left : List ℕ) : Type 0 where
   pub reached : Course
   pub now : List ℕ

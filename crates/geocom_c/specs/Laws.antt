@@ -39,7 +39,7 @@ IsOwnAnswer width stretches s = (line : List ℕ) → s.outcome ≡ Answered lin
 
 -- what holds of calls that are these stretches
 pub record AreOwn (width : ℕ) (x : Course) (stretches : List (Stretch State)) : Type 0 where
-  -- the library settles what the world's client settled, and stands where that stands: so the lines that it writes have the ids of those
+  -- the library settles what the world's client settled, and stands where that stands; so the lines that it writes have the same ids
   pub settled : x.settlements ≡ settled_over width ends stretches
   pub client : x.client ≡ client_over width ends stretches
   -- each answer is its own request's

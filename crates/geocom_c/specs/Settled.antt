@@ -13,6 +13,7 @@ use Rattle.gc_catalogue.specs.Answers.{answer_fields}
 use Rattle.gc_catalogue.specs.Readings.{IsReading}
 use Rattle.gc_client.specs.Rule
 use Rattle.geocom_c.specs.FirstAre.{FirstAre}
+use Rattle.geocom_c.specs.declared.header.TheConstants.{ANSWERED, LATE, LOST, NONE, VALUE, REFUSED, COM_FAULT, UNREADABLE}
 use Rattle.geocom_c.specs.declared.listed.GeocomItem.{GeocomItem}
 use Rattle.geocom_c.specs.declared.settled.GeocomSettlement.{GeocomSettlement}
 
@@ -31,14 +32,14 @@ pub record AreListed (count : ℕ) (places : List GeocomItem) (text params : Lis
 
 -- the kind of a reading and its code; beside a value stand the items that are read as its values
 abbrev pub HasReading : GeocomSettlement → List ℕ → List ℕ → Reading → Type 0
-HasReading r text params (Value answer) = (r.reading ≡ 1) × (r.code ≡ 0) × AreListed r.items r.places text params (answer_fields answer).values
-HasReading r text params (Refused code) = (r.reading ≡ 2) × (r.code ≡ code) × (r.items ≡ 0)
-HasReading r text params (ComFault code) = (r.reading ≡ 3) × (r.code ≡ code) × (r.items ≡ 0)
-HasReading r text params (Unreadable fault) = (r.reading ≡ 4) × (r.code ≡ fault_number fault) × (r.items ≡ 0)
+HasReading r text params (Value answer) = (r.reading ≡ VALUE) × (r.code ≡ 0) × AreListed r.items r.places text params (answer_fields answer).values
+HasReading r text params (Refused code) = (r.reading ≡ REFUSED) × (r.code ≡ code) × (r.items ≡ 0)
+HasReading r text params (ComFault code) = (r.reading ≡ COM_FAULT) × (r.code ≡ code) × (r.items ≡ 0)
+HasReading r text params (Unreadable fault) = (r.reading ≡ UNREADABLE) × (r.code ≡ fault_number fault) × (r.items ≡ 0)
 
 -- the line of an answer stands at the front of the text, and the record has what it says of the call
 pub record IsAnswered (r : GeocomSettlement) (text : List ℕ) (call : Call) (line : List ℕ) : Type 0 where
-  pub answered : r.outcome ≡ 1
+  pub answered : r.outcome ≡ ANSWERED
   pub length : r.line_length ≡ length line
   pub front : take r.line_length text ≡ line
   pub reply : ReplyFields
@@ -51,15 +52,15 @@ pub record IsAnswered (r : GeocomSettlement) (text : List ℕ) (call : Call) (li
 pub record IsUnanswered (r : GeocomSettlement) (outcome : ℕ) : Type 0 where
   pub unanswered : r.outcome ≡ outcome
   pub length : r.line_length ≡ 0
-  pub reading : r.reading ≡ 0
+  pub reading : r.reading ≡ NONE
   pub code : r.code ≡ 0
   pub items : r.items ≡ 0
 
 -- how a request ended
 abbrev pub HasOutcome : GeocomSettlement → List ℕ → Call → Rule.Outcome → Type 0
 HasOutcome r text call (Rule.Answered line) = IsAnswered r text call line
-HasOutcome r text call Rule.Late = IsUnanswered r 2
-HasOutcome r text call Rule.Lost = IsUnanswered r 3
+HasOutcome r text call Rule.Late = IsUnanswered r LATE
+HasOutcome r text call Rule.Lost = IsUnanswered r LOST
 
 -- a record says how this request ended; of an answer's line and its items, it says where they stand in the text
 pub record IsRecord (text : List ℕ) (r : GeocomSettlement) (s : Rule.Settlement) : Type 0 where
@@ -69,10 +70,10 @@ pub record IsRecord (text : List ℕ) (r : GeocomSettlement) (s : Rule.Settlemen
 
 -- no part of a promise: the number of a reading's kind, and its code
 abbrev pub IsKind : Reading → ℕ → ℕ → Type 0
-IsKind (Value answer) kind code = (kind ≡ 1) × (code ≡ 0)
-IsKind (Refused rc) kind code = (kind ≡ 2) × (code ≡ rc)
-IsKind (ComFault rc_com) kind code = (kind ≡ 3) × (code ≡ rc_com)
-IsKind (Unreadable fault) kind code = (kind ≡ 4) × (code ≡ fault_number fault)
+IsKind (Value answer) kind code = (kind ≡ VALUE) × (code ≡ 0)
+IsKind (Refused rc) kind code = (kind ≡ REFUSED) × (code ≡ rc)
+IsKind (ComFault rc_com) kind code = (kind ≡ COM_FAULT) × (code ≡ rc_com)
+IsKind (Unreadable fault) kind code = (kind ≡ UNREADABLE) × (code ≡ fault_number fault)
 
 -- no part of a promise: how many bytes so many items have
 abbrev pub total : List (List ℕ) → ℕ

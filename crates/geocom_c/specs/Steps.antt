@@ -9,9 +9,9 @@ use Rattle.geocom_c.specs.Following.{lines_behind, Follows}
 use Rattle.geocom_c.specs.declared.following.Step.{Step}
 use Rattle.geocom_c.specs.declared.following.Step.TheVariants.{Send, Feed, Expire, Restart}
 
--- these calls, behind these bytes since the last line feed, are these steps of a client: a send whose number and parameters are a call's,
--- with room in the window or not, and no step where they are none's; each line that bytes end; a moment; and a restart, which forgets the
--- bytes of a line
+-- these calls, behind these bytes since the last line feed, are these steps of a client. A send is a step where its number and parameters are
+-- a call's, with room in the window or not; else it is none. Each line that bytes end is a step, and so is a moment. A restart is one, and
+-- forgets the bytes of a line
 abbrev pub AreSteps : List ℕ → List Step → List one.Step → Type 0
 AreSteps rest [] steps = steps ≡ []
 AreSteps rest (Send target deadline procedure params ∷ calls) steps =

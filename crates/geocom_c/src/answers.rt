@@ -1,6 +1,9 @@
 //! What a call answers, in plain fields.
 
 ghost use Rattle.std.specs.Prelude.{◌≡◌};
+ghost use Rattle.geocom_c.specs.declared.header.TheConstants.{MORE};
+
+use crate::header::MORE;
 
 /// A fault or 0, and how many there are of what the call gives.
 #[repr(C)]
@@ -19,7 +22,7 @@ pub struct GeocomDeadline {
     pub is_set: u32,
 }
 
-/// What came of some bytes: a fault or 0, how many bytes were used, what they ended, and how many requests that settled.
+/// What came of a feed: a fault or 0, how many bytes were used, what they ended, and how many requests that settled.
 #[repr(C)]
 #[derive(Clone, Copy)]
 pub struct GeocomHeard {
@@ -27,12 +30,13 @@ pub struct GeocomHeard {
     pub fault: u32,
     /// How many records were written.
     pub count: u32,
-    /// 0 no line feed came yet, 1 a line that settled, 2 a stray, 3 a line that is no reply, 4 cleared, 5 overlong.
+    /// What the bytes ended: [`MORE`] to [`OVERLONG`](crate::header::OVERLONG).
     pub kind: u32,
     /// Of a line that is no reply, the fault of its first faulty field, 1 to 5; else 0.
     pub line_fault: u32,
 }
 
+// No fault, and so many.
 pub(crate) fn counted(count: u32) -> GeocomCount
     ensures fault { result.fault ≡ 0 }
     ensures count { result.count ≡ count }
@@ -40,6 +44,7 @@ pub(crate) fn counted(count: u32) -> GeocomCount
     GeocomCount { fault: 0, count }
 }
 
+// A fault, beside which nothing is counted.
 pub(crate) fn refused(fault: u32) -> GeocomCount
     ensures fault { result.fault ≡ fault }
     ensures count { result.count ≡ 0 }
@@ -47,6 +52,7 @@ pub(crate) fn refused(fault: u32) -> GeocomCount
     GeocomCount { fault, count: 0 }
 }
 
+// What the bytes of a feed ended, before it is known how many they are.
 pub(crate) fn heard(kind: u32, line_fault: u32, count: u32) -> GeocomHeard
     ensures { result ≡ record { used = 0; fault = 0; count = count; kind = kind; line_fault = line_fault } }
 {
@@ -59,18 +65,20 @@ pub(crate) fn heard(kind: u32, line_fault: u32, count: u32) -> GeocomHeard
     }
 }
 
+// The fault of a feed that used nothing. All else is 0.
 pub(crate) fn unheard(fault: u32) -> GeocomHeard
-    ensures { result ≡ record { used = 0; fault = fault; count = 0; kind = 0; line_fault = 0 } }
+    ensures { result ≡ record { used = 0; fault = fault; count = 0; kind = MORE; line_fault = 0 } }
 {
     GeocomHeard {
         used: 0,
         fault,
         count: 0,
-        kind: 0,
+        kind: MORE,
         line_fault: 0,
     }
 }
 
+// The same, with how many bytes were used.
 pub(crate) fn using(used: usize, told: GeocomHeard) -> GeocomHeard
     ensures { result ≡ record told { used = used } }
 {

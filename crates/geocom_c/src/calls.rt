@@ -5,11 +5,11 @@ ghost use Rattle.gc_client.specs.Rule.{Windowed, IsWidth, expires, expiring, dea
 ghost use Rattle.gc_client.specs.Rule;
 ghost use Rattle.geocom_c.specs.State.{StandsFor, IsAstray};
 ghost use Rattle.geocom_c.specs.Deadlines.{earliest_in};
-ghost use Rattle.geocom_c.specs.declared.faults.TheConstants.{NO_WIDTH, NO_ROOM, NO_CLIENT};
+ghost use Rattle.geocom_c.specs.declared.header.TheConstants.{VERSION, NO_WIDTH, NO_ROOM, NO_CLIENT};
 ghost use Rattle.gc_client.specs.declared.window.TheConstants.{WINDOW};
 
 use crate::answers::{GeocomCount, GeocomDeadline, counted, refused};
-use crate::faults::{NO_CLIENT, NO_ROOM, NO_WIDTH};
+use crate::header::{NO_CLIENT, NO_ROOM, NO_WIDTH, VERSION};
 use crate::state::{GeocomClient, fresh, load, store};
 use gc_client::WINDOW;
 
@@ -23,12 +23,12 @@ const UNSET: GeocomDeadline = GeocomDeadline {
 /// The version of these calls and of the structs that they take.
 #[unsafe(no_mangle)]
 pub extern "C" fn geocom_version() -> u32
-    ensures { result ≡ 1 }
+    ensures { result ≡ VERSION }
 {
-    1
+    VERSION
 }
 
-/// Makes a client that has sent nothing, and lets so many requests wait, 1 to 7.
+/// Makes a client that has sent nothing. It lets `width` requests wait, 1 to 7.
 ///
 /// Fault 61: another width; the state is as it was.
 #[unsafe(no_mangle)]
@@ -53,8 +53,8 @@ fn put_targets(targets: &mut [u32], due: &[u32])
     targets[..due.len()].copy_from_slice(due);
 }
 
-/// Gives up what is due at a moment, and writes the targets of what wasn't given up before, `count` of them. What stands
-/// behind these stays.
+/// Gives up each request whose deadline is at most `now`, and writes the targets of those that weren't given up before,
+/// `count` of them. What stands behind these stays.
 ///
 /// Faults: 62, `targets` has fewer than seven places; 63, the state is no client's. After a fault nothing has changed.
 #[unsafe(no_mangle)]

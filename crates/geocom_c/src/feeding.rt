@@ -10,11 +10,13 @@ ghost use Rattle.geocom_c.specs.Rest.{IsCut, IsRest};
 ghost use Rattle.geocom_c.specs.State.{StandsFor, IsAstray};
 ghost use Rattle.geocom_c.specs.Settled.{IsRecord};
 ghost use Rattle.geocom_c.specs.Feeding.{HasRoom, IsFed, behind};
-ghost use Rattle.geocom_c.specs.declared.faults.TheConstants.{NO_ROOM, NO_CLIENT};
+ghost use Rattle.geocom_c.specs.declared.header.TheConstants.{NO_ROOM, NO_CLIENT, MORE};
 
 use crate::answers::{GeocomCount, GeocomHeard, counted, heard, refused, unheard, using};
-use crate::faults::{NO_CLIENT, NO_ROOM};
-use crate::listed::{TEXT_ROOM, tell};
+use crate::header::{
+    CLEARED, MORE, NO_CLIENT, NO_ROOM, OVERLONG, SETTLED, STRAY, TEXT_ROOM, UNREAD,
+};
+use crate::listed::tell;
 use crate::rest::{GeocomRest, put};
 use crate::settled::{GeocomSettlement, put_lost, put_records};
 use crate::state::{GeocomClient, load, store};
@@ -52,10 +54,10 @@ fn hear(
             let answer = tell(line);
             put(text, 0, answer.text.as_slice());
             put_records(settlements, settled.as_slice(), &answer);
-            heard(1, 0, settled.len() as u32)
+            heard(SETTLED, 0, settled.len() as u32)
         }
-        Heard::Stray => heard(2, 0, 0),
-        Heard::Unread(fault) => heard(3, u32::from(fault.number()), 0),
+        Heard::Stray => heard(STRAY, 0, 0),
+        Heard::Unread(fault) => heard(UNREAD, u32::from(fault.number()), 0),
     }
 }
 
@@ -78,9 +80,9 @@ fn feed_frame(
 {
     match frame {
         Frame::Line(line) => hear(state, client, line, settlements, text),
-        Frame::Cleared => heard(4, 0, 0),
-        Frame::Overlong => heard(5, 0, 0),
-        Frame::More => heard(0, 0, 0),
+        Frame::Cleared => heard(CLEARED, 0, 0),
+        Frame::Overlong => heard(OVERLONG, 0, 0),
+        Frame::More => heard(MORE, 0, 0),
     }
 }
 
@@ -95,7 +97,7 @@ fn feed(
     requires room { HasRoom settlements.old text.old }
     requires cut { IsCut state.old.rest }
     ensures more { (rest : List ℕ) → StandsFor state.old client rest → position is_line_feed bytes.now ≡ None
-        → (result ≡ record { used = length bytes.now; fault = 0; count = 0; kind = 0; line_fault = 0 })
+        → (result ≡ record { used = length bytes.now; fault = 0; count = 0; kind = MORE; line_fault = 0 })
         × StandsFor state.new client (rest ++ bytes.now) }
     ensures frame { (rest : List ℕ) (at : ℕ) → StandsFor state.old client rest → position is_line_feed bytes.now ≡ Some at
         → (result.used ≡ at + 1) × IsFed client (frame_of (rest ++ take at bytes.now)) result settlements.new text.new
@@ -112,7 +114,7 @@ fn feed(
     match frame {
         Frame::More => {
             state.rest.keep(bytes);
-            using(used, heard(0, 0, 0))
+            using(used, heard(MORE, 0, 0))
         }
         ended => {
             state.rest = GeocomRest::new();
@@ -123,9 +125,9 @@ fn feed(
 
 /// Takes bytes as they come, through the first line feed, and writes a record for each request that the line settles.
 ///
-/// `used` says how many bytes were used: those through the first line feed, or all where there is none. Call again with
-/// what is left, where something is. A line settles at most seven requests; where it settled, it stands at the front of
-/// `text`, and behind it the items of its parameters. Else nothing is written; and behind the `count` records never.
+/// `used` says how many bytes were used: those through the first line feed, or all where there is none. Where some are left,
+/// call again with these. A line settles at most seven requests. One that settles stands at the front of `text`, and behind it
+/// the items of its parameters. One that doesn't writes nothing. Behind the `count` records nothing is written.
 ///
 /// Faults: 62, `settlements` has fewer than seven places or `text` fewer than 1024 bytes; 63, the state is no client's.
 /// After a fault nothing has changed, and nothing was used.
@@ -138,7 +140,7 @@ pub extern "C" fn geocom_client_feed(
 ) -> GeocomHeard
     ensures more { HasRoom settlements.old text.old → (c : Windowed) (rest : List ℕ) → StandsFor state.old c rest
         → position is_line_feed bytes.now ≡ None
-        → (result ≡ record { used = length bytes.now; fault = 0; count = 0; kind = 0; line_fault = 0 })
+        → (result ≡ record { used = length bytes.now; fault = 0; count = 0; kind = MORE; line_fault = 0 })
         × StandsFor state.new c (rest ++ bytes.now) }
     ensures frame { HasRoom settlements.old text.old → (c : Windowed) (rest : List ℕ) (at : ℕ) → StandsFor state.old c rest
         → position is_line_feed bytes.now ≡ Some at
@@ -165,11 +167,11 @@ pub extern "C" fn geocom_client_feed(
     }
 }
 
-/// Settles all that wait as lost, in order, writes a record for each, `count` of them and nothing behind these, and begins
-/// anew at id 0 and at the start of a line. The width stays.
+/// Settles all that wait as lost, in order, and writes a record for each: `count` of them, and nothing behind these. Then it
+/// begins anew, at id 0 and at the start of a line. The width stays.
 ///
 /// The caller vouches that no byte is under way in either direction, and that the instrument starts anew too, or keeps no
-/// replies.
+/// replies, or that a null procedure is sent next, and nothing else until it is answered.
 ///
 /// Faults: 62, `settlements` has fewer than seven places; 63, the state is no client's. After a fault nothing has changed.
 #[unsafe(no_mangle)]

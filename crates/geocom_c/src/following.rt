@@ -9,8 +9,9 @@ ghost use Rattle.geocom_c.specs.Following.{hearing, FedTo, Follows, Reached};
 
 use crate::calls::{geocom_client_expire, geocom_client_init};
 use crate::feeding::{geocom_client_feed, geocom_client_restart};
-use crate::listed::{NOWHERE, TEXT_ROOM};
-use crate::sends::{LINE_ROOM, geocom_client_send};
+use crate::header::{LINE_ROOM, NONE, TEXT_ROOM};
+use crate::listed::NOWHERE;
+use crate::sends::geocom_client_send;
 use crate::settled::GeocomSettlement;
 use crate::state::GeocomClient;
 use gc_client::WINDOW;
@@ -31,6 +32,7 @@ pub enum Step<'a> {
     Restart,
 }
 
+// What stands in a place that no settlement was written to.
 pub(crate) const VACANT: GeocomSettlement = GeocomSettlement {
     target: 0,
     procedure: 0,
@@ -39,7 +41,7 @@ pub(crate) const VACANT: GeocomSettlement = GeocomSettlement {
     items: 0,
     places: [NOWHERE; MOST_ITEMS],
     outcome: 0,
-    reading: 0,
+    reading: NONE,
 };
 
 // Feeds bytes through the first line feed, and says how many were used.
@@ -112,9 +114,9 @@ fn step_at<'a>(steps: &[Step<'a>], k: usize) -> Step<'a>
     steps[k]
 }
 
-/// Makes a client of this width, and then these calls, each with ample room. The state stands for the client that the rule
-/// makes of these calls, whatever they are, and for the bytes that came since the last line feed: what was settled, and behind
-/// it the requests that wait, are the sends that weren't refused, in order, each once.
+/// Makes a client of this width, and then these calls, each with ample room. Whatever the calls are, the state stands for the
+/// client that the rule makes of them, and for the bytes that came since the last line feed. What was settled, and behind it
+/// the requests that wait, are the sends that weren't refused, in order, each once.
 pub fn follow(state: &mut GeocomClient, width: u8, steps: &[Step<'_>])
     ensures { IsWidth width → (x : Course) × (rest : List ℕ) × Follows width begun [] steps.now x rest
         × StandsFor state.new (record { width = width; ids = x.client }) rest × IsOneForOne x }

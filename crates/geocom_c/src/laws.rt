@@ -9,9 +9,9 @@ pub fn calls_are_steps()
     ensures { CallsAreSteps }
 {}
 
-/// Over any number of connections, with an instrument that may start anew at any time: each answer that the library books was
-/// made by the instrument for that very request, but for the first one behind each restart, which is answered alone; and what
-/// is settled, and the client behind it, are those of the field.
+/// There may be any number of connections, and the instrument may start anew at any time. Each answer that the library books
+/// was made by the instrument for that very request. Of the first request behind each restart, which goes out alone, that
+/// isn't said. What is settled, and the client behind it, are those of the field.
 pub fn answers_are_their_own()
     ensures { AnswersAreTheirOwn }
 {}

@@ -1,13 +1,13 @@
 //! The client for C, C++ and Python: a static library over `gc_client`, with the names of `library/include/geocom.h`. The state
-//! is the caller's, plain bytes of a fixed size, and whatever stands in them a call returns: no call takes memory, starts a
-//! thread or opens anything. A pointer and a length stand for a slice.
+//! is the caller's: plain bytes of a fixed size. Whatever stands in them, a call returns. No call takes memory, starts a thread
+//! or opens anything. A pointer and a length stand for a slice.
 #![tactic(auto)]
 
 mod answers;
 mod calls;
-mod faults;
 mod feeding;
 mod following;
+mod header;
 pub mod laws;
 mod listed;
 mod rest;
@@ -22,9 +22,9 @@ pub use calls::{
     geocom_client_expire, geocom_client_init, geocom_client_next_deadline, geocom_client_waiting,
     geocom_version,
 };
-pub use faults::numbers;
 pub use feeding::{geocom_client_feed, geocom_client_restart};
 pub use following::{Step, follow};
+pub use header::numbers;
 pub use listed::GeocomItem;
 pub use rest::GeocomRest;
 pub use sends::geocom_client_send;

@@ -6,13 +6,12 @@ ghost use Rattle.gc_values.specs.Lists.{AreParams};
 ghost use Rattle.gc_values.specs.declared.value.Value.{Value};
 ghost use Rattle.geocom_c.specs.FirstAre.{FirstAre};
 ghost use Rattle.geocom_c.specs.Settled.{StandsAt, AreListed, total, IsTold};
+ghost use Rattle.geocom_c.specs.declared.header.TheConstants.{TEXT_ROOM};
 
+use crate::header::TEXT_ROOM;
 use arrayvec::ArrayVec;
 use gc_lines::{Line, append, read_reply};
 use gc_values::{Items, MOST_ITEMS, split};
-
-/// How much room a line and its items take: the items are parts of the line.
-pub const TEXT_ROOM: usize = 1024;
 
 /// Where an item stands in a text.
 #[repr(C)]
@@ -28,7 +27,7 @@ pub(crate) const NOWHERE: GeocomItem = GeocomItem {
     length: 0,
 };
 
-// A line with items behind it, how many items these are, and where they stand.
+// A line with the items of its parameters behind it, how many these are, and where they stand.
 #[derive(Drop)]
 pub(crate) struct Told {
     pub text: ArrayVec<u8, TEXT_ROOM>,
@@ -70,7 +69,7 @@ fn list(told: &mut Told, params: &[u8])
     }
 }
 
-// The text of a line.
+// A line, with the items of its parameters behind it where it is a reply.
 pub(crate) fn tell(line: &Line) -> Told
     ensures { IsTold result.text.items result.items result.places line.now.items }
 {

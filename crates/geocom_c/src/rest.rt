@@ -38,7 +38,7 @@ impl GeocomRest {
         length <= KEPT && has_no_line_feed(&self.bytes[..length])
     }
 
-    // What the first line feed of a piece makes of the bytes since the last one, and how many of the piece's that uses.
+    // The frame that the first line feed of a piece ends, and how many bytes of the piece that uses.
     pub(crate) fn frame(&self, piece: &[u8]) -> (usize, Frame)
         requires { IsCut self.now }
         ensures used { (result.0 ≤ length piece.now) × (0 < length piece.now → 0 < result.0) }

@@ -3,35 +3,21 @@
 ghost use Rattle.std.specs.Prelude.{◌≡◌, ◌≢◌, ◌↔◌, ◌<◌, ◌≤◌, ℕ, List, length, drop};
 ghost use Rattle.gc_catalogue.specs.declared.call.Call.{Call};
 ghost use Rattle.gc_catalogue.specs.declared.fault.CallFault.{CallFault};
+ghost use Rattle.gc_catalogue.specs.CallFault.{refusal_number};
 ghost use Rattle.gc_catalogue.specs.Calls.{IsCall, IsRefusal};
 ghost use Rattle.gc_client.specs.Rule.{Windowed, sends};
 ghost use Rattle.geocom_c.specs.Rest.{IsRest};
 ghost use Rattle.geocom_c.specs.State.{StandsFor, IsAstray};
-ghost use Rattle.geocom_c.specs.Sending.{refusal_number, IsSent};
-ghost use Rattle.geocom_c.specs.declared.faults.TheConstants.{NO_ROOM, NO_CLIENT};
+ghost use Rattle.geocom_c.specs.Sending.{IsSent};
+ghost use Rattle.geocom_c.specs.declared.header.TheConstants.{LINE_ROOM, WINDOW_FULL, NO_ROOM, NO_CLIENT};
 
 use crate::answers::{GeocomCount, counted, refused};
-use crate::faults::{NO_CLIENT, NO_ROOM};
+use crate::header::{LINE_ROOM, NO_CLIENT, NO_ROOM};
 use crate::rest::put;
 use crate::state::{GeocomClient, load, store};
-use gc_catalogue::{Call, CallFault, decode_call};
+use gc_catalogue::{Call, decode_call};
 use gc_client::{Client, Slots};
 use gc_lines::Request;
-
-/// How much room a request line takes with its CR LF.
-pub const LINE_ROOM: usize = 514;
-
-ghost use Rattle.geocom_c.specs.declared.sends.TheConstants.{LINE_ROOM};
-
-// The number of a refusal.
-fn number_of(fault: CallFault) -> u32
-    ensures { result ≡ refusal_number fault }
-{
-    match fault {
-        CallFault::Unknown => 21,
-        CallFault::Parameters(fault) => u32::from(fault.number()),
-    }
-}
 
 // Sends a call.
 fn send_call(
@@ -44,12 +30,13 @@ fn send_call(
 ) -> GeocomCount
     requires { LINE_ROOM ≤ length line.old }
     ensures sent { (rest : List ℕ) → IsRest state.old.rest rest
-        → IsSent client rest call (sends client.width client.ids target call deadline) state.old state.new line.old line.new result }
+        → IsSent client rest call (sends client.width client.ids target call deadline)
+        (record { old = state.old; new = state.new; before = line.old; after = line.new; told = result }) }
     ensures untouched { drop result.count line.new ≡ drop result.count line.old }
     ensures length { length line.new ≡ length line.old }
-    ensures full { result.fault ≡ 31 → length client.ids.waiting ≡ client.width }
+    ensures full { result.fault ≡ WINDOW_FULL → length client.ids.waiting ≡ client.width }
     ensures done { result.fault ≡ 0 → length client.ids.waiting < client.width }
-    ensures either { (result.fault ≢ 0) → result.fault ≡ 31 }
+    ensures either { (result.fault ≢ 0) → result.fault ≡ WINDOW_FULL }
     ensures refused { result.fault ≢ 0 → (result.count ≡ 0) × (state.new ≡ state.old) × (line.new ≡ line.old) }
 {
     match client.send(target, call, deadline) {
@@ -63,7 +50,7 @@ fn send_call(
     }
 }
 
-/// Sends a request, and writes its line with CR LF into `line`, `count` bytes of it and nothing behind these.
+/// Sends a request, and writes its line with CR LF into `line`: `count` bytes, and nothing behind these.
 ///
 /// Faults: 62, `line` has fewer than 514 bytes; 63, the state is no client's; 21, no procedure has the number; 11 to 15,
 /// the parameters don't read; 31, as many requests wait as the width allows. After a fault nothing has changed.
@@ -78,16 +65,17 @@ pub extern "C" fn geocom_client_send(
 ) -> GeocomCount
     ensures sent { LINE_ROOM ≤ length line.old → (c : Windowed) (rest : List ℕ) (call : Call) → StandsFor state.old c rest
         → IsCall procedure params.now call
-        → IsSent c rest call (sends c.width c.ids target call deadline) state.old state.new line.old line.new result }
+        → IsSent c rest call (sends c.width c.ids target call deadline)
+        (record { old = state.old; new = state.new; before = line.old; after = line.new; told = result }) }
     ensures call { LINE_ROOM ≤ length line.old → (c : Windowed) (rest : List ℕ) (e : CallFault) → StandsFor state.old c rest
         → IsRefusal procedure params.now e → result.fault ≡ refusal_number e }
     ensures room { (result.fault ≡ NO_ROOM) ↔ (length line.old < LINE_ROOM) }
     ensures astray { (result.fault ≡ NO_CLIENT) ↔ ((LINE_ROOM ≤ length line.old) × IsAstray state.old) }
-    ensures full { result.fault ≡ 31 → (c : Windowed) × (rest : List ℕ) × (call : Call) × StandsFor state.old c rest
+    ensures full { result.fault ≡ WINDOW_FULL → (c : Windowed) × (rest : List ℕ) × (call : Call) × StandsFor state.old c rest
         × IsCall procedure params.now call × (length c.ids.waiting ≡ c.width) }
     ensures done { result.fault ≡ 0 → (c : Windowed) × (rest : List ℕ) × (call : Call) × StandsFor state.old c rest
         × IsCall procedure params.now call × (length c.ids.waiting < c.width) }
-    ensures refusal { result.fault ≢ 0 → result.fault ≢ 31 → result.fault ≢ NO_ROOM → result.fault ≢ NO_CLIENT
+    ensures refusal { result.fault ≢ 0 → result.fault ≢ WINDOW_FULL → result.fault ≢ NO_ROOM → result.fault ≢ NO_CLIENT
         → (e : CallFault) × IsRefusal procedure params.now e × (result.fault ≡ refusal_number e) }
     ensures refused { result.fault ≢ 0 → (result.count ≡ 0) × (state.new ≡ state.old) × (line.new ≡ line.old) }
     ensures untouched { drop result.count line.new ≡ drop result.count line.old }
@@ -106,6 +94,6 @@ pub extern "C" fn geocom_client_send(
     };
     match decode_call(&request) {
         Ok(call) => send_call(state, client, target, deadline, call, line),
-        Err(fault) => refused(number_of(fault)),
+        Err(fault) => refused(u32::from(fault.refusal_number())),
     }
 }

@@ -8,10 +8,11 @@ ghost use Rattle.gc_client.specs.Settlements.{IsWellRead, ReadsAs, settlement_se
 ghost use Rattle.geocom_c.specs.FirstAre.{FirstAre};
 ghost use Rattle.geocom_c.specs.Settled.{IsTold, IsKind, IsAnswered, IsUnanswered, IsRecord, IsBy, AreBy};
 
+use crate::header::{ANSWERED, COM_FAULT, LATE, LOST, NONE, REFUSED, UNREADABLE, VALUE};
 use crate::listed::{GeocomItem, NOWHERE, Told};
-use gc_catalogue::{Call, Reading, encode_call};
+use gc_catalogue::Reading;
 use gc_client::{Outcome, Settlement};
-use gc_lines::{Line, read_request};
+use gc_lines::Line;
 use gc_values::MOST_ITEMS;
 
 /// How a request ended.
@@ -31,21 +32,10 @@ pub struct GeocomSettlement {
     pub items: u16,
     /// Where they stand in the text.
     pub places: [GeocomItem; MOST_ITEMS],
-    /// 1 answered, 2 late, 3 lost.
+    /// [`ANSWERED`], [`LATE`] or [`LOST`].
     pub outcome: u8,
-    /// What the answer says: 0 there is none, 1 a value, 2 a refusal, 3 a fault of communication, 4 its parameters don't
-    /// read.
+    /// What the answer says: [`NONE`] to [`UNREADABLE`].
     pub reading: u8,
-}
-
-// The number of a call's procedure.
-fn procedure_of(call: &Call) -> u16
-    ensures { result ≡ (call_fields call.now).number }
-{
-    match read_request(&encode_call(None, call)) {
-        Ok(request) => request.rpc,
-        Err(_) => 0,
-    }
 }
 
 // The record of a request that ended so, without an answer.
@@ -56,13 +46,13 @@ fn unanswered(settlement: &Settlement, outcome: u8) -> GeocomSettlement
 {
     GeocomSettlement {
         target: settlement.target,
-        procedure: procedure_of(&settlement.call),
+        procedure: settlement.call.number(),
         code: 0,
         line_length: 0,
         items: 0,
         places: [NOWHERE; MOST_ITEMS],
         outcome,
-        reading: 0,
+        reading: NONE,
     }
 }
 
@@ -71,10 +61,10 @@ fn kind_of(reading: &Reading) -> (u8, u16)
     ensures { IsKind reading.now result.0 result.1 }
 {
     match reading {
-        Reading::Value(_) => (1, 0),
-        Reading::Refused(code) => (2, *code),
-        Reading::ComFault(code) => (3, *code),
-        Reading::Unreadable(fault) => (4, u16::from(fault.number())),
+        Reading::Value(_) => (VALUE, 0),
+        Reading::Refused(code) => (REFUSED, *code),
+        Reading::ComFault(code) => (COM_FAULT, *code),
+        Reading::Unreadable(fault) => (UNREADABLE, u16::from(fault.number())),
     }
 }
 
@@ -94,12 +84,12 @@ fn answered(
     let (kind, code) = kind_of(reading);
     GeocomSettlement {
         target: settlement.target,
-        procedure: procedure_of(&settlement.call),
+        procedure: settlement.call.number(),
         code,
         line_length: line.len() as u16,
-        items: if kind == 1 { told.items } else { 0 },
+        items: if kind == VALUE { told.items } else { 0 },
         places: told.places,
-        outcome: 1,
+        outcome: ANSWERED,
         reading: kind,
     }
 }
@@ -111,8 +101,8 @@ fn record_of(settlement: &Settlement, told: &Told) -> GeocomSettlement
 {
     match &settlement.outcome {
         Outcome::Answered(reading, line) => answered(settlement, reading, line, told),
-        Outcome::Late => unanswered(settlement, 2),
-        Outcome::Lost => unanswered(settlement, 3),
+        Outcome::Late => unanswered(settlement, LATE),
+        Outcome::Lost => unanswered(settlement, LOST),
     }
 }
 
@@ -139,6 +129,6 @@ pub(crate) fn put_lost(records: &mut [GeocomSettlement], settled: &[Settlement])
     ensures length { length records.new ≡ length records.old }
 {
     for k in 0..settled.len() {
-        records[k] = unanswered(&settled[k], 3);
+        records[k] = unanswered(&settled[k], LOST);
     }
 }

@@ -26,7 +26,7 @@ pub struct GeocomWaiting {
     pub line: [u8; 512],
 }
 
-/// A client: its width, the next id, how many requests wait and those, oldest first, and the bytes of a line under way.
+/// A client: the requests that wait, oldest first, the bytes of a line under way, its width, the next id, and how many wait.
 #[repr(C)]
 #[derive(Clone, Copy)]
 pub struct GeocomClient {

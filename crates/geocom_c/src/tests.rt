@@ -5,8 +5,8 @@ use crate::calls::{
 };
 use crate::feeding::{geocom_client_feed, geocom_client_restart};
 use crate::following::{Step, VACANT};
-use crate::listed::TEXT_ROOM;
-use crate::sends::{LINE_ROOM, geocom_client_send};
+use crate::header::{LINE_ROOM, SETTLED, TEXT_ROOM};
+use crate::sends::geocom_client_send;
 use crate::settled::GeocomSettlement;
 use crate::state::{GeocomClient, fresh};
 use Step::{Expire, Feed, Restart, Send};
@@ -71,7 +71,7 @@ fn feed(told: &mut String, state: &mut GeocomClient, piece: &[u8]) -> Result<(),
             return Ok(());
         }
         let heard = geocom_client_feed(state, left, &mut records, &mut text);
-        if heard.kind > 1 || heard.fault > 0 {
+        if heard.kind > SETTLED || heard.fault > 0 {
             write!(
                 told,
                 "kind {}, fault {}, ",

@@ -1,4 +1,4 @@
-use Rattle.std.proofs.Common.{ℕ, List, inl, inr, sym, subst, refl}
+use Rattle.std.proofs.Common.{inl, inr, sym, subst, refl}
 use Rattle.gc_texts.specs.Logs.{escaped}
 use Rattle.gc_texts.specs.declared.log_line.LogMark.{LogMark}
 use Rattle.gc_engines.specs.LogChecking.{IsSaid}

@@ -1,4 +1,4 @@
-use Rattle.std.proofs.Common.{◌≡◌, ◌≤◌, List, ℕ, length, subst, sym, ap, ◌∙◌, arith}
+use Rattle.std.proofs.Common.{◌≡◌, ◌≤◌, List, ℕ, length, subst, sym, ◌∙◌}
 use Rattle.gc_texts.specs.Logs.{IsLogLine}
 use Rattle.gc_engines.specs.LogChecking.{reads}
 use Rattle.gc_engines.proofs.check_log.said_of.Goals as goal

@@ -1,9 +1,8 @@
-use Rattle.std.proofs.Common.{◌≢◌, List, ℕ, ap, refl}
+use Rattle.std.proofs.Common.{◌≢◌, List, ℕ, refl}
 use Rattle.gc_lines.specs.Replies.{FirstBadOfReply}
 use Rattle.gc_lines.specs.declared.fault.LineFault.{LineFault}
 use Rattle.gc_lines.specs.declared.fault.LineFault.TheVariants as fault
 use Rattle.gc_engines.specs.Verdicts.{BeginsAsReply, no_reply}
-use Rattle.gc_engines.specs.declared.verdict.Verdict.TheVariants.{Fault}
 use Rattle.gc_engines.proofs.verdict.faulty_verdict.Goals as goal
 
 -- where a later field is the first bad one, the signature has its form
@@ -16,4 +15,4 @@ begins line fault.Code other bad = (bad.1.before.before.from, bad.1.before.befor
 begins line fault.TooLong other bad = absurd bad
 
 pub returns-in_default : goal.returns-in_default
-returns-in_default c = no_reply c.args.fault (begins c.args.line.now c.args.fault c.in_default.not-Signature c.requires) c.requires (ap (λ n. Fault n) c.number.ensures)
+returns-in_default c = no_reply c.args.fault (begins c.args.line.now c.args.fault c.in_default.not-Signature c.requires) c.requires refl

@@ -1,6 +1,7 @@
 use Rattle.std.proofs.Common.{rules, ◌≡◌, ◌∙◌, sym, subst, length, take}
 use Rattle.gc_client.specs.Rule.{Windowed, expires, expiring}
 use Rattle.geocom_c.specs.State.{StandsFor}
+use Rattle.geocom_c.specs.declared.header.TheConstants.{NO_CLIENT}
 use Rattle.geocom_c.proofs.Clients.{from_some}
 use Rattle.geocom_c.proofs.calls.geocom_client_expire.Goals as goal
 
@@ -22,4 +23,4 @@ returns-clause-expired c = λ room c' rest s.
     (c.counted.ensures.fault, stands, n, text)
 
 pub returns-clause-astray : goal.returns-clause-astray
-returns-clause-astray c = (λ e. let zero : 0 ≡ 63 = sym c.counted.ensures.fault ∙ e in cc, λ both. absurd (both.1 _ _ c.in-Some.ensures.found))
+returns-clause-astray c = (λ e. let zero : 0 ≡ NO_CLIENT = sym c.counted.ensures.fault ∙ e in cc, λ both. absurd (both.1 _ _ c.in-Some.ensures.found))

@@ -4,15 +4,16 @@ use Rattle.gc_lines.specs.declared.frame.Frame.{Frame}
 use Rattle.geocom_c.specs.State.{StandsFor}
 use Rattle.geocom_c.specs.Feeding.{behind}
 use Rattle.geocom_c.specs.declared.answers.GeocomHeard.{GeocomHeard}
+use Rattle.geocom_c.specs.declared.header.TheConstants.{MORE}
 use Rattle.geocom_c.proofs.Frames.{never_more, with_rest, fed_used}
 use Rattle.geocom_c.proofs.feeding.feed.Goals as goal
 
 pub returns-in-More-clause-more : goal.returns-in-More-clause-more
 returns-in-More-clause-more c = λ rest s none.
     let used = (c.frame-used.ensures.more rest s.under_way none).0 in
-    let told : c.using.result ≡ record { used = length c.args.bytes.now; fault = 0; count = 0; kind = 0; line_fault = 0 } =
+    let told : c.using.result ≡ record { used = length c.args.bytes.now; fault = 0; count = 0; kind = MORE; line_fault = 0 } =
     c.using.ensures ∙ ap (λ (x : GeocomHeard). let y : GeocomHeard = record x { used = c.frame-used.result.0 } in y) c.heard.ensures
-    ∙ ap (λ n. let y : GeocomHeard = record { used = n; fault = 0; count = 0; kind = 0; line_fault = 0 } in y) used in
+    ∙ ap (λ n. let y : GeocomHeard = record { used = n; fault = 0; count = 0; kind = MORE; line_fault = 0 } in y) used in
     (told, with_rest c.args.state.now c.keep.new.self c.args.client rest (rest ++ c.args.bytes.now) s (c.keep.ensures rest s.under_way none))
 
 pub returns-in-More-clause-frame : goal.returns-in-More-clause-frame

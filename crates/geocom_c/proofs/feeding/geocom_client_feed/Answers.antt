@@ -4,6 +4,7 @@ use Rattle.gc_client.specs.Rule.{Windowed}
 use Rattle.geocom_c.specs.State.{StandsFor}
 use Rattle.geocom_c.specs.Feeding.{HasRoom, IsFed, behind}
 use Rattle.geocom_c.specs.declared.answers.GeocomHeard.{GeocomHeard}
+use Rattle.geocom_c.specs.declared.header.TheConstants.{NO_CLIENT}
 use Rattle.geocom_c.proofs.Clients.{from_some}
 use Rattle.geocom_c.proofs.feeding.geocom_client_feed.Goals as goal
 
@@ -21,7 +22,7 @@ returns-in-Some-clause-frame c = λ room c' rest at s some.
     subst (λ (d : Windowed). (c.feed.result.used ≡ at + 1) × IsFed d frame c.feed.result c.feed.new.settlements c.feed.new.text × StandsFor c.feed.new.state (behind d frame) []) same told
 
 pub returns-in-Some-clause-astray : goal.returns-in-Some-clause-astray
-returns-in-Some-clause-astray c = (λ e. let zero : 0 ≡ 63 = sym c.feed.ensures.fault ∙ e in cc, λ both. absurd (both.1 _ _ c.in-Some.ensures.found))
+returns-in-Some-clause-astray c = (λ e. let zero : 0 ≡ NO_CLIENT = sym c.feed.ensures.fault ∙ e in cc, λ both. absurd (both.1 _ _ c.in-Some.ensures.found))
 
 pub returns-in-None-clause-more : goal.returns-in-None-clause-more
 returns-in-None-clause-more c = λ room c' rest s none. let bad : None ≡ Some c' = sym c.in-None.is ∙ c.load.ensures.only c' rest s in cc

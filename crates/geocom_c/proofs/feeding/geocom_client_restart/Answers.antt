@@ -5,6 +5,7 @@ use Rattle.gc_client.specs.Settlements.{settlement_seen}
 use Rattle.geocom_c.specs.FirstAre.{FirstAre}
 use Rattle.geocom_c.specs.State.{StandsFor}
 use Rattle.geocom_c.specs.Settled.{IsRecord}
+use Rattle.geocom_c.specs.declared.header.TheConstants.{NO_CLIENT}
 use Rattle.geocom_c.proofs.Clients.{from_some}
 use Rattle.geocom_c.proofs.feeding.geocom_client_restart.Goals as goal
 
@@ -27,4 +28,4 @@ returns-clause-restarted c = λ room c' rest s.
     (c.counted.ensures.fault, stands, n, told)
 
 pub returns-clause-astray : goal.returns-clause-astray
-returns-clause-astray c = (λ e. let zero : 0 ≡ 63 = sym c.counted.ensures.fault ∙ e in cc, λ both. absurd (both.1 _ _ c.in-Some.ensures.found))
+returns-clause-astray c = (λ e. let zero : 0 ≡ NO_CLIENT = sym c.counted.ensures.fault ∙ e in cc, λ both. absurd (both.1 _ _ c.in-Some.ensures.found))

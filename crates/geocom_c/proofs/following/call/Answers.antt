@@ -9,6 +9,7 @@ use Rattle.gc_client.specs.OneForOne as one
 use Rattle.geocom_c.specs.State.{StandsFor}
 use Rattle.geocom_c.specs.Following.{hearing, Follows, Reached}
 use Rattle.geocom_c.specs.declared.following.Step.{Step}
+use Rattle.geocom_c.specs.declared.header.TheConstants.{WINDOW_FULL}
 use Rattle.geocom_c.specs.declared.state.GeocomClient.{GeocomClient}
 use Rattle.geocom_c.proofs.Hearings.{decided, sent_course}
 use Rattle.geocom_c.proofs.following.call.Goals as goal
@@ -45,11 +46,11 @@ returns-in-Send c = λ width x rest steps s.
     let by : (call : Call) → IsCall c.in-Send.procedure c.in-Send.params.now call → Reached width x rest (c.args.step.now ∷ steps) sent.new.state steps = λ call is. record {
       reached = goes width x (one.Send c.in-Send.target call c.in-Send.deadline);
       now = rest;
-      stands = sent_course width x rest call c.in-Send.target (sends width x.client c.in-Send.target call c.in-Send.deadline) c.args.state.now sent.new.state _ sent.new.line sent.result s (sent.ensures.sent (search rules) client rest call s is);
+      stands = sent_course width x rest call c.in-Send.target (sends width x.client c.in-Send.target call c.in-Send.deadline) (record { old = c.args.state.now; new = sent.new.state; before = _; after = sent.new.line; told = sent.result }) s (sent.ensures.sent (search rules) client rest call s is);
       on = λ z end f. subst (λ (t : Step). Follows width x rest (t ∷ steps) z end) (sym c.in-Send.is) (inl (call, is, f));
     } in
     decided n 0 (λ e. let d = sent.ensures.done e in by d.2 d.4)
-    (λ no. decided n 31 (λ e. let d = sent.ensures.full e in by d.2 d.4)
+    (λ no. decided n WINDOW_FULL (λ e. let d = sent.ensures.full e in by d.2 d.4)
     (λ not_full. let r = sent.ensures.refusal no not_full (λ e. let short = sent.ensures.room.0 e in absurd (search rules)) (λ e. absurd ((sent.ensures.astray.0 e).1 client rest s)) in
     record {
       reached = x;

@@ -1,7 +1,7 @@
 use Rattle.std.proofs.Common.{◌≡◌, ◌∙◌, Ok, sym, subst}
 use Rattle.gc_client.specs.Rule.{Windowed, sends}
-use Rattle.geocom_c.specs.Sending.{IsSent}
-use Rattle.geocom_c.proofs.Clients.{from_some, not_63, no_refusal_63}
+use Rattle.geocom_c.specs.Sending.{Sent, IsSent}
+use Rattle.geocom_c.proofs.Clients.{from_some, full_alone, no_refusal_astray}
 use Rattle.geocom_c.proofs.sends.geocom_client_send.Goals as goal
 
 pub returns-in_default-clause-sent : goal.returns-in_default-clause-sent
@@ -15,15 +15,16 @@ returns-in-Ok-clause-sent c = λ room c' rest call s is.
     let same = from_some c.in-Some.client c' (sym c.in-Some.is ∙ c.load.ensures.only c' rest s) in
     let both : Ok c.in-Ok.call ≡ Ok call = sym c.in-Ok.is ∙ c.decode_call.ensures.only call is in
     let called : c.in-Ok.call ≡ call = cc in
-    subst (λ k. IsSent c' rest k (sends c'.width c'.ids c.args.target k c.args.deadline) c.args.state.now c.send_call.new.state c.args.line.now c.send_call.new.line c.send_call.result) called
-    (subst (λ (d : Windowed). IsSent d rest c.in-Ok.call (sends d.width d.ids c.args.target c.in-Ok.call c.args.deadline) c.args.state.now c.send_call.new.state c.args.line.now c.send_call.new.line c.send_call.result) same
+    let sent : Sent = record { old = c.args.state.now; new = c.send_call.new.state; before = c.args.line.now; after = c.send_call.new.line; told = c.send_call.result } in
+    subst (λ k. IsSent c' rest k (sends c'.width c'.ids c.args.target k c.args.deadline) sent) called
+    (subst (λ (d : Windowed). IsSent d rest c.in-Ok.call (sends d.width d.ids c.args.target c.in-Ok.call c.args.deadline) sent) same
     (c.send_call.ensures.sent rest s.under_way))
 
 pub returns-in-Ok-clause-astray : goal.returns-in-Ok-clause-astray
-returns-in-Ok-clause-astray c = (λ e. absurd (not_63 _ c.send_call.ensures.either e), λ both. absurd (both.1 _ _ c.in-Some.ensures.found))
+returns-in-Ok-clause-astray c = (λ e. absurd (full_alone _ c.send_call.ensures.either e), λ both. absurd (both.1 _ _ c.in-Some.ensures.found))
 
 pub returns-in_default-clause-astray : goal.returns-in_default-clause-astray
 returns-in_default-clause-astray c = (λ _. (c.if-line-lt-LINE_ROOM.false, c.load.ensures.none c.in_default.is), λ _. c.refused-in_default.ensures.fault)
 
 pub returns-in-Err-clause-astray : goal.returns-in-Err-clause-astray
-returns-in-Err-clause-astray c = (λ e. absurd (no_refusal_63 c.in-Err.fault (sym c.number_of.ensures ∙ sym c.refused-in-Err.ensures.fault ∙ e)), λ both. absurd (both.1 _ _ c.in-Some.ensures.found))
+returns-in-Err-clause-astray c = (λ e. absurd (no_refusal_astray c.in-Err.fault (sym c.refusal_number.ensures ∙ sym c.from.ensures ∙ sym c.refused-in-Err.ensures.fault ∙ e)), λ both. absurd (both.1 _ _ c.in-Some.ensures.found))

@@ -2,7 +2,7 @@ use Rattle.std.proofs.Common.{rules, ◌≡◌, ◌+◌, ◌++◌, ◌∷◌, []
 use Rattle.gc_catalogue.specs.Texts.{request_line}
 use Rattle.gc_client.specs.Rule.{Windowed}
 use Rattle.geocom_c.specs.State.{StandsFor}
-use Rattle.geocom_c.specs.Sending.{IsSent}
+use Rattle.geocom_c.specs.Sending.{Sent, IsSent}
 use Rattle.geocom_c.proofs.Clients.{same_width, twice_untouched}
 use Rattle.geocom_c.proofs.sends.send_call.Goals as goal
 
@@ -18,7 +18,8 @@ returns-in-Ok-clause-sent c = λ rest is.
     let front : take c.len-in-Ok.result c.put.new.bytes ≡ line = search rules in
     let count : c.counted.result.count ≡ length (line ++ 13 ∷ 10 ∷ []) = omega (arith, c.counted.ensures.count, n, c.len-in-Ok.ensures.value, length-append line (13 ∷ 10 ∷ [])) in
     let text : take c.counted.result.count after ≡ line ++ 13 ∷ 10 ∷ [] = search rules in
-    subst (λ o. IsSent old rest c.args.call o c.args.state.now c.store.new.state c.args.line.now after c.counted.result) (sym rule.0) (c.counted.ensures.fault, stands, count, text)
+    let sent : Sent = record { old = c.args.state.now; new = c.store.new.state; before = c.args.line.now; after = after; told = c.counted.result } in
+    subst (λ o. IsSent old rest c.args.call o sent) (sym rule.0) (c.counted.ensures.fault, stands, count, text)
 
 pub returns-in-Ok-clause-untouched : goal.returns-in-Ok-clause-untouched
 returns-in-Ok-clause-untouched c =

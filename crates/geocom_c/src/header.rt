@@ -1,0 +1,96 @@
+//! The numbers that `library/include/geocom.h` has too. Each of the constants has there the same name behind `GEOCOM_`, but
+//! for the faults, which are listed in its head.
+
+ghost use Rattle.std.specs.Prelude.{◌≡◌};
+ghost use Rattle.gc_values.specs.declared.fault.ValueFault.{ValueFault};
+ghost use Rattle.gc_catalogue.specs.CallFault.{refusal_number};
+ghost use Rattle.gc_catalogue.specs.declared.fault.CallFault.{CallFault};
+ghost use Rattle.geocom_c.specs.declared.header.TheConstants.{VERSION, LINE_ROOM, TEXT_ROOM, WINDOW_FULL, NO_WIDTH, NO_ROOM, NO_CLIENT, ANSWERED, LATE, LOST, NONE, VALUE, REFUSED, COM_FAULT, UNREADABLE, MORE, SETTLED, STRAY, UNREAD, CLEARED, OVERLONG};
+
+/// The version of the calls and of the structs that they take.
+pub const VERSION: u32 = 1;
+
+// Rooms.
+
+/// How much room a request line takes with its CR LF.
+pub const LINE_ROOM: usize = 514;
+
+/// How much room a line and its items take: the items are parts of the line.
+pub const TEXT_ROOM: usize = 1024;
+
+// The library's own faults, and that of a full window, which is gc_client's.
+
+/// As many requests wait as the width allows.
+pub const WINDOW_FULL: u32 = 31;
+
+/// A width that is not 1 to 7.
+pub const NO_WIDTH: u32 = 61;
+
+/// Less room than the call asks for.
+pub const NO_ROOM: u32 = 62;
+
+/// Bytes that stand for no client: a state that `geocom_client_init` never made, or that was written over.
+pub const NO_CLIENT: u32 = 63;
+
+// Outcomes: how a request ended.
+
+/// A reply answered it.
+pub const ANSWERED: u8 = 1;
+
+/// Its reply came after it was given up.
+pub const LATE: u8 = 2;
+
+/// No reply to it came before that of a later request, or before a restart.
+pub const LOST: u8 = 3;
+
+// Readings: what an answer says.
+
+/// There is no answer.
+pub const NONE: u8 = 0;
+
+/// A value of the procedure.
+pub const VALUE: u8 = 1;
+
+/// The return code of a refusal.
+pub const REFUSED: u8 = 2;
+
+/// The communication code of a request that the instrument didn't take.
+pub const COM_FAULT: u8 = 3;
+
+/// Parameters that don't read as the procedure's.
+pub const UNREADABLE: u8 = 4;
+
+// Kinds: what the bytes of a feed ended.
+
+/// No line feed came yet.
+pub const MORE: u32 = 0;
+
+/// A line that settled requests.
+pub const SETTLED: u32 = 1;
+
+/// A reply that no request waits for.
+pub const STRAY: u32 = 2;
+
+/// A line that is no reply.
+pub const UNREAD: u32 = 3;
+
+/// A line feed without a CR before it. What stood before it is dropped.
+pub const CLEARED: u32 = 4;
+
+/// A line of more than 512 bytes, which is dropped.
+pub const OVERLONG: u32 = 5;
+
+/// The constants have the values of the header, and so have the faults of a call, which are gc_catalogue's. It does nothing:
+/// its contract is the law.
+pub fn numbers()
+    ensures version { VERSION ≡ 1 }
+    ensures rooms { (LINE_ROOM ≡ 514) × (TEXT_ROOM ≡ 1024) }
+    ensures procedure { refusal_number CallFault.Unknown ≡ 21 }
+    ensures parameters { (refusal_number (CallFault.Parameters ValueFault.Spelling) ≡ 11) × (refusal_number (CallFault.Parameters ValueFault.Range) ≡ 12)
+        × (refusal_number (CallFault.Parameters ValueFault.OpenQuote) ≡ 13) × (refusal_number (CallFault.Parameters ValueFault.TooMany) ≡ 14)
+        × (refusal_number (CallFault.Parameters ValueFault.Count) ≡ 15) }
+    ensures faults { (WINDOW_FULL ≡ 31) × (NO_WIDTH ≡ 61) × (NO_ROOM ≡ 62) × (NO_CLIENT ≡ 63) }
+    ensures outcomes { (ANSWERED ≡ 1) × (LATE ≡ 2) × (LOST ≡ 3) }
+    ensures readings { (NONE ≡ 0) × (VALUE ≡ 1) × (REFUSED ≡ 2) × (COM_FAULT ≡ 3) × (UNREADABLE ≡ 4) }
+    ensures kinds { (MORE ≡ 0) × (SETTLED ≡ 1) × (STRAY ≡ 2) × (UNREAD ≡ 3) × (CLEARED ≡ 4) × (OVERLONG ≡ 5) }
+{}

@@ -1,0 +1,76 @@
+"""The numbers of header, wrapper and module are those of the source: the constants of the library, each of which stands in
+the law `numbers`, and the faults of a call that the law names. From the top of the repository; nothing has to be built."""
+
+import ast
+import re
+import sys
+from pathlib import Path
+
+CONSTANT = re.compile(r"^pub const (\w+): \w+ = (\d+);", re.M)
+GROUPS = ["outcome", "reading", "kind"]
+
+
+def read(path):
+    return Path(path).read_text(encoding="utf-8")
+
+
+source = read("crates/geocom_c/src/header.rt")
+constants = {name: int(value) for name, value in CONSTANT.findall(source)}
+law = dict(re.findall(r"ensures (\w+) \{ (.*?) \}\n", source, re.S))
+clauses = {clause: dict(re.findall(r"\b([A-Z_]+) ≡ (\d+)", text)) for clause, text in law.items()}
+told, compared = [], 0
+
+
+def same(what, want, have):
+    """Counts what is compared, and tells a difference."""
+    global compared
+    compared += len(want)
+    if want != have:
+        told.append(f"{what}: the source has {want}, and here stands {have}")
+
+
+# Each constant stands in the law. A fault is a constant of the clause `faults`, or a refusal of a call.
+same("the law", constants, {name: int(value) for clause in clauses.values() for name, value in clause.items()})
+faults = {constants[name] for name in clauses["faults"]}
+faults |= {int(number) for clause in ("procedure", "parameters") for number in re.findall(r"refusal_number [^≡]*≡ (\d+)", law[clause])}
+groups = {group: {name: constants[name] for name in clauses[group + "s"]} for group in GROUPS}
+plain = {name: constants[name] for clause in ("version", "rooms") for name in clauses[clause]}
+for path, name in [("crates/gc_client/src/window.rt", "WINDOW"), ("crates/gc_values/src/items.rt", "MOST_ITEMS")]:
+    plain[name] = int(dict(CONSTANT.findall(read(path)))[name])
+
+header = read("library/include/geocom.h")
+same("#define in geocom.h", plain, {name: int(value) for name, value in re.findall(r"^#define GEOCOM_(\w+) (\d+)$", header, re.M)})
+for group in GROUPS:
+    body = re.search(rf"enum geocom_{group} \{{(.*?)\}}", header, re.S).group(1)
+    same(f"geocom_{group} in geocom.h", groups[group], {name: int(value) for name, value in re.findall(r"GEOCOM_(\w+) = (\d+)", body)})
+listed = set()
+for first, last in re.findall(r"^ \*   (\d+)(?: to (\d+))?  ", header, re.M):
+    listed |= set(range(int(first), int(last or first) + 1))
+same("the faults in geocom.h", faults, listed)
+
+wrapper = read("library/include/geocom.hpp")
+for group in ["outcome", "reading"]:
+    body = re.search(rf"enum class {group} : [^{{]*\{{(.*?)\}}", wrapper, re.S).group(1)
+    same(f"{group} in geocom.hpp", {name.lower(): name for name in groups[group]}, dict(re.findall(r"(\w+) = GEOCOM_(\w+)", body)))
+
+module = ast.parse(read("library/python/geocom.py"))
+classes = {node.name: node for node in module.body if isinstance(node, ast.ClassDef)}
+assigned = {node.targets[0].id: node.value for node in module.body if isinstance(node, ast.Assign) and isinstance(node.targets[0], ast.Name)}
+numbers = {name: node.value for name, node in assigned.items() if isinstance(node, ast.Constant)}
+same("geocom.py", plain, numbers)
+for group in GROUPS:
+    members = [node for node in classes[group.capitalize()].body if isinstance(node, ast.Assign)]
+    same(f"{group.capitalize()} in geocom.py", groups[group], {node.targets[0].id: node.value.value for node in members})
+raised = set()
+for node in ast.walk(assigned["_FAULTS"]):
+    if isinstance(node, ast.Dict):
+        raised |= {key.value for key in node.keys}
+    if isinstance(node, ast.Call) and node.func.id == "range":
+        raised |= set(range(*(argument.value for argument in node.args)))
+same("the faults in geocom.py", faults, raised)
+
+for line in told:
+    print(f"numbers: {line}", file=sys.stderr)
+if told:
+    sys.exit(1)
+print(f"numbers: {compared} compared, the same in source, header, wrapper and module")
