@@ -1,5 +1,5 @@
 -- What was asked so far, command after command.
-use Rattle.std.proofs.Common.{◌≡◌, ℕ, ◌+◌, ◌<◌, Bool, true, ltb, List, [], ◌∷◌, ◌++◌, length, take, map, Option, Some, None, ◌⊎◌, inl, inr, refl, sym, ap, ◌∙◌, subst, arith, append_assoc, append-nil, length-append}
+use Rattle.std.proofs.Common.{◌≡◌, ℕ, ◌+◌, ◌<◌, Bool, true, ltb, List, [], ◌∷◌, ◌++◌, length, take, map, Option, Some, None, refl, sym, ap, ◌∙◌, subst, arith, append_assoc, append-nil, length-append}
 use Rattle.std.specs.Io.KnownBytes.{Appends}
 use Rattle.std.proofs.lemmas.Bool.{ltb-true}
 use Rattle.gc_lines.specs.Answering.{all_of}
@@ -11,7 +11,7 @@ use Rattle.gc_lines.proofs.Known.{Appends-append, Appends-nil, Appends-is}
 use Rattle.gc_client.specs.declared.settlement.Settlement
 use Rattle.gc_client.specs.Rule.{ById, Settlement, heard, fits, hears, met, place_in}
 use Rattle.gc_client.specs.Settlements.{settlement_seen}
-use Rattle.gc_ask.specs.Asking.{asked_for, idle, waiting_for, Reply, first_reply, settled_by, asked_from, asked, request_text, request_texts, lost_of, AsksAll, AsksUpTo, AsksPart, TellsPart}
+use Rattle.gc_ask.specs.Asking.{asked_for, idle, waiting_for, Reply, first_reply, settled_by, asked_from, asked, request_text, request_texts, lost_of, LinkEnd, IsNext, AsksAll, AsksUpTo, AsksPart, TellsPart}
 use Rattle.gc_texts.specs.declared.commands.Command.{Command}
 use Rattle.gc_texts.specs.Settlements.{settlement_line, settlement_lines, lines_from, ToldPart}
 use Rattle.gc_ask.specs.Listening.{lines_behind, Settles}
@@ -110,12 +110,12 @@ asked_on done given left kept client a b c d more at command later r is =
     ap (asked_from 0 (done ++ command ∷ later)) (more_came given left more at.now at.looked at.seen at.rests).0
     ∙ at.asks (command ∷ later) came ∙ ap (λ x. at.settled ++ settled_by (waiting_for (length done) command) (asked_from (length done + 1) later) x) is
 
-first_is : (rest bytes left : List ℕ) (kept : Kept) (from to : ById) (settled : List Settlement.Settlement) (s : Settles rest bytes left kept from to settled)
+first_is : (rest bytes left : List ℕ) (kept : Kept) (from to : ById) (settled : List Settlement.Settlement) (s : Settles from (record { rest = rest; bytes = bytes; left = left; kept = kept; client = to; settled = settled }))
     → first_reply from (lines_behind rest bytes) ≡ Some (record { line = s.line; later = lines_behind [] left })
 first_is rest bytes left kept from to settled s = ap (first_reply from) s.seen ∙ first_reply-at from s.front s.line (lines_behind [] left) s.none s.fits
 
 -- what was settled, as the rule speaks of it
-pub settled_is : (k : ℕ) (command : Command) (rest bytes left : List ℕ) (kept : Kept) (to : ById) (settled : List Settlement.Settlement) (s : Settles rest bytes left kept (waiting_for k command) to settled)
+pub settled_is : (k : ℕ) (command : Command) (rest bytes left : List ℕ) (kept : Kept) (to : ById) (settled : List Settlement.Settlement) (s : Settles (waiting_for k command) (record { rest = rest; bytes = bytes; left = left; kept = kept; client = to; settled = settled }))
     → (map settlement_seen settled ≡ met (asked_for command) s.line ∷ []) × (to ≡ idle (k + 1))
 settled_is k command rest bytes left kept to settled s =
     let one = hears_one k command s.line s.fits in
@@ -123,7 +123,7 @@ settled_is k command rest bytes left kept to settled s =
 
 -- what is asked where one more command was sent, and a line settles it
 pub asked_with : (done : List Command) (given left : List ℕ) (kept : Kept) (client : ById) (a b c d : Option (List ℕ)) (more : List ℕ) (at : Course done given left kept client a b c d) (command : Command)
-    (left' : List ℕ) (kept' : Kept) (to : ById) (settled : List Settlement.Settlement) (s : Settles at.now (left ++ more) left' kept' (waiting_for (length done) command) to settled)
+    (left' : List ℕ) (kept' : Kept) (to : ById) (settled : List Settlement.Settlement) (s : Settles (waiting_for (length done) command) (record { rest = at.now; bytes = left ++ more; left = left'; kept = kept'; client = to; settled = settled }))
     → asked (done ++ command ∷ []) (given ++ more) ≡ at.settled ++ met (asked_for command) s.line ∷ []
 asked_with done given left kept client a b c d more at command left' kept' to settled s =
     let found = first_is at.now (left ++ more) left' kept' (waiting_for (length done) command) to settled s in
@@ -132,7 +132,7 @@ asked_with done given left kept client a b c d more at command left' kept' to se
 
 -- one more command was asked and settled
 pub course_more : (done : List Command) (command : Command) (given left more left' : List ℕ) (kept kept' : Kept) (client to : ById) (a b b' c d d' : Option (List ℕ)) (settled : List Settlement.Settlement)
-    → (at : Course done given left kept client a b c d) → Settles at.now (left ++ more) left' kept' (waiting_for (length done) command) to settled
+    → (at : Course done given left kept client a b c d) → Settles (waiting_for (length done) command) (record { rest = at.now; bytes = left ++ more; left = left'; kept = kept'; client = to; settled = settled })
     → Appends b b' (request_text (length done) command) → Appends d d' (lines_from (length done) (map settlement_seen settled))
     → Course (done ++ command ∷ []) (given ++ more) left' kept' to a b' c d'
 course_more done command given left more left' kept kept' client to a b b' c d d' settled at s sent told =
@@ -168,7 +168,7 @@ course_more done command given left more left' kept kept' client to a b b' c d d
 -- Ends.
 
 -- all were asked
-pub course_all : (commands : List Command) (given left : List ℕ) (kept : Kept) (client : ById) (a b c d : Option (List ℕ)) → Course commands given left kept client a b c d → AsksAll commands given a b c d
+pub course_all : (commands : List Command) (given left : List ℕ) (kept : Kept) (client : ById) (a b c d : Option (List ℕ)) → Course commands given left kept client a b c d → AsksAll commands given (record { link_old = a; link_new = b; sink_old = c; sink_new = d })
 course_all commands given left kept client a b c d at =
     let all : asked commands given ≡ at.settled = ap (asked commands) (sym (append-nil given)) ∙ asked_so commands given left kept client a b c d [] at in
     record {
@@ -182,7 +182,7 @@ pub course_up_to : (commands done later : List Command) (command : Command) (giv
     → (at : Course done given left kept client a b c d) → commands ≡ done ++ command ∷ later
     → first_reply (waiting_for (length done) command) (lines_behind at.now (left ++ more)) ≡ None
     → Appends b b' (request_text (length done) command) → Appends d d' (lines_from (length done) (lost_of command ∷ []))
-    → AsksUpTo commands (given ++ more) a b' c d'
+    → AsksUpTo commands (given ++ more) (record { link_old = a; link_new = b'; sink_old = c; sink_new = d' })
 course_up_to commands done later command given left more kept client a b b' c d d' at order none sent told =
     let so : asked commands (given ++ more) ≡ at.settled = ap (λ xs. asked xs (given ++ more)) order ∙ asked_on done given left kept client a b c d more at command later None none ∙ append-nil at.settled in
     record {
@@ -200,7 +200,7 @@ pub course_part : (commands done later : List Command) (command : Command) (give
     → Course done given left kept client a b c d → commands ≡ done ++ command ∷ later
     → count ≡ length done → bytes < length (request_text (length done) command)
     → Appends b b' (take bytes (request_text (length done) command)) → Appends d d' (lines_from (length done) (lost_of command ∷ []))
-    → AsksPart commands (given ++ more) a b' c d' count bytes
+    → AsksPart commands (given ++ more) (record { link_old = a; link_new = b'; sink_old = c; sink_new = d' }) count bytes
 course_part commands done later command given left more kept client a b b' c d d' count bytes at order is short sent told =
     let so : asked done (given ++ more) ≡ at.settled = asked_so done given left kept client a b c d more at in
     record {
@@ -216,12 +216,12 @@ course_part commands done later command given left more kept client a b b' c d d
     }
 
 -- the sink failed, as it took the next settlement
-pub course_tells : (commands done later : List Command) (command : Command) (given left more : List ℕ) (kept : Kept) (client : ById) (a b b' c d d' : Option (List ℕ)) (bytes : ℕ) (next : Settlement)
+pub course_tells : (commands done later : List Command) (command : Command) (given left more : List ℕ) (kept : Kept) (client : ById) (a b b' c d d' : Option (List ℕ)) (bytes : ℕ) (next : Settlement) (over : LinkEnd → Type 0) (link : LinkEnd)
     → (at : Course done given left kept client a b c d) → commands ≡ done ++ command ∷ later
-    → (asked (done ++ command ∷ []) (given ++ more) ≡ at.settled ++ next ∷ []) ⊎ (next ≡ lost_of command)
+    → over link → (asked done (given ++ more) ≡ at.settled → IsNext done command (given ++ more) next link)
     → Appends b b' (take bytes (request_text (length done) command)) → ToldPart (length done) (next ∷ []) d d'
-    → TellsPart commands (given ++ more) a b' c d'
-course_tells commands done later command given left more kept client a b b' c d d' bytes next at order is sent told =
+    → TellsPart commands (given ++ more) (record { link_old = a; link_new = b'; sink_old = c; sink_new = d' }) over
+course_tells commands done later command given left more kept client a b b' c d d' bytes next over link at order ends is sent told =
     let so : asked done (given ++ more) ≡ at.settled = asked_so done given left kept client a b c d more at in
     let alone = alone_in told.earlier told.later told.next next told.order in
     let same : length done + length told.earlier ≡ length done = ap (λ (xs : List Settlement). length done + length xs) alone.0 ∙ omega arith in
@@ -233,8 +233,10 @@ course_tells commands done later command given left more kept client a b b' c d 
       settled = ap length so ∙ at.count;
       bytes = bytes;
       sent = Appends-append _ _ _ _ _ at.link sent;
+      link = link;
+      ends = ends;
       next = next;
-      next_is = either is so;
+      next_is = is so;
       part = told.part;
       not_all = subst (λ (t : List ℕ). told.part < length t) (the_line same alone.1) told.not_all;
       told = Appends-is _ _ _ _ (ap (λ zs. settlement_lines zs ++ take told.part (settlement_line (length done) next)) (sym so))
@@ -247,7 +249,3 @@ course_tells commands done later command given left more kept client a b b' c d 
 
       the_line : {j k : ℕ} {x y : Settlement} → j ≡ k → x ≡ y → settlement_line j x ≡ settlement_line k y
       the_line e f = cc
-
-      either : (asked (done ++ command ∷ []) (given ++ more) ≡ at.settled ++ next ∷ []) ⊎ (next ≡ lost_of command) → asked done (given ++ more) ≡ at.settled → (asked (done ++ command ∷ []) (given ++ more) ≡ asked done (given ++ more) ++ next ∷ []) ⊎ (next ≡ lost_of command)
-      either (inl e) so = inl (e ∙ ap (λ zs. zs ++ next ∷ []) (sym so))
-      either (inr e) so = inr e

@@ -51,10 +51,10 @@ quiet_then rest xs ys kept kept' a b c q r = record {
   same = r.same ∙ q.same;
 }
 
-pub settles_then : (rest xs ys left : List ℕ) (kept kept' : Kept) (a b c : ById) (settled : List Settlement) → IsQuiet rest xs kept a b → Settles (rest_behind rest xs) ys left kept' b c settled → Settles rest (xs ++ ys) left kept' a c settled
+pub settles_then : (rest xs ys left : List ℕ) (kept kept' : Kept) (a b c : ById) (settled : List Settlement) → IsQuiet rest xs kept a b → Settles b (record { rest = rest_behind rest xs; bytes = ys; left = left; kept = kept'; client = c; settled = settled }) → Settles a (record { rest = rest; bytes = xs ++ ys; left = left; kept = kept'; client = c; settled = settled })
 settles_then rest xs ys left kept kept' a b c settled q s =
     let front : List (List ℕ) = lines_behind rest xs in
-    let at : Settles (rest_behind rest xs) ys left kept' a c settled = subst (λ (x : ById). Settles (rest_behind rest xs) ys left kept' x c settled) q.same s in
+    let at : Settles a (record { rest = rest_behind rest xs; bytes = ys; left = left; kept = kept'; client = c; settled = settled }) = subst (λ (x : ById). Settles x (record { rest = rest_behind rest xs; bytes = ys; left = left; kept = kept'; client = c; settled = settled })) q.same s in
     record {
       front = front ++ at.front;
       line = at.line;
@@ -152,7 +152,7 @@ pub passed_settles : (rest piece left : List ℕ) (used : ℕ) (frame : Frame) (
     → (position is_line_feed left ≡ None → frame ≡ More)
     → ((at : ℕ) → position is_line_feed left ≡ Some at → (used ≡ at + 1) × (frame ≡ frame_of (p.now ++ take at left)) × StandsFor kept' [])
     → fits b (heard line) ≡ true → AreSettlements settled (hears b line (heard line)).settlements → c ≡ (hears b line (heard line)).client
-    → Settles rest piece (drop used left) kept' a c settled
+    → Settles a (record { rest = rest; bytes = piece; left = drop used left; kept = kept'; client = c; settled = settled })
 passed_settles rest piece left used frame line kept kept' a b c settled p is more whole fit settles client =
     let t = takes_line p.now left used frame line kept' is more whole in
     record {
@@ -199,10 +199,10 @@ reading_quiet rest start given ahead kept kept' a b c r q =
     let all = quiet_then rest r.heard_so ahead kept kept' a b c r.quiet q in
     (ap (λ zs. first_reply a (lines_behind rest zs)) r.order ∙ all.none, all.same)
 
-pub reading_settles : (rest start given ahead left : List ℕ) (kept kept' : Kept) (a b c : ById) (settled : List Settlement) → (r : Reading rest start given ahead kept a b) → Settles (rest_behind rest r.heard_so) ahead left kept' b c settled
-    → Settles rest (start ++ given) left kept' a c settled
+pub reading_settles : (rest start given ahead left : List ℕ) (kept kept' : Kept) (a b c : ById) (settled : List Settlement) → (r : Reading rest start given ahead kept a b) → Settles b (record { rest = rest_behind rest r.heard_so; bytes = ahead; left = left; kept = kept'; client = c; settled = settled })
+    → Settles a (record { rest = rest; bytes = start ++ given; left = left; kept = kept'; client = c; settled = settled })
 reading_settles rest start given ahead left kept kept' a b c settled r s =
-    subst (λ (zs : List ℕ). Settles rest zs left kept' a c settled) (sym r.order) (settles_then rest r.heard_so ahead left kept kept' a b c settled r.quiet s)
+    subst (λ (zs : List ℕ). Settles a (record { rest = rest; bytes = zs; left = left; kept = kept'; client = c; settled = settled })) (sym r.order) (settles_then rest r.heard_so ahead left kept kept' a b c settled r.quiet s)
 
 -- Nothing more was given.
 

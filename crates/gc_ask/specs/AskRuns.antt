@@ -1,26 +1,38 @@
 -- A command text that is read whole and asked: this project's own.
-use Rattle.std.specs.Prelude.{◌≡◌, ℕ, ◌+◌, ◌*◌, ◌-◌, ◌≤◌, ◌⊎◌, Bool, List, length, Option, Result, Err}
+use Rattle.std.specs.Prelude.{◌≡◌, ℕ, ◌+◌, ◌*◌, ◌-◌, ◌≤◌, ◌⊎◌, List, length, Result, Err}
 use Rattle.std.specs.Io.KnownBytes.{Consumes}
 use Rattle.gc_lines.specs.Answering.{Ports}
-use Rattle.gc_ask.specs.Asking.{Asks, AskEnds}
+use Rattle.gc_ask.specs.Asking.{Taken, Written, Asks, LinkEnds, EndsWith}
+use Rattle.gc_texts.specs.Texts.{end_reads}
 use Rattle.gc_texts.specs.WholeTexts.{Input, GivesCommands, RefusesCommands}
 use Rattle.gc_texts.specs.declared.commands.Command.{Command}
 use Rattle.gc_texts.specs.declared.fault.RunFault.{RunFault}
 use Rattle.gc_texts.specs.declared.fault.RunFault.TheVariants.{TooManyReads}
 
+-- what is seen of a link, and of the sink of the settlements
+pub record Seen : Type 0 where
+  pub link : Ports
+  pub sink : Taken
+
+-- what these took
+abbrev pub written : Seen → Seen → Written
+written old new = record { link_old = old.link.taken; link_new = new.link.taken; sink_old = old.sink.bytes; sink_new = new.sink.bytes }
+
 -- commands were asked over a link, in so many reads at most, with this end
-pub record AsksOver (commands : List Command) (most : ℕ) (old new : Ports) (sink_old sink_new : Option (List ℕ)) (failed_old failed_new : Bool) (result : Result (Unit {0}) RunFault) : Type 0 where
+pub record AsksOver (commands : List Command) (most : ℕ) (old new : Seen) (result : Result (Unit {0}) RunFault) : Type 0 where
   pub given : List ℕ
-  pub gave : Consumes old.remaining new.remaining given
-  pub few : length given ≤ 256 * (new.reads - old.reads)
-  pub asks : Asks commands given old.taken new.taken sink_old sink_new result
-  pub bound : new.reads ≤ old.reads + most
-  pub too_many : result ≡ Err TooManyReads → new.reads ≡ old.reads + most
-  pub ends : AskEnds old new failed_old failed_new result
+  pub gave : Consumes old.link.remaining new.link.remaining given
+  pub few : length given ≤ 256 * (new.link.reads - old.link.reads)
+  pub asks : Asks commands given (written old new) (LinkEnds old.link new.link) result
+  pub bound : new.link.reads ≤ old.link.reads + most
+  pub too_many : result ≡ Err TooManyReads → new.link.reads ≡ old.link.reads + most
+  pub ends : EndsWith (LinkEnds old.link new.link) old.sink.failed new.sink.failed result
 
 -- a run over a source of commands, a link and a sink: the text was refused, and then nothing was read of the link, sent or written; or
 -- its commands were asked
-abbrev pub AskRuns : List ℕ → Input → Input → (most : ℕ) → Ports → Ports → (sink_old sink_new : Option (List ℕ)) → (failed_old failed_new : Bool) → Result (Unit {0}) RunFault → Type 0
-AskRuns given old new most link_old link_new sink_old sink_new failed_old failed_new result =
-    ((fault : RunFault) × (result ≡ Err fault) × RefusesCommands given old new fault × (link_new ≡ link_old) × (sink_new ≡ sink_old) × (failed_new ≡ failed_old))
-    ⊎ ((commands : List Command) × GivesCommands given old new commands × AsksOver commands most link_old link_new sink_old sink_new failed_old failed_new result)
+abbrev pub AskRuns : (text_old text_new : Input) → (most : ℕ) → (old new : Seen) → Result (Unit {0}) RunFault → Type 0
+AskRuns text_old text_new most old new result =
+    (given : List ℕ) × Consumes text_old.remaining text_new.remaining given
+    × (text_new.reads ≤ text_old.reads + length given + end_reads text_new.ended)
+    × (((fault : RunFault) × (result ≡ Err fault) × RefusesCommands given text_old text_new fault × (new ≡ old))
+    ⊎ ((commands : List Command) × GivesCommands given text_old text_new commands × AsksOver commands most old new result))

@@ -1,9 +1,10 @@
 -- Requests that are asked one at a time, each once the one before it is settled: this project's own. Request lines are the manual's.
-use Rattle.std.specs.Prelude.{◌≡◌, ℕ, ◌+◌, ◌%◌, ◌<◌, ◌⊎◌, Bool, true, false, List, [], ◌∷◌, ◌++◌, length, take, Option, Some, None, Result, Ok, Err, if◌then◌else◌}
+use Rattle.std.specs.Prelude.{◌≡◌, ℕ, ◌+◌, ◌%◌, ◌<◌, Bool, true, false, List, [], ◌∷◌, ◌++◌, length, take, Option, Some, None, Result, Ok, Err, if◌then◌else◌}
 use Rattle.std.specs.Io.KnownBytes.{Appends}
 use Rattle.gc_lines.specs.Answering.{Ports, all_of}
 use Rattle.gc_lines.specs.Frames.{lines}
 use Rattle.gc_lines.specs.Lines.{with_end}
+use Rattle.gc_lines.specs.declared.ports.Sink.{Ghosts as Sink}
 use Rattle.gc_catalogue.specs.Texts.{request_line}
 use Rattle.gc_client.specs.declared.window.TheConstants.{IDS}
 use Rattle.gc_client.specs.declared.pending.Pending.{Pending}
@@ -61,24 +62,44 @@ request_texts k (command ∷ later) = request_text k command ∷ request_texts (
 abbrev pub lost_of : Command → Settlement
 lost_of command = lost (asked_for command)
 
+-- what a sink has taken, where that is known, and whether it has failed
+pub record Taken : Type 0 where
+  pub bytes : Option (List ℕ)
+  pub failed : Bool
+
+-- the same of this sink, by the ghost members of its trait
+abbrev pub taken_by : {K : Type 0} → Sink K → K → Taken
+taken_by of_sink sink = record { bytes = of_sink.taken sink; failed = of_sink.failed sink }
+
+-- what a link had taken and has taken, and the sink of the settlements, where these are known
+pub record Written : Type 0 where
+  pub link_old : Option (List ℕ)
+  pub link_new : Option (List ℕ)
+  pub sink_old : Option (List ℕ)
+  pub sink_new : Option (List ℕ)
+
+-- how the use of a link ended
+abbrev pub LinkEnd : Type 0
+LinkEnd = Result (Unit {0}) RunFault
+
 -- each command was sent, and settled
-pub record AsksAll (commands : List Command) (given : List ℕ) (link_old link_new sink_old sink_new : Option (List ℕ)) : Type 0 where
+pub record AsksAll (commands : List Command) (given : List ℕ) (w : Written) : Type 0 where
   pub settled : length (asked commands given) ≡ length commands
-  pub sent : Appends link_old link_new (all_of (request_texts 0 commands))
-  pub told : Appends sink_old sink_new (settlement_lines (asked commands given))
+  pub sent : Appends w.link_old w.link_new (all_of (request_texts 0 commands))
+  pub told : Appends w.sink_old w.sink_new (settlement_lines (asked commands given))
 
 -- what came settles the commands before one, which was sent, and is lost; those behind it weren't sent
-pub record AsksUpTo (commands : List Command) (given : List ℕ) (link_old link_new sink_old sink_new : Option (List ℕ)) : Type 0 where
+pub record AsksUpTo (commands : List Command) (given : List ℕ) (w : Written) : Type 0 where
   pub earlier : List Command
   pub command : Command
   pub later : List Command
   pub order : commands ≡ earlier ++ command ∷ later
   pub settled : length (asked commands given) ≡ length earlier
-  pub sent : Appends link_old link_new (all_of (request_texts 0 (earlier ++ command ∷ [])))
-  pub told : Appends sink_old sink_new (settlement_lines (asked commands given ++ lost_of command ∷ []))
+  pub sent : Appends w.link_old w.link_new (all_of (request_texts 0 (earlier ++ command ∷ [])))
+  pub told : Appends w.sink_old w.sink_new (settlement_lines (asked commands given ++ lost_of command ∷ []))
 
 -- the commands before one are settled, of that one the first bytes were sent, and it is lost, also where its reply came already
-pub record AsksPart (commands : List Command) (given : List ℕ) (link_old link_new sink_old sink_new : Option (List ℕ)) (count bytes : ℕ) : Type 0 where
+pub record AsksPart (commands : List Command) (given : List ℕ) (w : Written) (count bytes : ℕ) : Type 0 where
   pub earlier : List Command
   pub command : Command
   pub later : List Command
@@ -86,41 +107,45 @@ pub record AsksPart (commands : List Command) (given : List ℕ) (link_old link_
   pub count_is : count ≡ length earlier
   pub settled : length (asked earlier given) ≡ length earlier
   pub not_all : bytes < length (request_text count command)
-  pub sent : Appends link_old link_new (all_of (request_texts 0 earlier) ++ take bytes (request_text count command))
-  pub told : Appends sink_old sink_new (settlement_lines (asked earlier given ++ lost_of command ∷ []))
+  pub sent : Appends w.link_old w.link_new (all_of (request_texts 0 earlier) ++ take bytes (request_text count command))
+  pub told : Appends w.sink_old w.sink_new (settlement_lines (asked earlier given ++ lost_of command ∷ []))
 
--- the next settlement of a command: by what came, or as lost
-abbrev pub IsNext : List Command → Command → List ℕ → Settlement → Type 0
-IsNext earlier command given next = (asked (earlier ++ command ∷ []) given ≡ asked earlier given ++ next ∷ []) ⊎ (next ≡ lost_of command)
+-- the next settlement of a command: by what came, where the link ended well, and else as lost
+abbrev pub IsNext : List Command → Command → List ℕ → Settlement → LinkEnd → Type 0
+IsNext earlier command given next (Ok _) = asked (earlier ++ command ∷ []) given ≡ asked earlier given ++ next ∷ []
+IsNext earlier command given next (Err _) = next ≡ lost_of command
 
--- the sink took the settlements of the commands before one, and of the next one the first bytes; the commands behind it weren't sent
-pub record TellsPart (commands : List Command) (given : List ℕ) (link_old link_new sink_old sink_new : Option (List ℕ)) : Type 0 where
+-- the sink took the settlements of the commands before one, and of the next one the first bytes; the commands behind it weren't sent. The
+-- link had ended well where that one was settled, and else with a fault; over says what its ports are with each end
+pub record TellsPart (commands : List Command) (given : List ℕ) (w : Written) (over : LinkEnd → Type 0) : Type 0 where
   pub earlier : List Command
   pub command : Command
   pub later : List Command
   pub order : commands ≡ earlier ++ command ∷ later
   pub settled : length (asked earlier given) ≡ length earlier
   pub bytes : ℕ
-  pub sent : Appends link_old link_new (all_of (request_texts 0 earlier) ++ take bytes (request_text (length earlier) command))
+  pub sent : Appends w.link_old w.link_new (all_of (request_texts 0 earlier) ++ take bytes (request_text (length earlier) command))
+  pub link : LinkEnd
+  pub ends : over link
   pub next : Settlement
-  pub next_is : IsNext earlier command given next
+  pub next_is : IsNext earlier command given next link
   pub part : ℕ
   pub not_all : part < length (settlement_line (length earlier) next)
-  pub told : Appends sink_old sink_new (settlement_lines (asked earlier given) ++ take part (settlement_line (length earlier) next))
+  pub told : Appends w.sink_old w.sink_new (settlement_lines (asked earlier given) ++ take part (settlement_line (length earlier) next))
 
--- what was asked, of what the link gave, with this end
-abbrev pub Asks : List Command → List ℕ → Option (List ℕ) → Option (List ℕ) → Option (List ℕ) → Option (List ℕ) → Result (Unit {0}) RunFault → Type 0
-Asks commands given link_old link_new sink_old sink_new (Ok _) = AsksAll commands given link_old link_new sink_old sink_new
-Asks commands given link_old link_new sink_old sink_new (Err Read) = AsksUpTo commands given link_old link_new sink_old sink_new
-Asks commands given link_old link_new sink_old sink_new (Err LinkClosed) = AsksUpTo commands given link_old link_new sink_old sink_new
-Asks commands given link_old link_new sink_old sink_new (Err TooManyReads) = AsksUpTo commands given link_old link_new sink_old sink_new
-Asks commands given link_old link_new sink_old sink_new (Err (Write count bytes)) = AsksPart commands given link_old link_new sink_old sink_new count bytes
-Asks commands given link_old link_new sink_old sink_new (Err Output) = TellsPart commands given link_old link_new sink_old sink_new
-Asks commands given link_old link_new sink_old sink_new (Err _) = ⊥
+-- what was asked, of what the link gave, with this end, where over says what the link's ports are with each end of it
+abbrev pub Asks : List Command → List ℕ → Written → (over : LinkEnd → Type 0) → LinkEnd → Type 0
+Asks commands given w over (Ok _) = AsksAll commands given w
+Asks commands given w over (Err Read) = AsksUpTo commands given w
+Asks commands given w over (Err LinkClosed) = AsksUpTo commands given w
+Asks commands given w over (Err TooManyReads) = AsksUpTo commands given w
+Asks commands given w over (Err (Write count bytes)) = AsksPart commands given w count bytes
+Asks commands given w over (Err Output) = TellsPart commands given w over
+Asks commands given w over (Err _) = ⊥
 
 -- what the two ports of an end of a link are once they were used, with this end: whether the last read was the end of the input, and
 -- which of them has failed
-abbrev pub LinkEnds : Ports → Ports → Result (Unit {0}) RunFault → Type 0
+abbrev pub LinkEnds : Ports → Ports → LinkEnd → Type 0
 LinkEnds old new (Ok _) = (old.reads < new.reads → new.ended ≡ false) × (new.source_failed ≡ old.source_failed) × (new.sink_failed ≡ old.sink_failed)
 LinkEnds old new (Err Read) = (old.reads < new.reads → new.ended ≡ false) × (new.source_failed ≡ true) × (new.sink_failed ≡ old.sink_failed)
 LinkEnds old new (Err (Write _ _)) = (old.reads < new.reads → new.ended ≡ false) × (new.source_failed ≡ old.source_failed) × (new.sink_failed ≡ true)
@@ -128,9 +153,9 @@ LinkEnds old new (Err TooManyReads) = (old.reads < new.reads → new.ended ≡ f
 LinkEnds old new (Err LinkClosed) = (old.reads < new.reads) × (new.ended ≡ true) × (new.source_failed ≡ old.source_failed) × (new.sink_failed ≡ old.sink_failed)
 LinkEnds old new (Err _) = ⊥
 
--- why asking ended, and what the link's ports and the sink then are: the sink failed exactly where that is the fault, and then the link's
--- ports are as some end of the link leaves them
-abbrev pub AskEnds : Ports → Ports → Bool → Bool → Result (Unit {0}) RunFault → Type 0
-AskEnds old new sink_old sink_new (Err Output) = (sink_new ≡ true) × ((link : Result (Unit {0}) RunFault) × LinkEnds old new link)
-AskEnds old new sink_old sink_new (Ok x) = LinkEnds old new (Ok x) × (sink_new ≡ sink_old)
-AskEnds old new sink_old sink_new (Err e) = LinkEnds old new (Err e) × (sink_new ≡ sink_old)
+-- why asking ended, where over says what the ports of a link are with each end, and whether the sink has failed: it failed exactly where
+-- that is the fault, and then over holds of an end that the link had
+abbrev pub EndsWith : (over : LinkEnd → Type 0) → (sink_old sink_new : Bool) → LinkEnd → Type 0
+EndsWith over sink_old sink_new (Err Output) = (sink_new ≡ true) × ((link : LinkEnd) × over link)
+EndsWith over sink_old sink_new (Ok x) = over (Ok x) × (sink_new ≡ sink_old)
+EndsWith over sink_old sink_new (Err e) = over (Err e) × (sink_new ≡ sink_old)

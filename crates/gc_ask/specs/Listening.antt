@@ -10,7 +10,8 @@ use Rattle.gc_client.specs.declared.settlement.Settlement.{Settlement}
 use Rattle.gc_client.specs.Rule.{ById, heard, fits, hears}
 use Rattle.gc_client.specs.Settlements.{AreSettlements, settlement_seen}
 use Rattle.gc_texts.specs.Settlements.{lines_from, ToldPart}
-use Rattle.gc_ask.specs.Asking.{first_reply, waiting_for, request_text, lost_of, LinkEnds}
+use Rattle.gc_ask.specs.Asking.{Taken, Written, LinkEnd, first_reply, waiting_for, request_text, lost_of, LinkEnds}
+use Rattle.gc_texts.specs.WholeTexts.{Input}
 use Rattle.gc_texts.specs.declared.commands.Command.{Command}
 use Rattle.gc_texts.specs.declared.fault.RunFault.{RunFault}
 use Rattle.gc_texts.specs.declared.fault.RunFault.TheVariants.{Read, Write, TooManyReads, LinkClosed, Output}
@@ -37,87 +38,103 @@ pub record IsQuiet (rest bytes : List ℕ) (kept : Kept) (from to : ById) : Type
   pub stands : StandsFor kept (rest_behind rest bytes)
   pub same : to ≡ from
 
--- of the lines that bytes complete behind a rest one is the first to settle a request; left is what stands behind it
-pub record Settles (rest bytes left : List ℕ) (kept : Kept) (from to : ById) (settled : List Settlement) : Type 0 where
+-- what a client's end has heard, and how it stands: the bytes that came behind a rest of a line, what of them isn't looked at yet, what
+-- the assembler keeps, for what the client waits, and what its last reply settled
+pub record Heard : Type 0 where
+  pub rest : List ℕ
+  pub bytes : List ℕ
+  pub left : List ℕ
+  pub kept : Kept
+  pub client : ById
+  pub settled : List Settlement
+
+-- of the lines that came one is the first to settle a request of this client, and what is left stands behind it
+pub record Settles (from : ById) (heard_so : Heard) : Type 0 where
   pub front : List (List ℕ)
   pub line : List ℕ
-  pub seen : lines_behind rest bytes ≡ front ++ line ∷ lines_behind [] left
-  pub rests : rest_behind rest bytes ≡ rest_behind [] left
+  pub seen : lines_behind heard_so.rest heard_so.bytes ≡ front ++ line ∷ lines_behind [] heard_so.left
+  pub rests : rest_behind heard_so.rest heard_so.bytes ≡ rest_behind [] heard_so.left
   pub none : first_reply from front ≡ None
   pub fits : fits from (heard line) ≡ true
-  pub stands : StandsFor kept []
-  pub settles : AreSettlements settled (hears from line (heard line)).settlements
-  pub client : to ≡ (hears from line (heard line)).client
+  pub stands : StandsFor heard_so.kept []
+  pub settles : AreSettlements heard_so.settled (hears from line (heard line)).settlements
+  pub client : heard_so.client ≡ (hears from line (heard line)).client
+
+-- what is left of a piece of which so many bytes were used: all of them, where that isn't said
+abbrev pub left_by : Option ℕ → List ℕ → List ℕ
+left_by None piece = []
+left_by (Some used) piece = drop used piece
 
 -- taking the lines of a piece: none of them settles a request, or one does, and so many bytes of the piece are used
-abbrev pub Listens : List ℕ → List ℕ → Kept → ById → ById → List Settlement → Option ℕ → Type 0
-Listens rest piece kept from to settled None = IsQuiet rest piece kept from to
-Listens rest piece kept from to settled (Some used) = Settles rest piece (drop used piece) kept from to settled
+abbrev pub Listens : ById → Heard → Option ℕ → Type 0
+Listens from heard_so None = IsQuiet heard_so.rest heard_so.bytes heard_so.kept from heard_so.client
+Listens from heard_so (Some used) = Settles from heard_so
 
 -- reading until a line settles a request: it did, or what was read settles none
-abbrev pub HearsReply : List ℕ → List ℕ → List ℕ → Kept → ById → ById → List Settlement → Result (Unit {0}) RunFault → Type 0
-HearsReply rest bytes left kept from to settled (Ok _) = Settles rest bytes left kept from to settled
-HearsReply rest bytes left kept from to settled (Err _) = (first_reply from (lines_behind rest bytes) ≡ None) × (to ≡ from)
+abbrev pub HearsReply : ById → Heard → Result (Unit {0}) RunFault → Type 0
+HearsReply from heard_so (Ok _) = Settles from heard_so
+HearsReply from heard_so (Err _) = (first_reply from (lines_behind heard_so.rest heard_so.bytes) ≡ None) × (heard_so.client ≡ from)
 
--- why the reading ended, with so many reads left before it and after it
-abbrev pub ReadEnds : (old_reads new_reads : ℕ) → (old_ended new_ended old_failed new_failed : Bool) → (before after : ℕ) → Result (Unit {0}) RunFault → Type 0
-ReadEnds old_reads new_reads old_ended new_ended old_failed new_failed before after (Ok _) =
-    (old_reads < new_reads → new_ended ≡ false) × (new_reads ≡ old_reads → new_ended ≡ old_ended) × (new_failed ≡ old_failed)
-ReadEnds old_reads new_reads old_ended new_ended old_failed new_failed before after (Err Read) =
-    (old_reads < new_reads → new_ended ≡ false) × (new_reads ≡ old_reads → new_ended ≡ old_ended) × (0 < after) × (new_failed ≡ true)
-ReadEnds old_reads new_reads old_ended new_ended old_failed new_failed before after (Err TooManyReads) =
-    (old_reads < new_reads → new_ended ≡ false) × (new_reads ≡ old_reads → new_ended ≡ old_ended) × (after ≡ 0) × (new_failed ≡ old_failed)
-ReadEnds old_reads new_reads old_ended new_ended old_failed new_failed before after (Err LinkClosed) =
-    (old_reads < new_reads) × (new_ended ≡ true) × (new_failed ≡ old_failed)
-ReadEnds old_reads new_reads old_ended new_ended old_failed new_failed before after (Err _) = ⊥
+-- why the reading of a source ended, with so many reads left
+abbrev pub ReadEnds : Input → Input → (after : ℕ) → Result (Unit {0}) RunFault → Type 0
+ReadEnds old new after (Ok _) = (old.reads < new.reads → new.ended ≡ false) × (new.reads ≡ old.reads → new.ended ≡ old.ended) × (new.failed ≡ old.failed)
+ReadEnds old new after (Err Read) =
+    (old.reads < new.reads → new.ended ≡ false) × (new.reads ≡ old.reads → new.ended ≡ old.ended) × (0 < after) × (new.failed ≡ true)
+ReadEnds old new after (Err TooManyReads) =
+    (old.reads < new.reads → new.ended ≡ false) × (new.reads ≡ old.reads → new.ended ≡ old.ended) × (after ≡ 0) × (new.failed ≡ old.failed)
+ReadEnds old new after (Err LinkClosed) = (old.reads < new.reads) × (new.ended ≡ true) × (new.failed ≡ old.failed)
+ReadEnds old new after (Err _) = ⊥
 
 -- a request went to a link whole, or the link failed, and so many bytes of it went
-abbrev pub Sends : ℕ → Command → Option (List ℕ) → Option (List ℕ) → Bool → Bool → Result (Unit {0}) RunFault → Type 0
-Sends place command old new old_failed new_failed (Ok _) = Appends old new (request_text place command) × (new_failed ≡ old_failed)
-Sends place command old new old_failed new_failed (Err (Write count bytes)) =
-    (count ≡ place) × (bytes < length (request_text place command)) × Appends old new (take bytes (request_text place command)) × (new_failed ≡ true)
-Sends place command old new old_failed new_failed (Err _) = ⊥
+abbrev pub Sends : ℕ → Command → Taken → Taken → Result (Unit {0}) RunFault → Type 0
+Sends place command old new (Ok _) = Appends old.bytes new.bytes (request_text place command) × (new.failed ≡ old.failed)
+Sends place command old new (Err (Write count bytes)) =
+    (count ≡ place) × (bytes < length (request_text place command)) × Appends old.bytes new.bytes (take bytes (request_text place command)) × (new.failed ≡ true)
+Sends place command old new (Err _) = ⊥
 
 -- a request was sent, and its reply waited for
-abbrev pub Exchanges : ℕ → Command → (rest bytes left : List ℕ) → Kept → ById → List Settlement → Option (List ℕ) → Option (List ℕ) → Result (Unit {0}) RunFault → Type 0
-Exchanges place command rest bytes left kept to settled old new (Ok _) =
-    Appends old new (request_text place command) × Settles rest bytes left kept (waiting_for place command) to settled
-Exchanges place command rest bytes left kept to settled old new (Err (Write count part)) =
-    (count ≡ place) × (part < length (request_text place command)) × Appends old new (take part (request_text place command)) × (to ≡ waiting_for place command)
-Exchanges place command rest bytes left kept to settled old new (Err _) =
-    Appends old new (request_text place command) × (first_reply (waiting_for place command) (lines_behind rest bytes) ≡ None) × (to ≡ waiting_for place command)
+abbrev pub Exchanges : ℕ → Command → Heard → (old new : Option (List ℕ)) → Result (Unit {0}) RunFault → Type 0
+Exchanges place command heard_so old new (Ok _) = Appends old new (request_text place command) × Settles (waiting_for place command) heard_so
+Exchanges place command heard_so old new (Err (Write count part)) =
+    (count ≡ place) × (part < length (request_text place command)) × Appends old new (take part (request_text place command))
+    × (heard_so.client ≡ waiting_for place command)
+Exchanges place command heard_so old new (Err _) =
+    Appends old new (request_text place command) × (first_reply (waiting_for place command) (lines_behind heard_so.rest heard_so.bytes) ≡ None)
+    × (heard_so.client ≡ waiting_for place command)
 
--- why that ended, with so many reads left before it and after it
-abbrev pub ExchangeEnds : Ports → Ports → (before after : ℕ) → Result (Unit {0}) RunFault → Type 0
-ExchangeEnds old new before after (Err (Write _ _)) =
+-- what is seen of the source of a link
+abbrev pub source_of : Ports → Input
+source_of ports = record { remaining = ports.remaining; reads = ports.reads; ended = ports.ended; failed = ports.source_failed }
+
+-- why that ended, with so many reads left
+abbrev pub ExchangeEnds : Ports → Ports → (after : ℕ) → Result (Unit {0}) RunFault → Type 0
+ExchangeEnds old new after (Err (Write _ _)) =
     (new.reads ≡ old.reads) × (new.ended ≡ old.ended) × (new.source_failed ≡ old.source_failed) × (new.sink_failed ≡ true)
-ExchangeEnds old new before after (Ok x) =
-    ReadEnds old.reads new.reads old.ended new.ended old.source_failed new.source_failed before after (Ok x) × (new.sink_failed ≡ old.sink_failed)
-ExchangeEnds old new before after (Err e) =
-    ReadEnds old.reads new.reads old.ended new.ended old.source_failed new.source_failed before after (Err e) × (new.sink_failed ≡ old.sink_failed)
+ExchangeEnds old new after (Ok x) = ReadEnds (source_of old) (source_of new) after (Ok x) × (new.sink_failed ≡ old.sink_failed)
+ExchangeEnds old new after (Err e) = ReadEnds (source_of old) (source_of new) after (Err e) × (new.sink_failed ≡ old.sink_failed)
+
+-- of the line of a settlement the sink took the first bytes: of the one that a reply settled, where the link had ended well, or, behind a
+-- fault of it, of the one that is lost
+abbrev pub TellsOne : ℕ → Command → Heard → Written → (over : LinkEnd → Type 0) → Type 0
+TellsOne place command heard_so w over =
+    (over (Ok tt) × Appends w.link_old w.link_new (request_text place command)
+    × Settles (waiting_for place command) heard_so × ToldPart place (map settlement_seen heard_so.settled) w.sink_old w.sink_new)
+    ⊎ ((fault : RunFault) × over (Err fault)
+    × ((part : ℕ) × Appends w.link_old w.link_new (take part (request_text place command)) × ToldPart place (lost_of command ∷ []) w.sink_old w.sink_new))
 
 -- a request was sent, its reply waited for, and its settlement told
-abbrev pub AsksOne : ℕ → Command → (rest bytes left : List ℕ) → Kept → ById → (link_old link_new sink_old sink_new : Option (List ℕ)) → Result (Unit {0}) RunFault → Type 0
-AsksOne place command rest bytes left kept to link_old link_new sink_old sink_new (Ok _) =
-    Appends link_old link_new (request_text place command)
-    × ((settled : List Settlement) × Settles rest bytes left kept (waiting_for place command) to settled × Appends sink_old sink_new (lines_from place (map settlement_seen settled)))
-AsksOne place command rest bytes left kept to link_old link_new sink_old sink_new (Err (Write count part)) =
-    (count ≡ place) × (part < length (request_text place command)) × Appends link_old link_new (take part (request_text place command))
-    × Appends sink_old sink_new (lines_from place (lost_of command ∷ []))
-AsksOne place command rest bytes left kept to link_old link_new sink_old sink_new (Err Output) =
-    (Appends link_old link_new (request_text place command)
-    × ((end : ById) × (settled : List Settlement) × Settles rest bytes left kept (waiting_for place command) end settled × ToldPart place (map settlement_seen settled) sink_old sink_new))
-    ⊎ ((part : ℕ) × Appends link_old link_new (take part (request_text place command)) × ToldPart place (lost_of command ∷ []) sink_old sink_new)
-AsksOne place command rest bytes left kept to link_old link_new sink_old sink_new (Err _) =
-    Appends link_old link_new (request_text place command)
-    × (first_reply (waiting_for place command) (lines_behind rest bytes) ≡ None)
-    × Appends sink_old sink_new (lines_from place (lost_of command ∷ []))
-
--- why that ended, and what the sink then is
-abbrev pub AskOneEnds : Ports → Ports → (before after : ℕ) → (sink_old sink_new : Bool) → Result (Unit {0}) RunFault → Type 0
-AskOneEnds old new before after sink_old sink_new (Err Output) = (sink_new ≡ true) × ((link : Result (Unit {0}) RunFault) × ExchangeEnds old new before after link)
-AskOneEnds old new before after sink_old sink_new (Ok x) = ExchangeEnds old new before after (Ok x) × (sink_new ≡ sink_old)
-AskOneEnds old new before after sink_old sink_new (Err e) = ExchangeEnds old new before after (Err e) × (sink_new ≡ sink_old)
+abbrev pub AsksOne : ℕ → Command → Heard → Written → (over : LinkEnd → Type 0) → LinkEnd → Type 0
+AsksOne place command heard_so w over (Ok _) =
+    Appends w.link_old w.link_new (request_text place command)
+    × Settles (waiting_for place command) heard_so × Appends w.sink_old w.sink_new (lines_from place (map settlement_seen heard_so.settled))
+AsksOne place command heard_so w over (Err (Write count part)) =
+    (count ≡ place) × (part < length (request_text place command)) × Appends w.link_old w.link_new (take part (request_text place command))
+    × Appends w.sink_old w.sink_new (lines_from place (lost_of command ∷ []))
+AsksOne place command heard_so w over (Err Output) = TellsOne place command heard_so w over
+AsksOne place command heard_so w over (Err _) =
+    Appends w.link_old w.link_new (request_text place command)
+    × (first_reply (waiting_for place command) (lines_behind heard_so.rest heard_so.bytes) ≡ None)
+    × Appends w.sink_old w.sink_new (lines_from place (lost_of command ∷ []))
 
 -- A loop's two ends.
 
@@ -139,30 +156,19 @@ BothStep client_old client_new instrument_old instrument_new result =
     ⊎ (StepEnds client_old client_new (Ok tt) × StepEnds instrument_old instrument_new result)
 
 -- a request was sent, answered at the other end, and its reply waited for
-abbrev pub LoopExchanges : ℕ → Command → (rest bytes left : List ℕ) → Kept → ById → List Settlement → Option (List ℕ) → Option (List ℕ) → Result (Unit {0}) RunFault → Type 0
-LoopExchanges place command rest bytes left kept to settled old new (Ok x) = Exchanges place command rest bytes left kept to settled old new (Ok x)
-LoopExchanges place command rest bytes left kept to settled old new (Err (Write count _)) =
-    (count ≡ place) × ((part : ℕ) × Appends old new (take part (request_text place command))) × (to ≡ waiting_for place command)
-LoopExchanges place command rest bytes left kept to settled old new (Err _) =
-    Appends old new (request_text place command) × (to ≡ waiting_for place command)
+abbrev pub LoopExchanges : ℕ → Command → Heard → (old new : Option (List ℕ)) → Result (Unit {0}) RunFault → Type 0
+LoopExchanges place command heard_so old new (Ok x) = Exchanges place command heard_so old new (Ok x)
+LoopExchanges place command heard_so old new (Err (Write count _)) =
+    (count ≡ place) × ((part : ℕ) × Appends old new (take part (request_text place command))) × (heard_so.client ≡ waiting_for place command)
+LoopExchanges place command heard_so old new (Err _) =
+    Appends old new (request_text place command) × (heard_so.client ≡ waiting_for place command)
 
 -- a request was sent, its reply waited for, and its settlement told
-abbrev pub LoopsOne : ℕ → Command → (rest bytes left : List ℕ) → Kept → ById → (link_old link_new sink_old sink_new : Option (List ℕ)) → Result (Unit {0}) RunFault → Type 0
-LoopsOne place command rest bytes left kept to link_old link_new sink_old sink_new (Ok x) =
-    AsksOne place command rest bytes left kept to link_old link_new sink_old sink_new (Ok x)
-LoopsOne place command rest bytes left kept to link_old link_new sink_old sink_new (Err (Write count _)) =
-    (count ≡ place) × ((part : ℕ) × Appends link_old link_new (take part (request_text place command)))
-    × Appends sink_old sink_new (lines_from place (lost_of command ∷ []))
-LoopsOne place command rest bytes left kept to link_old link_new sink_old sink_new (Err Output) =
-    AsksOne place command rest bytes left kept to link_old link_new sink_old sink_new (Err Output)
-LoopsOne place command rest bytes left kept to link_old link_new sink_old sink_new (Err _) =
-    Appends link_old link_new (request_text place command) × Appends sink_old sink_new (lines_from place (lost_of command ∷ []))
-
--- why that ended, and what the sink then is
-abbrev pub LoopOneEnds : (client_old client_new instrument_old instrument_new : Ports) → (sink_old sink_new : Bool) → Result (Unit {0}) RunFault → Type 0
-LoopOneEnds client_old client_new instrument_old instrument_new sink_old sink_new (Err Output) =
-    (sink_new ≡ true) × ((link : Result (Unit {0}) RunFault) × BothStep client_old client_new instrument_old instrument_new link)
-LoopOneEnds client_old client_new instrument_old instrument_new sink_old sink_new (Ok x) =
-    BothStep client_old client_new instrument_old instrument_new (Ok x) × (sink_new ≡ sink_old)
-LoopOneEnds client_old client_new instrument_old instrument_new sink_old sink_new (Err e) =
-    BothStep client_old client_new instrument_old instrument_new (Err e) × (sink_new ≡ sink_old)
+abbrev pub LoopsOne : ℕ → Command → Heard → Written → (over : LinkEnd → Type 0) → LinkEnd → Type 0
+LoopsOne place command heard_so w over (Ok x) = AsksOne place command heard_so w over (Ok x)
+LoopsOne place command heard_so w over (Err (Write count _)) =
+    (count ≡ place) × ((part : ℕ) × Appends w.link_old w.link_new (take part (request_text place command)))
+    × Appends w.sink_old w.sink_new (lines_from place (lost_of command ∷ []))
+LoopsOne place command heard_so w over (Err Output) = TellsOne place command heard_so w over
+LoopsOne place command heard_so w over (Err _) =
+    Appends w.link_old w.link_new (request_text place command) × Appends w.sink_old w.sink_new (lines_from place (lost_of command ∷ []))

@@ -1,5 +1,5 @@
 -- A client and a simulator at the two ends of one link: this project's own.
-use Rattle.std.specs.Prelude.{◌≡◌, ℕ, ◌⊎◌, Bool, true, List, [], ◌∷◌, ◌++◌, length, take, Option, Result, Ok, Err}
+use Rattle.std.specs.Prelude.{◌≡◌, ℕ, ◌+◌, ◌≤◌, ◌⊎◌, List, [], ◌∷◌, ◌++◌, length, take, Result, Ok, Err}
 use Rattle.std.specs.Io.KnownBytes.{Appends, Consumes}
 use Rattle.gc_lines.specs.Answering.{Ports, all_of}
 use Rattle.gc_texts.specs.Settlements.{settlement_lines}
@@ -7,20 +7,21 @@ use Rattle.gc_texts.specs.declared.commands.Command.{Command}
 use Rattle.gc_texts.specs.declared.fault.RunFault.{RunFault}
 use Rattle.gc_texts.specs.declared.fault.RunFault.TheVariants.{Read, Write, TooManyReads, LinkClosed, Output}
 use Rattle.gc_texts.specs.WholeTexts.{Input, GivesCommands, RefusesCommands}
-use Rattle.gc_ask.specs.Asking.{asked, lost_of, request_text, request_texts, AsksAll, TellsPart, LinkEnds}
+use Rattle.gc_ask.specs.Asking.{asked, lost_of, request_text, request_texts, Taken, Written, LinkEnd, AsksAll, TellsPart, LinkEnds, EndsWith}
+use Rattle.gc_texts.specs.Texts.{end_reads}
 
 -- what came settles the commands before one, which was sent, and is lost; those behind it weren't sent
-pub record LoopsUpTo (commands : List Command) (given : List ℕ) (link_old link_new sink_old sink_new : Option (List ℕ)) : Type 0 where
+pub record LoopsUpTo (commands : List Command) (given : List ℕ) (w : Written) : Type 0 where
   pub earlier : List Command
   pub command : Command
   pub later : List Command
   pub order : commands ≡ earlier ++ command ∷ later
   pub settled : length (asked earlier given) ≡ length earlier
-  pub sent : Appends link_old link_new (all_of (request_texts 0 (earlier ++ command ∷ [])))
-  pub told : Appends sink_old sink_new (settlement_lines (asked earlier given ++ lost_of command ∷ []))
+  pub sent : Appends w.link_old w.link_new (all_of (request_texts 0 (earlier ++ command ∷ [])))
+  pub told : Appends w.sink_old w.sink_new (settlement_lines (asked earlier given ++ lost_of command ∷ []))
 
 -- the same, where of the one that is lost the first bytes were sent, or all: its request, or its reply, was cut
-pub record LoopsPart (commands : List Command) (given : List ℕ) (link_old link_new sink_old sink_new : Option (List ℕ)) (count : ℕ) : Type 0 where
+pub record LoopsPart (commands : List Command) (given : List ℕ) (w : Written) (count : ℕ) : Type 0 where
   pub earlier : List Command
   pub command : Command
   pub later : List Command
@@ -28,18 +29,18 @@ pub record LoopsPart (commands : List Command) (given : List ℕ) (link_old link
   pub count_is : count ≡ length earlier
   pub settled : length (asked earlier given) ≡ length earlier
   pub bytes : ℕ
-  pub sent : Appends link_old link_new (all_of (request_texts 0 earlier) ++ take bytes (request_text count command))
-  pub told : Appends sink_old sink_new (settlement_lines (asked earlier given ++ lost_of command ∷ []))
+  pub sent : Appends w.link_old w.link_new (all_of (request_texts 0 earlier) ++ take bytes (request_text count command))
+  pub told : Appends w.sink_old w.sink_new (settlement_lines (asked earlier given ++ lost_of command ∷ []))
 
 -- what was asked, of what the client's end gave, with this end
-abbrev pub Loops : List Command → List ℕ → Option (List ℕ) → Option (List ℕ) → Option (List ℕ) → Option (List ℕ) → Result (Unit {0}) RunFault → Type 0
-Loops commands given link_old link_new sink_old sink_new (Ok _) = AsksAll commands given link_old link_new sink_old sink_new
-Loops commands given link_old link_new sink_old sink_new (Err Read) = LoopsUpTo commands given link_old link_new sink_old sink_new
-Loops commands given link_old link_new sink_old sink_new (Err LinkClosed) = LoopsUpTo commands given link_old link_new sink_old sink_new
-Loops commands given link_old link_new sink_old sink_new (Err TooManyReads) = LoopsUpTo commands given link_old link_new sink_old sink_new
-Loops commands given link_old link_new sink_old sink_new (Err (Write count _)) = LoopsPart commands given link_old link_new sink_old sink_new count
-Loops commands given link_old link_new sink_old sink_new (Err Output) = TellsPart commands given link_old link_new sink_old sink_new
-Loops commands given link_old link_new sink_old sink_new (Err _) = ⊥
+abbrev pub Loops : List Command → List ℕ → Written → (over : LinkEnd → Type 0) → LinkEnd → Type 0
+Loops commands given w over (Ok _) = AsksAll commands given w
+Loops commands given w over (Err Read) = LoopsUpTo commands given w
+Loops commands given w over (Err LinkClosed) = LoopsUpTo commands given w
+Loops commands given w over (Err TooManyReads) = LoopsUpTo commands given w
+Loops commands given w over (Err (Write count _)) = LoopsPart commands given w count
+Loops commands given w over (Err Output) = TellsPart commands given w over
+Loops commands given w over (Err _) = ⊥
 
 -- what the ports of the client's end and of the instrument's are, with this end: it came at one of them, and the other is sound
 abbrev pub BothEnd : (client_old client_new instrument_old instrument_new : Ports) → Result (Unit {0}) RunFault → Type 0
@@ -47,28 +48,28 @@ BothEnd client_old client_new instrument_old instrument_new result =
     (LinkEnds client_old client_new result × LinkEnds instrument_old instrument_new (Ok tt))
     ⊎ (LinkEnds client_old client_new (Ok tt) × LinkEnds instrument_old instrument_new result)
 
--- why the loop ended, and what the ports and the sink then are: the sink failed exactly where that is the fault, and then the ports are
--- as some end of the link leaves them
-abbrev pub LoopEnds : (client_old client_new instrument_old instrument_new : Ports) → Bool → Bool → Result (Unit {0}) RunFault → Type 0
-LoopEnds client_old client_new instrument_old instrument_new sink_old sink_new (Err Output) =
-    (sink_new ≡ true) × ((link : Result (Unit {0}) RunFault) × BothEnd client_old client_new instrument_old instrument_new link)
-LoopEnds client_old client_new instrument_old instrument_new sink_old sink_new (Ok x) =
-    BothEnd client_old client_new instrument_old instrument_new (Ok x) × (sink_new ≡ sink_old)
-LoopEnds client_old client_new instrument_old instrument_new sink_old sink_new (Err e) =
-    BothEnd client_old client_new instrument_old instrument_new (Err e) × (sink_new ≡ sink_old)
+-- what is seen of the two ends of a link, and of the sink of the settlements
+pub record SeenAtBoth : Type 0 where
+  pub client : Ports
+  pub instrument : Ports
+  pub sink : Taken
+
+-- what the client's end and the sink took
+abbrev pub written_there : SeenAtBoth → SeenAtBoth → Written
+written_there old new = record { link_old = old.client.taken; link_new = new.client.taken; sink_old = old.sink.bytes; sink_new = new.sink.bytes }
 
 -- commands were asked over a link at whose other end a simulator stands, with this end
-pub record LoopsOver (commands : List Command) (client_old client_new instrument_old instrument_new : Ports) (sink_old sink_new : Option (List ℕ)) (failed_old failed_new : Bool) (result : Result (Unit {0}) RunFault) : Type 0 where
+pub record LoopsOver (commands : List Command) (old new : SeenAtBoth) (result : Result (Unit {0}) RunFault) : Type 0 where
   pub given : List ℕ
-  pub gave : Consumes client_old.remaining client_new.remaining given
-  pub loops : Loops commands given client_old.taken client_new.taken sink_old sink_new result
-  pub ends : LoopEnds client_old client_new instrument_old instrument_new failed_old failed_new result
+  pub gave : Consumes old.client.remaining new.client.remaining given
+  pub loops : Loops commands given (written_there old new) (BothEnd old.client new.client old.instrument new.instrument) result
+  pub ends : EndsWith (BothEnd old.client new.client old.instrument new.instrument) old.sink.failed new.sink.failed result
 
 -- a run over a source of commands, the two ends of a link and a sink: the text was refused, and then nothing was read of the link, sent or
 -- written; or its commands were asked
-abbrev pub LoopRuns : List ℕ → Input → Input → (client_old client_new instrument_old instrument_new : Ports) → (sink_old sink_new : Option (List ℕ)) → (failed_old failed_new : Bool) → Result (Unit {0}) RunFault → Type 0
-LoopRuns given old new client_old client_new instrument_old instrument_new sink_old sink_new failed_old failed_new result =
-    ((fault : RunFault) × (result ≡ Err fault) × RefusesCommands given old new fault
-    × (client_new ≡ client_old) × (instrument_new ≡ instrument_old) × (sink_new ≡ sink_old) × (failed_new ≡ failed_old))
-    ⊎ ((commands : List Command) × GivesCommands given old new commands
-    × LoopsOver commands client_old client_new instrument_old instrument_new sink_old sink_new failed_old failed_new result)
+abbrev pub LoopRuns : (text_old text_new : Input) → (old new : SeenAtBoth) → Result (Unit {0}) RunFault → Type 0
+LoopRuns text_old text_new old new result =
+    (given : List ℕ) × Consumes text_old.remaining text_new.remaining given
+    × (text_new.reads ≤ text_old.reads + length given + end_reads text_new.ended)
+    × (((fault : RunFault) × (result ≡ Err fault) × RefusesCommands given text_old text_new fault × (new ≡ old))
+    ⊎ ((commands : List Command) × GivesCommands given text_old text_new commands × LoopsOver commands old new result))

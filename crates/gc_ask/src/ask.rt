@@ -1,14 +1,13 @@
 //! Asking: each command of a text is sent over a link, once the one before it is settled, and each settlement is told.
 
-ghost use Rattle.std.specs.Prelude.{◌≡◌, ◌+◌, ◌*◌, ◌-◌, ◌<◌, ◌≤◌, ◌++◌, [], ℕ, List, length, Err, IfOk, IfErr};
+ghost use Rattle.std.specs.Prelude.{◌≡◌, ◌+◌, ◌*◌, ◌-◌, ◌<◌, ◌≤◌, ◌++◌, [], ℕ, List, length, Err};
 ghost use Rattle.std.specs.Io.KnownBytes.{Consumes};
 ghost use Rattle.gc_lines.specs.Assembler.{StandsFor};
 ghost use Rattle.gc_ask.specs.AskRuns.{AskRuns};
 ghost use Rattle.gc_texts.specs.declared.text.TheConstants.{TEXT_LIMIT};
-ghost use Rattle.gc_texts.specs.Texts.{end_reads};
-ghost use Rattle.gc_ask.specs.Asking.{Asks, AskEnds, idle, waiting_for};
+ghost use Rattle.gc_ask.specs.Asking.{Asks, EndsWith, LinkEnds, idle, taken_by, waiting_for};
 ghost use Rattle.gc_texts.specs.declared.fault.RunFault.{RunFault};
-ghost use Rattle.gc_ask.specs.Listening.{Sends, Exchanges, ExchangeEnds, AsksOne, AskOneEnds};
+ghost use Rattle.gc_ask.specs.Listening.{Sends, Exchanges, ExchangeEnds, AsksOne};
 ghost use Rattle.gc_lines.specs.Answering.{ports_of};
 ghost use Rattle.gc_texts.specs.WholeTexts.{input_of};
 
@@ -50,7 +49,7 @@ impl Asking {
         link: &mut O,
     ) -> Result<(), RunFault>
         requires { self.old.end.client.ids ≡ idle place }
-        ensures sends { Sends place command.now (O.taken link.old) (O.taken link.new) (O.failed link.old) (O.failed link.new) result }
+        ensures sends { Sends place command.now (taken_by O.Sink link.old) (taken_by O.Sink link.new) result }
         ensures client { self.new.end.client.ids ≡ waiting_for place command.now }
         ensures same { (self.new.end.assembler ≡ self.old.end.assembler) × (self.new.ahead ≡ self.old.ahead) × (self.new.reads ≡ self.old.reads) }
     {
@@ -80,14 +79,13 @@ impl Asking {
         ensures exchanges { (given : List ℕ) × Consumes (I.remaining link_in.old) (I.remaining link_in.new) given
             × (length given ≤ 256 * (I.reads link_in.new - I.reads link_in.old))
             × ((rest : List ℕ) → StandsFor self.old.end.assembler rest
-            → Exchanges place command.now rest (self.old.ahead ++ given) self.new.ahead self.new.end.assembler self.new.end.client.ids self.new.end.settled.items
-            (O.taken link_out.old) (O.taken link_out.new) result) }
+            → Exchanges place command.now (record { rest = rest; bytes = self.old.ahead ++ given; left = self.new.ahead; kept = self.new.end.assembler; client = self.new.end.client.ids; settled = self.new.end.settled.items }) (O.taken link_out.old) (O.taken link_out.new) result) }
         ensures grows { I.reads link_in.old ≤ I.reads link_in.new }
         ensures reads { I.reads link_in.new + self.new.reads ≡ I.reads link_in.old + self.old.reads }
         ensures ends { ExchangeEnds
             (ports_of I.Source link_in.old O.Sink link_out.old)
             (ports_of I.Source link_in.new O.Sink link_out.new)
-            self.old.reads self.new.reads result }
+            self.new.reads result }
     {
         self.send(place, command, link_out)?;
         self.end
@@ -109,14 +107,13 @@ impl Asking {
         ensures asks { (given : List ℕ) × Consumes (I.remaining link_in.old) (I.remaining link_in.new) given
             × (length given ≤ 256 * (I.reads link_in.new - I.reads link_in.old))
             × ((rest : List ℕ) → StandsFor self.old.end.assembler rest
-            → AsksOne place command.now rest (self.old.ahead ++ given) self.new.ahead self.new.end.assembler self.new.end.client.ids
-            (O.taken link_out.old) (O.taken link_out.new) (K.taken sink.old) (K.taken sink.new) result) }
+            → AsksOne place command.now (record { rest = rest; bytes = self.old.ahead ++ given; left = self.new.ahead; kept = self.new.end.assembler; client = self.new.end.client.ids; settled = self.new.end.settled.items }) (record { link_old = O.taken link_out.old; link_new = O.taken link_out.new; sink_old = K.taken sink.old; sink_new = K.taken sink.new })
+            (ExchangeEnds (ports_of I.Source link_in.old O.Sink link_out.old) (ports_of I.Source link_in.new O.Sink link_out.new) self.new.reads) result) }
         ensures grows { I.reads link_in.old ≤ I.reads link_in.new }
         ensures reads { I.reads link_in.new + self.new.reads ≡ I.reads link_in.old + self.old.reads }
-        ensures ends { AskOneEnds
-            (ports_of I.Source link_in.old O.Sink link_out.old)
-            (ports_of I.Source link_in.new O.Sink link_out.new)
-            self.old.reads self.new.reads (K.failed sink.old) (K.failed sink.new) result }
+        ensures ends { EndsWith
+            (ExchangeEnds (ports_of I.Source link_in.old O.Sink link_out.old) (ports_of I.Source link_in.new O.Sink link_out.new) self.new.reads)
+            (K.failed sink.old) (K.failed sink.new) result }
     {
         match self.exchange(place, command, link_in, link_out) {
             Ok(()) => write_settlements(sink, place, self.end.settled.as_slice()),
@@ -154,15 +151,10 @@ pub fn run_ask<S: Source, I: Source, O: Sink, K: Sink>(
 ) -> Result<(), RunFault>
     // What the text was, and what of its commands was asked: what the link took, what it gave, and what the sink took; and
     // which ports have failed.
-    ensures asks { (given : List ℕ) × Consumes (S.remaining commands.old) (S.remaining commands.new) given
-        × (S.reads commands.new ≤ S.reads commands.old + length given + end_reads (S.ended commands.new))
-        × AskRuns given
-        (input_of S.Source commands.old)
-        (input_of S.Source commands.new)
-        max_reads
-        (ports_of I.Source link_in.old O.Sink link_out.old)
-        (ports_of I.Source link_in.new O.Sink link_out.new)
-        (K.taken sink.old) (K.taken sink.new) (K.failed sink.old) (K.failed sink.new) result }
+    ensures asks { AskRuns (input_of S.Source commands.old) (input_of S.Source commands.new) max_reads
+        (record { link = ports_of I.Source link_in.old O.Sink link_out.old; sink = taken_by K.Sink sink.old })
+        (record { link = ports_of I.Source link_in.new O.Sink link_out.new; sink = taken_by K.Sink sink.new })
+        result }
 
     // At most 65,537 reads of the source were answered.
     ensures bounded { S.reads commands.new ≤ S.reads commands.old + (TEXT_LIMIT + 1) }
@@ -190,16 +182,16 @@ pub(crate) fn ask_all<I: Source, O: Sink, K: Sink>(
     // What the link gave, and what of the commands it took, and the sink of their settlements.
     ensures asks { (given : List ℕ) × Consumes (I.remaining link_in.old) (I.remaining link_in.new) given
         × (length given ≤ 256 * (I.reads link_in.new - I.reads link_in.old))
-        × Asks commands.now given (O.taken link_out.old) (O.taken link_out.new) (K.taken sink.old) (K.taken sink.new) result }
+        × Asks commands.now given (record { link_old = O.taken link_out.old; link_new = O.taken link_out.new; sink_old = K.taken sink.old; sink_new = K.taken sink.new })
+        (LinkEnds (ports_of I.Source link_in.old O.Sink link_out.old) (ports_of I.Source link_in.new O.Sink link_out.new)) result }
 
     // At most so many reads were answered, and all of them where that is the fault.
     ensures bound { I.reads link_in.new ≤ I.reads link_in.old + max_reads }
     ensures too_many { result ≡ Err RunFault.TooManyReads → I.reads link_in.new ≡ I.reads link_in.old + max_reads }
 
     // Why it ended, and which ports have failed.
-    ensures ends { AskEnds
-        (ports_of I.Source link_in.old O.Sink link_out.old)
-        (ports_of I.Source link_in.new O.Sink link_out.new)
+    ensures ends { EndsWith
+        (LinkEnds (ports_of I.Source link_in.old O.Sink link_out.old) (ports_of I.Source link_in.new O.Sink link_out.new))
         (K.failed sink.old) (K.failed sink.new) result }
 {
     let mut asking = Asking::new(max_reads);

@@ -6,7 +6,8 @@ ghost use Rattle.gc_lines.specs.Assembler.{StandsFor};
 ghost use Rattle.gc_lines.specs.Frames.{line_in};
 ghost use Rattle.gc_lines.specs.Lent.{lent_seen, IsLineWithin};
 ghost use Rattle.gc_ask.specs.Asking.{idle};
-ghost use Rattle.gc_ask.specs.Listening.{TakesFrame, Listens, HearsReply, ReadEnds};
+ghost use Rattle.gc_ask.specs.Listening.{TakesFrame, Listens, left_by, HearsReply, ReadEnds};
+ghost use Rattle.gc_texts.specs.WholeTexts.{input_of};
 
 use crate::unheard::Unheard;
 use arrayvec::ArrayVec;
@@ -53,7 +54,7 @@ impl ClientEnd {
     fn listen(&mut self, piece: &[u8], cut: &mut Line) -> Option<usize>
         ensures within { IfSome result (λ used. used ≤ length piece.now) }
         ensures listens { (rest : List ℕ) → StandsFor self.old.assembler rest
-            → Listens rest piece.now self.new.assembler self.old.client.ids self.new.client.ids self.new.settled.items result }
+            → Listens self.old.client.ids (record { rest = rest; bytes = piece.now; left = left_by result piece.now; kept = self.new.assembler; client = self.new.client.ids; settled = self.new.settled.items }) result }
     {
         let mut at = 0;
         while at < piece.len() {
@@ -77,10 +78,10 @@ impl ClientEnd {
         ensures hears { (given : List ℕ) × Consumes (I.remaining link.old) (I.remaining link.new) given
             × (length given ≤ 256 * (I.reads link.new - I.reads link.old))
             × ((rest : List ℕ) → StandsFor self.old.assembler rest
-            → HearsReply rest (ahead.old ++ given) ahead.new self.new.assembler self.old.client.ids self.new.client.ids self.new.settled.items result) }
+            → HearsReply self.old.client.ids (record { rest = rest; bytes = ahead.old ++ given; left = ahead.new; kept = self.new.assembler; client = self.new.client.ids; settled = self.new.settled.items }) result) }
         ensures grows { I.reads link.old ≤ I.reads link.new }
         ensures reads { I.reads link.new + reads.new ≡ I.reads link.old + reads.old }
-        ensures ends { ReadEnds (I.reads link.old) (I.reads link.new) (I.ended link.old) (I.ended link.new) (I.failed link.old) (I.failed link.new) reads.old reads.new result }
+        ensures ends { ReadEnds (input_of I.Source link.old) (input_of I.Source link.new) reads.new result }
     {
         let mut cut = Line::new();
         loop {

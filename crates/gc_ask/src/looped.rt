@@ -3,10 +3,9 @@
 ghost use Rattle.std.specs.Prelude.{◌≡◌, ◌+◌, ◌*◌, ◌-◌, ◌≤◌, ◌++◌, ℕ, List, length, Err};
 ghost use Rattle.std.specs.Io.KnownBytes.{Consumes};
 ghost use Rattle.gc_lines.specs.Assembler.{StandsFor};
-ghost use Rattle.gc_ask.specs.Asking.{idle};
-ghost use Rattle.gc_ask.specs.Listening.{LoopExchanges, LoopsOne, LoopOneEnds, BothStep};
-ghost use Rattle.gc_ask.specs.Looping.{Loops, LoopEnds, LoopRuns};
-ghost use Rattle.gc_texts.specs.Texts.{end_reads};
+ghost use Rattle.gc_ask.specs.Asking.{EndsWith, idle, taken_by};
+ghost use Rattle.gc_ask.specs.Listening.{LoopExchanges, LoopsOne, BothStep};
+ghost use Rattle.gc_ask.specs.Looping.{Loops, BothEnd, LoopRuns};
 ghost use Rattle.gc_texts.specs.declared.fault.RunFault.{RunFault};
 ghost use Rattle.gc_lines.specs.Answering.{ports_of};
 ghost use Rattle.gc_texts.specs.WholeTexts.{input_of};
@@ -15,7 +14,7 @@ use crate::ask::Asking;
 use crate::instrument_end::InstrumentEnd;
 use gc_instrument::Instrument;
 use gc_lines::{Sink, Source};
-use gc_texts::{Command, RunFault, write_settlements};
+use gc_texts::{Command, RunFault, read_command_text, write_settlements};
 use std::alloc::Global;
 
 /// Reads the whole command text of a source, and asks its commands over a link at whose other end an instrument stands,
@@ -37,16 +36,18 @@ pub fn run_loop_on<S: Source, A: Source, B: Sink, C: Source, D: Sink, K: Sink>(
 ) -> Result<(), RunFault>
     // What the text was, and what of its commands was asked: what the client's end took and gave, what the sink took, and which
     // ports have failed.
-    ensures loops { (given : List ℕ) × Consumes (S.remaining commands.old) (S.remaining commands.new) given
-        × (S.reads commands.new ≤ S.reads commands.old + length given + end_reads (S.ended commands.new))
-        × LoopRuns given
-        (input_of S.Source commands.old)
-        (input_of S.Source commands.new)
-        (ports_of A.Source client_in.old B.Sink client_out.old)
-        (ports_of A.Source client_in.new B.Sink client_out.new)
-        (ports_of C.Source instrument_in.old D.Sink instrument_out.old)
-        (ports_of C.Source instrument_in.new D.Sink instrument_out.new)
-        (K.taken sink.old) (K.taken sink.new) (K.failed sink.old) (K.failed sink.new) result }
+    ensures loops { LoopRuns (input_of S.Source commands.old) (input_of S.Source commands.new)
+        (record {
+          client = ports_of A.Source client_in.old B.Sink client_out.old;
+          instrument = ports_of C.Source instrument_in.old D.Sink instrument_out.old;
+          sink = taken_by K.Sink sink.old;
+        })
+        (record {
+          client = ports_of A.Source client_in.new B.Sink client_out.new;
+          instrument = ports_of C.Source instrument_in.new D.Sink instrument_out.new;
+          sink = taken_by K.Sink sink.new;
+        })
+        result }
 
     // At most so many reads of both ends were answered, and all of them where that is the fault.
     ensures bound { A.reads client_in.new + C.reads instrument_in.new ≤ A.reads client_in.old + C.reads instrument_in.old + max_reads }
@@ -86,16 +87,18 @@ pub fn run_loop<S: Source, A: Source, B: Sink, C: Source, D: Sink, K: Sink>(
     sink: &mut K,
     max_reads: u32,
 ) -> Result<(), RunFault>
-    ensures loops { (given : List ℕ) × Consumes (S.remaining commands.old) (S.remaining commands.new) given
-        × (S.reads commands.new ≤ S.reads commands.old + length given + end_reads (S.ended commands.new))
-        × LoopRuns given
-        (input_of S.Source commands.old)
-        (input_of S.Source commands.new)
-        (ports_of A.Source client_in.old B.Sink client_out.old)
-        (ports_of A.Source client_in.new B.Sink client_out.new)
-        (ports_of C.Source instrument_in.old D.Sink instrument_out.old)
-        (ports_of C.Source instrument_in.new D.Sink instrument_out.new)
-        (K.taken sink.old) (K.taken sink.new) (K.failed sink.old) (K.failed sink.new) result }
+    ensures loops { LoopRuns (input_of S.Source commands.old) (input_of S.Source commands.new)
+        (record {
+          client = ports_of A.Source client_in.old B.Sink client_out.old;
+          instrument = ports_of C.Source instrument_in.old D.Sink instrument_out.old;
+          sink = taken_by K.Sink sink.old;
+        })
+        (record {
+          client = ports_of A.Source client_in.new B.Sink client_out.new;
+          instrument = ports_of C.Source instrument_in.new D.Sink instrument_out.new;
+          sink = taken_by K.Sink sink.new;
+        })
+        result }
     ensures bound { A.reads client_in.new + C.reads instrument_in.new ≤ A.reads client_in.old + C.reads instrument_in.old + max_reads }
     ensures too_many { result ≡ Err RunFault.TooManyReads → A.reads client_in.new + C.reads instrument_in.new ≡ A.reads client_in.old + C.reads instrument_in.old + max_reads }
     ensures memory { result ≡ Err RunFault.Memory
@@ -131,18 +134,25 @@ pub(crate) fn loop_all<A: Source, B: Sink, C: Source, D: Sink, K: Sink>(
     // What the client's end gave, and what of the commands it took, and the sink of their settlements.
     ensures loops { (given : List ℕ) × Consumes (A.remaining client_in.old) (A.remaining client_in.new) given
         × (length given ≤ 256 * (A.reads client_in.new - A.reads client_in.old))
-        × Loops commands.now given (B.taken client_out.old) (B.taken client_out.new) (K.taken sink.old) (K.taken sink.new) result }
+        × Loops commands.now given (record { link_old = B.taken client_out.old; link_new = B.taken client_out.new; sink_old = K.taken sink.old; sink_new = K.taken sink.new })
+        (BothEnd
+        (ports_of A.Source client_in.old B.Sink client_out.old)
+        (ports_of A.Source client_in.new B.Sink client_out.new)
+        (ports_of C.Source instrument_in.old D.Sink instrument_out.old)
+        (ports_of C.Source instrument_in.new D.Sink instrument_out.new))
+        result }
 
     // At most so many reads of both ends were answered, and all of them where that is the fault.
     ensures bound { A.reads client_in.new + C.reads instrument_in.new ≤ A.reads client_in.old + C.reads instrument_in.old + max_reads }
     ensures too_many { result ≡ Err RunFault.TooManyReads → A.reads client_in.new + C.reads instrument_in.new ≡ A.reads client_in.old + C.reads instrument_in.old + max_reads }
 
     // Why it ended, and which ports have failed.
-    ensures ends { LoopEnds
+    ensures ends { EndsWith
+        (BothEnd
         (ports_of A.Source client_in.old B.Sink client_out.old)
         (ports_of A.Source client_in.new B.Sink client_out.new)
         (ports_of C.Source instrument_in.old D.Sink instrument_out.old)
-        (ports_of C.Source instrument_in.new D.Sink instrument_out.new)
+        (ports_of C.Source instrument_in.new D.Sink instrument_out.new))
         (K.failed sink.old) (K.failed sink.new) result }
 {
     let asking = Asking::new(max_reads);
@@ -190,16 +200,22 @@ impl Ends {
         ensures loops { (given : List ℕ) × Consumes (A.remaining client_in.old) (A.remaining client_in.new) given
             × (length given ≤ 256 * (A.reads client_in.new - A.reads client_in.old))
             × ((rest : List ℕ) → StandsFor self.old.asking.end.assembler rest
-            → LoopsOne place command.now rest (self.old.asking.ahead ++ given) self.new.asking.ahead self.new.asking.end.assembler self.new.asking.end.client.ids
-            (B.taken client_out.old) (B.taken client_out.new) (K.taken sink.old) (K.taken sink.new) result) }
-        ensures reads { A.reads client_in.new + C.reads instrument_in.new + self.new.asking.reads ≡ A.reads client_in.old + C.reads instrument_in.old + self.old.asking.reads }
-        ensures grows { A.reads client_in.old ≤ A.reads client_in.new }
-        ensures too_many { result ≡ Err RunFault.TooManyReads → self.new.asking.reads ≡ 0 }
-        ensures ends { LoopOneEnds
+            → LoopsOne place command.now (record { rest = rest; bytes = self.old.asking.ahead ++ given; left = self.new.asking.ahead; kept = self.new.asking.end.assembler; client = self.new.asking.end.client.ids; settled = self.new.asking.end.settled.items }) (record { link_old = B.taken client_out.old; link_new = B.taken client_out.new; sink_old = K.taken sink.old; sink_new = K.taken sink.new })
+            (BothStep
             (ports_of A.Source client_in.old B.Sink client_out.old)
             (ports_of A.Source client_in.new B.Sink client_out.new)
             (ports_of C.Source instrument_in.old D.Sink instrument_out.old)
-            (ports_of C.Source instrument_in.new D.Sink instrument_out.new)
+            (ports_of C.Source instrument_in.new D.Sink instrument_out.new))
+            result) }
+        ensures reads { A.reads client_in.new + C.reads instrument_in.new + self.new.asking.reads ≡ A.reads client_in.old + C.reads instrument_in.old + self.old.asking.reads }
+        ensures grows { A.reads client_in.old ≤ A.reads client_in.new }
+        ensures too_many { result ≡ Err RunFault.TooManyReads → self.new.asking.reads ≡ 0 }
+        ensures ends { EndsWith
+            (BothStep
+            (ports_of A.Source client_in.old B.Sink client_out.old)
+            (ports_of A.Source client_in.new B.Sink client_out.new)
+            (ports_of C.Source instrument_in.old D.Sink instrument_out.old)
+            (ports_of C.Source instrument_in.new D.Sink instrument_out.new))
             (K.failed sink.old) (K.failed sink.new) result }
     {
         match self.exchange(
@@ -235,8 +251,7 @@ impl Ends {
         ensures exchanges { (given : List ℕ) × Consumes (A.remaining client_in.old) (A.remaining client_in.new) given
             × (length given ≤ 256 * (A.reads client_in.new - A.reads client_in.old))
             × ((rest : List ℕ) → StandsFor self.old.asking.end.assembler rest
-            → LoopExchanges place command.now rest (self.old.asking.ahead ++ given) self.new.asking.ahead self.new.asking.end.assembler self.new.asking.end.client.ids self.new.asking.end.settled.items
-            (B.taken client_out.old) (B.taken client_out.new) result) }
+            → LoopExchanges place command.now (record { rest = rest; bytes = self.old.asking.ahead ++ given; left = self.new.asking.ahead; kept = self.new.asking.end.assembler; client = self.new.asking.end.client.ids; settled = self.new.asking.end.settled.items }) (B.taken client_out.old) (B.taken client_out.new) result) }
         ensures reads { A.reads client_in.new + C.reads instrument_in.new + self.new.asking.reads ≡ A.reads client_in.old + C.reads instrument_in.old + self.old.asking.reads }
         ensures grows { A.reads client_in.old ≤ A.reads client_in.new }
         ensures too_many { result ≡ Err RunFault.TooManyReads → self.new.asking.reads ≡ 0 }

@@ -40,7 +40,7 @@ loop-place-preserved g c =
     let command = c.index-commands-place.result in
     let one = c.in_default.ensures.asks in
     let asking = c.ask.new.self in
-    let next = course_next commands (take place commands) (drop (place + 1) commands) command place so.0 c.loop-place.asking.ahead one.0 asking.ahead c.loop-place.asking.end.assembler asking.end.assembler c.loop-place.asking.end.client.ids asking.end.client.ids
+    let next = course_next commands (take place commands) (drop (place + 1) commands) command place so.0 c.loop-place.asking.ahead one.0 asking.ahead c.loop-place.asking.end.assembler asking.end.assembler c.loop-place.asking.end.client.ids asking.end.client.ids asking.end.settled.items
     _ _ _ _ _ _ at (place_is commands place c.loop-place-test.true) (one.3 at.now at.stands) in
     record {
       course = (
@@ -73,14 +73,22 @@ returns-in-Err-clause-asks g c =
       so.0 ++ one.0,
       Consumes-append _ _ _ so.0 one.0 so.1 one.1,
       omega (arith, so.2, one.2, length-append so.0 one.0, c.loop-place.invariant.grows, c.in-Err.ensures.grows),
-      course_fault commands (take place commands) (drop (place + 1) commands) command place so.0 c.loop-place.asking.ahead one.0 asking.ahead c.loop-place.asking.end.assembler asking.end.assembler c.loop-place.asking.end.client.ids asking.end.client.ids
+      course_fault commands (take place commands) (drop (place + 1) commands) command place so.0 c.loop-place.asking.ahead one.0 asking.ahead c.loop-place.asking.end.assembler asking.end.assembler c.loop-place.asking.end.client.ids asking.end.client.ids asking.end.settled.items
           (g.O.Sink.taken c.args.link_out.now) (g.O.Sink.taken out) (g.O.Sink.taken out') (g.K.Sink.taken c.args.sink.now) (g.K.Sink.taken c.loop-place.sink) (g.K.Sink.taken c.ask.new.sink)
           c.in-Err.fault
+          (ports_of g.I.Source c.args.link_in.now g.O.Sink c.args.link_out.now)
           (ports_of g.I.Source link g.O.Sink out)
           (ports_of g.I.Source link' g.O.Sink out')
-          c.loop-place.asking.reads asking.reads
-          (g.K.Sink.failed c.loop-place.sink) (g.K.Sink.failed c.ask.new.sink)
-          at (place_is commands place c.loop-place-test.true) (at_place commands place command c.loop-place-test.true c.index-commands-place.is).1
+          asking.reads
+          (g.K.Sink.failed c.args.sink.now) (g.K.Sink.failed c.loop-place.sink) (g.K.Sink.failed c.ask.new.sink)
+          (record {
+            grows = c.loop-place.invariant.grows;
+            going = c.loop-place.invariant.going;
+            source = c.loop-place.invariant.source;
+            link = c.loop-place.invariant.link;
+            sink = c.loop-place.invariant.sink;
+          })
+          c.in-Err.ensures.grows at (place_is commands place c.loop-place-test.true) (at_place commands place command c.loop-place-test.true c.index-commands-place.is).1
           (one.3 at.now at.stands) c.in-Err.ensures.ends,
     )
 
@@ -103,7 +111,7 @@ returns-in-Err-clause-ends g c =
     (ports_of g.I.Source link g.O.Sink out)
     (ports_of g.I.Source link' g.O.Sink out')
     (g.K.Sink.failed c.args.sink.now) (g.K.Sink.failed c.loop-place.sink) (g.K.Sink.failed c.ask.new.sink)
-    c.loop-place.asking.reads c.ask.new.self.reads c.in-Err.fault
+    c.ask.new.self.reads c.in-Err.fault
     (record {
       grows = c.loop-place.invariant.grows;
       going = c.loop-place.invariant.going;

@@ -41,7 +41,7 @@ loop-place-preserved g c =
     let one = c.in_default.ensures.loops in
     let old = c.loop-place.ends.asking in
     let asking = c.ask.new.self.asking in
-    let next = course_next commands (take place commands) (drop (place + 1) commands) command place so.0 old.ahead one.0 asking.ahead old.end.assembler asking.end.assembler old.end.client.ids asking.end.client.ids
+    let next = course_next commands (take place commands) (drop (place + 1) commands) command place so.0 old.ahead one.0 asking.ahead old.end.assembler asking.end.assembler old.end.client.ids asking.end.client.ids asking.end.settled.items
     _ _ _ _ _ _ at (place_is commands place c.loop-place-test.true) (one.3 at.now at.stands) in
     let sound = sound_on
     (ports_of g.A.Source c.args.client_in.now g.B.Sink c.args.client_out.now)
@@ -78,15 +78,17 @@ returns-in-Err-clause-loops g c =
       so.0 ++ one.0,
       Consumes-append _ _ _ so.0 one.0 so.1 one.1,
       omega (arith, so.2, one.2, length-append so.0 one.0, c.loop-place.invariant.grows, c.in-Err.ensures.grows),
-      loop_fault commands (take place commands) (drop (place + 1) commands) command place so.0 old.ahead one.0 asking.ahead old.end.assembler asking.end.assembler old.end.client.ids asking.end.client.ids
+      loop_fault commands (take place commands) (drop (place + 1) commands) command place so.0 old.ahead one.0 asking.ahead old.end.assembler asking.end.assembler old.end.client.ids asking.end.client.ids asking.end.settled.items
           (g.B.Sink.taken c.args.client_out.now) (g.B.Sink.taken c.loop-place.client_out) (g.B.Sink.taken c.ask.new.client_out) (g.K.Sink.taken c.args.sink.now) (g.K.Sink.taken c.loop-place.sink) (g.K.Sink.taken c.ask.new.sink)
           c.in-Err.fault
+          (ports_of g.A.Source c.args.client_in.now g.B.Sink c.args.client_out.now)
           (ports_of g.A.Source c.loop-place.client_in g.B.Sink c.loop-place.client_out)
           (ports_of g.A.Source c.ask.new.client_in g.B.Sink c.ask.new.client_out)
+          (ports_of g.C.Source c.args.instrument_in.now g.D.Sink c.args.instrument_out.now)
           (ports_of g.C.Source c.loop-place.instrument_in g.D.Sink c.loop-place.instrument_out)
           (ports_of g.C.Source c.ask.new.instrument_in g.D.Sink c.ask.new.instrument_out)
           (g.K.Sink.failed c.loop-place.sink) (g.K.Sink.failed c.ask.new.sink)
-          at (place_is commands place c.loop-place-test.true) (at_place commands place command c.loop-place-test.true c.index-commands-place.is).1
+          c.loop-place.invariant.client c.loop-place.invariant.instrument at (place_is commands place c.loop-place-test.true) (at_place commands place command c.loop-place-test.true c.index-commands-place.is).1
           (one.3 at.now at.stands) c.in-Err.ensures.ends,
     )
 

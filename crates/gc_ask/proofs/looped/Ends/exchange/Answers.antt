@@ -5,6 +5,7 @@ use Rattle.gc_ask.specs.Listening.{LoopExchanges}
 use Rattle.gc_ask.proofs.Looping.{step_none, step_sends, step_hears, unsent, unanswered, exchanged}
 use Rattle.gc_ask.proofs.looped.Ends.exchange.Goals as goal
 use Rattle.gc_lines.specs.Answering.{ports_of}
+use Rattle.gc_texts.specs.WholeTexts.{input_of}
 
 pub returns-in-Err-clause-exchanges : goal.returns-in-Err-clause-exchanges
 returns-in-Err-clause-exchanges g c =
@@ -60,10 +61,10 @@ returns-clause-exchanges g c =
       heard.2,
       λ rest s.
           let same = subst (λ (k : Kept). StandsFor k rest) (sym c.send.ensures.same.0) s in
-          subst (λ (xs : List ℕ). LoopExchanges c.args.place c.args.command.now rest (xs ++ heard.0) c.hear_reply.new.ahead end.assembler end.client.ids end.settled.items (g.B.Sink.taken c.args.client_out.now) (g.B.Sink.taken c.send.new.link) c.hear_reply.result)
+          subst (λ (xs : List ℕ). LoopExchanges c.args.place c.args.command.now (record { rest = rest; bytes = xs ++ heard.0; left = c.hear_reply.new.ahead; kept = end.assembler; client = end.client.ids; settled = end.settled.items }) (g.B.Sink.taken c.args.client_out.now) (g.B.Sink.taken c.send.new.link) c.hear_reply.result)
           c.send.ensures.same.1
           (exchanged c.args.place c.args.command.now rest (asking.ahead ++ heard.0) c.hear_reply.new.ahead end.assembler asking.end.client.ids end.client.ids end.settled.items
-          (g.B.Sink.taken c.args.client_out.now) (g.B.Sink.taken c.send.new.link) (g.A.Source.reads c.args.client_in.now) (g.A.Source.reads c.hear_reply.new.link) (g.A.Source.ended c.args.client_in.now) (g.A.Source.ended c.hear_reply.new.link) (g.A.Source.failed c.args.client_in.now) (g.A.Source.failed c.hear_reply.new.link) c.answer_line.new.reads c.hear_reply.new.reads c.hear_reply.result
+          (g.B.Sink.taken c.args.client_out.now) (g.B.Sink.taken c.send.new.link) (input_of g.A.Source c.args.client_in.now) (input_of g.A.Source c.hear_reply.new.link) c.hear_reply.new.reads c.hear_reply.result
           c.in_default.ensures.sends.0 c.send.ensures.client (heard.3 rest same) c.hear_reply.ensures.ends),
     )
 
@@ -73,6 +74,6 @@ returns-clause-ends g c =
       step_hears
           (ports_of g.A.Source c.args.client_in.now g.B.Sink c.args.client_out.now)
           (ports_of g.A.Source c.hear_reply.new.link g.B.Sink c.send.new.link)
-          c.answer_line.new.reads c.hear_reply.new.reads c.hear_reply.result c.hear_reply.ensures.ends c.hear_reply.ensures.grows c.in_default.ensures.sends.1,
+          c.hear_reply.new.reads c.hear_reply.result c.hear_reply.ensures.ends c.hear_reply.ensures.grows c.in_default.ensures.sends.1,
       c.in_default-answer_line.ensures.ends,
     )
