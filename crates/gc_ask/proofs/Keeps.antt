@@ -3,9 +3,13 @@ use Rattle.std.proofs.Common.{◌≡◌, ℕ, suc, ◌+◌, Bool, true, List, []
 use Rattle.std.proofs.lemmas.List.{append-nil}
 use Rattle.std.specs.Fmt.{decimal}
 use Rattle.std.specs.Io.KnownBytes.{Appends}
+use Rattle.gc_lines.specs.Answering.{how_far}
+use Rattle.gc_lines.specs.declared.served.TheConstants.{WRITE_FAILED}
+use Rattle.gc_texts.specs.Faults.{run_fault_number}
+use Rattle.gc_texts.specs.declared.fault.RunFault.TheVariants as fault
 use Rattle.gc_lines.proofs.Known.{Appends-append, Appends-nil, Appends-is}
 use Rattle.gc_ask.specs.Keeping.{End, Grows, Kept, caller_line, told_of, told_from}
-use Rattle.gc_ask.specs.declared.callers.CallerFault.TheVariants.{Write}
+use Rattle.gc_ask.specs.declared.callers.CallerFault.TheVariants.{Write, Socket}
 
 pub grows_more : (a b c : Option (List End)) (xs ys : List End) → Grows a b xs → Grows b c ys → Grows a c (xs ++ ys)
 grows_more None b c xs ys h k = tt
@@ -54,8 +58,18 @@ kept_more n told told' s0 s1 s2 m0 m1 m2 end kept grew tells =
     }
 
 -- the line of a write that was cut, as it is put together
-pub cut_line : (number count bytes : ℕ) → codes "geocom: connection " ++ (decimal number ++ (codes ": fault 43 reply " ++ (decimal count ++ (codes " byte " ++ (decimal bytes ++ codes "\n"))))) ≡ caller_line number (Write count bytes)
+pub cut_line : (number count bytes : ℕ)
+    → codes "geocom: connection " ++ (decimal number ++ (codes ": fault " ++ (decimal WRITE_FAILED ++ (codes " reply " ++ (decimal count ++ (codes " byte " ++ (decimal bytes ++ codes "\n")))))))
+    ≡ caller_line number (Write count bytes)
 cut_line number count bytes =
-    let text : (decimal count ++ codes " byte " ++ decimal bytes) ++ codes "\n" ≡ decimal count ++ (codes " byte " ++ (decimal bytes ++ codes "\n")) =
-    append_assoc (decimal count ++ codes " byte ") (decimal bytes) (codes "\n") ∙ append_assoc (decimal count) (codes " byte ") (decimal bytes ++ codes "\n") in
-    ap (λ xs. codes "geocom: connection " ++ (decimal number ++ (codes ": fault 43 reply " ++ xs))) (sym text)
+    let text : (decimal WRITE_FAILED ++ how_far count bytes) ++ codes "\n" ≡ decimal WRITE_FAILED ++ (codes " reply " ++ (decimal count ++ (codes " byte " ++ (decimal bytes ++ codes "\n")))) =
+    append_assoc (decimal WRITE_FAILED) (how_far count bytes) (codes "\n")
+    ∙ ap (λ xs. decimal WRITE_FAILED ++ (codes " reply " ++ xs)) (append_assoc (decimal count) (codes " byte " ++ decimal bytes) (codes "\n")) in
+    ap (λ xs. codes "geocom: connection " ++ (decimal number ++ (codes ": fault " ++ xs))) (sym text)
+
+-- the line of a caller who couldn't be accepted
+pub socket_line : (number n : ℕ) → n ≡ run_fault_number fault.Socket
+    → codes "geocom: connection " ++ (decimal number ++ (codes ": fault " ++ (decimal n ++ codes "\n"))) ≡ caller_line number Socket
+socket_line number n is =
+    ap (λ m. codes "geocom: connection " ++ (decimal number ++ (codes ": fault " ++ (decimal m ++ codes "\n")))) is
+    ∙ ap (λ xs. codes "geocom: connection " ++ (decimal number ++ (codes ": fault " ++ (xs ++ codes "\n")))) (sym (append-nil (decimal (run_fault_number fault.Socket))))

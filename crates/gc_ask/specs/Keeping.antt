@@ -2,9 +2,13 @@
 use Rattle.std.specs.Prelude.{◌≡◌, ℕ, ◌+◌, Bool, true, List, [], ◌∷◌, ◌++◌, length, Option, Some, None, Result, Ok, Err, codes}
 use Rattle.std.specs.Fmt.{decimal}
 use Rattle.std.specs.Io.KnownBytes.{Appends}
+use Rattle.gc_lines.specs.Answering.{numbered, how_far}
+use Rattle.gc_lines.specs.declared.served.TheConstants.{READ_FAILED, WRITE_FAILED, READS_SPENT}
 use Rattle.gc_lines.specs.declared.served.Served.{Served}
 use Rattle.gc_lines.specs.declared.served.ServeFault.{ServeFault}
 use Rattle.gc_lines.specs.declared.served.ServeFault.TheVariants as serving
+use Rattle.gc_texts.specs.Faults.{run_fault_text}
+use Rattle.gc_texts.specs.declared.fault.RunFault.TheVariants as fault
 use Rattle.gc_ask.specs.declared.callers.CallerFault.{CallerFault}
 use Rattle.gc_ask.specs.declared.callers.CallerFault.TheVariants.{Read, Write, TooManyReads, Socket, Idle}
 
@@ -14,10 +18,10 @@ End = Result (Unit {0}) CallerFault
 
 -- a fault as it is printed: an idle connection has no number, since nothing failed
 abbrev pub caller_fault_text : CallerFault → List ℕ
-caller_fault_text Read = codes "fault 42"
-caller_fault_text (Write count bytes) = codes "fault 43 reply " ++ decimal count ++ codes " byte " ++ decimal bytes
-caller_fault_text TooManyReads = codes "fault 44"
-caller_fault_text Socket = codes "fault 54"
+caller_fault_text Read = numbered READ_FAILED
+caller_fault_text (Write count bytes) = numbered WRITE_FAILED ++ how_far count bytes
+caller_fault_text TooManyReads = numbered READS_SPENT
+caller_fault_text Socket = run_fault_text fault.Socket
 caller_fault_text Idle = codes "idle"
 
 -- the line of a connection that was left for a fault

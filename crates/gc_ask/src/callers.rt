@@ -4,6 +4,8 @@ ghost use Rattle.std.specs.Prelude.{◌≡◌, [], ◌∷◌, true, OnOk};
 ghost use Rattle.std.specs.Io.KnownBytes.{Appends};
 ghost use Rattle.gc_ask.specs.Keeping.{Grows, Kept, caller_line, told_of};
 
+use gc_lines::{READ_FAILED, READS_SPENT, WRITE_FAILED};
+use gc_texts::RunFault;
 use std::io::{self, Write};
 
 /// Why a caller's connection was left before its end.
@@ -27,16 +29,23 @@ impl CallerFault {
         ensures { OnOk result (Appends (E.contents messages.old) (E.contents messages.new) (caller_line number self)) }
     {
         match self {
-            CallerFault::Read => writeln!(messages, "geocom: connection {number}: fault 42"),
+            CallerFault::Read => writeln!(
+                messages,
+                "geocom: connection {number}: fault {READ_FAILED}"
+            ),
             CallerFault::Write { replies, bytes } => writeln!(
                 messages,
-                "geocom: connection {number}: fault 43 reply {replies} byte {bytes}"
+                "geocom: connection {number}: fault {WRITE_FAILED} reply {replies} byte {bytes}"
             ),
             CallerFault::TooManyReads => writeln!(
                 messages,
-                "geocom: connection {number}: fault 44"
+                "geocom: connection {number}: fault {READS_SPENT}"
             ),
-            CallerFault::Socket => writeln!(messages, "geocom: connection {number}: fault 54"),
+            CallerFault::Socket => writeln!(
+                messages,
+                "geocom: connection {number}: fault {}",
+                RunFault::Socket.number()
+            ),
             CallerFault::Idle => writeln!(messages, "geocom: connection {number}: idle"),
         }
     }

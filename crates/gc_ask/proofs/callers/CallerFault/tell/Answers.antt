@@ -1,6 +1,6 @@
 use Rattle.std.proofs.Common.{ℕ, List, OnOk, subst}
 use Rattle.std.specs.Io.KnownBytes.{Appends}
-use Rattle.gc_ask.proofs.Keeps.{cut_line}
+use Rattle.gc_ask.proofs.Keeps.{cut_line, socket_line}
 use Rattle.gc_ask.proofs.callers.CallerFault.tell.Goals as goal
 
 pub returns-in-Read : goal.returns-in-Read
@@ -16,7 +16,10 @@ pub returns-in-TooManyReads : goal.returns-in-TooManyReads
 returns-in-TooManyReads g c = rw c.in-TooManyReads.is c.writeln-in-TooManyReads.ensures.bytes
 
 pub returns-in-Socket : goal.returns-in-Socket
-returns-in-Socket g c = rw c.in-Socket.is c.writeln-in-Socket.ensures.bytes
+returns-in-Socket g c =
+    rw c.in-Socket.is (subst (λ (line : List ℕ). OnOk c.writeln-in-Socket.result (Appends (g.E.Write.contents c.args.messages.now) (g.E.Write.contents c.writeln-in-Socket.new.self) line))
+    (socket_line c.args.number c.number.result c.number.ensures)
+    c.writeln-in-Socket.ensures.bytes)
 
 pub returns-in-Idle : goal.returns-in-Idle
 returns-in-Idle g c = rw c.in-Idle.is c.writeln-in-Idle.ensures.bytes
