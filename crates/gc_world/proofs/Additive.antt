@@ -1,15 +1,14 @@
--- Bytes that go over at once leave what they leave one piece behind the other.
+-- Bytes that go over at once leave what they leave one piece behind the other, in either direction.
 use Rattle.std.proofs.Common.{◌≡◌, ℕ, zero, suc, ◌+◌, ◌-◌, ◌<◌, ◌≤◌, Bool, true, false, cond, List, [], ◌∷◌, ◌++◌, length, map, drop, refl, sym, ◌∙◌, ap, subst, arith, ltb}
 use mathlib.Core.Path.{ap₂}
 use Rattle.std.specs.Prelude.{replicate}
 use Rattle.std.proofs.lemmas.Bool.{ltb-false}
 use Rattle.gc_lines.specs.Lines.{with_end}
-use Rattle.gc_client.specs.Rule.{ById}
-use Rattle.gc_instrument.specs.State.{State}
-use Rattle.gc_world.specs.declared.event.Event.TheVariants as event
-use Rattle.gc_world.specs.Streams.{Streams, Cut, one_more, cut, passed, left_gone, up_lines, down_lines, flows}
-use Rattle.gc_world.specs.Stages.{bytes_of}
-use Rattle.gc_world.specs.World.{Request, Numbered, Ends, Rule, Step, World, Up_deliver, Down_deliver, up_delivered, down_delivered, happens, run}
+use Rattle.gc_world.specs.declared.direction.Direction.{Direction}
+use Rattle.gc_world.specs.Directions.{deliver, bytes, texts, lines, gone, reaches}
+use Rattle.gc_world.specs.Streams.{Streams, Cut, one_more, cut, flows}
+use Rattle.gc_world.specs.World.{Ends, Rule, Step, World, idle, happens, run}
+use Rattle.gc_world.proofs.Directions.{gone_reached, reaches_again, passing, bytes_pass, to, one_less, idle_leaves}
 use Rattle.gc_world.proofs.Flow.{run_append}
 use Rattle.gc_world.proofs.Handed.{cut_long}
 
@@ -65,147 +64,81 @@ drop_none zero xs e = e
 drop_none (suc k) [] e = refl
 drop_none (suc k) (x ∷ xs) e = cc
 
-module _ (ends : Ends State) (rule : Rule ById) where
-  up_left : (k : ℕ) (w : World ById State) → up_lines (run ends rule (replicate k Up_deliver) w).wire ≡ drop k (up_lines w.wire)
-  up_left zero w = refl
-  up_left (suc k) w = up_left k (happens ends rule w Up_deliver) ∙ by_front w.wire.up refl
-    where
-      f : Numbered Request → List ℕ
-      f x = with_end (bytes_of x.line)
+drop_one : {A : Type 0} (k : ℕ) (xs : List A) → drop k (drop 1 xs) ≡ drop (suc k) xs
+drop_one k [] = drop_none k [] refl
+drop_one k (x ∷ xs) = refl
 
-      by_front : (q : List (Numbered Request)) → w.wire.up ≡ q → drop k (up_lines (happens ends rule w Up_deliver).wire) ≡ drop (suc k) (map f w.wire.up)
-      by_front [] e = ap (λ q. drop k (map f (up_delivered ends w.wire q).up)) e ∙ ap (λ q. drop k (map f q)) e ∙ drop_none k [] refl ∙ ap (λ q. drop (suc k) (map f q)) (sym e)
-      by_front (x ∷ xs) e = ap (λ q. drop k (map f (up_delivered ends w.wire q).up)) e ∙ ap (λ q. drop (suc k) (map f q)) (sym e)
+drop_map : {A B : Type 0} (f : A → B) (k : ℕ) (xs : List A) → map f (drop k xs) ≡ drop k (map f xs)
+drop_map f zero xs = refl
+drop_map f (suc k) [] = refl
+drop_map f (suc k) (x ∷ xs) = drop_map f k xs
 
-  down_left : (k : ℕ) (w : World ById State) → down_lines (run ends rule (replicate k Down_deliver) w).wire ≡ drop k (down_lines w.wire)
-  down_left zero w = refl
-  down_left (suc k) w = down_left k (happens ends rule w Down_deliver) ∙ by_front w.wire.down refl
-    where
-      f : Numbered (List ℕ) → List ℕ
-      f x = with_end x.line
+module _ {Client State : Type 0} (ends : Ends State) (rule : Rule Client) (d : Direction) where
+  texts_left : (k : ℕ) (w : World Client State) → texts d (run ends rule (replicate k (deliver d)) w).wire ≡ drop k (texts d w.wire)
+  texts_left zero w = refl
+  texts_left (suc k) w = texts_left k (happens ends rule w (deliver d)) ∙ ap (drop k) (one_less ends rule d w) ∙ drop_one k (texts d w.wire)
 
-      by_front : (q : List (Numbered (List ℕ))) → w.wire.down ≡ q → drop k (down_lines (happens ends rule w Down_deliver).wire) ≡ drop (suc k) (map f w.wire.down)
-      by_front [] e = ap (λ q. drop k (map f (down_delivered rule w q).wire.down)) e ∙ ap (λ q. drop k (map f q)) e ∙ drop_none k [] refl ∙ ap (λ q. drop (suc k) (map f q)) (sym e)
-      by_front (x ∷ xs) e = ap (λ q. drop k (map f (down_delivered rule w q).wire.down)) e ∙ ap (λ q. drop (suc k) (map f q)) (sym e)
-
-  -- so many lines of these streams, and what has gone behind them
-  abbrev up_to : Streams ById State → Cut → Streams ById State
-  up_to v c = record { world = run ends rule (replicate c.lines Up_deliver) v.world; up_gone = c.gone; down_gone = v.down_gone }
-
-  abbrev down_to : Streams ById State → Cut → Streams ById State
-  down_to v c = record { world = run ends rule (replicate c.lines Down_deliver) v.world; up_gone = v.up_gone; down_gone = c.gone }
+  left : (k : ℕ) (w : World Client State) → lines d (run ends rule (replicate k (deliver d)) w).wire ≡ drop k (lines d w.wire)
+  left k w = ap (map with_end) (texts_left k w) ∙ drop_map with_end k (texts d w.wire)
 
   -- the bytes of lines that are under way
-  up_some : (v : Streams ById State) (n : ℕ) (lines : List (List ℕ)) → up_lines v.world.wire ≡ lines → 0 < length lines → flows ends rule v (event.UpBytes (n + 1)) ≡ up_to v (cut (up_lines v.world.wire) (v.up_gone + (n + 1)))
-  up_some v n [] e some = absurd (omega (arith, some))
-  up_some v n (line ∷ lines) e some =
+  some_pass : (v : Streams Client State) (n : ℕ) (q : List (List ℕ)) → 0 < length q → passing ends rule d v q (n + 1) ≡ to ends rule d v (cut q (gone d v + (n + 1)))
+  some_pass v n [] some = absurd (omega (arith, some))
+  some_pass v n (line ∷ q) some =
       let next : n + 1 ≡ suc n = omega arith in
-      ap (λ k. flows ends rule v (event.UpBytes k)) next
-      ∙ ap (λ q. record { world = run ends rule (passed Up_deliver q v.up_gone (suc n)) v.world; up_gone = left_gone q v.up_gone (suc n); down_gone = v.down_gone }) e
-      ∙ ap₂ (λ q k. up_to v (cut q (v.up_gone + k))) (sym e) (sym next)
+      ap (passing ends rule d v (line ∷ q)) next ∙ ap (λ k. to ends rule d v (cut (line ∷ q) (gone d v + k))) (sym next)
 
-  down_some : (v : Streams ById State) (n : ℕ) (lines : List (List ℕ)) → down_lines v.world.wire ≡ lines → 0 < length lines → flows ends rule v (event.DownBytes (n + 1)) ≡ down_to v (cut (down_lines v.world.wire) (v.down_gone + (n + 1)))
-  down_some v n [] e some = absurd (omega (arith, some))
-  down_some v n (line ∷ lines) e some =
-      let next : n + 1 ≡ suc n = omega arith in
-      ap (λ k. flows ends rule v (event.DownBytes k)) next
-      ∙ ap (λ q. record { world = run ends rule (passed Down_deliver q v.down_gone (suc n)) v.world; up_gone = v.up_gone; down_gone = left_gone q v.down_gone (suc n) }) e
-      ∙ ap₂ (λ q k. down_to v (cut q (v.down_gone + k))) (sym e) (sym next)
+  some_bytes : (v : Streams Client State) (n : ℕ) → 0 < length (lines d v.world.wire) → flows ends rule v (bytes d (n + 1)) ≡ to ends rule d v (cut (lines d v.world.wire) (gone d v + (n + 1)))
+  some_bytes v n some = bytes_pass ends rule d v (n + 1) ∙ some_pass v n (lines d v.world.wire) some
 
-  up_behind : (v : Streams ById State) (k : ℕ) (c : Cut) → up_to v (behind k c) ≡ record { world = run ends rule (replicate c.lines Up_deliver) (run ends rule (replicate k Up_deliver) v.world); up_gone = c.gone; down_gone = v.down_gone }
-  up_behind v k c =
-      ap (λ w. record { world = w; up_gone = c.gone; down_gone = v.down_gone })
-      (ap (λ s. run ends rule s v.world) (replicate_add k c.lines Up_deliver) ∙ run_append ends rule (replicate k Up_deliver) (replicate c.lines Up_deliver) v.world)
-
-  down_behind : (v : Streams ById State) (k : ℕ) (c : Cut) → down_to v (behind k c) ≡ record { world = run ends rule (replicate c.lines Down_deliver) (run ends rule (replicate k Down_deliver) v.world); up_gone = v.up_gone; down_gone = c.gone }
-  down_behind v k c =
-      ap (λ w. record { world = w; up_gone = v.up_gone; down_gone = c.gone })
-      (ap (λ s. run ends rule s v.world) (replicate_add k c.lines Down_deliver) ∙ run_append ends rule (replicate k Down_deliver) (replicate c.lines Down_deliver) v.world)
+  -- more lines behind some
+  to_behind : (v : Streams Client State) (b : Cut) (c : Cut) → to ends rule d v (behind b.lines c) ≡ to ends rule d (to ends rule d v b) c
+  to_behind v b c =
+      let w = run ends rule (replicate b.lines (deliver d)) v.world in
+      ap (λ x. reaches d v x c.gone) (ap (λ s. run ends rule s v.world) (replicate_add b.lines c.lines (deliver d)) ∙ run_append ends rule (replicate b.lines (deliver d)) (replicate c.lines (deliver d)) v.world)
+      ∙ sym (reaches_again d v w b.gone (run ends rule (replicate c.lines (deliver d)) w) c.gone)
 
   -- what is under way behind bytes, also where they aren't possible
-  up_rest : (v : Streams ById State) (m : ℕ) (lines : List (List ℕ)) → up_lines v.world.wire ≡ lines → 0 < length (up_lines (flows ends rule v (event.UpBytes (m + 1))).world.wire) → 0 < length lines
-  up_rest v m [] e some =
-      let same : up_lines (flows ends rule v (event.UpBytes (m + 1))).world.wire ≡ [] = ap (λ q. up_lines (run ends rule (passed Up_deliver q v.up_gone (m + 1)) v.world).wire) e ∙ e in
+  rest : (v : Streams Client State) (n : ℕ) (q : List (List ℕ)) → lines d v.world.wire ≡ q → 0 < length (lines d (passing ends rule d v q n).world.wire) → 0 < length q
+  rest v n [] e some =
+      let same : lines d (idle v.world.wire) ≡ [] = ap (map with_end) (idle_leaves d v.world.wire) ∙ e in
       absurd (omega (arith, some, ap length same))
-  up_rest v m (line ∷ lines) e some = omega arith
+  rest v n (line ∷ q) e some = omega arith
 
-  down_rest : (v : Streams ById State) (m : ℕ) (lines : List (List ℕ)) → down_lines v.world.wire ≡ lines → 0 < length (down_lines (flows ends rule v (event.DownBytes (m + 1))).world.wire) → 0 < length lines
-  down_rest v m [] e some =
-      let same : down_lines (flows ends rule v (event.DownBytes (m + 1))).world.wire ≡ [] = ap (λ q. down_lines (run ends rule (passed Down_deliver q v.down_gone (m + 1)) v.world).wire) e ∙ e in
-      absurd (omega (arith, some, ap length same))
-  down_rest v m (line ∷ lines) e some = omega arith
-
-  pub up_adds : (v : Streams ById State) (m n : ℕ) → 0 < length (up_lines (flows ends rule v (event.UpBytes (m + 1))).world.wire) → flows ends rule v (event.UpBytes (m + 1 + (n + 1))) ≡ flows ends rule (flows ends rule v (event.UpBytes (m + 1))) (event.UpBytes (n + 1))
-  up_adds v m n some =
-      let all = up_lines v.world.wire in
-      let g = v.up_gone in
+  pub adds : (v : Streams Client State) (m n : ℕ) → 0 < length (lines d (flows ends rule v (bytes d (m + 1))).world.wire) → flows ends rule v (bytes d (m + 1 + (n + 1))) ≡ flows ends rule (flows ends rule v (bytes d (m + 1))) (bytes d (n + 1))
+  adds v m n some =
+      let all = lines d v.world.wire in
+      let g = gone d v in
       let c = cut all (g + (m + 1)) in
-      let under : 0 < length all = up_rest v m all refl some in
-      let first : flows ends rule v (event.UpBytes (m + 1)) ≡ up_to v c = up_some v m all refl under in
-      let u = up_to v c in
-      let left : up_lines u.world.wire ≡ drop c.lines all = up_left c.lines v.world in
-      let under_u : 0 < length (up_lines u.world.wire) = subst (λ (x : Streams ById State). 0 < length (up_lines x.world.wire)) first some in
+      let under : 0 < length all = rest v (m + 1) all refl (subst (λ (x : Streams Client State). 0 < length (lines d x.world.wire)) (bytes_pass ends rule d v (m + 1)) some) in
+      let first : flows ends rule v (bytes d (m + 1)) ≡ to ends rule d v c = some_bytes v m under in
+      let u = to ends rule d v c in
+      let after : lines d u.world.wire ≡ drop c.lines all = left c.lines v.world in
+      let under_u : 0 < length (lines d u.world.wire) = subst (λ (x : Streams Client State). 0 < length (lines d x.world.wire)) first some in
       let sum : m + 1 + (n + 1) ≡ m + 1 + n + 1 = omega arith in
       let total : g + (m + 1 + n + 1) ≡ g + (m + 1) + (n + 1) = omega arith in
-      ap (λ k. flows ends rule v (event.UpBytes k)) sum ∙ up_some v (m + 1 + n) all refl under
-      ∙ ap (λ k. up_to v (cut all k)) total ∙ ap (up_to v) (cut_add all (g + (m + 1)) (n + 1))
-      ∙ up_behind v c.lines (cut (drop c.lines all) (c.gone + (n + 1)))
-      ∙ ap (λ q. up_to u (cut q (c.gone + (n + 1)))) (sym left)
-      ∙ sym (up_some u n (up_lines u.world.wire) refl under_u)
-      ∙ ap (λ x. flows ends rule x (event.UpBytes (n + 1))) (sym first)
-
-  pub down_adds : (v : Streams ById State) (m n : ℕ) → 0 < length (down_lines (flows ends rule v (event.DownBytes (m + 1))).world.wire) → flows ends rule v (event.DownBytes (m + 1 + (n + 1))) ≡ flows ends rule (flows ends rule v (event.DownBytes (m + 1))) (event.DownBytes (n + 1))
-  down_adds v m n some =
-      let all = down_lines v.world.wire in
-      let g = v.down_gone in
-      let c = cut all (g + (m + 1)) in
-      let under : 0 < length all = down_rest v m all refl some in
-      let first : flows ends rule v (event.DownBytes (m + 1)) ≡ down_to v c = down_some v m all refl under in
-      let u = down_to v c in
-      let left : down_lines u.world.wire ≡ drop c.lines all = down_left c.lines v.world in
-      let under_u : 0 < length (down_lines u.world.wire) = subst (λ (x : Streams ById State). 0 < length (down_lines x.world.wire)) first some in
-      let sum : m + 1 + (n + 1) ≡ m + 1 + n + 1 = omega arith in
-      let total : g + (m + 1 + n + 1) ≡ g + (m + 1) + (n + 1) = omega arith in
-      ap (λ k. flows ends rule v (event.DownBytes k)) sum ∙ down_some v (m + 1 + n) all refl under
-      ∙ ap (λ k. down_to v (cut all k)) total ∙ ap (down_to v) (cut_add all (g + (m + 1)) (n + 1))
-      ∙ down_behind v c.lines (cut (drop c.lines all) (c.gone + (n + 1)))
-      ∙ ap (λ q. down_to u (cut q (c.gone + (n + 1)))) (sym left)
-      ∙ sym (down_some u n (down_lines u.world.wire) refl under_u)
-      ∙ ap (λ x. flows ends rule x (event.DownBytes (n + 1))) (sym first)
+      ap (λ k. flows ends rule v (bytes d k)) sum ∙ some_bytes v (m + 1 + n) under
+      ∙ ap (λ k. to ends rule d v (cut all k)) total ∙ ap (to ends rule d v) (cut_add all (g + (m + 1)) (n + 1))
+      ∙ to_behind v c (cut (drop c.lines all) (c.gone + (n + 1)))
+      ∙ ap₂ (λ q k. to ends rule d u (cut q (k + (n + 1)))) (sym after) (sym (gone_reached d v u.world c.gone))
+      ∙ sym (some_bytes u n under_u)
+      ∙ ap (λ x. flows ends rule x (bytes d (n + 1))) (sym first)
 
   -- where none are under way any more, all went over
-  up_stops : (v : Streams ById State) (m n : ℕ) (lines : List (List ℕ)) → up_lines v.world.wire ≡ lines → up_lines (flows ends rule v (event.UpBytes (m + 1))).world.wire ≡ [] → flows ends rule v (event.UpBytes (m + 1 + n)) ≡ flows ends rule v (event.UpBytes (m + 1))
-  up_stops v m n [] e none =
-      ap (λ q. record { world = run ends rule (passed Up_deliver q v.up_gone (m + 1 + n)) v.world; up_gone = left_gone q v.up_gone (m + 1 + n); down_gone = v.down_gone }) e
-      ∙ ap (λ q. record { world = run ends rule (passed Up_deliver q v.up_gone (m + 1)) v.world; up_gone = left_gone q v.up_gone (m + 1); down_gone = v.down_gone }) (sym e)
-  up_stops v m n (line ∷ lines) e none =
-      let all = up_lines v.world.wire in
-      let under : 0 < length all = subst (λ (q : List (List ℕ)). 0 < length q) (sym e) (omega arith) in
+  stops : (v : Streams Client State) (m n : ℕ) (q : List (List ℕ)) → lines d v.world.wire ≡ q → lines d (flows ends rule v (bytes d (m + 1))).world.wire ≡ [] → flows ends rule v (bytes d (m + 1 + n)) ≡ flows ends rule v (bytes d (m + 1))
+  stops v m n [] e none =
+      bytes_pass ends rule d v (m + 1 + n) ∙ ap (λ q. passing ends rule d v q (m + 1 + n)) e
+      ∙ ap (λ q. passing ends rule d v q (m + 1)) (sym e) ∙ sym (bytes_pass ends rule d v (m + 1))
+  stops v m n (line ∷ q) e none =
+      let all = lines d v.world.wire in
+      let under : 0 < length all = subst (λ (l : List (List ℕ)). 0 < length l) (sym e) (omega arith) in
       let sum : m + 1 + n ≡ m + n + 1 = omega arith in
-      let total : v.up_gone + (m + n + 1) ≡ v.up_gone + (m + 1) + n = omega arith in
-      let c = cut all (v.up_gone + (m + 1)) in
-      let first : flows ends rule v (event.UpBytes (m + 1)) ≡ up_to v c = up_some v m all refl under in
-      let done : drop c.lines all ≡ [] = sym (up_left c.lines v.world) ∙ ap (λ (x : Streams ById State). up_lines x.world.wire) (sym first) ∙ none in
-      ap (λ k. flows ends rule v (event.UpBytes k)) sum ∙ up_some v (m + n) all refl under ∙ ap (λ k. up_to v (cut all k)) total
-      ∙ ap (up_to v) (cut_end all (v.up_gone + (m + 1)) n done) ∙ sym first
+      let total : gone d v + (m + n + 1) ≡ gone d v + (m + 1) + n = omega arith in
+      let c = cut all (gone d v + (m + 1)) in
+      let first : flows ends rule v (bytes d (m + 1)) ≡ to ends rule d v c = some_bytes v m under in
+      let done : drop c.lines all ≡ [] = sym (left c.lines v.world) ∙ ap (λ (x : Streams Client State). lines d x.world.wire) (sym first) ∙ none in
+      ap (λ k. flows ends rule v (bytes d k)) sum ∙ some_bytes v (m + n) under ∙ ap (λ k. to ends rule d v (cut all k)) total
+      ∙ ap (to ends rule d v) (cut_end all (gone d v + (m + 1)) n done) ∙ sym first
 
-  down_stops : (v : Streams ById State) (m n : ℕ) (lines : List (List ℕ)) → down_lines v.world.wire ≡ lines → down_lines (flows ends rule v (event.DownBytes (m + 1))).world.wire ≡ [] → flows ends rule v (event.DownBytes (m + 1 + n)) ≡ flows ends rule v (event.DownBytes (m + 1))
-  down_stops v m n [] e none =
-      ap (λ q. record { world = run ends rule (passed Down_deliver q v.down_gone (m + 1 + n)) v.world; up_gone = v.up_gone; down_gone = left_gone q v.down_gone (m + 1 + n) }) e
-      ∙ ap (λ q. record { world = run ends rule (passed Down_deliver q v.down_gone (m + 1)) v.world; up_gone = v.up_gone; down_gone = left_gone q v.down_gone (m + 1) }) (sym e)
-  down_stops v m n (line ∷ lines) e none =
-      let all = down_lines v.world.wire in
-      let under : 0 < length all = subst (λ (q : List (List ℕ)). 0 < length q) (sym e) (omega arith) in
-      let sum : m + 1 + n ≡ m + n + 1 = omega arith in
-      let total : v.down_gone + (m + n + 1) ≡ v.down_gone + (m + 1) + n = omega arith in
-      let c = cut all (v.down_gone + (m + 1)) in
-      let first : flows ends rule v (event.DownBytes (m + 1)) ≡ down_to v c = down_some v m all refl under in
-      let done : drop c.lines all ≡ [] = sym (down_left c.lines v.world) ∙ ap (λ (x : Streams ById State). down_lines x.world.wire) (sym first) ∙ none in
-      ap (λ k. flows ends rule v (event.DownBytes k)) sum ∙ down_some v (m + n) all refl under ∙ ap (λ k. down_to v (cut all k)) total
-      ∙ ap (down_to v) (cut_end all (v.down_gone + (m + 1)) n done) ∙ sym first
-
-  pub up_ends : (v : Streams ById State) (m n : ℕ) → up_lines (flows ends rule v (event.UpBytes (m + 1))).world.wire ≡ [] → flows ends rule v (event.UpBytes (m + 1 + n)) ≡ flows ends rule v (event.UpBytes (m + 1))
-  up_ends v m n none = up_stops v m n (up_lines v.world.wire) refl none
-
-  pub down_ends : (v : Streams ById State) (m n : ℕ) → down_lines (flows ends rule v (event.DownBytes (m + 1))).world.wire ≡ [] → flows ends rule v (event.DownBytes (m + 1 + n)) ≡ flows ends rule v (event.DownBytes (m + 1))
-  down_ends v m n none = down_stops v m n (down_lines v.world.wire) refl none
+  pub stays : (v : Streams Client State) (m n : ℕ) → lines d (flows ends rule v (bytes d (m + 1))).world.wire ≡ [] → flows ends rule v (bytes d (m + 1 + n)) ≡ flows ends rule v (bytes d (m + 1))
+  stays v m n none = stops v m n (lines d v.world.wire) refl none

@@ -1,15 +1,20 @@
 -- How much so many events can bring.
-use Rattle.std.proofs.Common.{ℕ, zero, suc, ◌+◌, ◌-◌, ◌<◌, ◌≤◌, Bool, true, false, List, [], ◌∷◌, ◌++◌, Option, Some, None, length, arith, subst, ltb, cond, refl, ap, ◌≡◌}
+use Rattle.std.proofs.Common.{ℕ, zero, suc, ◌+◌, ◌-◌, ◌<◌, ◌≤◌, Bool, true, false, List, [], ◌∷◌, ◌++◌, Option, Some, None, length, map, arith, subst, ltb, cond, refl, ap, ◌≡◌, ◌∙◌}
 use Rattle.std.specs.Prelude.{replicate}
-use Rattle.std.proofs.lemmas.List.{length-map, length_push}
+use Rattle.std.proofs.lemmas.List.{length-drop, length-map, length_push}
+use Rattle.gc_lines.specs.Lines.{with_end}
 use Rattle.gc_catalogue.specs.declared.call.Call.{Call}
 use Rattle.gc_catalogue.specs.Texts.{request_line}
 use Rattle.gc_client.specs.Rule.{Sending}
 use Rattle.gc_instrument.specs.Replying.{Handed}
+use Rattle.gc_world.specs.declared.direction.Direction.{Direction}
+use Rattle.gc_world.specs.declared.direction.Direction.TheVariants.{Up, Down}
 use Rattle.gc_world.specs.declared.event.Event.{Event}
 use Rattle.gc_world.specs.declared.event.Event.TheVariants as event
-use Rattle.gc_world.specs.Streams.{Streams, Cut, one_more, cut, at_line, passed, up_lines, down_lines, flows, flow}
+use Rattle.gc_world.specs.Directions.{deliver, texts}
+use Rattle.gc_world.specs.Streams.{Streams, Cut, one_more, cut, at_line, passed, up_texts, down_texts, up_lines, down_lines, flows, flow}
 use Rattle.gc_world.specs.World.{Request, Sent, Numbered, Ends, Rule, Step, Send, Up_deliver, Up_lose, Up_repeat, Down_deliver, Down_lose, Down_repeat, Expire, Restart_client, Restart_instrument, Nothing, Wire, World, without, doubled, idle, replied, up_delivered, with_up, with_down, started, instrument_restarted, requested, down_delivered, client_restarted, happens, run}
+use Rattle.gc_world.proofs.Directions.{one_less}
 
 -- no more than so many of each: the executions and the replies together with the requests that are still to be executed
 pub record IsWithin {State : Type 0} (n : ℕ) (w : Wire State) : Type 0 where
@@ -109,50 +114,41 @@ module _ {Client State : Type 0} (ends : Ends State) (rule : Rule Client) (n : �
   one_step w Restart_instrument h = restarts_instrument w.wire w.wire.up w.wire.down h
   one_step w Nothing h = idles w.wire h
 
-  up_once : (w : Wire State) (q : List (Numbered Request)) → w.up ≡ q → 0 < length q → IsWithin n w → IsWithin n (up_delivered ends w q) × (suc (length (up_delivered ends w q).up) ≡ length q)
+  up_once : (w : Wire State) (q : List (Numbered Request)) → w.up ≡ q → 0 < length (map (λ x. request_line (Some x.line.id) x.line.call) q) → IsWithin n w → IsWithin n (up_delivered ends w q)
   up_once w [] e some h = absurd (omega (arith, some))
-  up_once w (x ∷ rest) e some h = (answers w x rest (ends.handed w.state x.line.id x.line.call) e h, refl)
+  up_once w (x ∷ rest) e some h = answers w x rest (ends.handed w.state x.line.id x.line.call) e h
 
-  down_once : (w : World Client State) (q : List (Numbered (List ℕ))) → w.wire.down ≡ q → 0 < length q → IsWithin n w.wire → IsWithin n (down_delivered rule w q).wire × (suc (length (down_delivered rule w q).wire.down) ≡ length q)
-  down_once w [] e some h = absurd (omega (arith, some))
-  down_once w (x ∷ rest) e some h = (record { sent = h.sent; executed = h.executed; made = h.made; starts = h.starts; refused = h.refused; idle = h.idle }, refl)
+  down_once : (w : World Client State) (q : List (Numbered (List ℕ))) → 0 < length (map (λ x. x.line) q) → IsWithin n w.wire → IsWithin n (down_delivered rule w q).wire
+  down_once w [] some h = absurd (omega (arith, some))
+  down_once w (x ∷ rest) some h = record { sent = h.sent; executed = h.executed; made = h.made; starts = h.starts; refused = h.refused; idle = h.idle }
+
+  once : (d : Direction) (w : World Client State) → 0 < length (texts d w.wire) → IsWithin n w.wire → IsWithin n (happens ends rule w (deliver d)).wire
+  once Up w some h = up_once w.wire w.wire.up refl some h
+  once Down w some h = down_once w w.wire.down some h
 
   -- however many lines bytes complete
-  up_all : (k : ℕ) (w : World Client State) → k ≤ length w.wire.up → IsWithin n w.wire → IsWithin n (run ends rule (replicate k Up_deliver) w).wire
-  up_all zero w le h = h
-  up_all (suc k) w le h =
-      let one = up_once w.wire w.wire.up refl (omega (arith, le)) h in
-      up_all k (happens ends rule w Up_deliver) (omega (arith, le, one.1)) one.0
+  all : (d : Direction) (k : ℕ) (w : World Client State) → k ≤ length (texts d w.wire) → IsWithin n w.wire → IsWithin n (run ends rule (replicate k (deliver d)) w).wire
+  all d zero w le h = h
+  all d (suc k) w le h =
+      let less : length (texts d (happens ends rule w (deliver d)).wire) ≡ length (texts d w.wire) - 1 = ap length (one_less ends rule d w) ∙ length-drop 1 (texts d w.wire) in
+      all d k (happens ends rule w (deliver d)) (omega (arith, le, less)) (once d w (omega (arith, le)) h)
 
-  down_all : (k : ℕ) (w : World Client State) → k ≤ length w.wire.down → IsWithin n w.wire → IsWithin n (run ends rule (replicate k Down_deliver) w).wire
-  down_all zero w le h = h
-  down_all (suc k) w le h =
-      let one = down_once w w.wire.down refl (omega (arith, le)) h in
-      down_all k (happens ends rule w Down_deliver) (omega (arith, le, one.1)) one.0
-
-  up_passed : (lines : List (List ℕ)) (gone k : ℕ) (w : World Client State) → length lines ≡ length w.wire.up → IsWithin n w.wire → IsWithin (n + 1) (run ends rule (passed Up_deliver lines gone k) w).wire
-  up_passed [] gone k w e h = idles w.wire h
-  up_passed (line ∷ lines) gone zero w e h = idles w.wire h
-  up_passed (line ∷ lines) gone (suc k) w e h =
-      let d = (cut (line ∷ lines) (gone + suc k)).lines in
-      more (run ends rule (replicate d Up_deliver) w).wire (up_all d w (omega (arith, cut_few (line ∷ lines) (gone + suc k), e)) h)
-
-  down_passed : (lines : List (List ℕ)) (gone k : ℕ) (w : World Client State) → length lines ≡ length w.wire.down → IsWithin n w.wire → IsWithin (n + 1) (run ends rule (passed Down_deliver lines gone k) w).wire
-  down_passed [] gone k w e h = idles w.wire h
-  down_passed (line ∷ lines) gone zero w e h = idles w.wire h
-  down_passed (line ∷ lines) gone (suc k) w e h =
-      let d = (cut (line ∷ lines) (gone + suc k)).lines in
-      more (run ends rule (replicate d Down_deliver) w).wire (down_all d w (omega (arith, cut_few (line ∷ lines) (gone + suc k), e)) h)
+  passes : (d : Direction) (lines : List (List ℕ)) (gone k : ℕ) (w : World Client State) → length lines ≡ length (texts d w.wire) → IsWithin n w.wire → IsWithin (n + 1) (run ends rule (passed (deliver d) lines gone k) w).wire
+  passes d [] gone k w e h = idles w.wire h
+  passes d (line ∷ lines) gone zero w e h = idles w.wire h
+  passes d (line ∷ lines) gone (suc k) w e h =
+      let c = (cut (line ∷ lines) (gone + suc k)).lines in
+      more (run ends rule (replicate c (deliver d)) w).wire (all d c w (omega (arith, cut_few (line ∷ lines) (gone + suc k), e)) h)
 
   -- so does an event
   pub one_event : (v : Streams Client State) (e : Event) → IsWithin n v.world.wire → IsWithin (n + 1) (flows ends rule v e).world.wire
   one_event v (event.Send target call deadline) h = one_step v.world (Send target call deadline) h
   one_event v event.UpDeliver h = one_step v.world Up_deliver h
-  one_event v (event.UpBytes k) h = up_passed (up_lines v.world.wire) v.up_gone k v.world (length-map v.world.wire.up _) h
+  one_event v (event.UpBytes k) h = passes Up (up_lines v.world.wire) v.up_gone k v.world (length-map (up_texts v.world.wire) with_end) h
   one_event v (event.UpLose k) h = one_step v.world (at_line k v.up_gone (Up_lose k)) h
   one_event v (event.UpRepeat k) h = one_step v.world (at_line k v.up_gone (Up_repeat k)) h
   one_event v event.DownDeliver h = one_step v.world Down_deliver h
-  one_event v (event.DownBytes k) h = down_passed (down_lines v.world.wire) v.down_gone k v.world (length-map v.world.wire.down _) h
+  one_event v (event.DownBytes k) h = passes Down (down_lines v.world.wire) v.down_gone k v.world (length-map (down_texts v.world.wire) with_end) h
   one_event v (event.DownLose k) h = one_step v.world (at_line k v.down_gone (Down_lose k)) h
   one_event v (event.DownRepeat k) h = one_step v.world (at_line k v.down_gone (Down_repeat k)) h
   one_event v (event.Expire now) h = one_step v.world (Expire now) h

@@ -1,116 +1,151 @@
--- Bytes go over line by line: what is left of them hands over what is left of the lines.
-use Rattle.std.proofs.Common.{◌≡◌, ℕ, zero, suc, ◌+◌, ◌-◌, ◌<◌, ◌≤◌, Bool, true, false, cond, ◌⊎◌, inl, inr, List, [], ◌∷◌, length, map, refl, sym, ◌∙◌, ap, subst, arith}
+-- Bytes go over line by line, in either direction: what is left of them hands over what is left of the lines.
+use Rattle.std.proofs.Common.{◌≡◌, ℕ, zero, suc, ◌+◌, ◌-◌, ◌<◌, ◌≤◌, Bool, true, false, cond, ◌⊎◌, inl, inr, List, [], ◌∷◌, length, map, drop, Option, Some, None, refl, sym, ◌∙◌, ap, subst, arith}
 use mathlib.Core.Path.{ap₂}
 use Rattle.std.specs.Prelude.{replicate, IsTrue, ◌↔◌}
 use Rattle.std.proofs.lemmas.Bool.{cases_lt, le-ltb}
 use Rattle.gc_lines.specs.Lines.{with_end}
-use Rattle.gc_client.specs.Rule.{ById, Windowed}
+use Rattle.gc_client.specs.Rule.{ById, fits, heard, hears, place_in, id_settled}
 use Rattle.gc_instrument.specs.State.{State}
-use Rattle.gc_world.specs.declared.event.Event.TheVariants as event
-use Rattle.gc_world.specs.declared.report.Report.{Report}
+use Rattle.gc_world.specs.declared.direction.Direction.{Direction}
+use Rattle.gc_world.specs.declared.direction.Direction.TheVariants.{Up, Down}
 use Rattle.gc_world.specs.Clients.{by_ids, ends}
-use Rattle.gc_world.specs.Order.{numbers}
-use Rattle.gc_world.specs.Stages.{does, goes_on, bytes_of, IsPart, AreStreamsOf, up_handed}
-use Rattle.gc_world.specs.Streams.{Streams, Cut, one_more, cut, passed, left_gone, up_lines, remaining}
-use Rattle.gc_world.specs.World.{Request, Numbered, Up_deliver, up_delivered, run}
+use Rattle.gc_world.specs.Directions.{deliver, delivery, bytes, texts, lines, gone, reaches}
+use Rattle.gc_world.specs.Memory.{IsStray, AreStrays, TakesNone}
+use Rattle.gc_world.specs.Sides.{IsPart}
+use Rattle.gc_world.specs.Stages.{Seen, does, goes_on, AreStreamsOf, handed}
+use Rattle.gc_world.specs.Streams.{Streams, Cut, one_more, cut, down_lines, remaining}
+use Rattle.gc_world.specs.World.{Numbered, Down_deliver, down_delivered, run}
+use Rattle.gc_world.proofs.Directions.{gone_reached, reaches_again, reaches_same, delivered, passing, bytes_pass, to, one_less, not_idle}
+use Rattle.gc_world.proofs.Shown.{part}
 
 -- bytes that complete the front line
 pub cut_long : (line : List ℕ) (lines : List (List ℕ)) (n : ℕ) → length line ≤ n → cut (line ∷ lines) n ≡ one_more (cut lines (n - length line))
 cut_long line lines n le = ap (λ b. cond {A = Cut} b (record { lines = 0; gone = n }) (one_more (cut lines (n - length line)))) (le-ltb n (length line) le)
 
 -- a line is under way where bytes remain of it
-pub in_front : {Line : Type 0} (f : Numbered Line → List ℕ) (gone : ℕ) (q : List (Numbered Line)) → 0 < remaining gone (map f q) → (x : Numbered Line) × (xs : List (Numbered Line)) × (q ≡ x ∷ xs)
-in_front f gone [] some = absurd (omega (arith, some))
-in_front f gone (x ∷ xs) some = (x, xs, refl)
+pub in_front : (gone : ℕ) (texts : List (List ℕ)) → 0 < remaining gone (map with_end texts) → (t : List ℕ) × (ts : List (List ℕ)) × (texts ≡ t ∷ ts)
+in_front gone [] some = absurd (omega (arith, some))
+in_front gone (t ∷ ts) some = (t, ts, refl)
 
 -- and where none remain, none is
-pub none_left : {Line : Type 0} (f : Numbered Line → List ℕ) (gone : ℕ) (q : List (Numbered Line)) → IsPart gone (map f q) → remaining gone (map f q) ≡ 0 → (q ≡ []) × (gone ≡ 0)
-none_left f gone [] part e = (refl, part)
-none_left f gone (x ∷ xs) part e = absurd (omega (arith, part, e))
+none_under_way : (gone : ℕ) (lines : List (List ℕ)) → IsPart gone lines → remaining gone lines ≡ 0 → (lines ≡ []) × (gone ≡ 0)
+none_under_way gone [] part e = (refl, part)
+none_under_way gone (line ∷ lines) part e = absurd (omega (arith, part, e))
+
+-- a line that no request waits for leaves the client as it is
+stray_same : (c : ById) (line : List ℕ) (o : Option ℕ) → fits c o ≡ false → (hears c line o).client ≡ c
+stray_same c line None e = refl
+stray_same c line (Some id) e = ap (λ b. (id_settled c line (place_in c id) b).client) e
 
 -- The streams v, of which these n bytes go over; and the streams now, with this many of them left.
-module _ (width : ℕ) (v : Streams ById State) where
-  -- the bytes of a request, with its end
-  abbrev whole : Numbered Request → List ℕ
-  whole x = with_end (bytes_of x.line)
-
+module _ (width : ℕ) (d : Direction) (v : Streams ById State) where
   -- what a line more is
   record IsNext (n used : ℕ) : Type 0 where
-    x : Numbered Request
-    xs : List (Numbered Request)
-    front : v.world.wire.up ≡ x ∷ xs
-    cut_is : cut (up_lines v.world.wire) (v.up_gone + n) ≡ one_more (cut (map whole xs) (n - used))
-    tail : xs ≡ (does width v.world Up_deliver).wire.up
+    text : List ℕ
+    behind : List (List ℕ)
+    front : texts d v.world.wire ≡ text ∷ behind
+    cut_is : cut (lines d v.world.wire) (gone d v + n) ≡ one_more (cut (map with_end behind) (n - used))
+    tail : behind ≡ texts d (does width v.world (deliver d)).wire
 
-  next : (n used : ℕ) → used ≡ remaining v.up_gone (up_lines v.world.wire) → 0 < used → used ≤ n → IsNext n used
+  next : (n used : ℕ) → used ≡ remaining (gone d v) (lines d v.world.wire) → 0 < used → used ≤ n → IsNext n used
   next n used e some le =
-      let f = in_front whole v.up_gone v.world.wire.up (subst (λ k. 0 < k) e some) in
-      let size : used ≡ length (whole f.0) - v.up_gone = e ∙ ap (λ q. remaining v.up_gone (map whole q)) f.2 in
-      let left : v.up_gone + n - length (whole f.0) ≡ n - used = omega (arith, size, some, le) in
+      let f = in_front (gone d v) (texts d v.world.wire) (subst (λ k. 0 < k) e some) in
+      let size : used ≡ length (with_end f.0) - gone d v = e ∙ ap (λ q. remaining (gone d v) (map with_end q)) f.2 in
+      let left : gone d v + n - length (with_end f.0) ≡ n - used = omega (arith, size, some, le) in
       record {
-        x = f.0;
-        xs = f.1;
+        text = f.0;
+        behind = f.1;
         front = f.2;
-        cut_is = ap (λ q. cut (map whole q) (v.up_gone + n)) f.2 ∙ cut_long (whole f.0) (map whole f.1) (v.up_gone + n) (omega (arith, size, some, le)) ∙ ap (λ k. one_more (cut (map whole f.1) k)) left;
-        tail = sym (ap (λ q. (up_delivered ends v.world.wire q).up) f.2);
+        cut_is = ap (λ q. cut (map with_end q) (gone d v + n)) f.2 ∙ cut_long (with_end f.0) (map with_end f.1) (gone d v + n) (omega (arith, size, some, le)) ∙ ap (λ k. one_more (cut (map with_end f.1) k)) left;
+        tail = sym (one_less ends (by_ids width ends) d v.world ∙ ap (drop 1) f.2);
       }
 
-  next_same : (n used : ℕ) → IsNext n used → up_handed width v n ≡ up_handed width (goes_on width v event.UpDeliver) (n - used)
+  -- the streams behind it
+  abbrev after : Streams ById State
+  after = reaches d v (does width v.world (deliver d)) 0
+
+  next_same : (n used : ℕ) → IsNext n used → handed width d v n ≡ handed width d (goes_on width v (delivery d)) (n - used)
   next_same n used h =
-      let after = does width v.world Up_deliver in
-      let zero_more : n - used ≡ 0 + (n - used) = omega arith in
-      ap (λ (d : Cut). record { world = run ends (by_ids width ends) (replicate d.lines Up_deliver) v.world; up_gone = d.gone; down_gone = v.down_gone }) h.cut_is
-      ∙ ap₂ (λ (q : List (Numbered Request)) k. let d = cut (map whole q) k in record { world = run ends (by_ids width ends) (replicate d.lines Up_deliver) after; up_gone = d.gone; down_gone = v.down_gone }) h.tail zero_more
+      let rule = by_ids width ends in
+      let c = cut (map with_end h.behind) (n - used) in
+      let w = does width v.world (deliver d) in
+      let none : gone d after ≡ 0 = gone_reached d v w 0 in
+      let more : n - used ≡ gone d after + (n - used) = omega (arith, none) in
+      ap (to ends rule d v) h.cut_is ∙ sym (reaches_again d v w 0 (run ends rule (replicate c.lines (deliver d)) w) c.gone)
+      ∙ ap₂ (λ q k. to ends rule d after (cut (map with_end q) k)) h.tail more
+      ∙ ap (λ x. handed width d x (n - used)) (sym (delivered ends rule d v))
 
-  next_idle : (n used : ℕ) → IsNext n used → (does width v.world Up_deliver).wire.idle ≡ v.world.wire.idle
-  next_idle n used h = ap (λ q. (up_delivered ends v.world.wire q).idle) h.front
+  next_idle : (n used : ℕ) → IsNext n used → (goes_on width v (delivery d)).world.wire.idle ≡ v.world.wire.idle
+  next_idle n used h =
+      let some : length (texts d v.world.wire) ≡ suc (length h.behind) = ap length h.front in
+      ap (λ (x : Streams ById State). x.world.wire.idle) (delivered ends (by_ids width ends) d v) ∙ not_idle ends (by_ids width ends) d v.world (omega (arith, some))
 
-  -- a line is completed
-  next_takes : (n used : ℕ) → IsNext n used → (cut (up_lines v.world.wire) (v.up_gone + n)).lines ≡ 0 → ⊥
+  -- no byte is under way
+  ended : (n : ℕ) → IsPart (gone d v) (lines d v.world.wire) → remaining (gone d v) (lines d v.world.wire) ≡ 0 → handed width d v n ≡ v
+  ended n part e =
+      let none = none_under_way (gone d v) (lines d v.world.wire) part e in
+      ap (λ q. to ends (by_ids width ends) d v (cut q (gone d v + n))) none.0 ∙ ap (reaches d v v.world) (sym none.1) ∙ reaches_same d v
+
+-- A delivery that takes no memory: upward there is none, and downward it is one of a stray.
+module _ (width : ℕ) (v : Streams ById State) where
+  next_takes : (n used : ℕ) → IsNext width Up v n used → TakesNone width v (bytes Up n) → ⊥
   next_takes n used h z =
-      let s : suc (cut (map whole h.xs) (n - used)).lines ≡ 0 = sym (ap (λ (d : Cut). d.lines) h.cut_is) ∙ z in
+      let s : suc (cut (map with_end h.behind) (n - used)).lines ≡ 0 = sym (ap (λ (c : Cut). c.lines) h.cut_is) ∙ z in
       absurd (omega (arith, s))
 
-  up_ended : (n : ℕ) → IsPart v.up_gone (up_lines v.world.wire) → remaining v.up_gone (up_lines v.world.wire) ≡ 0 → up_handed width v n ≡ v
-  up_ended n part e =
-      let none = none_left whole v.up_gone v.world.wire.up part e in
-      ap (λ q. let d = cut (map whole q) (v.up_gone + n) in record { world = run ends (by_ids width ends) (replicate d.lines Up_deliver) v.world; up_gone = d.gone; down_gone = v.down_gone }) none.0
-      ∙ ap (λ g. record { world = v.world; up_gone = g; down_gone = v.down_gone }) (sym none.1)
+  next_strays : (n used : ℕ) → IsNext width Down v n used → (q : List (Numbered (List ℕ))) → v.world.wire.down ≡ q → TakesNone width v (bytes Down n) → TakesNone width v (delivery Down) × TakesNone width (goes_on width v (delivery Down)) (bytes Down (n - used))
+  next_strays n used h [] e t = let wrong : [] ≡ h.text ∷ h.behind = sym (ap (map (λ x. x.line)) e) ∙ h.front in cc
+  next_strays n used h (x ∷ xs) e t =
+      let w = does width v.world Down_deliver in
+      let k = (cut (map with_end h.behind) (n - used)).lines in
+      let all = subst (λ q. AreStrays v.world.client (suc k) q) e (subst (λ (c : Cut). AreStrays v.world.client c.lines v.world.wire.down) h.cut_is t) in
+      let same : w.client ≡ v.world.client = ap (λ q. (down_delivered (by_ids width ends) v.world q).client) e ∙ stray_same v.world.client x.line (heard x.line) all.0 in
+      let tail : xs ≡ w.wire.down = sym (ap (λ q. (down_delivered (by_ids width ends) v.world q).wire.down) e) in
+      let zero_more : n - used ≡ 0 + (n - used) = omega arith in
+      let count : (cut (map with_end h.behind) (n - used)).lines ≡ (cut (down_lines w.wire) (0 + (n - used))).lines = ap₂ (λ q j. (cut (map with_end q) j).lines) h.tail zero_more in (
+        subst (λ l. IsStray v.world.client l) (sym e) all.0,
+        subst (λ c. AreStrays c (cut (down_lines w.wire) (0 + (n - used))).lines w.wire.down) (sym same)
+            (subst (λ j. AreStrays v.world.client j w.wire.down) count (subst (λ q. AreStrays v.world.client k q) tail all.1)),
+      )
 
-pub record IsUpReached (width : ℕ) (r : Report) (up down : List ℕ) (ug dg : ℕ) (c : Windowed) (v : Streams ById State) (n left : ℕ) : Type 0 where
+spared : (width : ℕ) (d : Direction) (v : Streams ById State) (n used : ℕ) → IsNext width d v n used → TakesNone width v (bytes d n) → TakesNone width v (delivery d) × TakesNone width (goes_on width v (delivery d)) (bytes d (n - used))
+spared width Up v n used h t = absurd (next_takes width v n used h t)
+spared width Down v n used h t = next_strays width v n used h v.world.wire.down refl t
+
+pub record IsReached (width : ℕ) (d : Direction) (s : Seen) (v : Streams ById State) (n left : ℕ) : Type 0 where
   pub now : Streams ById State
-  pub shows : AreStreamsOf width r up down ug dg c now
-  pub same : up_handed width now left ≡ up_handed width v n
-  pub spare : (cut (up_lines v.world.wire) (v.up_gone + n)).lines ≡ 0 → (cut (up_lines now.world.wire) (now.up_gone + left)).lines ≡ 0
+  pub shows : AreStreamsOf width s now
+  pub same : handed width d now left ≡ handed width d v n
+  pub spare : TakesNone width v (bytes d n) → TakesNone width now (bytes d left)
   pub idle : now.world.wire.idle ≡ v.world.wire.idle
 
-pub up_begins : (width : ℕ) (r : Report) (up down : List ℕ) (ug dg : ℕ) (c : Windowed) (v : Streams ById State) (n : ℕ) → AreStreamsOf width r up down ug dg c v → IsUpReached width r up down ug dg c v n n
-up_begins width r up down ug dg c v n h = record { now = v; shows = h; same = refl; spare = λ t. t; idle = refl }
+pub reached : (width : ℕ) (d : Direction) (s : Seen) (v : Streams ById State) (n : ℕ) → AreStreamsOf width s v → IsReached width d s v n n
+reached width d s v n h = record { now = v; shows = h; same = refl; spare = λ t. t; idle = refl }
 
-module _ (width : ℕ) (r : Report) (up down : List ℕ) (ug dg : ℕ) (c : Windowed) (v : Streams ById State) (n left : ℕ) (h : IsUpReached width r up down ug dg c v n left) where
+module _ (width : ℕ) (d : Direction) (s : Seen) (v : Streams ById State) (n left : ℕ) (h : IsReached width d s v n left) where
   -- a line more
-  pub up_goes_on : (r' : Report) (up' down' : List ℕ) (ug' dg' : ℕ) (c' : Windowed) (used : ℕ) → used ≡ remaining h.now.up_gone (up_lines h.now.world.wire) → 0 < used → used ≤ left → AreStreamsOf width r' up' down' ug' dg' c' (goes_on width h.now event.UpDeliver) → IsUpReached width r' up' down' ug' dg' c' v n (left - used)
-  up_goes_on r' up' down' ug' dg' c' used e some le shows =
-      let one = next width h.now left used e some le in
+  pub reaches_next : (t : Seen) (used : ℕ) → used ≡ remaining (gone d h.now) (lines d h.now.world.wire) → 0 < used → used ≤ left → AreStreamsOf width t (goes_on width h.now (delivery d)) → IsReached width d t v n (left - used)
+  reaches_next t used e some le shows =
+      let one = next width d h.now left used e some le in
       record {
-        now = goes_on width h.now event.UpDeliver;
+        now = goes_on width h.now (delivery d);
         shows = shows;
-        same = sym (next_same width h.now left used one) ∙ h.same;
-        spare = λ t. absurd (next_takes width h.now left used one (h.spare t));
-        idle = next_idle width h.now left used one ∙ h.idle;
+        same = sym (next_same width d h.now left used one) ∙ h.same;
+        spare = λ t. (spared width d h.now left used one (h.spare t)).1;
+        idle = next_idle width d h.now left used one ∙ h.idle;
       }
 
-  -- it takes memory
-  pub up_takes : (used : ℕ) → used ≡ remaining h.now.up_gone (up_lines h.now.world.wire) → 0 < used → used ≤ left → (cut (up_lines v.world.wire) (v.up_gone + n)).lines ≡ 0 → ⊥
-  up_takes used e some le t = next_takes width h.now left used (next width h.now left used e some le) (h.spare t)
+  -- it takes no memory, where the bytes take none
+  pub next_spares : (used : ℕ) → used ≡ remaining (gone d h.now) (lines d h.now.world.wire) → 0 < used → used ≤ left → TakesNone width v (bytes d n) → TakesNone width h.now (delivery d)
+  next_spares used e some le t = (spared width d h.now left used (next width d h.now left used e some le) (h.spare t)).0
 
   -- the last bytes complete no line
-  pub up_stops : (r' : Report) (up' down' : List ℕ) (ug' dg' : ℕ) (c' : Windowed) → AreStreamsOf width r' up' down' ug' dg' c' (up_handed width h.now left) → AreStreamsOf width r' up' down' ug' dg' c' (up_handed width v n)
-  up_stops r' up' down' ug' dg' c' shows = subst (λ w. AreStreamsOf width r' up' down' ug' dg' c' w) h.same shows
+  pub reaches_end : (t : Seen) → AreStreamsOf width t (handed width d h.now left) → AreStreamsOf width t (handed width d v n)
+  reaches_end t shows = subst (λ x. AreStreamsOf width t x) h.same shows
 
   -- no byte is under way any more
-  pub up_runs_out : remaining h.now.up_gone (up_lines h.now.world.wire) ≡ 0 → AreStreamsOf width r up down ug dg c (up_handed width v n)
-  up_runs_out e = subst (λ w. AreStreamsOf width r up down ug dg c w) (sym (up_ended width h.now left h.shows.up_flow.part e) ∙ h.same) h.shows
+  pub runs_dry : remaining (gone d h.now) (lines d h.now.world.wire) ≡ 0 → AreStreamsOf width s (handed width d v n)
+  runs_dry e = subst (λ x. AreStreamsOf width s x) (sym (ended width d h.now left (part width s h.now h.shows d) e) ∙ h.same) h.shows
 
 pub is_not : (b : Bool) → b ≡ true → b ≡ false → ⊥
 is_not b t f = let wrong : true ≡ false = sym t ∙ f in cc
@@ -127,29 +162,11 @@ runs_out b (suc r) l iff e le = absurd (is_not b (iff.1 (omega arith, least (suc
         by_either (inl lt) = absurd (no_less lt)
         by_either (inr le1) = le1
 
--- so many bytes of these streams are the event
-pub up_bytes_are : (width : ℕ) (v : Streams ById State) (n : ℕ) (lines : List (List ℕ)) → up_lines v.world.wire ≡ lines → 0 < n → 0 < length lines → goes_on width v (event.UpBytes n) ≡ up_handed width v n
-up_bytes_are width v n lines e some more = by_cases n lines some more e
+-- some bytes of lines that are under way are the event
+pub under_way : (width : ℕ) (d : Direction) (v : Streams ById State) (n r : ℕ) → r ≡ remaining (gone d v) (lines d v.world.wire) → (n ≡ 0 → ⊥) → (r ≡ 0 → ⊥) → goes_on width v (bytes d n) ≡ handed width d v n
+under_way width d v n r e not none = bytes_pass ends (by_ids width ends) d v n ∙ by_cases n (lines d v.world.wire) not (λ z. none (e ∙ z))
   where
-    by_cases : (k : ℕ) (ls : List (List ℕ)) → 0 < k → 0 < length ls → up_lines v.world.wire ≡ ls → goes_on width v (event.UpBytes k) ≡ up_handed width v k
-    by_cases zero ls some more e = absurd (omega (arith, some))
-    by_cases (suc k) [] some more e = absurd (omega (arith, more))
-    by_cases (suc k) (l ∷ ls) some more e =
-        ap (λ q. record {
-          world = run ends (by_ids width ends) (passed Up_deliver q v.up_gone (suc k)) v.world;
-          up_gone = left_gone q v.up_gone (suc k);
-          down_gone = v.down_gone;
-        }) e
-        ∙ ap (λ q. let d = cut q (v.up_gone + suc k) in record { world = run ends (by_ids width ends) (replicate d.lines Up_deliver) v.world; up_gone = d.gone; down_gone = v.down_gone }) (sym e)
-
--- neither is it 0, nor is the queue empty
-pub under_way : (width : ℕ) (v : Streams ById State) (n : ℕ) (r : Report) (up down : List ℕ) (ug dg : ℕ) (c : Windowed) → AreStreamsOf width r up down ug dg c v → (n ≡ 0 → ⊥) → (up ≡ [] → ⊥) → goes_on width v (event.UpBytes n) ≡ up_handed width v n
-under_way width v n r up down ug dg c h not none = up_bytes_are width v n (up_lines v.world.wire) refl (some n not) (by_places v.world.wire.up h.lines.up_is)
-  where
-    some : (k : ℕ) → (k ≡ 0 → ⊥) → 0 < k
-    some zero no_zero = absurd (no_zero refl)
-    some (suc k) no_zero = omega arith
-
-    by_places : (q : List (Numbered Request)) → up ≡ numbers q → 0 < length (map (λ x. with_end (bytes_of x.line)) q)
-    by_places [] e = absurd (none e)
-    by_places (x ∷ xs) e = omega arith
+    by_cases : (k : ℕ) (q : List (List ℕ)) → (k ≡ 0 → ⊥) → (remaining (gone d v) q ≡ 0 → ⊥) → passing ends (by_ids width ends) d v q k ≡ to ends (by_ids width ends) d v (cut q (gone d v + k))
+    by_cases zero q some more = absurd (some refl)
+    by_cases (suc k) [] some more = absurd (more refl)
+    by_cases (suc k) (l ∷ ls) some more = refl

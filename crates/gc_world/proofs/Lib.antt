@@ -15,10 +15,11 @@ pub mod Runs
 pub mod Queues
 pub mod Pieces
 pub mod Streaming
+pub mod Directions
+pub mod Sides
 pub mod Showing
 pub mod Shown
 pub mod Handed
-pub mod HandedDown
 pub mod Counts
 pub mod Turns
 pub mod Sparing

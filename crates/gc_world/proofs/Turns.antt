@@ -1,12 +1,15 @@
 -- A turn of the loop that plays events.
 use Rattle.std.proofs.Common.{◌≡◌, ℕ, ◌+◌, ◌<◌, ◌≤◌, List, [], ◌∷◌, ◌++◌, length, take, get_or, sym, ◌∙◌, ap, subst, arith, length-take}
-use Rattle.std.proofs.lemmas.List.{take_more}
+use Rattle.std.proofs.lemmas.List.{take_all, take_more}
+use Rattle.gc_lines.specs.Assembler.{Kept}
+use Rattle.gc_client.specs.Rule.{ById, Windowed}
 use Rattle.gc_instrument.specs.State.{State}
 use Rattle.gc_world.specs.declared.event.Event.{Event}
 use Rattle.gc_world.specs.declared.report.Report.{Report}
 use Rattle.gc_world.specs.Reports.{IsReport}
 use Rattle.gc_world.specs.Clients.{by_ids, ends, streamed, played}
-use Rattle.gc_world.specs.Stages.{goes_on, begins}
+use Rattle.gc_world.specs.Stages.{goes_on, begins, Seen, AreOf, AreStreamsOf}
+use Rattle.gc_world.specs.World.{World}
 use Rattle.gc_world.proofs.Counts.{IsWithin, within_all}
 use Rattle.gc_world.proofs.Flow.{flow_append}
 
@@ -21,6 +24,27 @@ played_within width opening events =
     let e : 0 + length events ≡ length events = omega arith in
     subst (λ n. IsWithin n (played width opening events).wire) e
     (within_all ends (by_ids width ends) events (begins opening) 0 (record { sent = omega arith; executed = omega arith; made = omega arith; starts = omega arith; refused = omega arith; idle = omega arith }))
+
+-- the assemblers don't count for the lines
+with_kept : (width : ℕ) (r : Report) (up down : List ℕ) (c : Windowed) (w : World ById State) (a b : Kept) → AreOf width r up down c w → AreOf width (record r { up = a; down = b }) up down c w
+with_kept width r up down c w a b h =
+    let g = h.reports in
+    record {
+      reports = record { sent = g.sent; executed = g.executed; made = g.made; settled = g.settled; starts = g.starts; instrument = g.instrument; refused = g.refused; idle = g.idle };
+      up_is = h.up_is;
+      down_is = h.down_is;
+      client_is = h.client_is;
+      next = h.next;
+      requests = h.requests;
+      calls = h.calls;
+    }
+
+-- what is handed back behind the last event
+pub at_end : (width : ℕ) (opening : State) (events : List Event) (s : Seen) (i : ℕ) (r : Report) → length events ≤ i → AreStreamsOf width s (streamed width opening (take i events)) → r ≡ record s.report { up = s.up.assembler; down = s.down.assembler } → AreOf width r s.up.queue s.down.queue s.client (played width opening events)
+at_end width opening events s i r all h is =
+    let shows = subst (λ es. AreStreamsOf width s (streamed width opening es)) (take_all i events all) h in
+    subst (λ (x : Report). AreOf width x s.up.queue s.down.queue s.client (played width opening events)) (sym is)
+    (with_kept width s.report s.up.queue s.down.queue s.client (played width opening events) s.up.assembler s.down.assembler shows.lines)
 
 -- a stage after so many events has counted no more
 pub counts_at : (width : ℕ) (opening : State) (events : List Event) (i : ℕ) (report : Report) → IsReport report (played width opening (take i events)).wire → i ≤ length events → (report.refused_sends ≤ i) × (report.idle_events ≤ i)

@@ -1,10 +1,12 @@
 pub mod World
 pub mod Streams
+pub mod Directions
 pub mod Clients
 pub mod Order
 pub mod Exchange
 pub mod Record
 pub mod Reports
+pub mod Sides
 pub mod Stages
 pub mod Faithful
 pub mod Memory

@@ -1,22 +1,24 @@
 -- No part of a promise: what a stage shows of the streams of a run.
-use Rattle.std.specs.Prelude.{◌≡◌, ℕ, ◌+◌, ◌<◌, List, [], ◌∷◌, length, Option, Some, map, replicate, slice_get}
-use Rattle.gc_lines.specs.Assembler.{Kept, StandsFor}
-use Rattle.gc_lines.specs.Lines.{IsPlain, with_end}
+use Rattle.std.specs.Prelude.{◌≡◌, ℕ, ◌+◌, ◌<◌, List, Option, Some, map, replicate, slice_get}
 use Rattle.gc_catalogue.specs.Calls.{IsFitting}
 use Rattle.gc_catalogue.specs.Texts.{request_line}
 use Rattle.gc_client.specs.declared.window.TheConstants.{IDS}
 use Rattle.gc_client.specs.Rule.{ById, Windowed}
 use Rattle.gc_instrument.specs.State.{State, restarted}
+use Rattle.gc_world.specs.declared.direction.Direction.{Direction}
 use Rattle.gc_world.specs.declared.event.Event.{Event}
 use Rattle.gc_world.specs.declared.report.Made.{Made}
 use Rattle.gc_world.specs.declared.report.Report.{Report}
 use Rattle.gc_world.specs.declared.report.Sent.{Sent}
+use Rattle.gc_world.specs.declared.side.Side.{Side}
 use Rattle.gc_world.specs.declared.stage.Stage.{Stage}
 use Rattle.gc_world.specs.Clients.{by_ids, ids_open, ends}
+use Rattle.gc_world.specs.Directions.{deliver, lines, gone, reaches}
 use Rattle.gc_world.specs.Order.{Each, numbers}
 use Rattle.gc_world.specs.Reports.{made_seen, IsReport}
-use Rattle.gc_world.specs.Streams.{Streams, up_lines, down_lines, untouched, gone_of, cut, flows}
-use Rattle.gc_world.specs.World.{Request, Numbered, Step, Up_deliver, Down_deliver, World, happens, run}
+use Rattle.gc_world.specs.Sides.{IsFlow}
+use Rattle.gc_world.specs.Streams.{Streams, up_texts, down_texts, untouched, cut, flows}
+use Rattle.gc_world.specs.World.{Request, Numbered, Step, World, happens, run}
 
 -- the streams before the first event, one step of the run by ids with a window of this width, and one event
 abbrev pub begins : State → Streams ById State
@@ -28,16 +30,11 @@ does width w step = happens ends (by_ids width ends) w step
 abbrev pub goes_on : ℕ → Streams ById State → Event → Streams ById State
 goes_on width v e = flows ends (by_ids width ends) v e
 
--- the streams behind the next n bytes
-abbrev pub up_handed : ℕ → Streams ById State → ℕ → Streams ById State
-up_handed width v n =
-    let c = cut (up_lines v.world.wire) (v.up_gone + n) in
-    record { world = run ends (by_ids width ends) (replicate c.lines Up_deliver) v.world; up_gone = c.gone; down_gone = v.down_gone }
-
-abbrev pub down_handed : ℕ → Streams ById State → ℕ → Streams ById State
-down_handed width v n =
-    let c = cut (down_lines v.world.wire) (v.down_gone + n) in
-    record { world = run ends (by_ids width ends) (replicate c.lines Down_deliver) v.world; up_gone = v.up_gone; down_gone = c.gone }
+-- the streams behind the next n bytes of a direction
+abbrev pub handed : ℕ → Direction → Streams ById State → ℕ → Streams ById State
+handed width d v n =
+    let c = cut (lines d v.world.wire) (gone d v + n) in
+    reaches d v (run ends (by_ids width ends) (replicate c.lines (deliver d)) v.world) c.gone
 
 -- the bytes of a request's line
 abbrev pub bytes_of : Request → List ℕ
@@ -66,32 +63,27 @@ pub record AreOf (width : ℕ) (report : Report) (up down : List ℕ) (client : 
   pub requests : Each (IsSentIn report.sent) w.wire.up
   pub calls : Each (λ (q : Sent). IsFitting q.call) report.sent
 
--- of the front line of a queue its last byte is still to go, and where there is none, nothing has gone
-abbrev pub IsPart : ℕ → List (List ℕ) → Type 0
-IsPart gone [] = gone ≡ 0
-IsPart gone (line ∷ lines) = gone < length line
+-- what a stage has of the streams
+pub record Seen : Type 0 where
+  pub report : Report
+  pub up : Side
+  pub down : Side
+  pub client : Windowed
 
--- an assembler stands for the bytes of the front line of a queue that have gone, and no line has a CR or an LF in it
-pub record IsFlow {Line : Type 0} (bytes : Line → List ℕ) (kept : Kept) (gone : ℕ) (queue : List (Numbered Line)) : Type 0 where
-  pub part : IsPart gone (map (λ x. with_end (bytes x.line)) queue)
-  pub stands : StandsFor kept (gone_of gone (map (λ x. with_end (bytes x.line)) queue))
-  pub plain : Each (λ x. IsPlain (bytes x.line)) queue
+abbrev pub seen : {W : Type 0} → Stage W → Seen
+seen s = record { report = s.report; up = s.up; down = s.down; client = s.client }
 
--- the bytes of a reply's line
-abbrev pub itself : List ℕ → List ℕ
-itself line = line
-
--- the report, the queues, what has gone of their front lines and the client are those of these streams
-pub record AreStreamsOf (width : ℕ) (report : Report) (up down : List ℕ) (up_gone down_gone : ℕ) (client : Windowed) (v : Streams ById State) : Type 0 where
-  pub lines : AreOf width report up down client v.world
-  pub up_is : up_gone ≡ v.up_gone
-  pub down_is : down_gone ≡ v.down_gone
-  pub up_flow : IsFlow bytes_of report.up v.up_gone v.world.wire.up
-  pub down_flow : IsFlow itself report.down v.down_gone v.world.wire.down
+-- the report, the two sides and the client are those of these streams
+pub record AreStreamsOf (width : ℕ) (s : Seen) (v : Streams ById State) : Type 0 where
+  pub lines : AreOf width s.report s.up.queue s.down.queue s.client v.world
+  pub up_is : s.up.gone ≡ v.up_gone
+  pub down_is : s.down.gone ≡ v.down_gone
+  pub up_flow : IsFlow s.up.assembler s.up.gone (up_texts v.world.wire)
+  pub down_flow : IsFlow s.down.assembler s.down.gone (down_texts v.world.wire)
 
 -- a stage whose client's window is this wide shows these streams
 abbrev pub Shows : {W : Type 0} → ℕ → Stage W → Streams ById State → Type 0
-Shows width s v = AreStreamsOf width s.report s.up s.down s.up_gone s.down_gone s.client v
+Shows width s v = AreStreamsOf width (seen s) v
 
 -- it shows some
 abbrev pub IsShown : {W : Type 0} → Stage W → Type 0

@@ -10,12 +10,19 @@ use Rattle.gc_world.specs.World.{Ends, Rule, Wire, World, Step, Send, Up_deliver
 -- What is under way.
 
 module _ {State : Type 0} where
-  -- the bytes of each line under way, the front line first
+  -- the text of each line under way, the front line first
+  abbrev pub up_texts : Wire State → List (List ℕ)
+  up_texts w = map (λ x. request_line (Some x.line.id) x.line.call) w.up
+
+  abbrev pub down_texts : Wire State → List (List ℕ)
+  down_texts w = map (λ x. x.line) w.down
+
+  -- and its bytes
   abbrev pub up_lines : Wire State → List (List ℕ)
-  up_lines w = map (λ x. with_end (request_line (Some x.line.id) x.line.call)) w.up
+  up_lines w = map with_end (up_texts w)
 
   abbrev pub down_lines : Wire State → List (List ℕ)
-  down_lines w = map (λ x. with_end x.line) w.down
+  down_lines w = map with_end (down_texts w)
 
 -- a world, and how many bytes of the front line of each direction have gone
 pub record Streams (Client State : Type 0) : Type 0 where

@@ -29,7 +29,8 @@ impl<T> Entries<T> {
         Self { entries }
     }
 
-    /// The vector of the entries. It takes no memory.
+    /// The vector of the entries. It takes no memory. It is for callers that own a report: a list that hides its vector
+    /// gives it back.
     pub fn into_vec(self) -> Vec<T>
         ensures { result.items ≡ self }
     {

@@ -2,7 +2,8 @@
 
 ghost use Rattle.gc_world.specs.FirstReply.{BooksFirstReply, FirstReplyIsLate, IsNeverBoth, IsOneOrOther, NoSecondReply};
 ghost use Rattle.gc_world.specs.Laws.{KeepsOrder, KeepsRecent, RunsAgree, SettlesInOrder, BooksItsOwn, RepliesAreFine, RecordsExecutions};
-ghost use Rattle.gc_world.specs.Pieces.{UpwardAdds, DownwardAdds, UpwardEnds, DownwardEnds};
+ghost use Rattle.gc_world.specs.declared.direction.Direction.{Direction};
+ghost use Rattle.gc_world.specs.Pieces.{BytesAdd, BytesEnd};
 ghost use Rattle.gc_world.specs.Width.{EightDiffers, EightSettlesNine, NumbersSettleOne};
 
 /// In each queue the numbers never fall from front to back, no number downward passes one upward, every number under
@@ -54,10 +55,8 @@ pub fn first_reply_is_booked()
 /// Bytes that go over at once leave what they leave in two deliveries, so in as many as they are cut into: each line that
 /// they complete is delivered by its own last byte. Where more are handed over than are under way, these are.
 pub fn bytes_go_over_in_turn()
-    ensures up { UpwardAdds }
-    ensures down { DownwardAdds }
-    ensures up_ends { UpwardEnds }
-    ensures down_ends { DownwardEnds }
+    ensures adds { (direction : Direction) → BytesAdd direction }
+    ensures ends { (direction : Direction) → BytesEnd direction }
 {}
 
 /// With a window of eight the client that knows ids no longer does what a client would do that is told the numbers: a

@@ -1,6 +1,7 @@
 //! The world: a client and an instrument with a line between them that loses, repeats and delays, event by event.
 #![tactic(auto)]
 
+mod direction;
 mod entries;
 mod event;
 mod feeding;
@@ -8,6 +9,7 @@ pub mod laws;
 mod playing;
 mod queue;
 mod report;
+mod side;
 mod stage;
 
 pub use entries::Entries;

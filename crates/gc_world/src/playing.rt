@@ -59,7 +59,7 @@ pub fn play_width<W: Window>(
     for event in events {
         stage.happen(event)?;
     }
-    Ok((stage.report, stage.client))
+    Ok(stage.ended())
 }
 
 /// Plays the events as `play_width` does, with a client that lets seven requests wait: the widest window there is.

@@ -1,5 +1,9 @@
 //! The report of a list of events: what was sent, executed, made and settled.
 
+ghost use Rattle.std.specs.Prelude.{◌≡◌, ℕ, List, Some};
+ghost use Rattle.gc_world.specs.Sides.{written};
+
+use crate::direction::Direction;
 use crate::entries::Entries;
 use gc_catalogue::Call;
 use gc_client::Settlement;
@@ -49,4 +53,18 @@ pub struct Report {
     pub refused_sends: usize,
     /// How many events were not possible.
     pub idle_events: usize,
+}
+
+impl Report {
+    /// The line at a place of the list that the queue of a direction names: upward `sent`, downward `made`.
+    #[inline(always)]
+    pub(crate) fn line(&self, direction: Direction, place: usize) -> &Line
+        requires { (text : List ℕ) × (written direction self.now place ≡ Some text) }
+        ensures { written direction self.now place ≡ Some result.now.items }
+    {
+        match direction {
+            Direction::Up => &self.sent.at(place).line,
+            Direction::Down => &self.made.at(place).line,
+        }
+    }
 }

@@ -4,15 +4,16 @@ ghost use Rattle.std.specs.Prelude.{◌≡◌, ◌↔◌, ◌+◌, ◌<◌, ◌�
 ghost use Rattle.gc_client.specs.Rule.{ById};
 ghost use Rattle.gc_instrument.specs.State.{State, IsFittingState, restarted};
 ghost use Rattle.gc_world.specs.declared.event.Event.{Event};
-ghost use Rattle.gc_world.specs.Memory.{IsBusy, IsNoRepeat, TakesNone};
-ghost use Rattle.gc_world.specs.Stages.{begins, Shows, IsShown, Follows, up_handed, down_handed};
-ghost use Rattle.gc_world.specs.Streams.{Streams, is_begun, up_lines, down_lines, remaining};
+ghost use Rattle.gc_world.specs.Directions.{bytes, delivery, gone, lines};
+ghost use Rattle.gc_world.specs.Memory.{IsBusy, TakesNone};
+ghost use Rattle.gc_world.specs.Stages.{begins, Shows, IsShown, Follows, handed};
+ghost use Rattle.gc_world.specs.Streams.{Streams, remaining};
 
+use crate::direction::Direction;
 use crate::entries::Entries;
 use crate::event::Event;
-use crate::feeding::{feed_rest, feed_some};
-use crate::queue::Queue;
 use crate::report::{Made, Report, Sent};
+use crate::side::Side;
 use arrayvec::ArrayVec;
 use gc_catalogue::Call;
 use gc_client::{Client, Hearing, Settlement, WINDOW, Window};
@@ -23,13 +24,10 @@ use std::alloc::{AllocError, Global};
 /// What the events so far leave.
 #[derive(Drop)]
 pub struct Stage<W: Window> {
+    /// Its assemblers are those of the two sides only once all is played.
     pub report: Report,
-    pub up: Queue,
-    pub down: Queue,
-
-    /// How many bytes of the front line of each queue have gone.
-    pub up_gone: usize,
-    pub down_gone: usize,
+    pub up: Side,
+    pub down: Side,
     pub client: Client<W>,
 
     /// Where a line is put together that went over in pieces, and what the last reply settled: one of each, large as they
@@ -60,10 +58,8 @@ impl<W: Window> Stage<W> {
                 refused_sends: 0,
                 idle_events: 0,
             },
-            up: Queue::new(alloc),
-            down: Queue::new(alloc),
-            up_gone: 0,
-            down_gone: 0,
+            up: Side::new(alloc),
+            down: Side::new(alloc),
             client: Client::with_width(window, width),
             cut: Line::new(),
             settled: ArrayVec::new(),
@@ -81,13 +77,13 @@ impl<W: Window> Stage<W> {
         match *event {
             Event::Send(target, ref call, deadline) => self.send(target, call, deadline)?,
             Event::UpDeliver => self.up_deliver()?,
-            Event::UpBytes(n) => self.up_bytes(n)?,
-            Event::UpLose(k) => self.up_lose(k),
-            Event::UpRepeat(k) => self.up_repeat(k)?,
+            Event::UpBytes(n) => self.bytes(Direction::Up, n)?,
+            Event::UpLose(k) => self.up.lose(k, &mut self.report.idle_events),
+            Event::UpRepeat(k) => self.up.repeat(k, &mut self.report.idle_events)?,
             Event::DownDeliver => self.down_deliver()?,
-            Event::DownBytes(n) => self.down_bytes(n)?,
-            Event::DownLose(k) => self.down_lose(k),
-            Event::DownRepeat(k) => self.down_repeat(k)?,
+            Event::DownBytes(n) => self.bytes(Direction::Down, n)?,
+            Event::DownLose(k) => self.down.lose(k, &mut self.report.idle_events),
+            Event::DownRepeat(k) => self.down.repeat(k, &mut self.report.idle_events)?,
             Event::Expire(now) => self.expire(now),
             Event::RestartClient => self.restart_client()?,
             Event::RestartInstrument => self.restart_instrument()?,
@@ -95,6 +91,26 @@ impl<W: Window> Stage<W> {
         Ok(())
     }
 
+    /// The report, with the assemblers of the two sides, and the client.
+    #[inline(always)]
+    pub fn ended(self) -> (Report, Client<W>)
+        ensures report { result.0 ≡ record self.report { up = self.up.assembler; down = self.down.assembler } }
+        ensures client { result.1 ≡ self.client }
+    {
+        let Stage {
+            mut report,
+            up,
+            down,
+            client,
+            cut: _,
+            settled: _,
+        } = self;
+        report.up = up.assembler;
+        report.down = down.assembler;
+        (report, client)
+    }
+
+    // A send that is refused only counts; one that isn't takes its line to the back of the upward queue.
     fn send(&mut self, target: u32, call: &Call, deadline: u64) -> Result<(), AllocError>
         requires { self.old.report.refused_sends + 1 < 2 ^ 64 }
         ensures follows { OnOk result (Follows self.old (Event.Send target call.now deadline) self.new) }
@@ -112,20 +128,19 @@ impl<W: Window> Stage<W> {
             self.report.refused_sends += 1;
             return Ok(());
         };
-        self.up.push(self.report.sent.len())?;
+        self.up.queue.push(self.report.sent.len())?;
         self.report.sent.push(sent)
     }
 
-    // Upward.
-
+    // The front request reaches the instrument, and its reply goes to the back of the downward queue.
     #[inline(always)]
     fn up_deliver(&mut self) -> Result<(), AllocError>
         requires idle { self.old.report.idle_events + 1 < 2 ^ 64 }
         requires shown { IsShown self.old }
         ensures follows { OnOk result (Follows self.old Event.UpDeliver self.new) }
-        ensures spare { self.old.up ≡ [] → IsOk result }
+        ensures spare { self.old.up.queue ≡ [] → IsOk result }
     {
-        let Some(number) = self.up.take_front() else {
+        let Some(number) = self.up.queue.take_front() else {
             self.report.idle_events += 1;
             return Ok(());
         };
@@ -133,9 +148,9 @@ impl<W: Window> Stage<W> {
             number,
             line: Line::new(),
         };
-        let line = self.report.sent.at(number).line.as_slice();
-        let frame = feed_rest(&mut self.report.up, line, self.up_gone, &mut self.cut);
-        self.up_gone = 0;
+        let frame = self
+            .up
+            .finish(Direction::Up, &self.report, number, &mut self.cut);
         let Lent::Line(request) = frame else {
             return Ok(());
         };
@@ -143,90 +158,13 @@ impl<W: Window> Stage<W> {
         if self.report.instrument.reply_onto(request, &mut made.line) {
             let id = self.report.instrument.kept_id();
             note_execution(&mut self.report.executed, number, kept, id)?;
-            self.down.push(self.report.made.len())?;
+            self.down.queue.push(self.report.made.len())?;
             self.report.made.push(made)?;
         }
         Ok(())
     }
 
-    #[inline(never)]
-    fn up_bytes(&mut self, n: usize) -> Result<(), AllocError>
-        requires idle { self.old.report.idle_events + 1 < 2 ^ 64 }
-        requires shown { IsShown self.old }
-        ensures follows { OnOk result (Follows self.old (Event.UpBytes n) self.new) }
-        ensures spare { (width : ℕ) (v : Streams ById State) → Shows width self.old v → TakesNone width v (Event.UpBytes n) → IsOk result }
-    {
-        if n == 0 || self.up.is_empty() {
-            self.report.idle_events += 1;
-            return Ok(());
-        }
-        let mut left = n;
-        let mut remaining = self.up_remaining();
-        while completes(remaining, left) {
-            left -= remaining;
-            self.up_deliver()?;
-            remaining = self.up_remaining();
-        }
-        if left < remaining {
-            self.up_begin(left);
-        }
-        Ok(())
-    }
-
-    // How many bytes of the front line are still to go: 0 where no line is under way.
-    fn up_remaining(&self) -> usize
-        requires { IsShown self.now }
-        ensures { (width : ℕ) (v : Streams ById State) → Shows width self.now v → result ≡ remaining v.up_gone (up_lines v.world.wire) }
-    {
-        match self.up.front() {
-            Some(number) => self.report.sent.at(number).line.len() + 2 - self.up_gone,
-            None => 0,
-        }
-    }
-
-    // The next bytes, which don't complete the front line.
-    fn up_begin(&mut self, n: usize)
-        requires { (width : ℕ) × (v : Streams ById State) × Shows width self.old v × (n < remaining v.up_gone (up_lines v.world.wire)) }
-        ensures { (width : ℕ) (v : Streams ById State) → Shows width self.old v → Shows width self.new (up_handed width v n) }
-    {
-        let Some(number) = self.up.front() else {
-            return;
-        };
-        let line = self.report.sent.at(number).line.as_slice();
-        feed_some(&mut self.report.up, line, self.up_gone, n, &mut self.cut);
-        self.up_gone += n;
-    }
-
-    fn up_lose(&mut self, k: usize)
-        requires { self.old.report.idle_events + 1 < 2 ^ 64 }
-        ensures { Follows self.old (Event.UpLose k) self.new }
-    {
-        if is_begun(k, self.up_gone) {
-            self.report.idle_events += 1;
-            return;
-        }
-        if !self.up.lose(k) {
-            self.report.idle_events += 1;
-        }
-    }
-
-    fn up_repeat(&mut self, k: usize) -> Result<(), AllocError>
-        requires { self.old.report.idle_events + 1 < 2 ^ 64 }
-        ensures follows { OnOk result (Follows self.old (Event.UpRepeat k) self.new) }
-        ensures spare { IsNoRepeat k self.old.up_gone self.old.up → IsOk result }
-    {
-        if is_begun(k, self.up_gone) {
-            self.report.idle_events += 1;
-            return Ok(());
-        }
-        if !self.up.repeat(k)? {
-            self.report.idle_events += 1;
-        }
-        Ok(())
-    }
-
-    // Downward.
-
+    // The front reply reaches the client, and what it settles goes to the report.
     #[inline(always)]
     fn down_deliver(&mut self) -> Result<(), AllocError>
         requires idle { self.old.report.idle_events + 1 < 2 ^ 64 }
@@ -234,13 +172,13 @@ impl<W: Window> Stage<W> {
         ensures follows { OnOk result (Follows self.old Event.DownDeliver self.new) }
         ensures spare { (width : ℕ) (v : Streams ById State) → Shows width self.old v → TakesNone width v Event.DownDeliver → IsOk result }
     {
-        let Some(place) = self.down.take_front() else {
+        let Some(place) = self.down.queue.take_front() else {
             self.report.idle_events += 1;
             return Ok(());
         };
-        let line = self.report.made.at(place).line.as_slice();
-        let frame = feed_rest(&mut self.report.down, line, self.down_gone, &mut self.cut);
-        self.down_gone = 0;
+        let frame = self
+            .down
+            .finish(Direction::Down, &self.report, place, &mut self.cut);
         let Lent::Line(reply) = frame else {
             return Ok(());
         };
@@ -250,100 +188,84 @@ impl<W: Window> Stage<W> {
         Ok(())
     }
 
+    // The next bytes of a direction: each line that they complete is delivered.
     #[inline(never)]
-    fn down_bytes(&mut self, n: usize) -> Result<(), AllocError>
+    fn bytes(&mut self, direction: Direction, n: usize) -> Result<(), AllocError>
         requires idle { self.old.report.idle_events + 1 < 2 ^ 64 }
         requires shown { IsShown self.old }
-        ensures follows { OnOk result (Follows self.old (Event.DownBytes n) self.new) }
-        ensures spare { (width : ℕ) (v : Streams ById State) → Shows width self.old v → TakesNone width v (Event.DownBytes n) → IsOk result }
+        ensures follows { OnOk result (Follows self.old (bytes direction n) self.new) }
+        ensures spare { (width : ℕ) (v : Streams ById State) → Shows width self.old v → TakesNone width v (bytes direction n) → IsOk result }
     {
-        if n == 0 || self.down.is_empty() {
+        let mut left = n;
+        let mut remaining = self.remaining(direction);
+        if n == 0 || remaining == 0 {
             self.report.idle_events += 1;
             return Ok(());
         }
-        let mut left = n;
-        let mut remaining = self.down_remaining();
         while completes(remaining, left) {
             left -= remaining;
-            self.down_deliver()?;
-            remaining = self.down_remaining();
+            self.deliver(direction)?;
+            remaining = self.remaining(direction);
         }
         if left < remaining {
-            self.down_begin(left);
+            self.begin(direction, left);
         }
         Ok(())
     }
 
-    // How many bytes of the front line are still to go: 0 where no line is under way.
-    fn down_remaining(&self) -> usize
-        requires { IsShown self.now }
-        ensures { (width : ℕ) (v : Streams ById State) → Shows width self.now v → result ≡ remaining v.down_gone (down_lines v.world.wire) }
+    // What remains of the front line of a direction goes over.
+    #[inline(always)]
+    fn deliver(&mut self, direction: Direction) -> Result<(), AllocError>
+        requires idle { self.old.report.idle_events + 1 < 2 ^ 64 }
+        requires shown { IsShown self.old }
+        ensures follows { OnOk result (Follows self.old (delivery direction) self.new) }
+        ensures spare { (width : ℕ) (v : Streams ById State) → Shows width self.old v → TakesNone width v (delivery direction) → IsOk result }
     {
-        match self.down.front() {
-            Some(place) => self.report.made.at(place).line.len() + 2 - self.down_gone,
-            None => 0,
+        match direction {
+            Direction::Up => self.up_deliver(),
+            Direction::Down => self.down_deliver(),
+        }
+    }
+
+    // How many bytes of the front line are still to go: 0 where no line is under way.
+    fn remaining(&self, direction: Direction) -> usize
+        requires { IsShown self.now }
+        ensures { (width : ℕ) (v : Streams ById State) → Shows width self.now v → result ≡ remaining (gone direction v) (lines direction v.world.wire) }
+    {
+        match direction {
+            Direction::Up => self.up.remaining(Direction::Up, &self.report),
+            Direction::Down => self.down.remaining(Direction::Down, &self.report),
         }
     }
 
     // The next bytes, which don't complete the front line.
-    fn down_begin(&mut self, n: usize)
-        requires { (width : ℕ) × (v : Streams ById State) × Shows width self.old v × (n < remaining v.down_gone (down_lines v.world.wire)) }
-        ensures { (width : ℕ) (v : Streams ById State) → Shows width self.old v → Shows width self.new (down_handed width v n) }
+    fn begin(&mut self, direction: Direction, n: usize)
+        requires shown { IsShown self.old }
+        requires some { (width : ℕ) (v : Streams ById State) → Shows width self.old v → n < remaining (gone direction v) (lines direction v.world.wire) }
+        ensures { (width : ℕ) (v : Streams ById State) → Shows width self.old v → Shows width self.new (handed width direction v n) }
     {
-        let Some(place) = self.down.front() else {
-            return;
-        };
-        let line = self.report.made.at(place).line.as_slice();
-        feed_some(
-            &mut self.report.down,
-            line,
-            self.down_gone,
-            n,
-            &mut self.cut,
-        );
-        self.down_gone += n;
-    }
-
-    fn down_lose(&mut self, k: usize)
-        requires { self.old.report.idle_events + 1 < 2 ^ 64 }
-        ensures { Follows self.old (Event.DownLose k) self.new }
-    {
-        if is_begun(k, self.down_gone) {
-            self.report.idle_events += 1;
-            return;
+        match direction {
+            Direction::Up => self.up.begin(Direction::Up, &self.report, n, &mut self.cut),
+            Direction::Down => self
+                .down
+                .begin(Direction::Down, &self.report, n, &mut self.cut),
         }
-        if !self.down.lose(k) {
-            self.report.idle_events += 1;
-        }
-    }
-
-    fn down_repeat(&mut self, k: usize) -> Result<(), AllocError>
-        requires { self.old.report.idle_events + 1 < 2 ^ 64 }
-        ensures follows { OnOk result (Follows self.old (Event.DownRepeat k) self.new) }
-        ensures spare { IsNoRepeat k self.old.down_gone self.old.down → IsOk result }
-    {
-        if is_begun(k, self.down_gone) {
-            self.report.idle_events += 1;
-            return Ok(());
-        }
-        if !self.down.repeat(k)? {
-            self.report.idle_events += 1;
-        }
-        Ok(())
     }
 
     // The ends.
 
+    // The client is told this moment. A request whose deadline it reaches is settled as late when its reply comes.
     fn expire(&mut self, now: u64)
         ensures { Follows self.old (Event.Expire now) self.new }
     {
         self.client.expire(now);
     }
 
+    // Both ends begin anew, since the instrument keeps its last reply by the client's ids.
     fn restart_client(&mut self) -> Result<(), AllocError>
         requires { self.old.report.idle_events + 1 < 2 ^ 64 }
         ensures follows { OnOk result (Follows self.old Event.RestartClient self.new) }
-        ensures spare { IsBusy self.old.up self.old.down → IsOk result }
+        ensures spare { IsBusy self.old.up.queue self.old.down.queue → IsOk result }
     {
         if !self.is_quiet() {
             self.report.idle_events += 1;
@@ -355,10 +277,11 @@ impl<W: Window> Stage<W> {
         Ok(())
     }
 
+    // The instrument begins anew, and the client isn't told.
     fn restart_instrument(&mut self) -> Result<(), AllocError>
         requires { self.old.report.idle_events + 1 < 2 ^ 64 }
         ensures follows { OnOk result (Follows self.old Event.RestartInstrument self.new) }
-        ensures spare { IsBusy self.old.up self.old.down → IsOk result }
+        ensures spare { IsBusy self.old.up.queue self.old.down.queue → IsOk result }
     {
         if self.is_quiet() {
             self.report.starts.push(self.report.executed.len())?;
@@ -371,9 +294,9 @@ impl<W: Window> Stage<W> {
 
     // Whether no line is under way.
     fn is_quiet(&self) -> bool
-        ensures { IsTrue result ↔ ((self.now.up ≡ []) × (self.now.down ≡ [])) }
+        ensures { IsTrue result ↔ ((self.now.up.queue ≡ []) × (self.now.down.queue ≡ [])) }
     {
-        self.up.is_empty() && self.down.is_empty()
+        self.up.queue.is_empty() && self.down.queue.is_empty()
     }
 }
 
@@ -399,11 +322,4 @@ fn completes(remaining: usize, n: usize) -> bool
     ensures { IsTrue result ↔ ((0 < remaining) × (remaining ≤ n)) }
 {
     0 < remaining && remaining <= n
-}
-
-// Whether the first byte of line k has gone.
-fn is_begun(k: usize, gone: usize) -> bool
-    ensures { result ≡ is_begun k gone }
-{
-    k == 0 && gone > 0
 }

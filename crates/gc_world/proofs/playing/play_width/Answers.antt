@@ -1,52 +1,27 @@
 use Rattle.std.proofs.Common.{◌+◌, take, sym, subst, arith}
-use Rattle.std.proofs.lemmas.List.{take_all}
 use Rattle.gc_client.specs.Rule.{ById}
 use Rattle.gc_instrument.specs.State.{State}
 use Rattle.gc_world.specs.Clients.{streamed}
-use Rattle.gc_world.specs.Stages.{AreStreamsOf}
+use Rattle.gc_world.specs.Stages.{seen, AreStreamsOf}
 use Rattle.gc_world.specs.Streams.{Streams}
 use Rattle.gc_world.proofs.Faithfulness.{faithful, once, no_longer_than}
 use Rattle.gc_world.proofs.Places.{get_at}
 use Rattle.gc_world.proofs.Sparing.{not_both}
-use Rattle.gc_world.proofs.Turns.{played_more, counts_at}
+use Rattle.gc_world.proofs.Turns.{played_more, at_end, counts_at}
 use Rattle.gc_world.proofs.playing.play_width.Goals as goal
 
 pub loop-event-preserved : goal.loop-event-preserved
 loop-event-preserved g c =
-    let s = c.happen.new.self in
+    let s = seen c.happen.new.self in
     let i = c.loop-event.event-index in
     let events = c.args.events.now in
     let opening = c.args.instrument in
     let is = c.event-item.is in
     let shown = c.in_ok-happen.ensures.follows c.args.width (streamed c.args.width opening (take i events)) c.loop-event.invariant.shows in
-    let shows : AreStreamsOf c.args.width s.report s.up s.down s.up_gone s.down_gone s.client (streamed c.args.width opening (take (i + 1) events)) =
-    subst (λ (v : Streams ById State). AreStreamsOf c.args.width s.report s.up s.down s.up_gone s.down_gone s.client v) (sym (played_more c.args.width opening events i c.event-item.result c.loop-event-test.true is)) shown in
+    let shows : AreStreamsOf c.args.width s (streamed c.args.width opening (take (i + 1) events)) =
+    subst (λ (v : Streams ById State). AreStreamsOf c.args.width s v) (sym (played_more c.args.width opening events i c.event-item.result c.loop-event-test.true is)) shown in
     let counts = counts_at c.args.width opening events (i + 1) s.report shows.lines.reports (omega (arith, c.loop-event-test.true)) in
     record { shows = shows; refused = counts.0; idle = counts.1 }
-
-pub returns-clause-faithful : goal.returns-clause-faithful
-returns-clause-faithful g c =
-    let s = c.loop-event.stage in
-    let events = c.args.events.now in
-    let at_end =
-    subst (λ es. AreStreamsOf c.args.width s.report s.up s.down s.up_gone s.down_gone s.client (streamed c.args.width c.args.instrument es)) (take_all c.loop-event.event-index events c.loop-event-test.false) c.loop-event.invariant.shows in
-    faithful c.args.width c.requires.most c.args.instrument events s.report s.up s.down s.client c.new-stage.ensures.fits at_end.lines
-
-pub returns-clause-once : goal.returns-clause-once
-returns-clause-once g c =
-    let s = c.loop-event.stage in
-    let events = c.args.events.now in
-    let at_end =
-    subst (λ es. AreStreamsOf c.args.width s.report s.up s.down s.up_gone s.down_gone s.client (streamed c.args.width c.args.instrument es)) (take_all c.loop-event.event-index events c.loop-event-test.false) c.loop-event.invariant.shows in
-    once c.args.width c.requires.most c.args.instrument events s.report s.up s.down s.client c.new-stage.ensures.fits at_end.lines
-
-pub returns-clause-few : goal.returns-clause-few
-returns-clause-few g c =
-    let s = c.loop-event.stage in
-    let events = c.args.events.now in
-    let at_end =
-    subst (λ es. AreStreamsOf c.args.width s.report s.up s.down s.up_gone s.down_gone s.client (streamed c.args.width c.args.instrument es)) (take_all c.loop-event.event-index events c.loop-event-test.false) c.loop-event.invariant.shows in
-    no_longer_than c.args.width c.requires.most c.args.instrument events s.report s.up s.down s.client at_end.lines
 
 -- the event that wanted memory was none that takes none
 pub returns-in_err-happen-clause-spare : goal.returns-in_err-happen-clause-spare
@@ -58,18 +33,23 @@ returns-in_err-happen-clause-spare g c =
     let is = get_at c.args.events.now i event c.loop-event-test.true c.event-item.is in
     absurd (not_both (c.in_err-happen.ensures.spare c.args.width v c.loop-event.invariant.shows (none i event is)))
 
-pub returns-clause-up : goal.returns-clause-up
-returns-clause-up g c =
-    let s = c.loop-event.stage in
+pub returns-clause-faithful : goal.returns-clause-faithful
+returns-clause-faithful g c =
+    let s = seen c.loop-event.stage in
     let events = c.args.events.now in
-    let at_end =
-    subst (λ es. AreStreamsOf c.args.width s.report s.up s.down s.up_gone s.down_gone s.client (streamed c.args.width c.args.instrument es)) (take_all c.loop-event.event-index events c.loop-event-test.false) c.loop-event.invariant.shows in
-    at_end.up_flow.stands
+    let r = c.ended.result.0 in
+    faithful c.args.width c.requires.most c.args.instrument events r s.up.queue s.down.queue s.client c.new-stage.ensures.fits (at_end c.args.width c.args.instrument events s c.loop-event.event-index r c.loop-event-test.false c.loop-event.invariant.shows c.ended.ensures.report)
 
-pub returns-clause-down : goal.returns-clause-down
-returns-clause-down g c =
-    let s = c.loop-event.stage in
+pub returns-clause-once : goal.returns-clause-once
+returns-clause-once g c =
+    let s = seen c.loop-event.stage in
     let events = c.args.events.now in
-    let at_end =
-    subst (λ es. AreStreamsOf c.args.width s.report s.up s.down s.up_gone s.down_gone s.client (streamed c.args.width c.args.instrument es)) (take_all c.loop-event.event-index events c.loop-event-test.false) c.loop-event.invariant.shows in
-    at_end.down_flow.stands
+    let r = c.ended.result.0 in
+    once c.args.width c.requires.most c.args.instrument events r s.up.queue s.down.queue s.client c.new-stage.ensures.fits (at_end c.args.width c.args.instrument events s c.loop-event.event-index r c.loop-event-test.false c.loop-event.invariant.shows c.ended.ensures.report)
+
+pub returns-clause-few : goal.returns-clause-few
+returns-clause-few g c =
+    let s = seen c.loop-event.stage in
+    let events = c.args.events.now in
+    let r = c.ended.result.0 in
+    no_longer_than c.args.width c.requires.most c.args.instrument events r s.up.queue s.down.queue s.client (at_end c.args.width c.args.instrument events s c.loop-event.event-index r c.loop-event-test.false c.loop-event.invariant.shows c.ended.ensures.report)

@@ -1,57 +1,63 @@
-use Rattle.std.proofs.Common.{◌≡◌, ◌≤◌, length, sym, ◌∙◌, subst}
-use Rattle.gc_world.proofs.Pieces.{came_out}
-use Rattle.gc_world.proofs.Showing.{in_made, none_settled}
-use Rattle.gc_world.proofs.Shown.{down_front_line, streams_down_deliver}
+use Rattle.std.proofs.Common.{◌≡◌, ◌≤◌, ◌∷◌, length, sym, ◌∙◌, ap, subst}
+use Rattle.std.specs.Option.{option_map}
+use Rattle.gc_world.specs.declared.direction.Direction.TheVariants.{Down}
+use Rattle.gc_world.specs.declared.report.Made.{Made}
+use Rattle.gc_world.specs.Stages.{seen}
+use Rattle.gc_world.specs.Streams.{down_texts}
+use Rattle.gc_world.proofs.Pieces.{came_out, none_else}
+use Rattle.gc_world.proofs.Showing.{none_settled}
+use Rattle.gc_world.proofs.Shown.{carries, front_reply, streams_down_deliver}
+use Rattle.gc_world.proofs.Sides.{taken}
 use Rattle.gc_world.proofs.Sparing.{not_both, stray}
 use Rattle.gc_world.proofs.stage.Stage.down_deliver.Goals as goal
 
-pub at-requires : goal.at-requires
-at-requires g c =
-    let s = c.args.self.now in
+pub finish-frame-requires : goal.finish-frame-requires
+finish-frame-requires g c =
+    let s = seen c.args.self.now in
     let shown = c.requires.shown in
-    in_made shown.0 s.report s.up s.down s.client shown.1.world shown.2.lines c.in-Some.place c.take_front.new.self c.in-Some.ensures
+    let texts = down_texts shown.1.world.wire in
+    (texts, taken Down s.report s.down texts c.in-Some.place c.take_front.new.self c.in-Some.ensures (carries shown.0 s shown.1 shown.2 Down))
 
-pub feed_rest-frame-requires-clause-plain : goal.feed_rest-frame-requires-clause-plain
-feed_rest-frame-requires-clause-plain g c =
-    let s = c.args.self.now in
-    (down_front_line c.requires.shown.0 s.report s.up s.down s.up_gone s.down_gone s.client c.requires.shown.1 c.requires.shown.2 c.in-Some.place c.take_front.new.self c.at.result.now c.as_slice-line.result.now c.in-Some.ensures c.at.ensures c.as_slice-line.ensures.value).plain
-
-pub feed_rest-frame-requires-clause-some : goal.feed_rest-frame-requires-clause-some
-feed_rest-frame-requires-clause-some g c =
-    let s = c.args.self.now in
-    (down_front_line c.requires.shown.0 s.report s.up s.down s.up_gone s.down_gone s.client c.requires.shown.1 c.requires.shown.2 c.in-Some.place c.take_front.new.self c.at.result.now c.as_slice-line.result.now c.in-Some.ensures c.at.ensures c.as_slice-line.ensures.value).some
-
-pub feed_rest-frame-requires-clause-stands : goal.feed_rest-frame-requires-clause-stands
-feed_rest-frame-requires-clause-stands g c =
-    let s = c.args.self.now in
-    (down_front_line c.requires.shown.0 s.report s.up s.down s.up_gone s.down_gone s.client c.requires.shown.1 c.requires.shown.2 c.in-Some.place c.take_front.new.self c.at.result.now c.as_slice-line.result.now c.in-Some.ensures c.at.ensures c.as_slice-line.ensures.value).stands
+-- the line came out
+pub returns-in_default-frame : goal.returns-in_default-frame
+returns-in_default-frame g c =
+    let s = seen c.args.self.now in
+    let shown = c.requires.shown in
+    let front = front_reply shown.0 s shown.1 shown.2 c.in-Some.place c.take_front.new.self c.in-Some.ensures in
+    absurd (none_else c.finish-frame.result front.0.line.items (c.finish-frame.ensures.line front.0.line.items (ap (option_map (λ (m : Made). m.line.items)) front.1)) c.in_default-frame.not-Line)
 
 pub returns-in_err-append_from-clause-spare : goal.returns-in_err-append_from-clause-spare
 returns-in_err-append_from-clause-spare g c =
-    let s = c.args.self.now in
-    let line = c.as_slice-line in
+    let s = seen c.args.self.now in
+    let shown = c.requires.shown in
+    let front = front_reply shown.0 s shown.1 shown.2 c.in-Some.place c.take_front.new.self c.in-Some.ensures in
+    let line = front.0.line in
     let reply = c.in-Line.reply.now in
-    let out : reply ≡ line.result.now = came_out c.feed_rest-frame.result c.in-Line.reply line.result.now c.in-Line.is c.feed_rest-frame.ensures.line in
-    let fits : length reply ≤ 512 = subst (λ l. length l ≤ 512) (sym out) line.ensures.fits in
-    λ width v h t. absurd (not_both (sym (stray width s.report s.up s.down s.client v.world h.lines c.in-Some.place c.take_front.new.self c.at.result.now reply c.in-Some.ensures c.at.ensures (out ∙ line.ensures.value) t) ∙ c.in-Settled.ensures.heard fits))
+    let out : reply ≡ line.items = came_out c.finish-frame.result c.in-Line.reply line.items c.in-Line.is (c.finish-frame.ensures.line line.items (ap (option_map (λ (m : Made). m.line.items)) front.1)) in
+    let fits : length reply ≤ 512 = subst (λ l. length l ≤ 512) (sym out) (c.finish-frame.ensures.within line.items (ap (option_map (λ (m : Made). m.line.items)) front.1)) in
+    λ width v h t. absurd (not_both (sym (stray width s.report s.up.queue s.down.queue s.client v.world h.lines c.in-Some.place c.take_front.new.self front.0 reply c.in-Some.ensures front.1 out t) ∙ c.in-Settled.ensures.heard fits))
 
 pub returns-in_ok-append_from-clause-follows : goal.returns-in_ok-append_from-clause-follows
 returns-in_ok-append_from-clause-follows g c =
-    let s = c.args.self.now in
-    let line = c.as_slice-line in
+    let s = seen c.args.self.now in
+    let shown = c.requires.shown in
+    let front = front_reply shown.0 s shown.1 shown.2 c.in-Some.place c.take_front.new.self c.in-Some.ensures in
+    let line = front.0.line in
     let reply = c.in-Line.reply.now in
-    let out : reply ≡ line.result.now = came_out c.feed_rest-frame.result c.in-Line.reply line.result.now c.in-Line.is c.feed_rest-frame.ensures.line in
-    let fits : length reply ≤ 512 = subst (λ l. length l ≤ 512) (sym out) line.ensures.fits in
-    λ width v h. streams_down_deliver width s.report s.up s.down s.up_gone s.down_gone s.client v h c.in-Some.place c.take_front.new.self c.at.result.now reply c.hear.new.settled.items c.append_from.new.self c.hear.new.self c.feed_rest-frame.new.assembler
-    c.in-Some.ensures c.at.ensures (out ∙ line.ensures.value) (c.hear.ensures.settled fits) (c.hear.ensures.client fits) c.in_ok-append_from.ensures.appended c.feed_rest-frame.ensures.start
+    let out : reply ≡ line.items = came_out c.finish-frame.result c.in-Line.reply line.items c.in-Line.is (c.finish-frame.ensures.line line.items (ap (option_map (λ (m : Made). m.line.items)) front.1)) in
+    let fits : length reply ≤ 512 = subst (λ l. length l ≤ 512) (sym out) (c.finish-frame.ensures.within line.items (ap (option_map (λ (m : Made). m.line.items)) front.1)) in
+    λ width v h. streams_down_deliver width s v h c.in-Some.place c.finish-frame.new.self front.0 reply c.hear.new.settled.items c.append_from.new.self c.hear.new.self
+    (c.in-Some.ensures ∙ ap (λ q. c.in-Some.place ∷ q) (sym c.finish-frame.ensures.queue)) front.1 out (c.hear.ensures.settled fits) (c.hear.ensures.client fits) c.in_ok-append_from.ensures.appended c.finish-frame.ensures.start c.finish-frame.ensures.gone
 
 pub returns-in_default-hear-clause-follows : goal.returns-in_default-hear-clause-follows
 returns-in_default-hear-clause-follows g c =
-    let s = c.args.self.now in
-    let line = c.as_slice-line in
+    let s = seen c.args.self.now in
+    let shown = c.requires.shown in
+    let front = front_reply shown.0 s shown.1 shown.2 c.in-Some.place c.take_front.new.self c.in-Some.ensures in
+    let line = front.0.line in
     let reply = c.in-Line.reply.now in
-    let out : reply ≡ line.result.now = came_out c.feed_rest-frame.result c.in-Line.reply line.result.now c.in-Line.is c.feed_rest-frame.ensures.line in
-    let fits : length reply ≤ 512 = subst (λ l. length l ≤ 512) (sym out) line.ensures.fits in
-    λ width v h. streams_down_deliver width s.report s.up s.down s.up_gone s.down_gone s.client v h c.in-Some.place c.take_front.new.self c.at.result.now reply c.hear.new.settled.items s.report.settled c.hear.new.self c.feed_rest-frame.new.assembler
-    c.in-Some.ensures c.at.ensures (out ∙ line.ensures.value) (c.hear.ensures.settled fits) (c.hear.ensures.client fits)
-    (none_settled s.client.ids c.hear.new.self.ids reply c.hear.result c.hear.new.settled.items s.report.settled (c.hear.ensures.heard fits) c.in_default-hear.not-Settled) c.feed_rest-frame.ensures.start
+    let out : reply ≡ line.items = came_out c.finish-frame.result c.in-Line.reply line.items c.in-Line.is (c.finish-frame.ensures.line line.items (ap (option_map (λ (m : Made). m.line.items)) front.1)) in
+    let fits : length reply ≤ 512 = subst (λ l. length l ≤ 512) (sym out) (c.finish-frame.ensures.within line.items (ap (option_map (λ (m : Made). m.line.items)) front.1)) in
+    λ width v h. streams_down_deliver width s v h c.in-Some.place c.finish-frame.new.self front.0 reply c.hear.new.settled.items s.report.settled c.hear.new.self
+    (c.in-Some.ensures ∙ ap (λ q. c.in-Some.place ∷ q) (sym c.finish-frame.ensures.queue)) front.1 out (c.hear.ensures.settled fits) (c.hear.ensures.client fits)
+    (none_settled s.client.ids c.hear.new.self.ids reply c.hear.result c.hear.new.settled.items s.report.settled (c.hear.ensures.heard fits) c.in_default-hear.not-Settled) c.finish-frame.ensures.start c.finish-frame.ensures.gone

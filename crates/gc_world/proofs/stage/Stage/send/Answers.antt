@@ -1,6 +1,7 @@
 use Rattle.std.proofs.Common.{[], ◌∷◌, ◌++◌, ◌∙◌, ap}
 use Rattle.std.proofs.lemmas.Result.{on_ok_weaker}
 use Rattle.gc_world.specs.declared.report.Sent.{Sent}
+use Rattle.gc_world.specs.Stages.{seen}
 use Rattle.gc_world.proofs.Shown.{streams_send}
 use Rattle.gc_world.proofs.stage.Stage.send.Goals as goal
 
@@ -9,6 +10,6 @@ returns-clause-follows g c =
     let s = c.args.self.now in
     let entry : Sent = record { target = c.args.target; call = c.args.call.now; line = c.send_into.new.line } in
     on_ok_weaker c.push-2.result
-    (λ pushed width v h. streams_send width s.report s.up s.down s.up_gone s.down_gone s.client v h entry c.args.deadline c.send_into.new.self c.push-2.new.self c.push.new.self
-    c.in-Ok.ensures.rule.0 c.in-Ok.ensures.width c.in-Ok.ensures.rule.1 c.in-Ok.ensures.plain c.in-Ok.ensures.fitting pushed (c.in_ok-push.ensures ∙ ap (λ n. s.up ++ n ∷ []) c.len.ensures))
+    (λ pushed width v h. streams_send width (seen s) v h entry c.args.deadline c.send_into.new.self c.push-2.new.self c.push.new.self
+    c.in-Ok.ensures.rule.0 c.in-Ok.ensures.width c.in-Ok.ensures.rule.1 c.in-Ok.ensures.plain c.in-Ok.ensures.fitting pushed (c.in_ok-push.ensures ∙ ap (λ n. s.up.queue ++ n ∷ []) c.len.ensures))
     c.push-2.ensures

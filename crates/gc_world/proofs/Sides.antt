@@ -1,0 +1,62 @@
+-- What a side of the stage carries: its front line, and what is still to go of it.
+use Rattle.std.proofs.Common.{◌≡◌, ℕ, ◌+◌, ◌-◌, ◌<◌, List, [], ◌∷◌, length, map, Option, Some, None, refl, sym, ◌∙◌, ap, subst}
+use Rattle.std.specs.Prelude.{slice_get}
+use Rattle.std.specs.Option.{option_map}
+use Rattle.gc_lines.specs.Lines.{with_end}
+use Rattle.gc_world.specs.declared.direction.Direction.{Direction}
+use Rattle.gc_world.specs.declared.report.Report.{Report}
+use Rattle.gc_world.specs.declared.side.Side.{Side}
+use Rattle.gc_world.specs.Sides.{written, IsFlow, Carries}
+use Rattle.gc_world.specs.Streams.{remaining}
+use Rattle.gc_world.proofs.Options.{some_is, none_is_not}
+use Rattle.gc_world.proofs.Places.{below}
+use Rattle.gc_world.proofs.Streaming.{IsFront, front_of, remaining_is}
+
+-- what is read at a place stands there
+pub written_below : {A B : Type 0} (f : A → B) (xs : List A) (k : ℕ) (y : B) → option_map f (slice_get xs k) ≡ Some y → k < length xs
+written_below f xs k y e = by_entry (slice_get xs k) refl e
+  where
+    by_entry : (o : Option _) → slice_get xs k ≡ o → option_map f o ≡ Some y → k < length xs
+    by_entry None is e = absurd (none_is_not y e)
+    by_entry (Some x) is e = below xs k x is
+
+-- the texts behind the first of a queue
+record AreNamed (f : ℕ → Option (List ℕ)) (place : ℕ) (rest : List ℕ) (texts : List (List ℕ)) : Type 0 where
+  text : List ℕ
+  behind : List (List ℕ)
+  are : texts ≡ text ∷ behind
+  found : f place ≡ Some text
+
+named_first : (f : ℕ → Option (List ℕ)) (queue : List ℕ) (place : ℕ) (rest : List ℕ) (texts : List (List ℕ)) → queue ≡ place ∷ rest → map f queue ≡ map Some texts → AreNamed f place rest texts
+named_first f queue place rest texts e h = by_texts texts (sym (ap (map f) e) ∙ h)
+  where
+    by_texts : (ts : List (List ℕ)) → map f (place ∷ rest) ≡ map Some ts → AreNamed f place rest ts
+    by_texts [] g = cc
+    by_texts (t ∷ ts) g = let one : f place ≡ Some t = cc in record { text = t; behind = ts; are = refl; found = one }
+
+-- the place in front was taken from the queue, and its line is still to go
+pub taken : (d : Direction) (r : Report) (s : Side) (texts : List (List ℕ)) (place : ℕ) (rest : List ℕ) → s.queue ≡ place ∷ rest → Carries d r s texts → Carries d r (record s { queue = place ∷ rest }) texts
+taken d r s texts place rest e h = record { names = ap (map (written d r)) (sym e) ∙ h.names; flow = h.flow }
+
+module _ (d : Direction) (r : Report) (s : Side) (texts : List (List ℕ)) (h : Carries d r s texts) where
+  -- the front line stands in the report
+  pub front_written : (place : ℕ) (rest : List ℕ) → s.queue ≡ place ∷ rest → (text : List ℕ) × (written d r place ≡ Some text)
+  front_written place rest e = let f = named_first (written d r) s.queue place rest texts e h.names in (f.text, f.found)
+
+  pub front_line : (place : ℕ) (rest : List ℕ) (line : List ℕ) → s.queue ≡ place ∷ rest → written d r place ≡ Some line → IsFront line s.assembler s.gone (map with_end texts)
+  front_line place rest line e found =
+      let f = named_first (written d r) s.queue place rest texts e h.names in
+      let same : f.text ≡ line = some_is f.text line (sym f.found ∙ found) in
+      subst (λ (t : List ℕ). IsFront t s.assembler s.gone (map with_end texts)) same
+      (subst (λ ts. IsFront f.text s.assembler s.gone (map with_end ts)) (sym f.are) (front_of s.assembler s.gone f.text f.behind (subst (λ ts. IsFlow s.assembler s.gone ts) f.are h.flow)))
+
+  pub left_of : (place : ℕ) (rest : List ℕ) (line : List ℕ) → s.queue ≡ place ∷ rest → written d r place ≡ Some line → length line + 2 - s.gone ≡ remaining s.gone (map with_end texts)
+  left_of place rest line e found = remaining_is line s.assembler s.gone (map with_end texts) (front_line place rest line e found)
+
+  -- where there is none, nothing is to go
+  pub none_left : s.queue ≡ [] → 0 ≡ remaining s.gone (map with_end texts)
+  none_left e = by_texts texts (sym (ap (map (written d r)) e) ∙ h.names)
+    where
+      by_texts : (ts : List (List ℕ)) → [] ≡ map Some ts → 0 ≡ remaining s.gone (map with_end ts)
+      by_texts [] g = refl
+      by_texts (t ∷ ts) g = cc

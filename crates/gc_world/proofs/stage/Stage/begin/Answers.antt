@@ -1,0 +1,38 @@
+use Rattle.std.proofs.Common.{◌<◌, sym, subst}
+use Rattle.gc_world.specs.declared.direction.Direction.{Direction}
+use Rattle.gc_world.specs.declared.direction.Direction.TheVariants.{Up, Down}
+use Rattle.gc_world.specs.Directions.{gone, lines, texts}
+use Rattle.gc_world.specs.Stages.{seen, Shows, handed}
+use Rattle.gc_world.specs.Streams.{remaining}
+use Rattle.gc_world.proofs.Shown.{carries, more_left, streams_begin}
+use Rattle.gc_world.proofs.stage.Stage.begin.Goals as goal
+
+pub begin-requires : goal.begin-requires
+begin-requires g c =
+    let s = seen c.args.self.now in
+    let (width, v, h) = c.requires.shown in
+    (texts Up v.world.wire, carries width s v h Up, more_left width s v h Up c.args.n (subst (λ (d : Direction). c.args.n < remaining (gone d v) (lines d v.world.wire)) c.in-Up.is (c.requires.some width v h)))
+
+pub begin-requires-in-Down : goal.begin-requires-in-Down
+begin-requires-in-Down g c =
+    let s = seen c.args.self.now in
+    let (width, v, h) = c.requires.shown in
+    (texts Down v.world.wire, carries width s v h Down, more_left width s v h Down c.args.n (subst (λ (d : Direction). c.args.n < remaining (gone d v) (lines d v.world.wire)) c.in-Down.is (c.requires.some width v h)))
+
+pub returns-in-Up : goal.returns-in-Up
+returns-in-Up g c =
+    let s = seen c.args.self.now in
+    let did = c.begin.ensures in
+    λ width v h.
+    subst (λ (d : Direction). Shows width (record c.args.self.now { up = c.begin.new.self; cut = c.begin.new.cut }) (handed width d v c.args.n)) (sym c.in-Up.is)
+    (streams_begin width s v h Up c.args.n c.begin.new.self (subst (λ (d : Direction). c.args.n < remaining (gone d v) (lines d v.world.wire)) c.in-Up.is (c.requires.some width v h))
+    (did.flow (texts Up v.world.wire) (carries width s v h Up)) did.gone did.queue)
+
+pub returns-in-Down : goal.returns-in-Down
+returns-in-Down g c =
+    let s = seen c.args.self.now in
+    let did = c.begin-in-Down.ensures in
+    λ width v h.
+    subst (λ (d : Direction). Shows width (record c.args.self.now { down = c.begin-in-Down.new.self; cut = c.begin-in-Down.new.cut }) (handed width d v c.args.n)) (sym c.in-Down.is)
+    (streams_begin width s v h Down c.args.n c.begin-in-Down.new.self (subst (λ (d : Direction). c.args.n < remaining (gone d v) (lines d v.world.wire)) c.in-Down.is (c.requires.some width v h))
+    (did.flow (texts Down v.world.wire) (carries width s v h Down)) did.gone did.queue)

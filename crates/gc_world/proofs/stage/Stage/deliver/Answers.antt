@@ -1,0 +1,15 @@
+use Rattle.std.proofs.Common.{sym, subst}
+use Rattle.std.specs.Prelude.{OnOk}
+use Rattle.gc_world.specs.declared.direction.Direction.{Direction}
+use Rattle.gc_world.specs.Directions.{delivery}
+use Rattle.gc_world.specs.Memory.{TakesNone}
+use Rattle.gc_world.specs.Stages.{Follows}
+use Rattle.gc_world.proofs.stage.Stage.deliver.Goals as goal
+
+pub returns-in-Up-clause-follows : goal.returns-in-Up-clause-follows
+returns-in-Up-clause-follows g c =
+    subst (λ (d : Direction). OnOk c.up_deliver.result (Follows c.args.self.now (delivery d) c.up_deliver.new.self)) (sym c.in-Up.is) c.up_deliver.ensures.follows
+
+pub returns-in-Down-clause-spare : goal.returns-in-Down-clause-spare
+returns-in-Down-clause-spare g c =
+    λ width v h t. c.down_deliver.ensures.spare width v h (subst (λ (d : Direction). TakesNone width v (delivery d)) c.in-Down.is t)

@@ -1,0 +1,42 @@
+-- The two directions of the line, by what each has of its own. This project's own.
+use Rattle.std.specs.Prelude.{ℕ, List, map}
+use Rattle.gc_lines.specs.Lines.{with_end}
+use Rattle.gc_world.specs.declared.direction.Direction.{Direction}
+use Rattle.gc_world.specs.declared.direction.Direction.TheVariants.{Up, Down}
+use Rattle.gc_world.specs.declared.event.Event.{Event}
+use Rattle.gc_world.specs.declared.event.Event.TheVariants as event
+use Rattle.gc_world.specs.Streams.{Streams, up_texts, down_texts}
+use Rattle.gc_world.specs.World.{Wire, World, Step, Up_deliver, Down_deliver}
+
+-- of two, the one of this direction
+abbrev pub pick : {A : Type 0} → Direction → A → A → A
+pick Up up down = up
+pick Down up down = down
+
+-- the front line is handed over: as a step of the world, and as an event
+abbrev pub deliver : Direction → Step
+deliver d = pick d Up_deliver Down_deliver
+
+abbrev pub delivery : Direction → Event
+delivery d = pick d event.UpDeliver event.DownDeliver
+
+-- the next bytes go over
+abbrev pub bytes : Direction → ℕ → Event
+bytes d n = pick d (event.UpBytes n) (event.DownBytes n)
+
+module _ {State : Type 0} where
+  -- the text of each line under way, the front line first, and its bytes
+  abbrev pub texts : Direction → Wire State → List (List ℕ)
+  texts d w = pick d (up_texts w) (down_texts w)
+
+  abbrev pub lines : Direction → Wire State → List (List ℕ)
+  lines d w = map with_end (texts d w)
+
+module _ {Client State : Type 0} where
+  -- how many bytes of the front line have gone
+  abbrev pub gone : Direction → Streams Client State → ℕ
+  gone d v = pick d v.up_gone v.down_gone
+
+  -- the streams with this world, and with so many bytes gone in this direction
+  abbrev pub reaches : Direction → Streams Client State → World Client State → ℕ → Streams Client State
+  reaches d v w n = record { world = w; up_gone = pick d n v.up_gone; down_gone = pick d v.down_gone n }

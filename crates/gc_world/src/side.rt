@@ -1,0 +1,130 @@
+//! A side of the stage: the lines under way in one direction, and the assembler that they go to.
+
+ghost use Rattle.std.specs.Prelude.{◌≡◌, ◌+◌, ◌<◌, ◌≤◌, ◌^◌, ◌∷◌, ℕ, List, [], Some, OnOk, IsOk, length, map};
+ghost use Rattle.gc_lines.specs.Assembler.{StandsFor};
+ghost use Rattle.gc_lines.specs.Lent.{lent_seen};
+ghost use Rattle.gc_lines.specs.Lines.{with_end};
+ghost use Rattle.gc_lines.specs.declared.frame.Frame.{Frame};
+ghost use Rattle.gc_world.specs.Memory.{IsNoRepeat};
+ghost use Rattle.gc_world.specs.Sides.{Carries, Changes, IsFlow, written};
+ghost use Rattle.gc_world.specs.Streams.{is_begun, remaining};
+ghost use Rattle.gc_world.specs.World.{without, doubled};
+
+use crate::direction::Direction;
+use crate::feeding::{feed_rest, feed_some};
+use crate::queue::Queue;
+use crate::report::Report;
+use gc_lines::{Assembler, Lent, Line};
+use std::alloc::{AllocError, Global};
+
+/// The lines under way in one direction. Their bytes stand in the report.
+#[derive(Drop)]
+pub struct Side {
+    pub queue: Queue,
+
+    /// How many bytes of the front line have gone.
+    pub gone: usize,
+
+    /// What makes lines of the bytes at the far end.
+    pub assembler: Assembler,
+}
+
+impl Side {
+    /// A side with no line under way.
+    pub fn new(alloc: Global) -> Side
+        ensures queue { result.queue ≡ [] }
+        ensures gone { result.gone ≡ 0 }
+        ensures start { StandsFor result.assembler [] }
+    {
+        Side {
+            queue: Queue::new(alloc),
+            gone: 0,
+            assembler: Assembler::new(),
+        }
+    }
+
+    /// How many bytes of the front line are still to go: 0 where no line is under way.
+    pub fn remaining(&self, direction: Direction, report: &Report) -> usize
+        requires { (texts : List (List ℕ)) × Carries direction report.now self.now texts }
+        ensures { (texts : List (List ℕ)) → Carries direction report.now self.now texts → result ≡ remaining self.now.gone (map with_end texts) }
+    {
+        match self.queue.front() {
+            Some(place) => report.line(direction, place).len() + 2 - self.gone,
+            None => 0,
+        }
+    }
+
+    /// The next bytes of the front line, which don't complete it.
+    pub fn begin(&mut self, direction: Direction, report: &Report, n: usize, cut: &mut Line)
+        requires { (texts : List (List ℕ)) × Carries direction report.now self.old texts × (n < remaining self.old.gone (map with_end texts)) }
+        ensures flow { (texts : List (List ℕ)) → Carries direction report.now self.old texts → IsFlow self.new.assembler self.new.gone texts }
+        ensures gone { self.new.gone ≡ self.old.gone + n }
+        ensures queue { self.new.queue ≡ self.old.queue }
+    {
+        let Some(place) = self.queue.front() else {
+            return;
+        };
+        let line = report.line(direction, place).as_slice();
+        feed_some(&mut self.assembler, line, self.gone, n, cut);
+        self.gone += n;
+    }
+
+    /// What remains of the line at this place of the report, which was taken from the front: the line comes out.
+    #[inline(always)]
+    pub fn finish<'a>(
+        &mut self,
+        direction: Direction,
+        report: &Report,
+        place: usize,
+        cut: &'a mut Line,
+    ) -> Lent<'a>
+        requires { (texts : List (List ℕ)) × Carries direction report.now (record self.old { queue = place ∷ self.old.queue }) texts }
+        ensures line { (text : List ℕ) → written direction report.now place ≡ Some text → lent_seen result ≡ Frame.Line (record { items = text }) }
+        ensures within { (text : List ℕ) → written direction report.now place ≡ Some text → length text ≤ 512 }
+        ensures start { StandsFor self.new.assembler [] }
+        ensures gone { self.new.gone ≡ 0 }
+        ensures queue { self.new.queue ≡ self.old.queue }
+    {
+        let line = report.line(direction, place).as_slice();
+        let frame = feed_rest(&mut self.assembler, line, self.gone, cut);
+        self.gone = 0;
+        frame
+    }
+
+    /// Line k is lost. Where there is none, or its first byte has gone, an event more was idle.
+    pub fn lose(&mut self, k: usize, idle: &mut usize)
+        requires { idle.old + 1 < 2 ^ 64 }
+        ensures { Changes k (without k self.old.queue) self.old self.new idle.old idle.new }
+    {
+        if is_begun(k, self.gone) {
+            *idle += 1;
+            return;
+        }
+        if !self.queue.lose(k) {
+            *idle += 1;
+        }
+    }
+
+    /// Line k comes twice. Where there is none, or its first byte has gone, an event more was idle.
+    pub fn repeat(&mut self, k: usize, idle: &mut usize) -> Result<(), AllocError>
+        requires { idle.old + 1 < 2 ^ 64 }
+        ensures changes { OnOk result (Changes k (doubled k self.old.queue) self.old self.new idle.old idle.new) }
+        ensures spare { IsNoRepeat k self.old.gone self.old.queue → IsOk result }
+    {
+        if is_begun(k, self.gone) {
+            *idle += 1;
+            return Ok(());
+        }
+        if !self.queue.repeat(k)? {
+            *idle += 1;
+        }
+        Ok(())
+    }
+}
+
+// Whether the first byte of line k has gone.
+fn is_begun(k: usize, gone: usize) -> bool
+    ensures { result ≡ is_begun k gone }
+{
+    k == 0 && gone > 0
+}
