@@ -67,13 +67,6 @@ pieces_one : (rest : List ℕ) (b : ℕ) (feed : Bool) → feed ≡ true → (co
 pieces_one rest b true feeds = (refl, refl)
 pieces_one rest b false feeds = let bad : false ≡ true = feeds in cc
 
-pub byte_kept : (rest : List ℕ) (b : ℕ) (a : Option (List ℕ)) (n : ℕ) (kept : Underway) → is_line_feed b ≡ false → KeepsLine kept (rest ++ b ∷ []) → KeepsLine kept (rest_behind rest (b ∷ [])) × SaysAll rest (b ∷ []) a a n n
-byte_kept rest b a n kept goes keeps =
-    let both = pieces_none rest b (is_line_feed b) goes in (
-      subst (KeepsLine kept) (sym both.1) keeps,
-      record { texts = []; are = subst (λ ls. AreSaid ls []) (sym both.0) tt; took = Appends-nil a; counts = omega arith },
-    )
-
 pub byte_said : (rest : List ℕ) (b : ℕ) (a c : Option (List ℕ)) (n m : ℕ) (kept : Underway) (text : List ℕ) → is_line_feed b ≡ true → KeepsLine kept [] → IsLogVerdict rest text → Appends a c text → m ≡ n + 1
     → KeepsLine kept (rest_behind rest (b ∷ [])) × SaysAll rest (b ∷ []) a c n m
 byte_said rest b a c n m kept text feeds keeps said took more =
@@ -131,9 +124,6 @@ pub record SaidSoFar (source_old source_new sink_old sink_new : Option (List ℕ
   pub few : length given ≤ 256 * reads
   pub keeps : KeepsLine kept (rest_behind [] given)
   pub said : SaysAll [] given sink_old sink_new 0 count
-
-pub so_far_start : (a b : Option (List ℕ)) (kept : Underway) → KeepsLine kept [] → SaidSoFar a a b b kept 0 0
-so_far_start a b kept keeps = record { given = []; gave = Consumes-nil a; few = omega arith; keeps = keeps; said = says_none [] b 0 0 refl }
 
 module _ (a a' a'' b b' b'' : Option (List ℕ)) (kept next : Underway) (reads n m : ℕ) (piece : List ℕ) (so : SaidSoFar a a' b b' kept reads n) (gave : Consumes a' a'' piece) where
   pub so_far_more : length piece ≤ 256 → ((r : List ℕ) → KeepsLine kept r → KeepsLine next (rest_behind r piece) × SaysAll r piece b' b'' n m) → SaidSoFar a a'' b b'' next (reads + 1) m

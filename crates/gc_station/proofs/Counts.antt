@@ -42,10 +42,6 @@ Counts count Send p q = Kept (counted_sent p) q
 Counts count Skip p q = Kept p q ⊎ Kept (counted_sent p) q
 Counts count _ p q = Kept p q
 
--- and again
-pub kept_on : (p q r : Progress) → Kept p q → Kept q r → Kept p r
-kept_on p q r a b = record { turns = b.turns ∙ a.turns; left = b.left ∙ a.left; unsent = b.unsent ∙ a.unsent }
-
 pub lines_kept : (s : Standing) (lines : List (List ℕ)) → Kept s.progress (lines_came s lines).progress
 lines_kept s [] = kept s.progress _ refl refl refl
 lines_kept s (line ∷ others) = let k = lines_kept (line_came s line) others in kept s.progress _ k.turns k.left k.unsent

@@ -102,10 +102,6 @@ each_settles reads utc ms ws left ss rs sent parts h =
     ∙ ap (λ xs. front ++ xs) (sym (marked_append ms ended waits) ∙ ap (marked ms) parts ∙ sym (waiting_marked ms ws))
     ∙ h
 
--- all that wait are lost
-pub each_lost : (reads : Call → List ℕ → Reading) (utc : ℕ) (ms : List (Option Mark)) (ws : List Pending) (rs : List Record) (sent : List Request) → EachIs ms ws rs sent → EachIs (drop (length (map lost ws)) ms) [] (rs ++ records_of reads utc ms (map lost ws)) sent
-each_lost reads utc ms ws rs sent h = each_settles reads utc ms ws [] (map lost ws) rs sent (append-nil (map of_settled (map lost ws)) ∙ lost_parts ws) h
-
 -- one more waits
 more_waiting : (ms : List (Option Mark)) (ws : List Pending) (m : Option Mark) (p : Pending) → length ms ≡ length ws → still_waiting (ms ++ m ∷ []) (ws ++ p ∷ []) ≡ still_waiting ms ws ++ marked (m ∷ []) (of_pending p ∷ [])
 more_waiting ms ws m p paired =

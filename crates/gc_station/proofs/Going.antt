@@ -127,10 +127,6 @@ stepped_reads plan commands order s act =
     let mid : Standing = moved plan commands order (with_progress turned s) act in
     ended_reads (loses_all mid.progress) mid ∙ moved_reads plan commands order (with_progress turned s) act
 
--- a station that stands there has a mark for each request that waits
-pub stands_paired : (station : Station) (s : Standing) → Stands station s → IsPaired station
-stands_paired station s stands = ap length stands.marks ∙ stands.paired ∙ sym (ap (λ (c : ById). length c.waiting) stands.ids)
-
 -- Many.
 
 -- what was done so far

@@ -264,14 +264,6 @@ stands_expired station p q client m s stands e is = record {
   well = stands.well;
 }
 
--- how many wait, and how the command ended that was written down last
-pub waiting_same : (station : Station) (s : Standing) → Stands station s → AreReadings s.reads → waiting_in station ≡ waiting_of s
-waiting_same station s stands are =
-    ap (λ (c : ById). waiting_with c.waiting station.marks.items station.well) stands.ids ∙ ap (λ ms. waiting_with s.client.waiting ms station.well) stands.marks
-    ∙ ap (waiting_with s.client.waiting s.marks) (stands.well are) where
-      waiting_with : List Pending → List (Option Mark) → Bool → Waiting
-      waiting_with waiting marks well = record { all = length waiting; current = length (deadlines waiting); commands = commands_in marks; well = well }
-
 -- that many wait, whatever replies say
 pub all_same : (station : Station) (s : Standing) → Stands station s → (waiting_in station).all ≡ (waiting_of s).all
 all_same station s stands = ap (λ (c : ById). length c.waiting) stands.ids

@@ -415,9 +415,6 @@ stage_moved plan commands (orders.Stop why) s act acts small once o needs time s
 
 -- Whole runs.
 
-runs_before : (plan : Plan) (commands : List Task) (s : Standing) (done later : List Act) (act : Act) → Runs plan commands s (done ++ act ∷ later) → Runs plan commands s done
-runs_before plan commands s done later act runs = (runs_split plan commands s done later act runs).0
-
 pub stage_stood : (plan : Plan) (commands : List Task) (scope : Scope) (acts : List Act) → plan.quiet ≤ 18446744073709551615 → Runs plan commands (opening plan scope) acts → StageAt plan.quiet (stood plan commands scope acts).progress acts
 stage_stood plan commands scope acts small runs = along plan commands (opening plan scope) (λ (xs : List Act). StageAt plan.quiet (stood plan commands scope xs).progress xs) step [] acts runs tt where
   step : (done later : List Act) (act : Act) → Runs plan commands (opening plan scope) (done ++ act ∷ later) → StageAt plan.quiet (stood plan commands scope done).progress done → StageAt plan.quiet (stood plan commands scope (done ++ act ∷ [])).progress (done ++ act ∷ [])

@@ -59,10 +59,6 @@ pub record Reads {Item : Type 0} (form : Form Item) (text : List ℕ) (left : Op
   pub count : number ≡ length read
   pub items_are : AreItems form (filter is_kept read) items
 
--- at the beginning all lines are left
-pub reads_none : {Item : Type 0} (form : Form Item) (text : List ℕ) → Reads form text (Some text) 0 []
-reads_none form text = record { read = []; lines_are = refl; count = refl; items_are = tt }
-
 -- of a text within the limit no more lines are read than a u32 counts
 pub reads_few : {Item : Type 0} (form : Form Item) (text : List ℕ) (left : Option (List ℕ)) (number : ℕ) (items : List Item) → length text ≤ 65536 → Reads form text left number items → number ≤ 65537
 reads_few form text left number items within r =

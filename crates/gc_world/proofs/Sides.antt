@@ -1,24 +1,13 @@
 -- What a side of the stage carries: its front line, and what is still to go of it.
-use Rattle.std.proofs.Common.{◌≡◌, ℕ, ◌+◌, ◌-◌, ◌<◌, List, [], ◌∷◌, length, map, Option, Some, None, refl, sym, ◌∙◌, ap, subst}
-use Rattle.std.specs.Prelude.{slice_get}
-use Rattle.std.specs.Option.{option_map}
+use Rattle.std.proofs.Common.{◌≡◌, ℕ, ◌+◌, ◌-◌, List, [], ◌∷◌, length, map, Option, Some, refl, sym, ◌∙◌, ap, subst}
 use Rattle.gc_lines.specs.Lines.{with_end}
 use Rattle.gc_world.specs.declared.direction.Direction.{Direction}
 use Rattle.gc_world.specs.declared.report.Report.{Report}
 use Rattle.gc_world.specs.declared.side.Side.{Side}
 use Rattle.gc_world.specs.Sides.{written, IsFlow, Carries}
 use Rattle.gc_world.specs.Streams.{remaining}
-use Rattle.gc_world.proofs.Options.{some_is, none_is_not}
-use Rattle.gc_world.proofs.Places.{below}
+use Rattle.gc_world.proofs.Options.{some_is}
 use Rattle.gc_world.proofs.Streaming.{IsFront, front_of, remaining_is}
-
--- what is read at a place stands there
-pub written_below : {A B : Type 0} (f : A → B) (xs : List A) (k : ℕ) (y : B) → option_map f (slice_get xs k) ≡ Some y → k < length xs
-written_below f xs k y e = by_entry (slice_get xs k) refl e
-  where
-    by_entry : (o : Option _) → slice_get xs k ≡ o → option_map f o ≡ Some y → k < length xs
-    by_entry None is e = absurd (none_is_not y e)
-    by_entry (Some x) is e = below xs k x is
 
 -- the texts behind the first of a queue
 record AreNamed (f : ℕ → Option (List ℕ)) (place : ℕ) (rest : List ℕ) (texts : List (List ℕ)) : Type 0 where
