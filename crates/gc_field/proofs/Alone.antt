@@ -1,14 +1,16 @@
 -- Two requests at once, with a reply kept that has the second one's id.
-use Rattle.std.proofs.Common.{◌≡◌, ℕ, false, List, [], ◌∷◌, Option, Some, sym, ◌∙◌, ap, lit<}
+use Rattle.std.proofs.Common.{◌≡◌, ℕ, true, false, List, [], ◌∷◌, ◌++◌, Option, Some, sym, ◌∙◌, ap, subst, lit<}
 use Rattle.gc_catalogue.specs.declared.call.Call.TheVariants.{NullProc}
+use Rattle.gc_client.specs.declared.window.TheConstants.{WINDOW}
 use Rattle.gc_client.specs.Rule.{ById, hears}
 use Rattle.gc_instrument.specs.Replying.{Handed, kept_line}
 use Rattle.gc_instrument.specs.State.{State, IsFittingState}
 use Rattle.gc_world.specs.Clients.{ends, by_ids, ids_open}
-use Rattle.gc_world.specs.World.{World, Up_lose, on_wire, replied, with_settled, down_delivered}
+use Rattle.gc_world.specs.World.{Numbered, Request, World, Up_deliver, Up_lose, on_wire, replied, with_settled, down_delivered}
 use Rattle.gc_world.proofs.Handing.{exchange, kept_of, keeper}
-use Rattle.gc_field.specs.Field.{Sends, OnLine, moved}
-use Rattle.gc_field.specs.Alone.{IsBookedUnexecuted}
+use Rattle.gc_field.specs.Field.{Move, Sends, OnLine, moved}
+use Rattle.gc_field.specs.Alone.{IsBookedUnexecuted, two_at_once}
+use Rattle.gc_field.specs.Made.{WasMadeOn, wire_behind}
 
 module _ (s : State) (line : List ℕ) where
   -- the second request alone is under way
@@ -35,10 +37,36 @@ module _ (s : State) (line : List ℕ) where
   heard_is : IsFittingState s → kept_line (kept_of s) (Some 1) ≡ Some line → ends.heard line ≡ Some 1
   heard_is fits k = ap (λ (h : Handed State). ends.heard h.reply) (sym (handed_is k)) ∙ exchange.reads s 1 NullProc fits (lit< tt)
 
+  -- only one request reaches it
+  only : (front later : List Move) → two_at_once line ≡ front ++ OnLine Up_deliver ∷ later → front ≡ Sends 1 NullProc 9 ∷ Sends 2 NullProc 9 ∷ OnLine (Up_lose 0) ∷ []
+  only [] later e = let never : ⊥ = cc in absurd never
+  only (a ∷ []) later e = let never : ⊥ = cc in absurd never
+  only (a ∷ b ∷ []) later e = let never : ⊥ = cc in absurd never
+  only (a ∷ b ∷ c ∷ []) later e = cc
+  only (a ∷ b ∷ c ∷ d ∷ []) later e = let never : ⊥ = cc in absurd never
+  only (a ∷ b ∷ c ∷ d ∷ f ∷ []) later e = let never : ⊥ = cc in absurd never
+  only (a ∷ b ∷ c ∷ d ∷ f ∷ g ∷ front) later e = let never : ⊥ = cc in absurd never
+
+  abbrev first_id : List (Numbered Request) → ℕ
+  first_id [] = 0
+  first_id (x ∷ rest) = x.line.id
+
+  -- and that isn't executed
+  unmade : kept_line (kept_of s) (Some 1) ≡ Some line → WasMadeOn WINDOW ends s (two_at_once line) 1 NullProc line → ⊥
+  unmade k h =
+      let here = only h.front h.later h.split in
+      let reaches = subst (λ front. (wire_behind WINDOW ends s front).up ≡ record { number = 1; line = record { id = h.id; call = NullProc } } ∷ h.rest) here h.reaches in
+      let id : 1 ≡ h.id = ap first_id reaches in
+      let executed : (ends.handed s h.id NullProc).executed ≡ true = subst (λ front. (ends.handed (wire_behind WINDOW ends s front).state h.id NullProc).executed ≡ true) here h.executed in
+      let never : false ≡ true =
+      sym (ap (λ (h : Handed State). h.executed) (handed_is k)) ∙ subst (λ i. (ends.handed s i NullProc).executed ≡ true) (sym id) executed in
+      cc
+
   pub booked : IsFittingState s → kept_line (kept_of s) (Some 1) ≡ Some line → IsBookedUnexecuted s line
   booked fits k =
       record {
         possible = (tt, (tt, (tt, (tt, ((1, [], ap (λ (h : Handed State). (reached h).wire.down) (handed_is k)), tt)))));
         settled = ap (λ h. (came h).wire.settled) (handed_is k) ∙ ap (λ o. (heard_as o).wire.settled) (heard_is fits k);
         executed = ap (λ h. (came h).wire.executed) (handed_is k) ∙ ap (λ o. (heard_as o).wire.executed) (heard_is fits k);
+        unmade = unmade k;
       }

@@ -31,6 +31,7 @@ use Rattle.gc_world.specs.Record.{IsReplyTo}
 use Rattle.gc_world.specs.World.{Sent, World}
 use Rattle.gc_field.specs.Field.{Move, Sends, Tells, Comes, Foreign, OnLine, Anew, ArePossible, IsFirstAlone, IsField, seen}
 use Rattle.gc_field.specs.Laws.{IsFaithful, asked}
+use Rattle.gc_field.specs.Made.{WasMadeOn}
 use Rattle.gc_field.specs.Runs.{IsInField, IsItsOwn, IsOwnAnswer, IsRunFaithful, IsFaithfulThroughout, IsInTime, AreSentAs, world, written_over}
 use Rattle.gc_field.specs.Stretches.{Stretch}
 use Rattle.gc_field.proofs.InTime.{Law, throughout, in_time}
@@ -198,6 +199,7 @@ own_later commands p s ps ss r line h = record {
   made = h.made;
   reply = h.reply;
   executed = h.executed;
+  made_on = h.made_on;
 }
 
 -- whenever it was written down
@@ -219,6 +221,7 @@ own_timeless commands ps ss r line h = record {
   made = h.made;
   reply = h.reply;
   executed = h.executed;
+  made_on = h.made_on;
 }
 
 all_timeless : (commands : List Task) (ps : List Part) (ss : List (Stretch State)) (rs : List Record) → AllByRecursion (IsOwnAnswer commands ps ss) (map timeless rs) → AllByRecursion (IsOwnAnswer commands ps ss) rs
@@ -263,6 +266,7 @@ own_first reads commands p s ps ss waiting xs e f sent =
       made = b.0;
       reply = subst (λ call. IsReplyTo ends IsFittingState call line) right b.1;
       executed = f.faithful.executed n x line beyond here answered;
+      made_on = subst (λ call. WasMadeOn 7 ends s.state s.moves n call line) right (f.faithful.made_on n x line beyond here answered);
     })
 
 pub own_all : (reads : Call → List ℕ → Reading) (commands : List Task) (ps : List Part) (ss : List (Stretch State)) → AllFit ps ss → AreSentAs commands ps ss → AllByRecursion (IsOwnAnswer commands ps ss) (written_over reads ps ss)

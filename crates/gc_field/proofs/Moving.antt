@@ -16,11 +16,11 @@ use Rattle.gc_world.proofs.Places.{get_push}
 use Rattle.gc_world.proofs.Replay.{IsOf, of_more}
 use Rattle.gc_world.proofs.Rows.{each_append, each_more, each_without, each_doubled}
 use Rattle.gc_world.proofs.Sound.{IsGoing, Sound, sound_step, sound_open}
-use Rattle.gc_field.specs.Field.{Move, Sends, Tells, Comes, Foreign, OnLine, Anew, IsOfLine, moves, moved, ArePossible, IsFirstAlone}
+use Rattle.gc_field.specs.Field.{Move, Sends, Tells, Comes, Foreign, OnLine, Anew, IsOfLine, moves, moved, IsPossible, ArePossible, IsFirstAlone}
 use Rattle.gc_field.proofs.Answered.{AllSo}
 use Rattle.gc_field.specs.Once.{ActsOnce}
 use Rattle.gc_field.proofs.Once.{IsClimbing, once_few, climbing_first}
-use Rattle.gc_field.proofs.Vouched.{kept_own, Vouched, KeptIs, True, Holds, holds_step, true_started}
+use Rattle.gc_field.proofs.Vouched.{kept_own, Vouched, KeptIs, True, IsOn, true_requested, true_down, true_line, true_started}
 
 module _ {State : Type 0} (width : ℕ) (narrow : width ≤ 7) (ends : Ends State) (Good : State → Type 0) (ex : IsExchange ends Good) where
   -- the two worlds agree, and the line is as it has to be
@@ -70,35 +70,42 @@ module _ {State : Type 0} (width : ℕ) (narrow : width ≤ 7) (ends : Ends Stat
       ∙ ap (λ l. a.wire.settled ++ settle (n - b.client.count) line l) (sym h.agree.client.window)
       ∙ ap (λ k. a.wire.settled ++ settle (n - k) line a.client.waiting) (sym size)
 
-module _ {State : Type 0} (width : ℕ) (narrow : width ≤ 7) (ends : Ends State) (Good : State → Type 0) (ex : IsExchange ends Good) (kept : State → Option KeptReply) (keeper : IsKeeper ends kept) (joint : ends.joint ≡ true) (low : ℕ) (beyond : 0 < low) where
-  abbrev Whole : World ByNumber State → Type 0
-  Whole w = Holds width narrow ends Good ex kept keeper low w
-
+module _ {State : Type 0} (width : ℕ) (narrow : width ≤ 7) (ends : Ends State) (Good : State → Type 0) (ex : IsExchange ends Good) (kept : State → Option KeptReply) (keeper : IsKeeper ends kept) (low : ℕ) (beyond : 0 < low) (M : ℕ → Call → List ℕ → Type 0) where
   abbrev Trusted : World ByNumber State → Type 0
-  Trusted w = True width narrow ends Good ex kept keeper low w
+  Trusted w = True width narrow ends Good ex kept keeper low M w
 
   abbrev pub Vouches : Wire State → ℕ → List ℕ → Type 0
-  Vouches w n line = Vouched width narrow ends Good ex kept keeper low w.sent w.executed w.made n line
+  Vouches w n line = Vouched width narrow ends Good ex kept keeper low M w.sent w.executed w.made n line
 
   -- each answer is vouched for, and between two starts each request is executed at most once
   pub record IsVouchedFor (w : Wire State) : Type 0 where
     pub answers : AllSo (Vouches w) 0 w.settled
     pub once : ActsOnce w.executed w.starts
 
-  whole_step : (b : World ByNumber State) (step : Step) → Whole b → Whole (happens ends (by_numbers width) b step)
-  whole_step b step h = holds_step width narrow ends Good ex kept keeper low joint b step h
+  -- where a request reaches the instrument at one of these moves, and is executed, M is so of its reply
+  abbrev pub AreOn : List Move → World ByNumber State → Type 0
+  AreOn ms b =
+      (front later : List Move) → ms ≡ front ++ OnLine Up_deliver ∷ later → (x : Numbered Request) (rest : List (Numbered Request)) → (moved ends (by_numbers width) front b).wire.up ≡ x ∷ rest →
+      IsOn width narrow ends Good ex kept keeper low M (moved ends (by_numbers width) front b) x
 
-  whole_move : (b : World ByNumber State) (m : Move) → Whole b → Whole (moves ends (by_numbers width) b m)
-  whole_move b (Sends target call deadline) h = whole_step b (Send target call deadline) h
-  whole_move b (Tells now) h = whole_step b (Expire now) h
-  whole_move b (Comes line) h = whole_step b Down_deliver h
-  whole_move b (Foreign line) h = h
-  whole_move b (OnLine step) h = whole_step b step h
-  whole_move b Anew h = record { sound = sound_anew width narrow ends Good ex b h.sound; trusted = true_started width narrow ends Good ex kept keeper low b true h.trusted }
+  -- the same of the moves behind the first
+  are_on_behind : (m : Move) (ms : List Move) (b : World ByNumber State) → AreOn (m ∷ ms) b → AreOn ms (moves ends (by_numbers width) b m)
+  are_on_behind m ms b on = λ front later e. on (m ∷ front) later (ap (λ l. m ∷ l) e)
 
-  whole_all : (ms : List Move) (b : World ByNumber State) → Whole b → IsVouchedFor (moved ends (by_numbers width) ms b).wire
-  whole_all [] b h = record { answers = h.trusted.answers; once = h.trusted.once.once }
-  whole_all (m ∷ ms) b h = whole_all ms _ (whole_move b m h)
+  trusted_move : (m : Move) (ms : List Move) (a : World ById State) (b : World ByNumber State) → IsPossible a m → AreOn (m ∷ ms) b → Sound width ends Good b → Trusted b → Trusted (moves ends (by_numbers width) b m)
+  trusted_move (Sends target call deadline) ms a b p on s t =
+      true_requested width narrow ends Good ex kept keeper low M b target call deadline ((by_numbers width).send b.client target call deadline) refl t
+  trusted_move (Tells now) ms a b p on s t = t
+  trusted_move (Comes line) ms a b p on s t = true_down width narrow ends Good ex kept keeper low M b b.wire.down refl s t
+  trusted_move (Foreign line) ms a b p on s t = t
+  trusted_move (OnLine step) ms a b p on s t =
+      true_line width narrow ends Good ex kept keeper low M b step p (λ x rest e q. on [] ms (ap (λ (y : Step). OnLine y ∷ ms) e) x rest q) s t
+  trusted_move Anew ms a b p on s t = true_started width narrow ends Good ex kept keeper low M b true t
+
+  whole_all : (ms : List Move) (a : World ById State) (b : World ByNumber State) → Both width narrow ends Good ex a b → ArePossible ends (by_ids width ends) ms a → AreOn ms b → Trusted b → IsVouchedFor (moved ends (by_numbers width) ms b).wire
+  whole_all [] a b h p on t = record { answers = t.answers; once = t.once.once }
+  whole_all (m ∷ ms) a b h p on t =
+      whole_all ms _ _ (both_move width narrow ends Good ex a b m h) p.1 (are_on_behind m ms b on) (trusted_move m ms a b p.0 on h.sound t)
 
   -- Before the first request reached the instrument, which may keep anything.
   abbrev pub ones : Bool → ℕ
@@ -151,7 +158,7 @@ module _ {State : Type 0} (width : ℕ) (narrow : width ≤ 7) (ends : Ends Stat
           within = omega (arith, g.0.sent, s.counted);
           above = each_all (λ (y : Numbered Request). 1 ≤ y.number + 1) (λ y. omega arith) rest;
           below = subst (λ l. Each (λ (y : Numbered (List ℕ)). y.number < 1) (l ++ m ∷ [])) (sym f.down) (omega (arith, nought), tt);
-          holds = subst (λ l. KeptIs width narrow ends Good ex kept keeper low P b.client.since 1 l) (sym k.1) (omega (arith, f.since), omega (arith, id, f.since), inl beyond);
+          holds = subst (λ l. KeptIs width narrow ends Good ex kept keeper low M P b.client.since 1 l) (sym k.1) (omega (arith, f.since), omega (arith, id, f.since), inl beyond);
           lines = o.1;
           coming = subst (λ l. Each (λ (y : Numbered (List ℕ)). P y.number y.line) (l ++ m ∷ [])) (sym f.down) (inl early, tt);
           answers = subst (λ l. AllSo P 0 l) (sym f.settled) tt;
@@ -210,47 +217,47 @@ module _ {State : Type 0} (width : ℕ) (narrow : width ≤ 7) (ends : Ends Stat
       cc
 
   -- whatever it kept when the first request went out
-  pub early_all : (ms : List Move) (out : Bool) (a : World ById State) (b : World ByNumber State) → Both width narrow ends Good ex a b → ArePossible ends (by_ids width ends) ms a → IsFirstAlone out ms → IsFresh b out → IsVouchedFor (moved ends (by_numbers width) ms b).wire
-  early_all [] out a b h p l f =
+  pub early_all : (ms : List Move) (out : Bool) (a : World ById State) (b : World ByNumber State) → Both width narrow ends Good ex a b → ArePossible ends (by_ids width ends) ms a → IsFirstAlone out ms → AreOn ms b → IsFresh b out → IsVouchedFor (moved ends (by_numbers width) ms b).wire
+  early_all [] out a b h p l on f =
       record {
         answers = subst (λ s. AllSo (Vouches b.wire) 0 s) (sym f.settled) tt;
         once = once_few b.wire.executed b.wire.starts (omega (arith, ap (λ (l : List ℕ). length l) f.executed));
       }
-  early_all (Sends target call deadline ∷ ms) false a b h p l f =
-      early_all ms true _ _ (both_move width narrow ends Good ex a b (Sends target call deadline) h) p.1 l
+  early_all (Sends target call deadline ∷ ms) false a b h p l on f =
+      early_all ms true _ _ (both_move width narrow ends Good ex a b (Sends target call deadline) h) p.1 l (are_on_behind (Sends target call deadline) ms b on)
       (fresh_sent b target call deadline (eqb (length b.client.requests - b.client.count) width) f)
-  early_all (Sends target call deadline ∷ ms) true a b h p l f = absurd l
-  early_all (Tells now ∷ ms) out a b h p l f =
-      early_all ms out _ _ (both_move width narrow ends Good ex a b (Tells now) h) p.1 (alone_tells out l)
+  early_all (Sends target call deadline ∷ ms) true a b h p l on f = absurd l
+  early_all (Tells now ∷ ms) out a b h p l on f =
+      early_all ms out _ _ (both_move width narrow ends Good ex a b (Tells now) h) p.1 (alone_tells out l) (are_on_behind (Tells now) ms b on)
       (record { since = f.since; count = f.count; down = f.down; executed = f.executed; settled = f.settled; sent = f.sent; lines = f.lines })
     where
       alone_tells : (out : Bool) → IsFirstAlone out (Tells now ∷ ms) → IsFirstAlone out ms
       alone_tells true l = l
       alone_tells false l = l
-  early_all (Comes line ∷ ms) out a b h p l f = absurd (nothing_down a b out _ p.0.1 h f p.0.2)
-  early_all (Foreign line ∷ ms) out a b h p l f = early_all ms out a b h p.1 (alone_foreign out l) f where
+  early_all (Comes line ∷ ms) out a b h p l on f = absurd (nothing_down a b out _ p.0.1 h f p.0.2)
+  early_all (Foreign line ∷ ms) out a b h p l on f = early_all ms out a b h p.1 (alone_foreign out l) (are_on_behind (Foreign line) ms b on) f where
     alone_foreign : (out : Bool) → IsFirstAlone out (Foreign line ∷ ms) → IsFirstAlone out ms
     alone_foreign true l = l
     alone_foreign false l = l
-  early_all (OnLine step ∷ ms) out a b h p l f =
+  early_all (OnLine step ∷ ms) out a b h p l on f =
       let both = both_move width narrow ends Good ex a b (OnLine step) h in
       elim (fresh_line b out h.sound f step p.0) [
-        | inl g ↦ early_all ms out _ _ both p.1 (alone_line out l) g
-        | inr t ↦ whole_all ms _ (record { sound = both.sound; trusted = t })
+        | inl g ↦ early_all ms out _ _ both p.1 (alone_line out l) (are_on_behind (OnLine step) ms b on) g
+        | inr t ↦ whole_all ms _ _ both p.1 (are_on_behind (OnLine step) ms b on) t
       ]
     where
       alone_line : (out : Bool) → IsFirstAlone out (OnLine step ∷ ms) → IsFirstAlone out ms
       alone_line true l = l
       alone_line false l = l
-  early_all (Anew ∷ ms) out a b h p l f =
-      early_all ms out _ _ (both_move width narrow ends Good ex a b Anew h) p.1 (alone_anew out l)
+  early_all (Anew ∷ ms) out a b h p l on f =
+      early_all ms out _ _ (both_move width narrow ends Good ex a b Anew h) p.1 (alone_anew out l) (are_on_behind Anew ms b on)
       (record { since = f.since; count = f.count; down = f.down; executed = f.executed; settled = f.settled; sent = f.sent; lines = f.lines })
     where
       alone_anew : (out : Bool) → IsFirstAlone out (Anew ∷ ms) → IsFirstAlone out ms
       alone_anew true l = l
       alone_anew false l = l
 
-  pub vouched_at : (ms : List Move) (state : State) → Good state → ArePossible ends (by_ids width ends) ms (ids_open state) → IsFirstAlone false ms → IsVouchedFor (moved ends (by_numbers width) ms (numbers_open state)).wire
-  vouched_at ms state good p l =
-      early_all ms false (ids_open state) (numbers_open state) (both_open width narrow ends Good ex state good) p l
+  pub vouched_at : (ms : List Move) (state : State) → Good state → ArePossible ends (by_ids width ends) ms (ids_open state) → IsFirstAlone false ms → AreOn ms (numbers_open state) → IsVouchedFor (moved ends (by_numbers width) ms (numbers_open state)).wire
+  vouched_at ms state good p l on =
+      early_all ms false (ids_open state) (numbers_open state) (both_open width narrow ends Good ex state good) p l on
       (record { since = refl; count = refl; down = refl; executed = refl; settled = refl; sent = omega arith; lines = tt })

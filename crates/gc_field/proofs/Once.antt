@@ -58,10 +58,6 @@ climbing_started top executed starts k after h =
       idle = λ e. inr (starts, refl);
     }
 
--- a higher number does too
-pub climbing_raised : (top high : ℕ) (executed starts : List ℕ) (k : Option KeptReply) → top ≤ high → IsClimbing top executed starts k → IsClimbing high executed starts k
-climbing_raised top high executed starts k le h = record { once = h.once; below = each_more (λ n. n < top) (λ n. n < high) (λ n l. omega (arith, l, le)) executed h.below; idle = h.idle }
-
 -- nothing was executed since the last start, so it came between these two executions
 never_idle : (executed starts : List ℕ) (j k m : ℕ) → IsIdle executed starts → HasNoStart starts j k → slice_get executed j ≡ Some m → k ≡ length executed → ⊥
 never_idle executed starts j k m (inl none) run a e = none_is_not m (subst (λ l. slice_get l j ≡ Some m) none a)

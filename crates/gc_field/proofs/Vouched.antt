@@ -11,17 +11,17 @@ use Rattle.gc_instrument.specs.State.{KeptReply}
 use Rattle.gc_world.specs.Clients.{ByNumber, number_send, number_reply, by_numbers}
 use Rattle.gc_world.specs.Exchange.{IsExchange, IsKeeper}
 use Rattle.gc_world.specs.Order.{Each, Rising, numbers}
-use Rattle.gc_world.specs.World.{Request, Sent, Numbered, Ends, Step, World, without, doubled, replied, started, on_wire, requested, with_settled, happens}
+use Rattle.gc_world.specs.World.{Request, Sent, Numbered, Ends, Step, Send, Up_deliver, Up_lose, Up_repeat, Down_deliver, Down_lose, Down_repeat, Expire, Restart_client, Restart_instrument, Nothing, World, without, doubled, idle, replied, up_delivered, with_up, with_down, started, on_wire, requested, with_settled, down_delivered, happens}
 use Rattle.gc_world.proofs.Booked.{Has, has_more, has_push}
 use Rattle.gc_world.proofs.Execution.{IsAnswerAt}
 use Rattle.gc_world.proofs.Options.{some_is}
 use Rattle.gc_world.proofs.Places.{get_more, get_push}
 use Rattle.gc_world.proofs.Replay.{IsOf, of_more}
 use Rattle.gc_world.proofs.Rows.{each_append, each_more, each_without, each_doubled}
-use Rattle.gc_world.proofs.Sound.{IsGoing, Sound, keeps}
-use Rattle.gc_world.proofs.Stable.{IsStable, stable}
-use Rattle.gc_field.proofs.Answered.{AllSo, all_so_more, all_so_append, all_so_lost, all_so_settle}
-use Rattle.gc_field.proofs.Once.{IsClimbing, climbing_started, climbing_acted, climbing_raised, newer}
+use Rattle.gc_world.proofs.Sound.{IsGoing, Sound}
+use Rattle.gc_field.specs.Field.{IsOfLine}
+use Rattle.gc_field.proofs.Answered.{AllSo, all_so_more, all_so_append, all_so_settle}
+use Rattle.gc_field.proofs.Once.{IsClimbing, climbing_started, climbing_acted, newer}
 
 -- no number under way upward is below the one in front
 pub rising_each : (low : ℕ) (xs : List (Numbered Request)) → Rising low (numbers xs) → Each (λ x. low ≤ x.number + 1) xs
@@ -39,31 +39,32 @@ kept_own k id line e = chosen (eqb k.id id) refl e where
   chosen true t e = (eqb-true k.id id t, some_is k.line line e)
   chosen false t e = let never : ⊥ = cc in absurd never
 
-module _ {State : Type 0} (width : ℕ) (narrow : width ≤ 7) (ends : Ends State) (Good : State → Type 0) (ex : IsExchange ends Good) (kept : State → Option KeptReply) (keeper : IsKeeper ends kept) (low : ℕ) where
-  -- the line was made for this request, as its call was executed
+module _ {State : Type 0} (width : ℕ) (narrow : width ≤ 7) (ends : Ends State) (Good : State → Type 0) (ex : IsExchange ends Good) (kept : State → Option KeptReply) (keeper : IsKeeper ends kept) (low : ℕ) (M : ℕ → Call → List ℕ → Type 0) where
+  -- the line was made for this request, as its call was executed; and M is so of it, as it is of the reply to each request that is executed
   pub record IsVouched (sent : List Sent) (executed : List ℕ) (made : List (Numbered (List ℕ))) (n : ℕ) (line : List ℕ) : Type 0 where
     pub among : Has (record { number = n; line = line }) made
     pub acted : Has n executed
     pub answer : IsAnswerAt ends Good ex sent (record { number = n; line = line })
+    pub on : M n answer.request.call line
 
   abbrev pub Vouched : List Sent → List ℕ → List (Numbered (List ℕ)) → ℕ → List ℕ → Type 0
   Vouched sent executed made n line = (n < low) ⊎ IsVouched sent executed made n line
 
-  answer_more : (sent more : List Sent) (m : Numbered (List ℕ)) → IsAnswerAt ends Good ex sent m → IsAnswerAt ends Good ex (sent ++ more) m
+  abbrev answer_more : (sent more : List Sent) (m : Numbered (List ℕ)) → IsAnswerAt ends Good ex sent m → IsAnswerAt ends Good ex (sent ++ more) m
   answer_more sent more m h = record { request = h.request; found = get_more sent more m.number h.request h.found; reply = h.reply }
 
   -- further requests, executions and entries change nothing
   vouched_sent : (sent more : List Sent) (executed : List ℕ) (made : List (Numbered (List ℕ))) (n : ℕ) (line : List ℕ) → Vouched sent executed made n line → Vouched (sent ++ more) executed made n line
   vouched_sent sent more executed made n line (inl l) = inl l
-  vouched_sent sent more executed made n line (inr h) = inr (record { among = h.among; acted = h.acted; answer = answer_more sent more (record { number = n; line = line }) h.answer })
+  vouched_sent sent more executed made n line (inr h) = inr (record { among = h.among; acted = h.acted; answer = answer_more sent more (record { number = n; line = line }) h.answer; on = h.on })
 
   vouched_made : (sent : List Sent) (executed : List ℕ) (made more : List (Numbered (List ℕ))) (n : ℕ) (line : List ℕ) → Vouched sent executed made n line → Vouched sent executed (made ++ more) n line
   vouched_made sent executed made more n line (inl l) = inl l
-  vouched_made sent executed made more n line (inr h) = inr (record { among = has_more _ made more h.among; acted = h.acted; answer = h.answer })
+  vouched_made sent executed made more n line (inr h) = inr (record { among = has_more _ made more h.among; acted = h.acted; answer = h.answer; on = h.on })
 
   vouched_acted : (sent : List Sent) (executed others : List ℕ) (made : List (Numbered (List ℕ))) (n : ℕ) (line : List ℕ) → Vouched sent executed made n line → Vouched sent (executed ++ others) made n line
   vouched_acted sent executed others made n line (inl l) = inl l
-  vouched_acted sent executed others made n line (inr h) = inr (record { among = h.among; acted = has_more n executed others h.acted; answer = h.answer })
+  vouched_acted sent executed others made n line (inr h) = inr (record { among = h.among; acted = has_more n executed others h.acted; answer = h.answer; on = h.on })
 
   -- what is kept is the line of the last request but one below top
   abbrev pub KeptIs : (ℕ → List ℕ → Type 0) → ℕ → ℕ → Option KeptReply → Type 0
@@ -177,8 +178,8 @@ module _ {State : Type 0} (width : ℕ) (narrow : width ≤ 7) (ends : Ends Stat
       }
 
   -- one is executed
-  true_new : (w : World ByNumber State) (x : Numbered Request) (rest : List (Numbered Request)) (hd : Handed State) → w.wire.up ≡ x ∷ rest → ends.handed w.wire.state x.line.id x.line.call ≡ hd → kept_line (kept w.wire.state) (Some x.line.id) ≡ None → hd.executed ≡ true → Sound width ends Good w → True w → True (on_wire w (replied w.wire x.number rest (record hd { executed = true })))
-  true_new w x rest hd q is none exe s h =
+  true_new : (w : World ByNumber State) (x : Numbered Request) (rest : List (Numbered Request)) (hd : Handed State) → w.wire.up ≡ x ∷ rest → ends.handed w.wire.state x.line.id x.line.call ≡ hd → kept_line (kept w.wire.state) (Some x.line.id) ≡ None → hd.executed ≡ true → M x.number x.line.call hd.reply → Sound width ends Good w → True w → True (on_wire w (replied w.wire x.number rest (record hd { executed = true })))
+  true_new w x rest hd q is none exe on s h =
       let c = w.client in
       let v = w.wire in
       let n = x.number in
@@ -207,6 +208,7 @@ module _ {State : Type 0} (width : ℕ) (narrow : width ≤ 7) (ends : Ends Stat
             reply = sym (ap (λ (k : Handed State). k.reply) is) ∙ ap (λ call. (ends.handed v.state x.line.id call).reply) (sym o.0.call);
           };
         };
+        on = subst (λ call. M n call hd.reply) (sym o.0.call) on;
       }) in
       let back : n ≡ n + 1 - 1 = omega arith in
       record {
@@ -222,12 +224,12 @@ module _ {State : Type 0} (width : ℕ) (narrow : width ≤ 7) (ends : Ends Stat
         once = subst (λ k. IsClimbing (n + 1) (v.executed ++ n ∷ []) v.starts k) (sym keeps_it) (climbing_acted h.top n v.executed v.starts (kept v.state) (record { id = x.line.id; line = hd.reply }) a.0 (later_or_none P c.since h.top n x.line.id (kept v.state) h.holds g.0.id a.0 none) h.once);
       }
 
-  true_handed : (w : World ByNumber State) (x : Numbered Request) (rest : List (Numbered Request)) (hd : Handed State) (o : Option (List ℕ)) → w.wire.up ≡ x ∷ rest → ends.handed w.wire.state x.line.id x.line.call ≡ hd → kept_line (kept w.wire.state) (Some x.line.id) ≡ o → Sound width ends Good w → True w → True (on_wire w (replied w.wire x.number rest hd))
-  true_handed w x rest hd (Some line) q is o s h =
+  true_handed : (w : World ByNumber State) (x : Numbered Request) (rest : List (Numbered Request)) (hd : Handed State) (o : Option (List ℕ)) → w.wire.up ≡ x ∷ rest → ends.handed w.wire.state x.line.id x.line.call ≡ hd → kept_line (kept w.wire.state) (Some x.line.id) ≡ o → (hd.executed ≡ true → M x.number x.line.call hd.reply) → Sound width ends Good w → True w → True (on_wire w (replied w.wire x.number rest hd))
+  true_handed w x rest hd (Some line) q is o on s h =
       subst (λ (k : Handed State). True (on_wire w (replied w.wire x.number rest k))) (sym (keeper.again w.wire.state x.line.id x.line.call line o) ∙ is) (true_again w x rest line (kept w.wire.state) refl q o s h)
-  true_handed w x rest hd None q is o s h =
+  true_handed w x rest hd None q is o on s h =
       let exe : hd.executed ≡ true = sym (ap (λ (k : Handed State). k.executed) is) ∙ keeper.executes w.wire.state x.line.id x.line.call o in
-      subst (λ b. True (on_wire w (replied w.wire x.number rest (record hd { executed = b })))) (sym exe) (true_new w x rest hd q is o exe s h)
+      subst (λ b. True (on_wire w (replied w.wire x.number rest (record hd { executed = b })))) (sym exe) (true_new w x rest hd q is o exe (on exe) s h)
 
   true_reply : (w : World ByNumber State) (x : Numbered (List ℕ)) (rest : List (Numbered (List ℕ))) (old : Bool) → ltb x.number w.client.count ≡ old → w.wire.down ≡ x ∷ rest → length w.wire.settled ≡ w.client.count → True w → True (with_settled (record w.wire { down = rest }) (number_reply w.client x old))
   true_reply w x rest true t e s h =
@@ -286,52 +288,50 @@ module _ {State : Type 0} (width : ℕ) (narrow : width ≤ 7) (ends : Ends Stat
         once = climbing_started h.top v.executed v.starts (kept v.state) (kept (ends.restarted v.state)) h.once;
       }
 
-  -- the client too, with nothing under way
-  true_restarted : (w : World ByNumber State) → ends.joint ≡ true → w.wire.up ≡ [] → w.wire.down ≡ [] → Sound width ends Good w → True w → True (with_settled (started ends w.wire ends.joint) ((by_numbers width).restart w.client))
-  true_restarted w joint eu ed s h =
-      let v = w.wire in
-      let c = w.client in
-      let total = length c.requests in
-      let P = Vouched v.sent v.executed v.made in
-      let done : True (with_settled (started ends w.wire true) ((by_numbers width).restart w.client)) = record {
-        top = total;
-        counted = omega arith;
-        within = omega (arith, s.counted);
-        above = subst (λ q. Each (λ x. total ≤ x.number + 1) q) (sym eu) tt;
-        below = subst (λ q. Each (λ x. x.number < total) q) (sym ed) tt;
-        holds = kept_none P total total (kept (ends.restarted v.state)) (keeper.forgets v.state);
-        lines = h.lines;
-        coming = h.coming;
-        answers = all_so_append P 0 c.count v.settled _ (omega (arith, s.booked)) h.answers (all_so_lost P c.count (drop c.count c.requests));
-        once = climbing_raised h.top total v.executed (v.starts ++ length v.executed ∷ []) (kept (ends.restarted v.state)) (omega (arith, h.within, s.counted)) (climbing_started h.top v.executed v.starts (kept v.state) (kept (ends.restarted v.state)) h.once);
-      } in
-      subst (λ b. True (with_settled (started ends w.wire b) ((by_numbers width).restart w.client))) (sym joint) done
-
   true_queues : (w : World ByNumber State) (up : List (Numbered Request)) (down : List (Numbered (List ℕ))) (h : True w) → Each (λ x. h.top ≤ x.number + 1) up → Each (IsOf w.wire.sent) up → Each (λ x. x.number < h.top) down → Each (λ x. Vouched w.wire.sent w.wire.executed w.wire.made x.number x.line) down → True (on_wire w (record w.wire { up = up; down = down }))
   true_queues w up down h a l b c = record { top = h.top; counted = h.counted; within = h.within; above = a; below = b; holds = h.holds; lines = l; coming = c; answers = h.answers; once = h.once }
 
-  -- the line is as it has to be, and each reply is its own request's
-  pub record Holds (w : World ByNumber State) : Type 0 where
-    pub sound : Sound width ends Good w
-    pub trusted : True w
+  -- nothing but a count changes
+  true_idle : (w : World ByNumber State) → True w → True (on_wire w (idle w.wire))
+  true_idle w h = h
 
-  keeps_true : ends.joint ≡ true → IsStable ends (by_numbers width) Holds
-  keeps_true joint =
-      let k = keeps width ends Good ex in
-      record {
-        idles = λ w h. record { sound = k.idles w h.sound; trusted = h.trusted };
-        refuses = λ w h. record { sound = k.refuses w h.sound; trusted = h.trusted };
-        sends = λ w target call deadline x e h. record { sound = k.sends w target call deadline x e h.sound; trusted = true_send w target call deadline (eqb (length w.client.requests - w.client.count) width) x e h.trusted };
-        answers = λ w x rest q h. record { sound = k.answers w x rest q h.sound; trusted = true_handed w x rest (ends.handed w.wire.state x.line.id x.line.call) (kept_line (kept w.wire.state) (Some x.line.id)) q refl refl h.sound h.trusted };
-        loses_up = λ w n h. record { sound = k.loses_up w n h.sound; trusted = true_queues w (without n w.wire.up) w.wire.down h.trusted (each_without _ n w.wire.up h.trusted.above) (each_without _ n w.wire.up h.trusted.lines) h.trusted.below h.trusted.coming };
-        repeats_up = λ w n h. record { sound = k.repeats_up w n h.sound; trusted = true_queues w (doubled n w.wire.up) w.wire.down h.trusted (each_doubled _ n w.wire.up h.trusted.above) (each_doubled _ n w.wire.up h.trusted.lines) h.trusted.below h.trusted.coming };
-        loses_down = λ w n h. record { sound = k.loses_down w n h.sound; trusted = true_queues w w.wire.up (without n w.wire.down) h.trusted h.trusted.above h.trusted.lines (each_without _ n w.wire.down h.trusted.below) (each_without _ n w.wire.down h.trusted.coming) };
-        repeats_down = λ w n h. record { sound = k.repeats_down w n h.sound; trusted = true_queues w w.wire.up (doubled n w.wire.down) h.trusted h.trusted.above h.trusted.lines (each_doubled _ n w.wire.down h.trusted.below) (each_doubled _ n w.wire.down h.trusted.coming) };
-        hears = λ w x rest q h. record { sound = k.hears w x rest q h.sound; trusted = true_reply w x rest (ltb x.number w.client.count) refl q h.sound.booked h.trusted };
-        expires = λ w now h. record { sound = k.expires w now h.sound; trusted = h.trusted };
-        restarts = λ w u d h. record { sound = k.restarts w u d h.sound; trusted = true_restarted w joint u d h.sound h.trusted };
-        starts = λ w u d h. record { sound = k.starts w u d h.sound; trusted = true_started w true h.trusted };
-      }
+  -- A move of the line, and a reply that comes.
 
-  pub holds_step : ends.joint ≡ true → (w : World ByNumber State) (e : Step) → Holds w → Holds (happens ends (by_numbers width) w e)
-  holds_step joint w e h = stable ends (by_numbers width) Holds (keeps_true joint) w e h
+  -- the front request reaches the instrument: where that executes it, M is so of its reply
+  abbrev pub IsOn : World ByNumber State → Numbered Request → Type 0
+  IsOn w x =
+      (ends.handed w.wire.state x.line.id x.line.call).executed ≡ true → M x.number x.line.call (ends.handed w.wire.state x.line.id x.line.call).reply
+
+  pub true_up : (w : World ByNumber State) (q : List (Numbered Request)) → w.wire.up ≡ q → ((x : Numbered Request) (rest : List (Numbered Request)) → q ≡ x ∷ rest → IsOn w x) → Sound width ends Good w → True w → True (on_wire w (up_delivered ends w.wire q))
+  true_up w [] e on s h = true_idle w h
+  true_up w (x ∷ rest) e on s h =
+      true_handed w x rest (ends.handed w.wire.state x.line.id x.line.call) (kept_line (kept w.wire.state) (Some x.line.id)) e refl refl (on x rest refl) s h
+
+  pub true_down : (w : World ByNumber State) (q : List (Numbered (List ℕ))) → w.wire.down ≡ q → Sound width ends Good w → True w → True (down_delivered (by_numbers width) w q)
+  true_down w [] e s h = true_idle w h
+  true_down w (x ∷ rest) e s h = true_reply w x rest (ltb x.number w.client.count) refl e s.booked h
+
+  true_with_up : (w : World ByNumber State) (up : List (Numbered Request)) (b : Bool) (h : True w) → Each (λ x. h.top ≤ x.number + 1) up → Each (IsOf w.wire.sent) up → True (on_wire w (with_up w.wire up b))
+  true_with_up w up false h a l = true_idle w h
+  true_with_up w up true h a l = true_queues w up w.wire.down h a l h.below h.coming
+
+  true_with_down : (w : World ByNumber State) (down : List (Numbered (List ℕ))) (b : Bool) (h : True w) → Each (λ x. x.number < h.top) down → Each (λ x. Vouched w.wire.sent w.wire.executed w.wire.made x.number x.line) down → True (on_wire w (with_down w.wire down b))
+  true_with_down w down false h l c = true_idle w h
+  true_with_down w down true h l c = true_queues w w.wire.up down h h.above h.lines l c
+
+  pub true_requested : (w : World ByNumber State) (target : ℕ) (call : Call) (deadline : ℕ) (o : Option (Sending ByNumber)) → (by_numbers width).send w.client target call deadline ≡ o → True w → True (requested w target call o)
+  true_requested w target call deadline None e h = h
+  true_requested w target call deadline (Some x) e h = true_send w target call deadline (eqb (length w.client.requests - w.client.count) width) x e h
+
+  pub true_line : (w : World ByNumber State) (step : Step) → IsOfLine step → ((x : Numbered Request) (rest : List (Numbered Request)) → step ≡ Up_deliver → w.wire.up ≡ x ∷ rest → IsOn w x) → Sound width ends Good w → True w → True (happens ends (by_numbers width) w step)
+  true_line w (Send target call deadline) p on s h = absurd p
+  true_line w Up_deliver p on s h = true_up w w.wire.up refl (λ x rest e. on x rest refl e) s h
+  true_line w (Up_lose k) p on s h = true_with_up w (without k w.wire.up) (ltb k (length w.wire.up)) h (each_without _ k w.wire.up h.above) (each_without _ k w.wire.up h.lines)
+  true_line w (Up_repeat k) p on s h = true_with_up w (doubled k w.wire.up) (ltb k (length w.wire.up)) h (each_doubled _ k w.wire.up h.above) (each_doubled _ k w.wire.up h.lines)
+  true_line w Down_deliver p on s h = absurd p
+  true_line w (Down_lose k) p on s h = true_with_down w (without k w.wire.down) (ltb k (length w.wire.down)) h (each_without _ k w.wire.down h.below) (each_without _ k w.wire.down h.coming)
+  true_line w (Down_repeat k) p on s h = true_with_down w (doubled k w.wire.down) (ltb k (length w.wire.down)) h (each_doubled _ k w.wire.down h.below) (each_doubled _ k w.wire.down h.coming)
+  true_line w (Expire now) p on s h = absurd p
+  true_line w Restart_client p on s h = absurd p
+  true_line w Restart_instrument p on s h = absurd p
+  true_line w Nothing p on s h = true_idle w h

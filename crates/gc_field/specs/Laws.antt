@@ -10,6 +10,7 @@ use Rattle.gc_world.specs.Record.{IsBooked, IsOneForOne}
 use Rattle.gc_world.specs.World.{Ends, Numbered, Sent, Wire, World}
 use Rattle.gc_field.specs.Carried.{IsCarried}
 use Rattle.gc_field.specs.Field.{Move, Comes, IsField, moved, moves, seen}
+use Rattle.gc_field.specs.Made.{WasMadeOn}
 use Rattle.gc_field.specs.Meaning.{client_after}
 use Rattle.gc_field.specs.Once.{ActsOnce}
 
@@ -38,13 +39,17 @@ module _ {State : Type 0} (width : ℕ) (ends : Ends State) (state : State) (ms 
     -- the call of request m
     pub accounted : map of_settled left.wire.settled ++ map of_pending left.client.waiting ≡ map asked left.wire.sent
     pub one_for_one : IsOneForOne left.wire.sent left.wire.settled
-    -- its own: an answer at place m is a line that the instrument made for request m as it executed that very call; but for the first
-    -- request, which an instrument that kept an older reply with its id may have answered with that
+    -- its own: an answer at place m is among the lines that the instrument made for request m, and is its reply to that very call; but for
+    -- the first request, which an instrument that kept an older reply with its id may have answered with that
     pub booked :
         (m : ℕ) (s : Settlement) → 0 < m → slice_get left.wire.settled m ≡ Some s → IsBooked ends Good left.wire.made m s
     -- and it was executed here, and not before the client began
     pub executed :
         (m : ℕ) (s : Settlement) (line : List ℕ) → 0 < m → slice_get left.wire.settled m ≡ Some s → s.outcome ≡ Answered line → WasExecuted left.wire.executed m
+    -- made on it: its line was made on executing request m. At one of these moves that request, with this call, reached the instrument,
+    -- which executed it, and this line was its reply
+    pub made_on :
+        (m : ℕ) (s : Settlement) (line : List ℕ) → 0 < m → slice_get left.wire.settled m ≡ Some s → s.outcome ≡ Answered line → WasMadeOn width ends state ms m s.call line
     -- acts once: between two starts of the instrument each request is executed at most once, in the order of sending
     pub once : ActsOnce left.wire.executed left.wire.starts
     -- agreement: all is as with a client that is told the number of each reply's request

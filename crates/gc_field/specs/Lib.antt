@@ -3,6 +3,7 @@ pub mod Once
 pub mod Meaning
 pub mod Carried
 pub mod Fronts
+pub mod Made
 pub mod Laws
 pub mod Stretches
 pub mod Alone

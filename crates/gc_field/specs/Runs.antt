@@ -1,5 +1,5 @@
 -- A station in the field, this project's own: its runs, the line over all of its connections, and an instrument. Each answer that it writes
--- down was made for the very request of that cycle and place, as the instrument executed it.
+-- down was made on executing the very request of that cycle and place.
 use Rattle.std.specs.Prelude.{◌≡◌, ℕ, ◌<◌, ◌≤◌, Bool, false, ◌||◌, if◌then◌else◌, nat_le, List, [], ◌∷◌, ◌++◌, length, map, Some, slice_get}
 use Rattle.std.specs.List.{AllByRecursion}
 use Rattle.gc_catalogue.specs.declared.answer.Reading.{Reading}
@@ -23,6 +23,7 @@ use Rattle.gc_world.specs.Record.{IsReplyTo}
 use Rattle.gc_world.specs.World.{Numbered, Sent, World}
 use Rattle.gc_field.specs.Field.{Move, Sends, Tells, Comes, ArePossible, seen}
 use Rattle.gc_field.specs.Laws.{IsFaithful, WasExecuted, asked, left}
+use Rattle.gc_field.specs.Made.{WasMadeOn}
 use Rattle.gc_field.specs.Meaning.{Means}
 use Rattle.gc_field.specs.Stretches.{Stretch}
 
@@ -44,7 +45,7 @@ AreSentAs commands (p ∷ ps) (s ∷ ss) = AreOf commands p.marks (map asked (wo
 AreSentAs commands _ _ = ⊥
 
 -- where an answer comes from: in one of the stretches, request m is the command of the record's cycle and place; this line, which the
--- instrument made for request m as it executed that command's call, settled it; and that is the record
+-- instrument made on executing that very request, settled it; and that is the record
 pub record IsItsOwn (commands : List Task) (ps : List Part) (ss : List (Stretch State)) (r : Record) (line : List ℕ) : Type 0 where
   pub k : ℕ
   pub part : Part
@@ -62,6 +63,9 @@ pub record IsItsOwn (commands : List Task) (ps : List Part) (ss : List (Stretch 
   pub made : (j : ℕ) × (slice_get (world stretch).wire.made j ≡ Some (record { number = m; line = line }))
   pub reply : IsReplyTo ends IsFittingState task.command.call line
   pub executed : WasExecuted (world stretch).wire.executed m
+  -- the line was made on executing that very request: at one of the stretch's moves request m, with the command's call, reached the
+  -- instrument, which executed it, and this line was its reply
+  pub made_on : WasMadeOn WINDOW ends stretch.state stretch.moves m task.command.call line
 
 abbrev pub IsOwnAnswer : List Task → List Part → List (Stretch State) → Record → Type 0
 IsOwnAnswer commands ps ss r = (line : List ℕ) → answer_of r.end ≡ Some line → IsItsOwn commands ps ss r line
@@ -103,7 +107,7 @@ written_over reads _ _ = []
 
 -- what holds of it
 pub record IsRunFaithful (plan : Plan) (commands : List Task) (scope : Scope) (acts : List Act) (stretches : List (Stretch State)) : Type 0 where
-  -- its own: the answer of each record was made for the request of that very cycle and place
+  -- its own: the answer of each record was made on executing the request of that very cycle and place
   pub own : AllByRecursion (IsOwnAnswer commands (parts_of plan commands (opening plan scope) acts) stretches) (stood plan commands scope acts).records
   -- one for one: the records and what waits are the commands sent, and those written down without being sent, in order, each once
   pub one_for_one : EachOnce plan commands scope acts

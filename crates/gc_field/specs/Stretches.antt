@@ -25,17 +25,17 @@ steps_over (s ∷ next ∷ others) = seen s.moves ++ Restart ∷ steps_over (nex
 
 -- what it settles: that of each stretch, and behind each but the last what waits, as lost
 abbrev pub settled_over : {State : Type 0} → ℕ → Ends State → List (Stretch State) → List Settlement
-settled_over width ends [] = []
-settled_over width ends (s ∷ []) = (left width ends s.state s.moves).wire.settled
-settled_over width ends (s ∷ next ∷ others) =
-    let w = left width ends s.state s.moves in
-    (w.wire.settled ++ map lost w.client.waiting) ++ settled_over width ends (next ∷ others)
+settled_over width e [] = []
+settled_over width e (s ∷ []) = (left width e s.state s.moves).wire.settled
+settled_over width e (s ∷ next ∷ others) =
+    let w = left width e s.state s.moves in
+    (w.wire.settled ++ map lost w.client.waiting) ++ settled_over width e (next ∷ others)
 
 -- and the client behind it: that of the last stretch, since a restart leaves a new one
 abbrev pub client_over : {State : Type 0} → ℕ → Ends State → List (Stretch State) → ById
-client_over width ends [] = fresh
-client_over width ends (s ∷ []) = (left width ends s.state s.moves).client
-client_over width ends (s ∷ next ∷ others) = client_over width ends (next ∷ others)
+client_over width e [] = fresh
+client_over width e (s ∷ []) = (left width e s.state s.moves).client
+client_over width e (s ∷ next ∷ others) = client_over width e (next ∷ others)
 
 -- each stretch is possible, from its beginning on, and its first request goes out alone
 abbrev pub ArePossible : {State : Type 0} → ℕ → Ends State → (State → Type 0) → List (Stretch State) → Type 0

@@ -5,6 +5,7 @@ use Rattle.gc_lines.specs.Lines.{with_end}
 use Rattle.gc_catalogue.specs.declared.answer.Answer.TheVariants.{Long}
 use Rattle.gc_catalogue.specs.declared.answer.Reading.TheVariants.{Value}
 use Rattle.gc_catalogue.specs.declared.call.Call.TheVariants.{NullProc, InstrumentNo}
+use Rattle.gc_client.specs.declared.window.TheConstants.{WINDOW}
 use Rattle.gc_instrument.specs.State.{State, simulator_opening}
 use Rattle.gc_texts.specs.declared.tasks.Task.{Task}
 use Rattle.gc_texts.specs.Endings as end
@@ -14,8 +15,10 @@ use Rattle.gc_links.specs.Acts.{Act, Told, Put, Gave, Silent, Closed, Opened}
 use Rattle.gc_station.specs.Progressing.{is_over}
 use Rattle.gc_station.specs.Runs.{stood}
 use Rattle.gc_station.specs.Scopes.{Scope}
+use Rattle.gc_world.specs.Clients.{ends}
 use Rattle.gc_world.specs.World.{Up_deliver}
 use Rattle.gc_field.specs.Field.{Move, Sends, Tells, Comes, OnLine}
+use Rattle.gc_field.specs.Made.{WasMadeOn}
 use Rattle.gc_field.specs.Runs.{IsInField}
 use Rattle.gc_field.specs.Stretches.{Stretch}
 
@@ -80,13 +83,15 @@ moves =
 abbrev pub stretches : List (Stretch State)
 stretches = record { state = simulator_opening; moves = moves } ∷ record { state = simulator_opening; moves = [] } ∷ []
 
--- it is a run in the field, behind which no act follows, and has written the command's answer down
+-- it is a run in the field, behind which no act follows; it has written the command's answer down, and that was made on executing the
+-- command's request
 pub record IsAnsweredInField : Type 0 where
   pub field : IsInField plan commands scope acts stretches
   pub over : is_over (stood plan commands scope acts).progress ≡ true
   pub records :
       (stood plan commands scope acts).records
       ≡ record { sent = Some 15; utc = 20; cycle = 1; place = 0; command = record { target = 7; call = InstrumentNo }; end = end.Answered (Some (Long (pos 123456))) answer } ∷ []
+  pub made_on : WasMadeOn WINDOW ends simulator_opening moves 1 InstrumentNo answer
 
 abbrev pub SomeRunIsInField : Type 0
 SomeRunIsInField = IsAnsweredInField

@@ -54,6 +54,7 @@ module _ (width : ℕ) where
         made = λ some. (f.booked m x some e line is).0;
         reply = λ some. (f.booked m x some e line is).1;
         executed = λ some. f.executed m x line some e is;
+        made_on = λ some. f.made_on m x line some e is;
       }
 
   -- what a later one did
@@ -72,6 +73,7 @@ module _ (width : ℕ) where
         made = o.made;
         reply = o.reply;
         executed = o.executed;
+        made_on = o.made_on;
       }
 
   -- what is lost is no answer

@@ -10,6 +10,7 @@ use Rattle.gc_world.specs.Clients.{ends}
 use Rattle.gc_world.specs.Record.{IsReplyTo}
 use Rattle.gc_world.specs.World.{Sent, World}
 use Rattle.gc_field.specs.Laws.{IsFaithful, WasExecuted, asked, left}
+use Rattle.gc_field.specs.Made.{WasMadeOn}
 use Rattle.gc_field.specs.Stretches.{Stretch, steps_over, settled_over, client_over, ArePossible}
 use Rattle.geocom_c.specs.Following.{Follows}
 use Rattle.geocom_c.specs.Steps.{AreSteps}
@@ -20,7 +21,7 @@ abbrev pub world : ℕ → Stretch State → World ById State
 world width s = left width ends s.state s.moves
 
 -- where an answer comes from: it settled request m of a stretch, which has its target and its call; and unless that is the first request
--- of the stretch, the instrument made this line for request m, as it executed that very call
+-- of the stretch, the instrument made this line on executing that very request
 pub record IsItsOwn (width : ℕ) (stretches : List (Stretch State)) (s : Settlement) (line : List ℕ) : Type 0 where
   pub k : ℕ
   pub stretch : Stretch State
@@ -33,6 +34,9 @@ pub record IsItsOwn (width : ℕ) (stretches : List (Stretch State)) (s : Settle
   pub made : 0 < m → (j : ℕ) × (slice_get (world width stretch).wire.made j ≡ Some (record { number = m; line = line }))
   pub reply : 0 < m → IsReplyTo ends IsFittingState s.call line
   pub executed : 0 < m → WasExecuted (world width stretch).wire.executed m
+  -- and it was made on executing that very request: at one of the stretch's moves request m, with this call, reached the instrument,
+  -- which executed it, and this line was its reply
+  pub made_on : 0 < m → WasMadeOn width ends stretch.state stretch.moves m s.call line
 
 abbrev pub IsOwnAnswer : ℕ → List (Stretch State) → Settlement → Type 0
 IsOwnAnswer width stretches s = (line : List ℕ) → s.outcome ≡ Answered line → IsItsOwn width stretches s line

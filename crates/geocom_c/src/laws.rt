@@ -10,7 +10,7 @@ pub fn calls_are_steps()
 {}
 
 /// There may be any number of connections, and the instrument may start anew at any time. Each answer that the library books
-/// was made by the instrument for that very request. Of the first request behind each restart, which goes out alone, that
+/// was made by the instrument on executing that very request. Of the first request behind each restart, which goes out alone, that
 /// isn't said. What is settled, and the client behind it, are those of the field.
 pub fn answers_are_their_own()
     ensures { AnswersAreTheirOwn }

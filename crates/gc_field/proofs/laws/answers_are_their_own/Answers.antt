@@ -6,4 +6,4 @@ use Rattle.gc_field.proofs.Faithful.{faithful}
 use Rattle.gc_field.proofs.laws.answers_are_their_own.Goals as goal
 
 pub returns : goal.returns
-returns c = λ width narrow state good ms field. faithful ends (λ line. refl) IsFittingState exchange kept_of keeper refl width narrow state good ms field.possible field.alone
+returns c = λ width narrow state good ms field. faithful ends (λ line. refl) IsFittingState exchange kept_of keeper width narrow state good ms field.possible field.alone

@@ -10,5 +10,5 @@ use Rattle.gc_field.proofs.laws.stations_answers_are_their_own.Goals as goal
 
 pub returns : goal.returns
 returns c = λ state good acts ms carried.
-    let f = faithful ends (λ line. refl) IsFittingState exchange kept_of keeper refl 7 (omega arith) state good ms carried.field.possible carried.field.alone in
+    let f = faithful ends (λ line. refl) IsFittingState exchange kept_of keeper 7 (omega arith) state good ms carried.field.possible carried.field.alone in
     record { faithful = f; client = client_is (seen ms) begun ∙ f.stands }

@@ -8,5 +8,5 @@ use Rattle.gc_field.proofs.laws.stretches_are_faithful.Goals as goal
 
 pub returns : goal.returns
 returns c = λ width narrow ss possible. stretches width ends IsFittingState (λ line. refl)
-    (λ state good ms field. faithful ends (λ line. refl) IsFittingState exchange kept_of keeper refl width narrow state good ms field.possible field.alone)
+    (λ state good ms field. faithful ends (λ line. refl) IsFittingState exchange kept_of keeper width narrow state good ms field.possible field.alone)
     ss possible

@@ -12,5 +12,5 @@ use Rattle.geocom_c.proofs.laws.answers_are_their_own.Goals as goal
 pub returns : goal.returns
 returns c = λ width iw calls x rest follows ss are possible. owned width x ss (reached_by width calls x rest (steps_over ss) follows are)
     (stretches width ends IsFittingState (λ line. refl)
-    (λ state good ms field. faithful ends (λ line. refl) IsFittingState exchange kept_of keeper refl width iw.1 state good ms field.possible field.alone)
+    (λ state good ms field. faithful ends (λ line. refl) IsFittingState exchange kept_of keeper width iw.1 state good ms field.possible field.alone)
     ss possible)

@@ -1,0 +1,25 @@
+-- A line that was made on executing a request, this project's own.
+use Rattle.std.specs.Prelude.{◌≡◌, ℕ, true, List, ◌∷◌, ◌++◌}
+use Rattle.gc_catalogue.specs.declared.call.Call.{Call}
+use Rattle.gc_world.specs.Clients.{by_ids, ids_open}
+use Rattle.gc_world.specs.World.{Ends, Numbered, Request, Up_deliver, Wire}
+use Rattle.gc_field.specs.Field.{Move, OnLine, moved}
+
+module _ {State : Type 0} (width : ℕ) (ends : Ends State) (state : State) where
+  -- the wire as these moves leave it
+  abbrev pub wire_behind : List Move → Wire State
+  wire_behind ms = (moved ends (by_ids width ends) ms (ids_open state)).wire
+
+  -- at one of these moves request m, with this call, reaches the instrument; it executes the call, in the state in which it is by then;
+  -- and this line is its reply
+  pub record WasMadeOn (ms : List Move) (m : ℕ) (call : Call) (line : List ℕ) : Type 0 where
+    -- the moves before that one, and those behind it
+    pub front : List Move
+    pub later : List Move
+    pub split : ms ≡ front ++ OnLine Up_deliver ∷ later
+    -- request m is the first of those under way to the instrument
+    pub id : ℕ
+    pub rest : List (Numbered Request)
+    pub reaches : (wire_behind front).up ≡ record { number = m; line = record { id = id; call = call } } ∷ rest
+    pub executed : (ends.handed (wire_behind front).state id call).executed ≡ true
+    pub reply : line ≡ (ends.handed (wire_behind front).state id call).reply
