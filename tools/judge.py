@@ -3,7 +3,7 @@ right one for its request; none came past its deadline; each first reply that ca
 went out behind one that wasn't answered well, or over another connection, and else it did; a cycle is missed whole, and only where
 the next was due before it could begin; the counts at the end are those of the rows; all rows have the beginning
 of one run, and a command that was sent has its moment, between that beginning and its end; and what is told besides has the form and
-the rests that it has to have: a cycle that wasn't done in time is told once, in order.
+the pauses that it has to have: a cycle that wasn't done in time is told once, in order.
 
     judge.py WRITTEN MESSAGES LOG plain|tag DEADLINE QUIET EVERY CYCLES COMMANDS VALUES
 

@@ -6,7 +6,7 @@ request that ended. It wants python3-serial, and geocom.py with libgeocom.so on 
 
 Ids go on over connections. A new one is made where the port fails or is dead: half a line is dropped, the line rests, a
 line feed goes out, and what comes is dropped until the line is quiet. At its start, and where seven requests are given up
-and the line is quiet, it begins anew, with a null procedure that is answered alone. `docs/STATION.md` has the premises.
+and the line is quiet, it begins anew, with a null procedure that is answered alone. `docs/PROMISE.md` has the premises.
 """
 
 import argparse
