@@ -16,7 +16,7 @@ use Rattle.gc_lines.proofs.Passing.{Takes}
 use Rattle.gc_catalogue.specs.declared.answer.Reading.{Reading}
 use Rattle.gc_catalogue.specs.declared.call.Call.{Call}
 use Rattle.gc_client.specs.declared.pending.Pending.{Pending}
-use Rattle.gc_client.specs.Rule.{ById, Windowed, Settled, Settlement, hears, id_settled, settle, lost, restarts, place_in, deadlines, expires, expired}
+use Rattle.gc_client.specs.Rule.{ById, Windowed, Settled, Settlement, hears, id_settled, settle, lost, restarts, place_in, expires, expired}
 use Rattle.gc_links.specs.Acts.{Act, Tells}
 use Rattle.gc_links.specs.declared.link.Moment.{Moment}
 use Rattle.gc_station.specs.declared.mark.Mark.{Mark}
