@@ -1,4 +1,5 @@
 mod Measured
 mod Linkless
+mod Played
 mod Refused
 mod Started
