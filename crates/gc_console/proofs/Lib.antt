@@ -1,3 +1,4 @@
 mod Measured
 mod Linkless
+mod Played
 mod Started

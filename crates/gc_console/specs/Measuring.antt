@@ -1,15 +1,15 @@
 -- What a station does with the tasks of a text, in front of its records and with them, and what is told of its end: this project's own.
 use Rattle.std.specs.Prelude.{◌≡◌, ℕ, Bool, true, ◌⊎◌, List, [], ◌++◌, if◌then◌else◌, Option, Result, Ok, Err, codes}
 use Rattle.std.specs.Fmt.{decimal}
-use Rattle.std.specs.Io.KnownBytes.{Appends}
+use Rattle.std.specs.Io.KnownBytes.{Consumes, Appends}
 use Rattle.gc_texts.specs.WholeTexts.{Input}
 use Rattle.gc_catalogue.specs.declared.answer.Reading.{Reading}
 use Rattle.gc_catalogue.specs.declared.call.Call.{Call}
 use Rattle.gc_console.specs.Choices.{plan_of}
 use Rattle.gc_console.specs.Stops.{stop_text, end_of_run}
 use Rattle.gc_console.specs.TaskTexts.{GivesTasks, RefusesTasks}
-use Rattle.gc_console.specs.declared.choice.Choice.{Choice}
 use Rattle.gc_console.specs.declared.layout.Layout.{Layout}
+use Rattle.gc_console.specs.declared.station.Station.{Station}
 use Rattle.gc_console.specs.declared.stop.Stop.{Stop}
 use Rattle.gc_console.specs.declared.stop.Stop.TheVariants.{Text, Line, Run}
 use Rattle.gc_lines.specs.Ports.{TakesFront}
@@ -17,6 +17,7 @@ use Rattle.gc_links.specs.Acts.{Act}
 use Rattle.gc_station.specs.Records.{Record}
 use Rattle.gc_station.specs.Runs.{Ran, LastsBut}
 use Rattle.gc_station.specs.Scopes.{AreReadings}
+use Rattle.gc_station.specs.declared.plan.Plan.{Plan}
 use Rattle.gc_station.specs.declared.tally.Tally.{Tally}
 use Rattle.gc_texts.specs.Names.{name_text}
 use Rattle.gc_texts.specs.Records.{record_text, head_text}
@@ -47,8 +48,18 @@ form_of_rows Json = Json
 abbrev pub front_text : Layout → List ℕ
 front_text layout = if layout.headed then [] else head_text layout.form
 
--- what is seen of where a station works: what the link told, what the sink took, and what stands on the messages, where these are known
+-- a station whose rows stand behind those of a file
+abbrev pub appended : Station → Station
+appended station = record station { layout = record station.layout { form = form_of_rows station.layout.form; headed = true } }
+
+-- a station as a run that began at this moment
+abbrev pub begun_at : ℕ → Station → Station
+begun_at run station = record station { layout = record station.layout { run = run } }
+
+-- what is seen of where a station works: its source, and what the link told, what the sink took, and what stands on the messages, where
+-- these are known
 pub record Places : Type 0 where
+  pub input : Input
   pub acts : Option (List Act)
   pub taken : Option (List ℕ)
   pub messages : Option (List ℕ)
@@ -61,27 +72,58 @@ pub record FailsInFront (layout : Layout) (old new : Places) (result : Result Ta
   pub acts : new.acts ≡ old.acts
   pub messages : new.messages ≡ old.messages
 
--- the sink took what stands in front of the records, and then what a run over the link writes down of these tasks, by the plan of a
--- choice, for whatever function says what each reply says of its call
-pub record RunsBehind (layout : Layout) (choice : Choice) (names : List Name) (tasks : List Task) (turns : ℕ) (old new : Places) (result : Result Tally Stop) : Type 0 where
+-- what a run measures: these tasks, by this plan, in at most so many acts, with its records in this layout, where targets have these names
+pub record Course : Type 0 where
+  pub plan : Plan
+  pub tasks : List Task
+  pub turns : ℕ
+  pub layout : Layout
+  pub names : List Name
+
+-- what a station measures of a text with these tasks and names
+abbrev pub course_of : Station → ℕ → List Task → List Name → Course
+course_of station turns tasks names =
+    record { plan = plan_of station.choice tasks; tasks = tasks; turns = turns; layout = station.layout; names = names }
+
+-- the sink took what stands in front of the records, and then what a run over the link writes down of its tasks, for whatever function
+-- says what each reply says of its call
+pub record RunsBehind (course : Course) (old new : Places) (result : Result Tally Stop) : Type 0 where
   pub between : Option (List ℕ)
-  pub front : Appends old.taken between (front_text layout)
+  pub front : Appends old.taken between (front_text course.layout)
   pub end : Result Tally RunFault
   pub is : result ≡ end_of_run end
   pub ran : (reads : Call → List ℕ → Reading) → AreReadings reads
-      → Ran (plan_of choice tasks) tasks (record { turns = turns; reads = reads }) (text_in layout names) old.acts new.acts between new.taken end
+      → Ran course.plan course.tasks (record { turns = course.turns; reads = reads }) (text_in course.layout course.names) old.acts new.acts between new.taken end
+
+-- nothing was done over the link, and nothing written
+pub record IsUnused (old new : Places) : Type 0 where
+  pub acts : new.acts ≡ old.acts
+  pub taken : new.taken ≡ old.taken
+  pub messages : new.messages ≡ old.messages
 
 -- the text that a source gave was refused, and then nothing was done over the link, and nothing written; or its tasks were measured
-abbrev pub Measures : List ℕ → Input → Input → Layout → Choice → ℕ → Places → Places → Result Tally Stop → Type 0
-Measures given input_old input_new layout choice turns old new result =
-    ((stop : Stop) × (result ≡ Err stop) × RefusesTasks given input_old input_new stop × (new ≡ old))
-    ⊎ ((tasks : List Task) × (names : List Name) × GivesTasks given input_old input_new choice.deadline choice.chained tasks names
-    × (FailsInFront layout old new result ⊎ RunsBehind layout choice names tasks turns old new result))
+abbrev pub Measures : List ℕ → Station → ℕ → Places → Places → Result Tally Stop → Type 0
+Measures given station turns old new result =
+    ((stop : Stop) × (result ≡ Err stop) × RefusesTasks given old.input new.input stop × IsUnused old new)
+    ⊎ ((tasks : List Task) × (names : List Name) × GivesTasks given old.input new.input station.choice tasks names
+    × (FailsInFront station.layout old new result ⊎ RunsBehind (course_of station turns tasks names) old new result))
+
+-- a source gave a text to its end, and the run over its tasks is done
+abbrev pub IsMeasured : Station → Places → Places → Type 0
+IsMeasured station old new = (given : List ℕ) × Consumes old.input.remaining new.input.remaining given
+    × ((tasks : List Task) × (names : List Name) × (tally : Tally)
+    × GivesTasks given old.input new.input station.choice tasks names
+    × RunsBehind (course_of station 18446744073709551615 tasks names) old new (Ok tally))
+
+-- what a source gave was measured, by a run that began at some moment
+abbrev pub MeasuresBegun : Station → Places → Places → Result Tally Stop → Type 0
+MeasuresBegun station old new result = (run : ℕ) × (given : List ℕ) × Consumes old.input.remaining new.input.remaining given
+    × Measures given (begun_at run station) 18446744073709551615 old new result
 
 -- where the text was refused nothing was done over the link, and nothing written
 abbrev pub IsUntouched : Places → Places → Result Tally Stop → Type 0
-IsUntouched old new (Err (Text fault)) = new ≡ old
-IsUntouched old new (Err (Line n trouble)) = new ≡ old
+IsUntouched old new (Err (Text fault)) = IsUnused old new
+IsUntouched old new (Err (Line n trouble)) = IsUnused old new
 IsUntouched old new _ = Unit {0}
 
 -- all records last, but where the text was refused or the sink failed

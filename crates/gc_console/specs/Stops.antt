@@ -1,5 +1,5 @@
 -- Why a station that measures the commands of a text stopped before its end, and what the program tells of it: this project's own.
-use Rattle.std.specs.Prelude.{ℕ, List, ◌++◌, Option, Some, None, Result, Ok, Err}
+use Rattle.std.specs.Prelude.{◌≡◌, ℕ, List, ◌++◌, Option, Some, None, Result, Ok, Err}
 use Rattle.gc_ask.specs.Places.{fault_of_reason}
 use Rattle.gc_console.specs.declared.stop.Stop.{Stop}
 use Rattle.gc_console.specs.declared.stop.Stop.TheVariants.{Text, Line, Run}
@@ -35,3 +35,7 @@ with_fault (Err stop) = Err (fault_of_stop stop)
 abbrev pub fault_without_link : Option Unusable → RunFault
 fault_without_link (Some unusable) = fault_of_reason (Some unusable)
 fault_without_link None = Clock
+
+-- a station has no link: for some reason a device can't be used, or the clock can't be read
+abbrev pub IsLinkless : {X : Type 0} → Result X Stop → Type 0
+IsLinkless end = (reason : Option Unusable) × (end ≡ Err (Run (fault_without_link reason)))

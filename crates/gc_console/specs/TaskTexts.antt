@@ -1,5 +1,6 @@
 -- A station's text that is read whole: this project's own.
-use Rattle.std.specs.Prelude.{◌≡◌, ℕ, Bool, List}
+use Rattle.std.specs.Prelude.{◌≡◌, ℕ, List}
+use Rattle.gc_console.specs.declared.choice.Choice.{Choice}
 use Rattle.gc_console.specs.declared.stop.Stop.{Stop}
 use Rattle.gc_console.specs.declared.stop.Stop.TheVariants.{Text, Line}
 use Rattle.gc_texts.specs.LineForms.{line_at}
@@ -21,7 +22,7 @@ IsRefusal text fault stop = stop ≡ Text fault
 abbrev pub RefusesTasks : List ℕ → Input → Input → Stop → Type 0
 RefusesTasks given old new stop = (fault : RunFault) × RefusesText TaskFault given old new fault × IsRefusal given fault stop
 
--- a source gave a station's text, with these tasks and names, where this deadline and this mode hold before any line
-pub record GivesTasks (given : List ℕ) (old new : Input) (deadline : ℕ) (chained : Bool) (tasks : List Task) (names : List Name) : Type 0 where
+-- a source gave a station's text, with these tasks and names, where the deadline and the mode of this choice hold before any line
+pub record GivesTasks (given : List ℕ) (old new : Input) (choice : Choice) (tasks : List Task) (names : List Name) : Type 0 where
   pub read : WasRead given old new
-  pub are : IsTasks given deadline chained tasks names
+  pub are : IsTasks given choice.deadline choice.chained tasks names

@@ -4,10 +4,12 @@ ghost use Rattle.std.specs.Prelude.{◌≡◌, ◌≤◌, false, IfOk};
 ghost use Rattle.std.specs.Process.{exit_status};
 ghost use Rattle.gc_console.specs.Streams.{are_open, TellsClosed};
 
-use crate::ports::{ask_place, loop_port};
+use crate::ask::ask_place;
+use crate::looped::loop_port;
 use crate::recording::{Recording, append_at, measure_at};
 use crate::standard::Standard;
-use crate::station::Station;
+use crate::station::{Site, Station};
+use crate::streams::Streams;
 use gc_lines::{Lasting, Source};
 use gc_links::Place;
 use std::alloc::Global;
@@ -28,64 +30,68 @@ pub(crate) enum Asking<'a> {
     Ask {
         place: Place<'a>,
     },
-    // With its records in a file, and with a log, where these are named.
+    // With its records in a file, where one is named.
     Station {
-        place: Place<'a>,
+        site: Site<'a>,
         station: Station,
         recording: Option<Recording<'a>>,
-        log: Option<&'a str>,
     },
 }
 
-/// Asks, and tells how it ended; or tells that a standard stream is closed. The sink is handed back.
+/// Asks, and tells how it ended; or tells that a standard stream is closed. The streams are handed back.
 pub(crate) fn run_asking<
     R: Net<Listener = TcpListener, Stream = TcpStream> + Clock + Files<File = File>,
     S: Source,
-    K: Lasting,
+    K: Lasting + Drop,
     E: Write,
 >(
     rt: &R,
     alloc: Global,
     standard: Standard,
     asking: Asking<'_>,
-    source: &mut S,
-    mut sink: K,
-    messages: &mut E,
-) -> (K, io::Result<ExitCode>)
+    mut streams: Streams<S, K, E>,
+) -> (Streams<S, K, E>, io::Result<ExitCode>)
     // Where one is closed that is told, with status 1, and nothing was read or written.
-    ensures closed { are_open standard ≡ false → IfOk result.1 (λ status. TellsClosed standard (exit_status status) (E.contents messages.old) (E.contents messages.new)) }
-    ensures untouched { are_open standard ≡ false → (S.remaining source.new ≡ S.remaining source.old)
-        × (S.reads source.new ≡ S.reads source.old) × (S.ended source.new ≡ S.ended source.old)
-        × (S.failed source.new ≡ S.failed source.old) × (result.0 ≡ sink) }
+    ensures closed { are_open standard ≡ false → IfOk result.1 (λ status. TellsClosed standard (exit_status status) (E.contents streams.messages) (E.contents result.0.messages)) }
+    ensures untouched { are_open standard ≡ false → (result.0.input ≡ streams.input) × (result.0.output ≡ streams.output) }
     ensures bound { IfOk result.1 (λ status. exit_status status ≤ 2) }
 {
     if !standard.are_open() {
-        return (sink, standard.refuse(messages));
+        let ended = standard.refuse(&mut streams.messages);
+        return (streams, ended);
     }
     match asking {
         Asking::Loop { scene } => {
-            let ended = loop_port(rt, alloc, scene, source, &mut sink, messages);
-            (sink, ended)
+            let ended = loop_port(
+                rt,
+                alloc,
+                scene,
+                &mut streams.input,
+                &mut streams.output,
+                &mut streams.messages,
+            );
+            (streams, ended)
         }
         Asking::Ask { place } => {
-            let ended = ask_place(rt, alloc, place, source, &mut sink, messages);
-            (sink, ended)
+            let ended = ask_place(
+                rt,
+                alloc,
+                place,
+                &mut streams.input,
+                &mut streams.output,
+                &mut streams.messages,
+            );
+            (streams, ended)
         }
         Asking::Station {
-            place,
+            site,
             station,
             recording,
-            log,
         } => {
             let station = station.watched(standard.terminal);
             match recording {
-                None => measure_at(rt, alloc, place, station, log, source, sink, messages),
-                Some(recording) => {
-                    let ended = append_at(
-                        rt, alloc, place, station, recording, log, source, messages,
-                    );
-                    (sink, ended)
-                }
+                None => measure_at(rt, alloc, site, station, streams),
+                Some(recording) => append_at(rt, alloc, site, station, recording, streams),
             }
         }
     }

@@ -3,9 +3,11 @@
 ghost use Rattle.std.specs.Prelude.{◌≡◌, ◌≤◌, IfOk};
 ghost use Rattle.std.specs.Io.KnownBytes.{Appends};
 ghost use Rattle.std.specs.Process.{exit_status};
+ghost use Rattle.gc_lines.specs.Answering.{fault_text};
 ghost use Rattle.gc_texts.specs.Faults.{run_fault_text, Tells};
 ghost use Rattle.gc_console.specs.Refusals.{range_line, place_line};
 
+use gc_lines::{ServeFault, Served};
 use gc_texts::RunFault;
 use std::io::{self, Write};
 use std::process::ExitCode;
@@ -49,6 +51,22 @@ pub(crate) fn end_of<E: Write>(end: Result<(), RunFault>, messages: &mut E) -> i
         Ok(()) => Ok(ExitCode::SUCCESS),
         Err(fault) => {
             fault.tell(messages)?;
+            Ok(ExitCode::from(1))
+        }
+    }
+}
+
+/// Tells how serving or checking ended.
+pub(crate) fn tell_end<E: Write>(
+    end: Result<Served, ServeFault>,
+    messages: &mut E,
+) -> io::Result<ExitCode>
+    ensures told { IfOk result (λ status. Tells fault_text end (exit_status status) (E.contents messages.old) (E.contents messages.new)) }
+{
+    match end {
+        Ok(_) => Ok(ExitCode::SUCCESS),
+        Err(fault) => {
+            writeln!(messages, "geocom: {fault}")?;
             Ok(ExitCode::from(1))
         }
     }

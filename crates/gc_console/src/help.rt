@@ -17,7 +17,7 @@ A fault is one line on standard error, `geocom: fault N`:
   41  a scene has more than 32 targets
   42  the input, the connection, or the file of a scene could not be read
   43  the output, or the connection, could not be written: R whole lines went out, and B bytes of the next
-  44  as many reads were made as are allowed, and none was the end
+  44  as many reads, or acts of a station, were made as are allowed, and none was the end
   45  the other end closed the connection before a request was settled
   46  no reply came any more, though the connection stood
   47  the clock could not be read, or stands before 1970
@@ -25,7 +25,7 @@ A fault is one line on standard error, `geocom: fault N`:
   52  no memory was found
   53  the schedule, the commands, or a scene have more than 65536 bytes
   54  a port could not be bound, a name not found, no connection made or accepted, or no device opened
-  55  the settlements, or this text, could not be written
+  55  the settlements, the records, or this text, could not be written
   56  standard input, output or error is closed: `station`, `ask` and `loop` did nothing
   57  the log could not be opened, or is held
   58  what has the path of a device is no terminal

@@ -1,20 +1,23 @@
 //! The program `geocom`: its command line, and a station over its ports; the engines behind the other subcommands under one name.
 #![tactic(auto)]
 
+mod ask;
 mod asking;
+mod check;
 mod choice;
+mod drill;
 mod ending;
+mod exec;
 mod help;
-pub mod laws;
 mod layout;
 mod logging;
+mod looped;
 mod measure;
 mod oddity;
-mod ports;
 mod program;
 mod recording;
 mod scene;
-mod serving;
+mod serve;
 mod signs;
 mod standard;
 mod station;
@@ -25,22 +28,17 @@ mod version;
 mod words;
 
 pub use choice::{Choice, Watch};
-pub use gc_ask::{
-    Keeping, MOST_CONNECTIONS, ask_at, keep_device, keep_tcp, loop_tcp, loop_tcp_on, run_ask,
-    run_loop, run_loop_on, serve_device, serve_tcp,
-};
-pub use gc_engines::{
-    read_scene, read_schedule, run_check, run_check_log, run_drill, run_drill_on, run_drill_width,
-    run_exec,
-};
-pub use gc_instrument::{ServeFault, Served, serve};
-pub use gc_links::{DeviceLink, Link, Place, PlacedLink, TcpLink, place_of};
-pub use gc_station::{Plan, Tally};
-pub use gc_texts::{Command, Form, RunFault, TEXT_LIMIT, Task, Trouble, read_commands};
+pub use gc_ask::{ask_at, loop_tcp, run_ask, run_loop, serve_tcp};
+pub use gc_engines::{read_schedule, run_check, run_drill, run_drill_width, run_exec};
+pub use gc_instrument::{ServeFault, Served};
+pub use gc_links::Link;
+pub use gc_station::Tally;
+pub use gc_texts::{Command, Form, RunFault, Trouble, read_commands};
 pub use layout::Layout;
 pub use measure::run_station_text;
 pub use oddity::Oddities;
 pub use program::run_program;
 pub use standard::Standard;
+pub use station::Station;
 pub use stop::Stop;
-pub use version::VERSION;
+pub use streams::Streams;

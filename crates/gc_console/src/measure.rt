@@ -1,11 +1,13 @@
 //! A station's text, read from a source, measured over a link, and its records written into a sink, all in one form.
 
-ghost use Rattle.std.specs.Prelude.{◌+◌, ◌≤◌, ℕ, List, length, OnOk, IfErr};
+ghost use Rattle.std.specs.Prelude.{◌≡◌, ◌+◌, ◌≤◌, ℕ, List, length, OnOk, IfErr};
 ghost use Rattle.std.specs.Io.KnownBytes.{Consumes, Appends};
 ghost use Rattle.gc_catalogue.specs.declared.answer.Reading.{Reading};
 ghost use Rattle.gc_catalogue.specs.declared.call.Call.{Call};
+ghost use Rattle.gc_console.specs.Choices.{plan_of};
 ghost use Rattle.gc_console.specs.Measuring.{text_in, front_text, Measures, IsUntouched, AllLast, overrun_line};
 ghost use Rattle.gc_console.specs.Stops.{with_fault};
+ghost use Rattle.gc_texts.specs.WholeTexts.{input_of};
 ghost use Rattle.gc_lines.specs.Ports.{FailsWith, TakesFront};
 ghost use Rattle.gc_station.specs.Runs.{Ran, FailsAtOutput, LastsBut};
 ghost use Rattle.gc_station.specs.Scopes.{AreReadings};
@@ -16,7 +18,9 @@ use crate::choice::Choice;
 use crate::layout::Layout;
 use crate::oddity::Oddities;
 use crate::signs::Signs;
+use crate::station::Station;
 use crate::stop::Stop;
+use crate::streams::Streams;
 use crate::task_text::read_task_text;
 use gc_lines::{Lasting, PortFailed, Source, write_whole};
 use gc_links::{Link, Moment};
@@ -26,87 +30,133 @@ use std::alloc::Global;
 use std::cell::Cell;
 use std::io::{self, Write};
 
-/// Reads the whole text of a source, writes what stands in front of the records in this layout, and measures the commands over a
-/// link as the choice has it, in at most `max_turns` acts. The sink is handed back, with how the run ended.
+/// Reads the whole text of the input, writes what stands in front of the records on the output, and measures the commands over a
+/// link as the station is told, in at most `max_turns` acts. The streams are handed back, with how the run ended.
 ///
-/// Before the link is used or anything is written, `Text` comes with `Read` where the source failed, with `InputTooLong` where it
+/// Before the link is used or anything is written, `Text` comes with `Read` where the input failed, with `InputTooLong` where it
 /// gave more than 65,536 bytes, and with `Memory` where a growth was refused, and `Line` at the first line without form. `Run`
-/// comes with the faults of [`run_station`], and with `Output` where the sink failed: in front of the records, and then the link
+/// comes with the faults of [`run_station`], and with `Output` where the output failed: in front of the records, and then the link
 /// wasn't used, or at a record.
 ///
-/// A quiet time that is shorter than the longest deadline is told on `messages` at the start, and so are signs of life, each at
+/// A quiet time that is shorter than the longest deadline is told on the messages at the start, and so are signs of life, each at
 /// most once a minute, where the choice has them, and once what is noticed of the line in `oddities`. Where that can't be written
 /// the station measures on.
 pub fn run_station_text<L: Link, S: Source, K: Lasting, E: Write>(
     alloc: Global,
     link: &mut L,
-    layout: Layout,
-    choice: &Choice,
+    station: Station,
     oddities: &Cell<Oddities>,
-    source: &mut S,
-    mut sink: K,
-    messages: &mut E,
+    mut streams: Streams<S, K, E>,
     max_turns: u64,
-) -> (K, Result<Tally, Stop>)
-    // What the text was, and what of its commands was measured: what the link told, what the sink took, and why it ended.
-    ensures measures { (given : List ℕ) × Consumes (S.remaining source.old) (S.remaining source.new) given
-        × (S.reads source.new ≤ S.reads source.old + length given + end_reads (S.ended source.new))
-        × Measures given
-        (record { remaining = S.remaining source.old; reads = S.reads source.old; ended = S.ended source.old; failed = S.failed source.old })
-        (record { remaining = S.remaining source.new; reads = S.reads source.new; ended = S.ended source.new; failed = S.failed source.new })
-        layout choice.now max_turns
-        (record { acts = L.acts link.old; taken = K.taken sink; messages = E.contents messages.old })
-        (record { acts = L.acts link.new; taken = K.taken result.0; messages = E.contents messages.new })
+) -> (Streams<S, K, E>, Result<Tally, Stop>)
+    // What the text was, and what of its commands was measured: what the link told, what the output took, and why it ended.
+    ensures measures { (given : List ℕ) × Consumes (S.remaining streams.input) (S.remaining result.0.input) given
+        × (S.reads result.0.input ≤ S.reads streams.input + length given + end_reads (S.ended result.0.input))
+        × Measures given station max_turns
+        (record { input = input_of S.Source streams.input; acts = L.acts link.old; taken = K.taken streams.output; messages = E.contents streams.messages })
+        (record { input = input_of S.Source result.0.input; acts = L.acts link.new; taken = K.taken result.0.output; messages = E.contents result.0.messages })
         result.1 }
 
-    // The sink failed exactly where that is the fault.
-    ensures output { FailsAtOutput (K.failed sink) (K.failed result.0) (with_fault result.1) }
+    // The output failed exactly where that is the fault.
+    ensures output { FailsAtOutput (K.failed streams.output) (K.failed result.0.output) (with_fault result.1) }
 
-    // At each end but that of the sink all that was written lasts, as far as the sink is meant for it. That it does before each act
-    // is a clause of the private function that makes one.
-    ensures lasts { AllLast (K.lasts result.0) result.1 }
+    // At each end but that of the output all that was written lasts, as far as the output is meant for it. That it does before each
+    // act is a clause of the private function that makes one.
+    ensures lasts { AllLast (K.lasts result.0.output) result.1 }
 
-    // At most 65,537 reads of the source were answered.
-    ensures bounded { S.reads source.new ≤ S.reads source.old + (TEXT_LIMIT + 1) }
+    // At most 65,537 reads of the input were answered.
+    ensures bounded { S.reads result.0.input ≤ S.reads streams.input + (TEXT_LIMIT + 1) }
 
     // Where the text was refused nothing was done over the link, and nothing written.
     ensures untouched { IsUntouched
-        (record { acts = L.acts link.old; taken = K.taken sink; messages = E.contents messages.old })
-        (record { acts = L.acts link.new; taken = K.taken result.0; messages = E.contents messages.new })
+        (record { input = input_of S.Source streams.input; acts = L.acts link.old; taken = K.taken streams.output; messages = E.contents streams.messages })
+        (record { input = input_of S.Source result.0.input; acts = L.acts link.new; taken = K.taken result.0.output; messages = E.contents result.0.messages })
         result.1 }
 {
-    let tasks = match read_task_text(alloc, source, choice.deadline, choice.chained) {
+    let tasks = match read_task_text(alloc, &mut streams.input, &station.choice) {
         Ok(tasks) => tasks,
-        Err(stop) => return (sink, Err(stop)),
+        Err(stop) => return (streams, Err(stop)),
     };
-    let Ok(()) = write_front(&mut sink, layout) else {
-        return (sink, Err(Stop::Run(RunFault::Output)));
+    let Ok(()) = write_front(&mut streams.output, station.layout) else {
+        return (streams, Err(Stop::Run(RunFault::Output)));
     };
-    let plan = choice.plan(tasks.tasks.as_slice());
-    let _ = warn(choice, &plan, messages);
-    let signs = Signs::new(choice.watch);
     let Tasks { tasks, names } = tasks;
     let named = Tasks {
         tasks: Vec::new(alloc),
         names,
     };
-    let (sink, end, mut signs) = measure(
-        link,
-        layout,
-        &plan,
-        tasks.as_slice(),
+    let work = Work {
+        tasks,
+        named,
+        max_turns,
+    };
+    let (streams, end) = measure(link, station, work, oddities, streams);
+    match end {
+        Ok(tally) => (streams, Ok(tally)),
+        Err(fault) => (streams, Err(Stop::Run(fault))),
+    }
+}
+
+// What is measured: these tasks, in at most so many acts. The names of their targets stand beside no tasks.
+#[derive(Drop)]
+struct Work {
+    tasks: Vec<Task>,
+    named: Tasks,
+    max_turns: u64,
+}
+
+// Measures tasks over a link as a station is told, and writes their records into the output. The streams are handed back.
+fn measure<L: Link, S, K: Lasting, E: Write>(
+    link: &mut L,
+    station: Station,
+    work: Work,
+    oddities: &Cell<Oddities>,
+    streams: Streams<S, K, E>,
+) -> (Streams<S, K, E>, Result<Tally, RunFault>)
+    ensures ran { (reads : Call → List ℕ → Reading) → AreReadings reads
+        → Ran (plan_of station.choice work.tasks.items) work.tasks.items (record { turns = work.max_turns; reads = reads })
+        (text_in station.layout work.named.names.items)
+        (L.acts link.old) (L.acts link.new) (K.taken streams.output) (K.taken result.0.output) result.1 }
+    ensures output { FailsAtOutput (K.failed streams.output) (K.failed result.0.output) result.1 }
+    ensures lasts { LastsBut (K.lasts result.0.output) result.1 }
+    ensures input { result.0.input ≡ streams.input }
+{
+    let Streams {
+        input,
+        output,
+        mut messages,
+    } = streams;
+    let Work {
+        tasks,
+        named,
+        max_turns,
+    } = work;
+    let plan = station.choice.plan(tasks.as_slice());
+    let _ = warn(&station.choice, &plan, &mut messages);
+    let mut records = Records {
+        sink: output,
+        layout: station.layout,
         named,
         oddities,
-        sink,
-        signs,
+        signs: Signs::new(station.choice.watch),
         messages,
-        max_turns,
-    );
-    let _ = signs.clear(messages);
-    match end {
-        Ok(tally) => (sink, Ok(tally)),
-        Err(fault) => (sink, Err(Stop::Run(fault))),
-    }
+    };
+    let end = run_station(link, &mut records, tasks.as_slice(), &plan, max_turns);
+    let Records {
+        sink,
+        layout: _,
+        named: _,
+        oddities: _,
+        mut signs,
+        mut messages,
+    } = records;
+    let _ = signs.clear(&mut messages);
+    let streams = Streams {
+        input,
+        output: sink,
+        messages,
+    };
+    (streams, end)
 }
 
 // Tells that the quiet time that was chosen is shorter than the longest deadline, where it is.
@@ -136,46 +186,6 @@ fn write_front<K: Lasting>(sink: &mut K, layout: Layout) -> Result<(), usize>
     write_head(sink, layout.form)
 }
 
-// Measures tasks over a link, and writes their records in this layout, with these names, into a sink, which is handed back, as the
-// signs of life are.
-fn measure<L: Link, K: Lasting, E: Write>(
-    link: &mut L,
-    layout: Layout,
-    plan: &Plan,
-    tasks: &[Task],
-    named: Tasks,
-    oddities: &Cell<Oddities>,
-    sink: K,
-    signs: Signs,
-    messages: &mut E,
-    max_turns: u64,
-) -> (K, Result<Tally, RunFault>, Signs)
-    ensures ran { (reads : Call → List ℕ → Reading) → AreReadings reads
-        → Ran plan.now tasks.now (record { turns = max_turns; reads = reads }) (text_in layout named.names.items)
-        (L.acts link.old) (L.acts link.new) (K.taken sink) (K.taken result.0) result.1 }
-    ensures output { FailsAtOutput (K.failed sink) (K.failed result.0) result.1 }
-    ensures lasts { LastsBut (K.lasts result.0) result.1 }
-{
-    let mut records = Records {
-        sink,
-        layout,
-        named,
-        oddities,
-        signs,
-        messages,
-    };
-    let end = run_station(link, &mut records, tasks, plan, max_turns);
-    let Records {
-        sink,
-        layout: _,
-        named: _,
-        oddities: _,
-        signs,
-        messages: _,
-    } = records;
-    (sink, end, signs)
-}
-
 // A book of records in one layout, with the names of targets, and where signs of life are told.
 struct Records<'a, K, E> {
     sink: K,
@@ -184,7 +194,7 @@ struct Records<'a, K, E> {
     named: Tasks,
     oddities: &'a Cell<Oddities>,
     signs: Signs,
-    messages: &'a mut E,
+    messages: E,
 }
 
 impl<'a, K: Lasting, E: Write> Book for Records<'a, K, E> {
@@ -196,6 +206,7 @@ impl<'a, K: Lasting, E: Write> Book for Records<'a, K, E> {
 
     ghost lasts = { λ book. K.lasts book.sink };
 
+    // Writes a record, which counts for the signs of life also where it can't be written.
     fn write(
         &mut self,
         stamp: Stamp,
@@ -224,6 +235,7 @@ impl<'a, K: Lasting, E: Write> Book for Records<'a, K, E> {
         }
     }
 
+    // What was written lasts then as far as the sink is meant for it.
     fn keep(&mut self) -> Result<(), PortFailed> {
         match self.sink.keep() {
             Ok(()) => Ok(()),
@@ -233,15 +245,15 @@ impl<'a, K: Lasting, E: Write> Book for Records<'a, K, E> {
 
     // Where that can't be written the station measures on: what it writes of each request doesn't depend on it.
     fn sees(&mut self, sight: Sight, moment: Moment) {
-        let _ = self.signs.see(sight, moment, self.messages);
-        let _ = self.signs.tell_odd(self.oddities.get(), self.messages);
+        let _ = self.signs.see(sight, moment, &mut self.messages);
+        let _ = self.signs.tell_odd(self.oddities.get(), &mut self.messages);
     }
 
     // As signs of life are.
     fn overran(&mut self, cycle: u64) {
         if self.signs.may_tell_late() {
-            let _ = self.signs.clear(self.messages);
-            let _ = tell_overrun(self.messages, cycle);
+            let _ = self.signs.clear(&mut self.messages);
+            let _ = tell_overrun(&mut self.messages, cycle);
         }
     }
 }

@@ -7,11 +7,13 @@ ghost use Rattle.gc_texts.specs.declared.fault.RunFault.{RunFault};
 ghost use Rattle.gc_texts.specs.Faults.{run_fault_text, fault_line};
 
 use crate::asking::run_asking;
+use crate::check::{check, check_log};
+use crate::drill::drill_scene;
 use crate::ending::refuse_place;
-use crate::logging::check_log;
-use crate::serving::serve_filled;
+use crate::exec::exec_scene;
+use crate::serve::serve_filled;
 use crate::standard::Standard;
-use crate::streams::{check, drill_scene, exec_scene};
+use crate::streams::Streams;
 use crate::words::{Subcommand, subcommand_of};
 use clap::Error;
 use clap::error::ErrorKind;
@@ -26,9 +28,9 @@ use std::process::ExitCode;
 use std::rt::Files;
 use std::time::Clock;
 
-/// Runs a command line, whose first word is the program's name, over the net, the clock and the files, an input, an output and
-/// a place for messages, and gives the exit status: 0 where it is done or asked for help or the version, 1 after a fault, which
-/// is one line on `messages`, and 2 for words that don't parse. It fails itself only where a text can't be written.
+/// Runs a command line, whose first word is the program's name, over the net, the clock and the files, and over an input, an output
+/// and a place for messages, and gives the exit status: 0 where it is done or asked for help or the version, 1 after a fault, which
+/// is one line on the messages, and 2 for words that don't parse. It fails itself only where a text can't be written.
 ///
 /// `standard` says which of the three streams are open. Where one isn't, `station`, `ask` and `loop` do nothing but tell it, and
 /// `serve` fills its place.
@@ -42,104 +44,86 @@ pub fn run_program<
     alloc: Global,
     standard: Standard,
     words: io::Result<Args>,
-    input: I,
-    mut output: O,
-    mut messages: E,
+    mut streams: Streams<I, O, E>,
 ) -> io::Result<ExitCode>
     ensures { IfOk result (λ status. exit_status status ≤ 2) }
 {
     let words = match all_words(alloc, words) {
         Ok(words) => words,
-        Err(error) => return refuse_words(&error, &mut messages),
+        Err(error) => return refuse_words(&error, &mut streams.messages),
     };
     match subcommand_of(alloc, words.as_slice()) {
-        Ok(subcommand) => run_subcommand(
-            rt,
-            alloc,
-            standard,
-            subcommand,
-            input,
-            output,
-            &mut messages,
-        ),
-        Err(error) if error.kind() == ErrorKind::OutOfMemory => want_of_memory(&mut messages),
-        Err(error) if error.use_stderr() => refuse(&error, &mut messages),
-        Err(text) => show(&text, &mut output, &mut messages),
+        Ok(subcommand) => run_subcommand(rt, alloc, standard, subcommand, streams),
+        Err(error) => answer(&error, &mut streams.output, &mut streams.messages),
     }
 }
 
-// Runs the engine of a subcommand over the input and the output, and tells how it ended.
+// Runs a subcommand over the streams, and tells how it ended. What `exec` and `check` read is read ahead.
 fn run_subcommand<
     R: Net<Listener = TcpListener, Stream = TcpStream> + Clock + Files<File = File>,
     I: Read + Drop,
     O: Write + Drop,
-    E: Write,
+    E: Write + Drop,
 >(
     rt: &R,
     alloc: Global,
     standard: Standard,
     subcommand: Subcommand<'_>,
-    input: I,
-    output: O,
+    streams: Streams<I, O, E>,
+) -> io::Result<ExitCode>
+    ensures { IfOk result (λ status. exit_status status ≤ 2) }
+{
+    let Streams {
+        input,
+        output,
+        mut messages,
+    } = streams;
+    let mut sink = ToWriter::new(output);
+    match subcommand {
+        Subcommand::Exec { scene } => {
+            let mut source = FromReader::new(ReadAhead::new(input));
+            exec_scene(rt, alloc, scene, &mut source, &mut sink, &mut messages)
+        }
+        Subcommand::Check { log: true } => {
+            let mut source = FromReader::new(ReadAhead::new(input));
+            check_log(&mut source, &mut sink, &mut messages)
+        }
+        Subcommand::Check { log: false } => {
+            let mut source = FromReader::new(ReadAhead::new(input));
+            check(&mut source, &mut sink, &mut messages)
+        }
+        Subcommand::Drill(drilling) => {
+            let mut source = FromReader::new(input);
+            drill_scene(rt, alloc, drilling, &mut source, &mut sink, &mut messages)
+        }
+        Subcommand::Serve(serving) => serve_filled(rt, alloc, standard, serving, &mut messages),
+        Subcommand::Nowhere { serves } => refuse_place(serves, &mut messages),
+        Subcommand::Asks(asking) => {
+            let streams = Streams {
+                input: FromReader::new(input),
+                output: sink,
+                messages,
+            };
+            run_asking(rt, alloc, standard, asking, streams).1
+        }
+    }
+}
+
+// Tells why words ask for no subcommand: memory was wanted, they don't parse, or they ask for the help or the version.
+fn answer<O: Write, E: Write>(
+    error: &Error,
+    output: &mut O,
     messages: &mut E,
 ) -> io::Result<ExitCode>
     ensures { IfOk result (λ status. exit_status status ≤ 2) }
 {
-    let mut sink = ToWriter::new(output);
-    match subcommand {
-        Subcommand::Exec { scene } => exec_scene(
-            rt,
-            alloc,
-            scene,
-            &mut FromReader::new(ReadAhead::new(input)),
-            &mut sink,
-            messages,
-        ),
-        Subcommand::Check { log: true } => check_log(
-            &mut FromReader::new(ReadAhead::new(input)),
-            &mut sink,
-            messages,
-        ),
-        Subcommand::Check { log: false } => check(
-            &mut FromReader::new(ReadAhead::new(input)),
-            &mut sink,
-            messages,
-        ),
-        Subcommand::Drill {
-            scene,
-            totals,
-            width,
-        } => drill_scene(
-            rt,
-            alloc,
-            scene,
-            &mut FromReader::new(input),
-            &mut sink,
-            totals,
-            width,
-            messages,
-        ),
-        Subcommand::Serve {
-            scene,
-            place,
-            connections,
-            idle,
-        } => serve_filled(
-            rt,
-            alloc,
-            standard,
-            scene,
-            place,
-            connections,
-            idle,
-            messages,
-        ),
-        Subcommand::Nowhere { serves } => refuse_place(serves, messages),
-        Subcommand::Asks(asking) => {
-            let mut source = FromReader::new(input);
-            run_asking(rt, alloc, standard, asking, &mut source, sink, messages).1
-        }
+    if error.kind() == ErrorKind::OutOfMemory {
+        return want_of_memory(messages);
     }
+    if error.use_stderr() {
+        return refuse(error, messages);
+    }
+    show(error, output, messages)
 }
 
 // Writes the help or the version. A failed output has its fault line, as everywhere.
@@ -164,6 +148,7 @@ fn refuse<E: Write>(error: &Error, messages: &mut E) -> io::Result<ExitCode>
     Ok(ExitCode::from(2))
 }
 
+// The words as the system gave them, kept. It fails where one is no text, or no memory is found.
 fn all_words(alloc: Global, words: io::Result<Args>) -> io::Result<Vec<String>> {
     Ok(words?.collect(alloc)?)
 }
@@ -180,6 +165,7 @@ fn refuse_words<E: Write>(error: &io::Error, messages: &mut E) -> io::Result<Exi
     Ok(ExitCode::from(2))
 }
 
+// Where the command line found no memory that is told, with status 1 as any fault.
 fn want_of_memory<E: Write>(messages: &mut E) -> io::Result<ExitCode>
     ensures status { IfOk result (λ status. exit_status status ≡ 1) }
     ensures text { OnOk result (Appends (E.contents messages.old) (E.contents messages.new) (fault_line (run_fault_text RunFault.Memory))) }

@@ -1,27 +1,30 @@
 //! Records in a file that outlasts the program: its words, and a station that appends to it.
 
-ghost use Rattle.std.specs.Prelude.{◌≡◌, ◌≤◌, ◌⊎◌, ℕ, true, List, [], Some, None, Ok, IfOk, OnOk};
-ghost use Rattle.std.specs.Io.KnownBytes.{Appends, Consumes};
+ghost use Rattle.std.specs.Prelude.{◌≡◌, ◌≤◌, ◌⊎◌, ℕ, Bool, List, [], Some, None, Result, Ok, Err, IfOk, OnOk};
+ghost use Rattle.std.specs.Io.KnownBytes.{Appends};
 ghost use Rattle.std.specs.Process.{exit_status};
+ghost use Rattle.gc_console.specs.Logging.{TellsLoss};
+ghost use Rattle.gc_console.specs.Measuring.{appended, begun_at, MeasuresBegun, IsMeasured, TellsCounts};
 ghost use Rattle.gc_console.specs.Recording.{fault_of_unfit, torn_line};
-ghost use Rattle.gc_console.specs.Measuring.{form_of_rows, RunsBehind};
-ghost use Rattle.gc_console.specs.TaskTexts.{GivesTasks};
+ghost use Rattle.gc_console.specs.Stops.{with_fault, IsLinkless};
+ghost use Rattle.gc_texts.specs.WholeTexts.{input_of};
+ghost use Rattle.gc_console.specs.declared.stop.Stop.{Stop};
 ghost use Rattle.gc_files.specs.Sinks.{asks_sync};
 ghost use Rattle.gc_files.specs.declared.system.Unfit.{Unfit};
 ghost use Rattle.gc_links.specs.Acts.{Act};
+ghost use Rattle.gc_station.specs.Runs.{FailsAtOutput};
 ghost use Rattle.gc_station.specs.declared.tally.Tally.{Tally};
-ghost use Rattle.gc_texts.specs.declared.name.Name.{Name};
-ghost use Rattle.gc_texts.specs.declared.tasks.Task.{Task};
 ghost use Rattle.gc_texts.specs.Faults.{run_fault_text, fault_line};
+ghost use Rattle.gc_texts.specs.declared.fault.RunFault.{RunFault};
 
 use crate::logging::run_logged_at;
-use crate::station::{Station, run_station_at, tell_counts};
+use crate::station::{Site, Station, run_station_at, tell_counts};
 use crate::stop::Stop;
+use crate::streams::Streams;
 use crate::words::flag_of;
 use clap::{Arg, ArgMatches, Command};
 use gc_files::{RowsFile, SystemFile, Unfit, open_at};
 use gc_lines::{Lasting, Source};
-use gc_links::Place;
 use gc_texts::{Form, RunFault, head, sign};
 use std::alloc::{AllocError, Global};
 use std::fs::File;
@@ -104,7 +107,7 @@ fn open_records<R: Files<File = File>>(
     open_at(rt, path, head(form), sign(form), sync)
 }
 
-/// Measures at a place, with a log where the file of one is named. The sink is handed back.
+/// Measures at a site, and tells how it ended. The streams are handed back.
 pub(crate) fn measure_at<
     R: Net<Listener = TcpListener, Stream = TcpStream> + Clock + Files<File = File>,
     S: Source,
@@ -113,73 +116,86 @@ pub(crate) fn measure_at<
 >(
     rt: &R,
     alloc: Global,
-    place: Place<'_>,
+    site: Site<'_>,
     station: Station,
-    log: Option<&str>,
-    source: &mut S,
-    sink: K,
-    messages: &mut E,
-) -> (K, io::Result<ExitCode>)
+    streams: Streams<S, K, E>,
+) -> (Streams<S, K, E>, io::Result<ExitCode>)
+    // The status and the messages tell how it ended, and behind that whether a log was lost; or that no log, no link or no clock could
+    // be had, and then nothing was read or written.
+    ensures told { IfOk result.1 (λ status. (end : Result Tally Stop) × (between behind : E) × (acts : List Act) × (is_lost : Bool)
+        × TellsCounts end (exit_status status) (E.contents between) (E.contents behind)
+        × TellsLoss is_lost (E.contents behind) (E.contents result.0.messages)
+        × FailsAtOutput (K.failed streams.output) (K.failed result.0.output) (with_fault end)
+        × (MeasuresBegun station
+        (record { input = input_of S.Source streams.input; acts = Some []; taken = K.taken streams.output; messages = E.contents streams.messages })
+        (record { input = input_of S.Source result.0.input; acts = Some acts; taken = K.taken result.0.output; messages = E.contents between })
+        end
+        ⊎ ((IsLinkless end ⊎ (end ≡ Err (Stop.Run RunFault.Log))) × (result.0.input ≡ streams.input) × (result.0.output ≡ streams.output) × (between ≡ streams.messages)))) }
+
     // Status 0 only where the source gave a text to its end, and the run over its commands is done.
-    ensures done { IfOk result.1 (λ status. exit_status status ≡ 0 → (given : List ℕ) × Consumes (S.remaining source.old) (S.remaining source.new) given
-        × ((tasks : List Task) × (names : List Name) × (tally : Tally) × (between : E) × (acts : List Act) × (run : ℕ)
-        × GivesTasks given
-        (record { remaining = S.remaining source.old; reads = S.reads source.old; ended = S.ended source.old; failed = S.failed source.old })
-        (record { remaining = S.remaining source.new; reads = S.reads source.new; ended = S.ended source.new; failed = S.failed source.new })
-        station.choice.deadline station.choice.chained tasks names
-        × RunsBehind (record station.layout { run = run }) station.choice names tasks 18446744073709551615
-        (record { acts = Some []; taken = K.taken sink; messages = E.contents messages.old })
-        (record { acts = Some acts; taken = K.taken result.0; messages = E.contents between })
-        (Ok tally))) }
+    ensures done { IfOk result.1 (λ status. exit_status status ≡ 0 → (between : E) × (acts : List Act) × (run : ℕ) × IsMeasured (begun_at run station)
+        (record { input = input_of S.Source streams.input; acts = Some []; taken = K.taken streams.output; messages = E.contents streams.messages })
+        (record { input = input_of S.Source result.0.input; acts = Some acts; taken = K.taken result.0.output; messages = E.contents between })) }
     ensures bound { IfOk result.1 (λ status. exit_status status ≤ 1) }
 {
-    match log {
-        Some(path) => run_logged_at(rt, alloc, place, station, path, source, sink, messages),
-        None => run_station_at(rt, alloc, place, station, source, sink, messages),
+    match site.log {
+        Some(path) => run_logged_at(rt, alloc, site.place, path, station, streams),
+        None => run_station_at(rt, alloc, site.place, station, streams),
     }
 }
 
-/// Measures at a place, and appends the records as rows to a file, which is opened before anything else is done. Where it can't be had,
+/// Measures at a site, and appends the records as rows to a file, which is opened before anything else is done. Where it can't be had,
 /// nothing is read, and nothing is sent: `RecordsUnopened`, `RecordsHeld`, `RecordsForeign`, and `Output` where a call of the system
-/// failed. What stood in it stays, but for half a row at its end, which is cut off and told.
+/// failed. What stood in it stays, but for half a row at its end, which is cut off and told. The streams are handed back.
 pub(crate) fn append_at<
     R: Net<Listener = TcpListener, Stream = TcpStream> + Clock + Files<File = File>,
     S: Source,
+    K: Lasting,
     E: Write,
 >(
     rt: &R,
     alloc: Global,
-    place: Place<'_>,
+    site: Site<'_>,
     station: Station,
     recording: Recording<'_>,
-    log: Option<&str>,
-    source: &mut S,
-    messages: &mut E,
-) -> io::Result<ExitCode>
-    // Either the file can't be had, which is told with status 1, and nothing was read; or status 0 is told only where the source gave a
-    // text to its end, and the run over its commands is done.
-    ensures told { IfOk result (λ status.
-        ((why : Unfit) × (exit_status status ≡ 1) × Appends (E.contents messages.old) (E.contents messages.new) (fault_line (run_fault_text (fault_of_unfit why)))
-        × (S.remaining source.new ≡ S.remaining source.old) × (S.reads source.new ≡ S.reads source.old))
-        ⊎ (exit_status status ≡ 0 → (given : List ℕ) × Consumes (S.remaining source.old) (S.remaining source.new) given
-        × ((tasks : List Task) × (names : List Name) × (tally : Tally) × (begun between : E) × (acts : List Act) × (run : ℕ)
-        × GivesTasks given
-        (record { remaining = S.remaining source.old; reads = S.reads source.old; ended = S.ended source.old; failed = S.failed source.old })
-        (record { remaining = S.remaining source.new; reads = S.reads source.new; ended = S.ended source.new; failed = S.failed source.new })
-        station.choice.deadline station.choice.chained tasks names
-        × RunsBehind (record { form = form_of_rows station.layout.form; headed = true; run = run }) station.choice names tasks 18446744073709551615
-        (record { acts = Some []; taken = None; messages = E.contents begun })
-        (record { acts = Some acts; taken = None; messages = E.contents between })
-        (Ok tally)))) }
-    ensures bound { IfOk result (λ status. exit_status status ≤ 1) }
+    mut streams: Streams<S, K, E>,
+) -> (Streams<S, K, E>, io::Result<ExitCode>)
+    // Either the file can't be had, which is told with status 1, and nothing was read; or the status and the messages tell how it ended, as
+    // where the rows go elsewhere, but for what was told of half a row.
+    ensures told { IfOk result.1 (λ status.
+        ((why : Unfit) × (exit_status status ≡ 1) × Appends (E.contents streams.messages) (E.contents result.0.messages) (fault_line (run_fault_text (fault_of_unfit why)))
+        × (result.0.input ≡ streams.input))
+        ⊎ ((end : Result Tally Stop) × (begun between behind : E) × (acts : List Act) × (is_lost : Bool)
+        × TellsCounts end (exit_status status) (E.contents between) (E.contents behind)
+        × TellsLoss is_lost (E.contents behind) (E.contents result.0.messages)
+        × (MeasuresBegun (appended station)
+        (record { input = input_of S.Source streams.input; acts = Some []; taken = None; messages = E.contents begun })
+        (record { input = input_of S.Source result.0.input; acts = Some acts; taken = None; messages = E.contents between })
+        end
+        ⊎ ((IsLinkless end ⊎ (end ≡ Err (Stop.Run RunFault.Log))) × (result.0.input ≡ streams.input) × (between ≡ begun))))) }
+
+    // Status 0 only where the source gave a text to its end, and the run over its commands is done.
+    ensures done { IfOk result.1 (λ status. exit_status status ≡ 0 → (begun between : E) × (acts : List Act) × (run : ℕ) × IsMeasured (begun_at run (appended station))
+        (record { input = input_of S.Source streams.input; acts = Some []; taken = None; messages = E.contents begun })
+        (record { input = input_of S.Source result.0.input; acts = Some acts; taken = None; messages = E.contents between })) }
+
+    // Nothing is written on the output.
+    ensures output { result.0.output ≡ streams.output }
+    ensures bound { IfOk result.1 (λ status. exit_status status ≤ 1) }
 {
     match open_records(rt, recording.path, station.form_of_rows(), recording.sync) {
         Ok((rows, torn)) => {
             // Where that can't be written the station measures all the same.
-            let _ = tell_torn(torn, messages);
-            let station = station.appended();
-            measure_at(rt, alloc, place, station, log, source, rows, messages).1
+            let _ = tell_torn(torn, &mut streams.messages);
+            let (filed, output) = streams.with_output(rows);
+            let (filed, ended) = measure_at(rt, alloc, site, station.appended(), filed);
+            let (streams, _) = filed.with_output(output);
+            (streams, ended)
         }
-        Err(why) => tell_counts(Err(Stop::Run(fault_of_unfit(why))), messages),
+        Err(why) => {
+            let stop = Stop::Run(fault_of_unfit(why));
+            let ended = tell_counts(Err(stop), &mut streams.messages);
+            (streams, ended)
+        }
     }
 }

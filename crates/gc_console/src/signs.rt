@@ -20,6 +20,7 @@ struct Told {
 }
 
 impl Told {
+    // No line of its kind was told yet.
     fn new() -> Told {
         Told { last: None }
     }

@@ -1,27 +1,27 @@
 //! `geocom station`: its words, and its run over connections to a place.
 
-ghost use Rattle.std.specs.Prelude.{◌≡◌, ◌≤◌, ◌⊎◌, ℕ, true, List, [], Option, Some, Result, Ok, Err, IfOk, OnOk};
+ghost use Rattle.std.specs.Prelude.{◌≡◌, ◌≤◌, ◌⊎◌, ℕ, List, [], Option, Some, Result, IfOk, IfErr, OnOk};
 ghost use Rattle.std.specs.Io.KnownBytes.{Consumes, Appends};
 ghost use Rattle.std.specs.Process.{exit_status};
-ghost use Rattle.gc_console.specs.Measuring.{form_of_rows, Measures, RunsBehind, TellsCounts, ends_text, others_text, tally_line};
-ghost use Rattle.gc_console.specs.Stops.{with_fault, fault_without_link};
-ghost use Rattle.gc_console.specs.TaskTexts.{GivesTasks};
+ghost use Rattle.gc_console.specs.Measuring.{form_of_rows, appended, begun_at, Measures, MeasuresBegun, IsMeasured, TellsCounts, ends_text, others_text, tally_line};
+ghost use Rattle.gc_console.specs.Stops.{with_fault, fault_without_link, IsLinkless};
+ghost use Rattle.gc_texts.specs.WholeTexts.{input_of};
 ghost use Rattle.gc_console.specs.declared.stop.Stop.{Stop};
 ghost use Rattle.gc_links.specs.Acts.{Act};
 ghost use Rattle.gc_links.specs.declared.device.Unusable.{Unusable};
 ghost use Rattle.gc_station.specs.Runs.{FailsAtOutput};
 ghost use Rattle.gc_station.specs.declared.tally.Tally.{Tally};
-ghost use Rattle.gc_texts.specs.declared.name.Name.{Name};
-ghost use Rattle.gc_texts.specs.declared.tasks.Task.{Task};
 
+use crate::asking::Asking;
 use crate::choice::{Choice, Watch};
 use crate::help::STATION;
 use crate::layout::Layout;
 use crate::logging::with_log;
 use crate::measure::run_station_text;
 use crate::oddity::{Noticing, Oddities};
-use crate::recording::with_recording;
+use crate::recording::{recording_of, with_recording};
 use crate::stop::Stop;
+use crate::streams::Streams;
 use crate::words::{flag_of, place_word};
 use clap::{Arg, ArgMatches, Command, value_parser};
 use gc_ask::fault_of;
@@ -38,11 +38,18 @@ use std::process::ExitCode;
 use std::rt::Files;
 use std::time::Clock;
 
-/// What the words of `station` ask for, but where.
+/// What a station is told, but where: how its records are laid out, and what an operator chose.
+#[derive(Clone, Copy, Debug, PartialEq, Eq)]
+pub struct Station {
+    pub layout: Layout,
+    pub choice: Choice,
+}
+
+/// Where a station measures, and where it logs what was on the link, if anywhere.
 #[derive(Clone, Copy)]
-pub(crate) struct Station {
-    layout: Layout,
-    choice: Choice,
+pub(crate) struct Site<'a> {
+    pub place: Place<'a>,
+    pub log: Option<&'a str>,
 }
 
 impl Station {
@@ -68,7 +75,7 @@ impl Station {
 
     /// The same, with rows behind those of a file.
     pub(crate) fn appended(self) -> Station
-        ensures { result ≡ record self { layout = record self.layout { form = form_of_rows self.layout.form; headed = true } } }
+        ensures { result ≡ appended self }
     {
         let mut station = self;
         station.layout.form = self.form_of_rows();
@@ -78,7 +85,7 @@ impl Station {
 
     /// The same, as a run that begins at this moment.
     pub(crate) fn begun(self, moment: Moment) -> Station
-        ensures { result ≡ record self { layout = record self.layout { run = moment.utc } } }
+        ensures { result ≡ begun_at moment.utc self }
     {
         let mut station = self;
         station.layout.run = moment.utc;
@@ -190,8 +197,20 @@ fn time_of<'a>(alloc: Global, name: &'a str, value: &'a str, help: &'a str) -> A
         .help(help)
 }
 
-/// What the words of `station` say.
-pub(crate) fn station_of(matches: &ArgMatches) -> Station {
+/// What the words of `station` ask for at a place, with its records and its log in files where they name them.
+pub(crate) fn measured_at<'a>(place: Place<'a>, words: &ArgMatches<'a>) -> Asking<'a> {
+    Asking::Station {
+        site: Site {
+            place,
+            log: words.get_str("log"),
+        },
+        station: station_of(words),
+        recording: recording_of(words),
+    }
+}
+
+// What they say but of files.
+fn station_of(matches: &ArgMatches) -> Station {
     let number = |name: &str| matches.get_one::<u64>(name).unwrap_or(0);
     Station {
         layout: Layout {
@@ -248,7 +267,7 @@ fn cycles_of(matches: &ArgMatches) -> u64 {
 }
 
 /// Measures at a place, and tells how it ended: the counts, or the fault's line. `Clock` comes too where the clock can't be
-/// read, and the faults of a device where one is there and can't be used. The sink is handed back.
+/// read, and the faults of a device where one is there and can't be used. The streams are handed back.
 pub(crate) fn run_station_at<
     R: Net<Listener = TcpListener, Stream = TcpStream> + Clock + Files<File = File>,
     S: Source,
@@ -259,57 +278,59 @@ pub(crate) fn run_station_at<
     alloc: Global,
     place: Place<'_>,
     station: Station,
-    source: &mut S,
-    sink: K,
-    messages: &mut E,
-) -> (K, io::Result<ExitCode>)
+    mut streams: Streams<S, K, E>,
+) -> (Streams<S, K, E>, io::Result<ExitCode>)
     // The status and the messages tell how it ended: what the text was, and what of its commands was measured, by acts that the
     // link told from none on, as the sink has it that is handed back; or that there is no link, and then nothing was read or written.
-    ensures told { IfOk result.1 (λ status. (end : Result Tally Stop) × (between : E)
-        × TellsCounts end (exit_status status) (E.contents between) (E.contents messages.new)
-        × FailsAtOutput (K.failed sink) (K.failed result.0) (with_fault end)
-        × (((acts : List Act) × (run : ℕ) × (given : List ℕ) × Consumes (S.remaining source.old) (S.remaining source.new) given
-        × Measures given
-        (record { remaining = S.remaining source.old; reads = S.reads source.old; ended = S.ended source.old; failed = S.failed source.old })
-        (record { remaining = S.remaining source.new; reads = S.reads source.new; ended = S.ended source.new; failed = S.failed source.new })
-        (record station.layout { run = run }) station.choice 18446744073709551615
-        (record { acts = Some []; taken = K.taken sink; messages = E.contents messages.old })
-        (record { acts = Some acts; taken = K.taken result.0; messages = E.contents between })
-        end)
-        ⊎ ((reason : Option Unusable) × (end ≡ Err (Stop.Run (fault_without_link reason))) × (S.reads source.new ≡ S.reads source.old) × (result.0 ≡ sink) × (between ≡ messages.old)))) }
+    ensures told { IfOk result.1 (λ status. (end : Result Tally Stop) × (between : E) × (acts : List Act)
+        × TellsCounts end (exit_status status) (E.contents between) (E.contents result.0.messages)
+        × FailsAtOutput (K.failed streams.output) (K.failed result.0.output) (with_fault end)
+        × (MeasuresBegun station
+        (record { input = input_of S.Source streams.input; acts = Some []; taken = K.taken streams.output; messages = E.contents streams.messages })
+        (record { input = input_of S.Source result.0.input; acts = Some acts; taken = K.taken result.0.output; messages = E.contents between })
+        end
+        ⊎ (IsLinkless end × (result.0.input ≡ streams.input) × (result.0.output ≡ streams.output) × (between ≡ streams.messages)))) }
 
     // Status 0 only where the source gave a text to its end, and the run over its commands is done.
-    ensures done { IfOk result.1 (λ status. exit_status status ≡ 0 → (given : List ℕ) × Consumes (S.remaining source.old) (S.remaining source.new) given
-        × ((tasks : List Task) × (names : List Name) × (tally : Tally) × (between : E) × (acts : List Act) × (run : ℕ)
-        × GivesTasks given
-        (record { remaining = S.remaining source.old; reads = S.reads source.old; ended = S.ended source.old; failed = S.failed source.old })
-        (record { remaining = S.remaining source.new; reads = S.reads source.new; ended = S.ended source.new; failed = S.failed source.new })
-        station.choice.deadline station.choice.chained tasks names
-        × RunsBehind (record station.layout { run = run }) station.choice names tasks 18446744073709551615
-        (record { acts = Some []; taken = K.taken sink; messages = E.contents messages.old })
-        (record { acts = Some acts; taken = K.taken result.0; messages = E.contents between })
-        (Ok tally))) }
+    ensures done { IfOk result.1 (λ status. exit_status status ≡ 0 → (between : E) × (acts : List Act) × (run : ℕ) × IsMeasured (begun_at run station)
+        (record { input = input_of S.Source streams.input; acts = Some []; taken = K.taken streams.output; messages = E.contents streams.messages })
+        (record { input = input_of S.Source result.0.input; acts = Some acts; taken = K.taken result.0.output; messages = E.contents between })) }
     ensures bound { IfOk result.1 (λ status. exit_status status ≤ 1) }
 {
-    let mut link = match PlacedLink::new(rt, place) {
-        Ok(link) => link,
-        Err(reason) => {
-            let stop = Stop::Run(without_link(reason));
-            return (sink, tell_counts(Err(stop), messages));
+    let (link, moment) = match link_at(rt, place) {
+        Ok(found) => found,
+        Err(fault) => {
+            let ended = tell_counts(Err(Stop::Run(fault)), &mut streams.messages);
+            return (streams, ended);
         }
-    };
-    let Ok(moment) = link.now() else {
-        return (sink, tell_counts(Err(Stop::Run(RunFault::Clock)), messages));
     };
     let station = station.begun(moment);
     let seen = Cell::new(Oddities::none());
     let told = Telling::new(link);
     let mut link = Noticing::new(told, &seen);
-    measure_over(alloc, &mut link, station, &seen, source, sink, messages)
+    measure_over(alloc, &mut link, station, &seen, streams)
 }
 
-/// The fault where there is no link: what is wrong with the device, or that the clock can't be read.
-pub(crate) fn without_link(reason: Option<Unusable>) -> RunFault
+/// A link to a place, and the moment at which a run over it begins; or the fault where there is no link: what is wrong with the
+/// device, or that the clock can't be read.
+pub(crate) fn link_at<
+    'a,
+    R: Net<Listener = TcpListener, Stream = TcpStream> + Clock + Files<File = File>,
+>(rt: &'a R, place: Place<'a>) -> Result<(PlacedLink<'a, R>, Moment), RunFault>
+    ensures { IfErr result (λ fault. (reason : Option Unusable) × (fault ≡ fault_without_link reason)) }
+{
+    let mut link = match PlacedLink::new(rt, place) {
+        Ok(link) => link,
+        Err(reason) => return Err(without_link(reason)),
+    };
+    match link.now() {
+        Ok(moment) => Ok((link, moment)),
+        Err(_) => Err(without_link(None)),
+    }
+}
+
+// The fault where there is no link.
+fn without_link(reason: Option<Unusable>) -> RunFault
     ensures { result ≡ fault_without_link reason }
 {
     match reason {
@@ -318,54 +339,33 @@ pub(crate) fn without_link(reason: Option<Unusable>) -> RunFault
     }
 }
 
-// Measures over a link, and tells how it ended. The sink is handed back.
+/// Measures over a link, and tells how it ended. The streams are handed back.
 pub(crate) fn measure_over<L: Link, S: Source, K: Lasting, E: Write>(
     alloc: Global,
     link: &mut L,
     station: Station,
     oddities: &Cell<Oddities>,
-    source: &mut S,
-    sink: K,
-    messages: &mut E,
-) -> (K, io::Result<ExitCode>)
+    streams: Streams<S, K, E>,
+) -> (Streams<S, K, E>, io::Result<ExitCode>)
     // What the text was, what of its commands was measured, and that the messages and the status tell how that ended.
     ensures told { IfOk result.1 (λ status. (end : Result Tally Stop) × (between : E)
-        × ((given : List ℕ) × Consumes (S.remaining source.old) (S.remaining source.new) given
-        × Measures given
-        (record { remaining = S.remaining source.old; reads = S.reads source.old; ended = S.ended source.old; failed = S.failed source.old })
-        (record { remaining = S.remaining source.new; reads = S.reads source.new; ended = S.ended source.new; failed = S.failed source.new })
-        station.layout station.choice 18446744073709551615
-        (record { acts = L.acts link.old; taken = K.taken sink; messages = E.contents messages.old })
-        (record { acts = L.acts link.new; taken = K.taken result.0; messages = E.contents between })
+        × ((given : List ℕ) × Consumes (S.remaining streams.input) (S.remaining result.0.input) given
+        × Measures given station 18446744073709551615
+        (record { input = input_of S.Source streams.input; acts = L.acts link.old; taken = K.taken streams.output; messages = E.contents streams.messages })
+        (record { input = input_of S.Source result.0.input; acts = L.acts link.new; taken = K.taken result.0.output; messages = E.contents between })
         end)
-        × FailsAtOutput (K.failed sink) (K.failed result.0) (with_fault end)
-        × TellsCounts end (exit_status status) (E.contents between) (E.contents messages.new)) }
+        × FailsAtOutput (K.failed streams.output) (K.failed result.0.output) (with_fault end)
+        × TellsCounts end (exit_status status) (E.contents between) (E.contents result.0.messages)) }
 
     // Status 0 only where the source gave a text to its end, and the run over its commands is done.
-    ensures done { IfOk result.1 (λ status. exit_status status ≡ 0 → (given : List ℕ) × Consumes (S.remaining source.old) (S.remaining source.new) given
-        × ((tasks : List Task) × (names : List Name) × (tally : Tally) × (between : E)
-        × GivesTasks given
-        (record { remaining = S.remaining source.old; reads = S.reads source.old; ended = S.ended source.old; failed = S.failed source.old })
-        (record { remaining = S.remaining source.new; reads = S.reads source.new; ended = S.ended source.new; failed = S.failed source.new })
-        station.choice.deadline station.choice.chained tasks names
-        × RunsBehind station.layout station.choice names tasks 18446744073709551615
-        (record { acts = L.acts link.old; taken = K.taken sink; messages = E.contents messages.old })
-        (record { acts = L.acts link.new; taken = K.taken result.0; messages = E.contents between })
-        (Ok tally))) }
+    ensures done { IfOk result.1 (λ status. exit_status status ≡ 0 → (between : E) × IsMeasured station
+        (record { input = input_of S.Source streams.input; acts = L.acts link.old; taken = K.taken streams.output; messages = E.contents streams.messages })
+        (record { input = input_of S.Source result.0.input; acts = L.acts link.new; taken = K.taken result.0.output; messages = E.contents between })) }
     ensures bound { IfOk result.1 (λ status. exit_status status ≤ 1) }
 {
-    let (sink, end) = run_station_text(
-        alloc,
-        link,
-        station.layout,
-        &station.choice,
-        oddities,
-        source,
-        sink,
-        messages,
-        u64::MAX,
-    );
-    (sink, tell_counts(end, messages))
+    let (mut streams, end) = run_station_text(alloc, link, station, oddities, streams, u64::MAX);
+    let ended = tell_counts(end, &mut streams.messages);
+    (streams, ended)
 }
 
 /// Tells how a run ended: the status, and the counts, or why it stopped.

@@ -3,34 +3,35 @@
 ghost use Rattle.std.specs.Prelude.{◌+◌, ◌≤◌, ℕ, List, length, IfOk, IfErr};
 ghost use Rattle.std.specs.Io.KnownBytes.{Consumes};
 ghost use Rattle.gc_console.specs.TaskTexts.{GivesTasks, RefusesTasks, IsRefusal};
+ghost use Rattle.gc_texts.specs.WholeTexts.{input_of};
 ghost use Rattle.gc_texts.specs.Texts.{end_reads};
 ghost use Rattle.gc_texts.specs.declared.text.TheConstants.{TEXT_LIMIT};
 
+use crate::choice::Choice;
 use crate::stop::Stop;
 use gc_lines::Source;
 use gc_texts::{RunFault, Tasks, line_at, read_tasks, read_text, trouble_of};
 use std::alloc::Global;
 
-/// Reads the whole text of a station from a source. Until a line says otherwise the commands have this deadline, in
-/// milliseconds, and are chained or not. The faults are those of `read_tasks`, and `Read` where a read failed; of a faulty line
+/// Reads the whole text of a station from a source. Until a line says otherwise the commands have the deadline that was chosen, and are
+/// chained or not, as was chosen. The faults are those of `read_tasks`, and `Read` where a read failed; of a faulty line
 /// the trouble is told, too.
 pub(crate) fn read_task_text<S: Source>(
     alloc: Global,
     source: &mut S,
-    deadline: u64,
-    chained: bool,
+    choice: &Choice,
 ) -> Result<Tasks, Stop>
     ensures found { IfOk result (λ all. (given : List ℕ) × Consumes (S.remaining source.old) (S.remaining source.new) given
         × (S.reads source.new ≤ S.reads source.old + length given + end_reads (S.ended source.new))
         × GivesTasks given
-        (record { remaining = S.remaining source.old; reads = S.reads source.old; ended = S.ended source.old; failed = S.failed source.old })
-        (record { remaining = S.remaining source.new; reads = S.reads source.new; ended = S.ended source.new; failed = S.failed source.new })
-        deadline chained all.tasks.items all.names.items) }
+        (input_of S.Source source.old)
+        (input_of S.Source source.new)
+        choice.now all.tasks.items all.names.items) }
     ensures refused { IfErr result (λ stop. (given : List ℕ) × Consumes (S.remaining source.old) (S.remaining source.new) given
         × (S.reads source.new ≤ S.reads source.old + length given + end_reads (S.ended source.new))
         × RefusesTasks given
-        (record { remaining = S.remaining source.old; reads = S.reads source.old; ended = S.ended source.old; failed = S.failed source.old })
-        (record { remaining = S.remaining source.new; reads = S.reads source.new; ended = S.ended source.new; failed = S.failed source.new })
+        (input_of S.Source source.old)
+        (input_of S.Source source.new)
         stop) }
     ensures bounded { S.reads source.new ≤ S.reads source.old + (TEXT_LIMIT + 1) }
 {
@@ -38,7 +39,7 @@ pub(crate) fn read_task_text<S: Source>(
         Ok(text) => text,
         Err(fault) => return Err(Stop::Text(fault)),
     };
-    match read_tasks(alloc, text.as_slice(), deadline, chained) {
+    match read_tasks(alloc, text.as_slice(), choice.deadline, choice.chained) {
         Ok(tasks) => Ok(tasks),
         Err(fault) => Err(refusal(text.as_slice(), fault)),
     }

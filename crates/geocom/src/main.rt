@@ -1,7 +1,7 @@
 //! The program `geocom`: it looks which standard streams are open, and hands these, its words and the net to `gc_console`.
 #![tactic(auto)]
 
-use gc_console::{Standard, run_program};
+use gc_console::{Standard, Streams, run_program};
 use std::process::ExitCode;
 use std::{env, io};
 
@@ -11,8 +11,10 @@ fn main(rt: HostRuntime) -> io::Result<ExitCode> {
         rt.alloc(),
         Standard::look(&rt.stdin(), &rt.stdout(), &rt.stderr()),
         env::args(&rt),
-        rt.reader(),
-        rt.stdout(),
-        rt.stderr(),
+        Streams {
+            input: rt.reader(),
+            output: rt.stdout(),
+            messages: rt.stderr(),
+        },
     )
 }

@@ -2,7 +2,7 @@
 
 use crate::program::far_end::{FarEnd, Seen, both_ends};
 use crate::program::words::{Broken, words_of};
-use gc_console::{Oddities, Standard, run_program};
+use gc_console::{Oddities, Standard, Streams, run_program};
 use std::alloc::Global;
 use std::cell::RefCell;
 use std::fs::{File, Files};
@@ -37,7 +37,17 @@ fn expect_told(
     let mut written = Vec::new(alloc);
     let mut told = Vec::new(alloc);
     let words = Ok(words_of(alloc, texts)?);
-    let ended = run_program(rt, alloc, open, words, Broken, &mut written, &mut told)?;
+    let ended = run_program(
+        rt,
+        alloc,
+        open,
+        words,
+        Streams {
+            input: Broken,
+            output: &mut written,
+            messages: &mut told,
+        },
+    )?;
     let told = str::from_utf8(told.as_slice()).expect(rt, "the messages are text");
     assert_eq!(rt; told, messages, "{texts:?} {open:?}");
     assert_eq!(rt; ended, ExitCode::from(status), "{texts:?} {open:?}");
@@ -118,9 +128,11 @@ fn expect_asked(
         alloc,
         open,
         words,
-        Broken,
-        &mut written,
-        &mut told,
+        Streams {
+            input: Broken,
+            output: &mut written,
+            messages: &mut told,
+        },
     )?;
     assert_eq!(rt; status, ExitCode::from(1), "{open:?}");
     assert_eq!(rt; told.as_slice(), messages.as_bytes(), "{open:?}");

@@ -1,7 +1,7 @@
 //! How each subcommand tells its fault: `loop`, `ask` and `serve` from their texts, their ports and their output.
 
 use crate::program::words::{Broken, OPEN, expect_fault, expect_run, words_of};
-use gc_console::run_program;
+use gc_console::{Streams, run_program};
 use std::alloc::Global;
 use std::fs::{File, Files};
 use std::net::{Net, SocketAddr, TcpListener, TcpStream};
@@ -104,9 +104,11 @@ fn the_defaults_are_told(rt: HostRuntime) -> Result<(), Fail> {
         alloc,
         OPEN,
         words,
-        b"".as_slice(),
-        &mut written,
-        &mut told,
+        Streams {
+            input: b"".as_slice(),
+            output: &mut written,
+            messages: &mut told,
+        },
     )?;
     assert_eq!(rt; status, ExitCode::SUCCESS);
     let help = str::from_utf8(written.as_slice()).expect(&rt, "help is text");

@@ -1,7 +1,7 @@
 //! The words of a port that is kept. How it is kept is tested beside the call that does it, and by `tools/try-operator`.
 
 use crate::program::words::{OPEN, expect_run, words_of};
-use gc_console::run_program;
+use gc_console::{Streams, run_program};
 use std::net::{SocketAddr, TcpListener};
 use std::process::ExitCode;
 use std::test::Fail;
@@ -57,9 +57,11 @@ fn the_words_of_a_kept_port(rt: HostRuntime) -> Result<(), Fail> {
             alloc,
             OPEN,
             words,
-            b"".as_slice(),
-            &mut written,
-            &mut told,
+            Streams {
+                input: b"".as_slice(),
+                output: &mut written,
+                messages: &mut told,
+            },
         )?;
         assert_eq!(rt; status, ExitCode::from(2), "{options:?}");
         assert!(rt; told.starts_with(b"error: "), "{options:?}");
@@ -87,9 +89,11 @@ fn the_help_tells_how_a_port_is_kept(rt: HostRuntime) -> Result<(), Fail> {
         alloc,
         OPEN,
         words,
-        b"".as_slice(),
-        &mut written,
-        &mut told,
+        Streams {
+            input: b"".as_slice(),
+            output: &mut written,
+            messages: &mut told,
+        },
     )?;
     assert_eq!(rt; status, ExitCode::SUCCESS);
     let help = str::from_utf8(written.as_slice()).expect(&rt, "help is text");

@@ -1,7 +1,8 @@
 //! A text of commands that is measured over a link in one thread: in both forms, and with each read and each write failing.
 
 use gc_console::{
-    Choice, Form, Layout, Link, Oddities, RunFault, Stop, Tally, Trouble, Watch, run_station_text,
+    Choice, Form, Layout, Link, Oddities, RunFault, Station, Stop, Streams, Tally, Trouble, Watch,
+    run_station_text,
 };
 use gc_lines::{Lasting, PortFailed, Sink};
 use gc_links::{Came, Moment};
@@ -106,12 +107,15 @@ const CHOICE: Choice = Choice {
     watch: Watch::Nobody,
 };
 
-// Records in this form, behind what stands in front of them, of a run that began at 23:08.
-fn whole(form: Form) -> Layout {
-    Layout {
-        form,
-        headed: false,
-        run: 1795388880000,
+// A station with records in this form, behind what stands in front of them where that isn't there, of a run that began at 23:08.
+fn station_with(form: Form, headed: bool) -> Station {
+    Station {
+        layout: Layout {
+            form,
+            headed,
+            run: 1795388880000,
+        },
+        choice: CHOICE,
     }
 }
 
@@ -138,24 +142,25 @@ fn expect_measured(
     output: &[u8],
 ) {
     let mut link = link_with(REPLIES);
-    let mut source = PieceSource::new(COMMANDS, &[1; 100], reads);
-    let sink = PieceSink::new(alloc, 1, writes);
-    let mut told = Vec::new(alloc);
-    let (sink, result) = run_station_text(
-        alloc,
-        &mut link,
-        whole(form),
-        &CHOICE,
-        &Cell::new(Oddities::none()),
-        &mut source,
-        sink,
-        &mut told,
-        60,
-    );
+    let streams = Streams {
+        input: PieceSource::new(COMMANDS, &[1; 100], reads),
+        output: PieceSink::new(alloc, 1, writes),
+        messages: Vec::new(alloc),
+    };
+    let seen = Cell::new(Oddities::none());
+    let station = station_with(form, false);
+    let (streams, result) = run_station_text(alloc, &mut link, station, &seen, streams, 60);
     assert_eq!(rt; result, end, "reads {reads}, writes {writes}");
     assert_eq!(rt; link.sent, sent, "reads {reads}, writes {writes}");
-    assert_eq!(rt; sink.taken(), output, "reads {reads}, writes {writes}");
-    assert!(rt; told.is_empty(), "reads {reads}, writes {writes}");
+    assert_eq!(rt;
+        streams.output.taken(),
+        output,
+        "reads {reads}, writes {writes}"
+    );
+    assert!(rt;
+        streams.messages.is_empty(),
+        "reads {reads}, writes {writes}"
+    );
 }
 
 #[test]
@@ -218,23 +223,17 @@ fn expect_records(
 ) {
     for (form, output) in [(Form::Lines, lines), (Form::Csv, rows)] {
         let mut link = link_with(replies);
-        let mut source = PieceSource::new(text, &[1; 200], u64::MAX);
-        let sink = PieceSink::new(alloc, 1, u64::MAX);
-        let mut told = Vec::new(alloc);
-        let (sink, end) = run_station_text(
-            alloc,
-            &mut link,
-            whole(form),
-            &CHOICE,
-            &Cell::new(Oddities::none()),
-            &mut source,
-            sink,
-            &mut told,
-            60,
-        );
+        let streams = Streams {
+            input: PieceSource::new(text, &[1; 200], u64::MAX),
+            output: PieceSink::new(alloc, 1, u64::MAX),
+            messages: Vec::new(alloc),
+        };
+        let seen = Cell::new(Oddities::none());
+        let station = station_with(form, false);
+        let (streams, end) = run_station_text(alloc, &mut link, station, &seen, streams, 60);
         assert!(rt; end.is_ok(), "{form:?}");
         assert_eq!(rt; link.sent, sent, "{form:?}");
-        assert_eq!(rt; sink.taken(), output, "{form:?}");
+        assert_eq!(rt; streams.output.taken(), output, "{form:?}");
     }
 }
 
@@ -274,24 +273,18 @@ fn an_unreadable_answer(rt: HostRuntime) {
 fn a_faulty_line_has_its_trouble(rt: HostRuntime) {
     let alloc = rt.alloc();
     let mut link = link_with(REPLIES);
-    let mut source = PieceSource::new(b"7 5003\n7 5002\n", &[1; 100], u64::MAX);
-    let sink = PieceSink::new(alloc, 1, u64::MAX);
-    let mut told = Vec::new(alloc);
-    let (sink, end) = run_station_text(
-        alloc,
-        &mut link,
-        whole(Form::Csv),
-        &CHOICE,
-        &Cell::new(Oddities::none()),
-        &mut source,
-        sink,
-        &mut told,
-        60,
-    );
+    let streams = Streams {
+        input: PieceSource::new(b"7 5003\n7 5002\n", &[1; 100], u64::MAX),
+        output: PieceSink::new(alloc, 1, u64::MAX),
+        messages: Vec::new(alloc),
+    };
+    let seen = Cell::new(Oddities::none());
+    let station = station_with(Form::Csv, false);
+    let (streams, end) = run_station_text(alloc, &mut link, station, &seen, streams, 60);
     assert_eq!(rt; end, Err(Stop::Line(2, Trouble::NoProcedure(5002))));
     assert_eq!(rt; link.sent, 0);
-    assert!(rt; sink.taken().is_empty());
-    assert!(rt; told.is_empty());
+    assert!(rt; streams.output.taken().is_empty());
+    assert!(rt; streams.messages.is_empty());
 }
 
 // Holds what it takes, and fails where it is to last for the time after so many.
@@ -347,29 +340,19 @@ fn each_keep_fails(rt: HostRuntime) {
     let mut is_between = false;
     for keeps in 0..60 {
         let mut link = link_with(REPLIES);
-        let mut source = PieceSource::new(COMMANDS, &[1; 100], u64::MAX);
-        let ledger = Ledger {
-            bytes: Vec::new(alloc),
-            keeps,
-            broken: false,
+        let streams = Streams {
+            input: PieceSource::new(COMMANDS, &[1; 100], u64::MAX),
+            output: Ledger {
+                bytes: Vec::new(alloc),
+                keeps,
+                broken: false,
+            },
+            messages: Vec::new(alloc),
         };
-        let layout = Layout {
-            form: Form::Csv,
-            headed: true,
-            run: 1795388880000,
-        };
-        let (ledger, end) = run_station_text(
-            alloc,
-            &mut link,
-            layout,
-            &CHOICE,
-            &Cell::new(Oddities::none()),
-            &mut source,
-            ledger,
-            &mut Vec::new(alloc),
-            60,
-        );
-        let rows = ledger.bytes.as_slice();
+        let seen = Cell::new(Oddities::none());
+        let station = station_with(Form::Csv, true);
+        let (streams, end) = run_station_text(alloc, &mut link, station, &seen, streams, 60);
+        let rows = streams.output.bytes.as_slice();
         if end.is_ok() {
             assert_eq!(rt; rows, both);
             assert!(rt; is_between);

@@ -3,7 +3,7 @@
 use crate::program::far_end::{FarEnd, Seen, both_ends};
 use crate::program::options::SOON;
 use crate::program::words::{OPEN, words_of};
-use gc_console::{Oddities, run_program};
+use gc_console::{Oddities, Streams, run_program};
 use std::alloc::Global;
 use std::cell::RefCell;
 use std::net::{Net, TcpListener, TcpStream};
@@ -47,7 +47,17 @@ fn expect_told(
     let words = Ok(words_of(alloc, words.as_slice())?);
     let mut written = Vec::new(alloc);
     let mut told = Vec::new(alloc);
-    run_program(&far_end, alloc, OPEN, words, TWO, &mut written, &mut told)?;
+    run_program(
+        &far_end,
+        alloc,
+        OPEN,
+        words,
+        Streams {
+            input: TWO,
+            output: &mut written,
+            messages: &mut told,
+        },
+    )?;
     let told = str::from_utf8(told.as_slice()).expect(rt, "the messages are text");
     assert_eq!(rt; told.matches(ECHO).count(), echo, "{name}: {told}");
     assert_eq!(rt; told.matches(BARE).count(), bare, "{name}: {told}");

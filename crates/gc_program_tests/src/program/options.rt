@@ -3,7 +3,7 @@
 
 use crate::program::far_end::{FarEnd, Seen, both_ends};
 use crate::program::words::{OPEN, words_of};
-use gc_console::{Oddities, run_program};
+use gc_console::{Oddities, Streams, run_program};
 use std::alloc::Global;
 use std::cell::RefCell;
 use std::net::{Net, TcpListener, TcpStream};
@@ -67,9 +67,11 @@ pub(crate) fn measure(
         alloc,
         OPEN,
         words,
-        commands,
-        &mut written,
-        &mut told,
+        Streams {
+            input: commands,
+            output: &mut written,
+            messages: &mut told,
+        },
     )?;
     let seen = seen.try_borrow().expect(rt, "the run is over");
     Ok(Ended {
@@ -322,7 +324,17 @@ fn no_cycles_are_no_end(rt: HostRuntime) -> Result<(), Fail> {
     let mut room = [0; 300];
     let output: &mut [u8] = &mut room;
     let mut told = Vec::new(alloc);
-    let status = run_program(&far_end, alloc, OPEN, Ok(words), ONE, output, &mut told)?;
+    let status = run_program(
+        &far_end,
+        alloc,
+        OPEN,
+        Ok(words),
+        Streams {
+            input: ONE,
+            output: output,
+            messages: &mut told,
+        },
+    )?;
     assert_eq!(rt; status, ExitCode::from(1));
     assert_eq!(rt; told.as_slice(), b"geocom: fault 55\n".as_slice());
     let seen = seen.try_borrow().expect(&rt, "the run is over");

@@ -1,7 +1,7 @@
 //! A scene of one's own at each subcommand that has an instrument. Each test writes its file, and takes it away again.
 
 use crate::program::words::{Broken, OPEN, expect_fault, expect_run, words_of};
-use gc_console::run_program;
+use gc_console::{Streams, run_program};
 use std::alloc::Global;
 use std::fs::{self, File, Files};
 use std::net::{Net, SocketAddr, TcpListener, TcpStream};
@@ -178,9 +178,11 @@ fn the_words_of_a_scene(rt: HostRuntime) -> Result<(), Fail> {
             alloc,
             OPEN,
             words,
-            b"".as_slice(),
-            &mut written,
-            &mut told,
+            Streams {
+                input: b"".as_slice(),
+                output: &mut written,
+                messages: &mut told,
+            },
         )?;
         assert_eq!(rt; status, ExitCode::from(2), "{texts:?}");
         assert!(rt; told.starts_with(b"error: "), "{texts:?}");

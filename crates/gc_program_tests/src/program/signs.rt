@@ -3,7 +3,7 @@
 use crate::program::far_end::{FarEnd, Seen, both_ends};
 use crate::program::options::{HOUR, ONE, SOON, measure};
 use crate::program::words::{OPEN, words_of};
-use gc_console::{Oddities, Standard, run_program};
+use gc_console::{Oddities, Standard, Streams, run_program};
 use std::cell::RefCell;
 use std::test::Fail;
 
@@ -58,9 +58,11 @@ fn a_terminal_has_a_line_that_is_written_over(rt: HostRuntime) -> Result<(), Fai
         alloc,
         watched,
         Ok(words),
-        ONE,
-        &mut written,
-        &mut told,
+        Streams {
+            input: ONE,
+            output: &mut written,
+            messages: &mut told,
+        },
     )?;
     let told = str::from_utf8(told.as_slice()).expect(&rt, "the messages are text");
     let none = "cycle 0: answered 0 late 0 lost 0 skipped 0 unreadable 0 missed 0";

@@ -1,7 +1,7 @@
 //! What of `station` a test in one thread can show: a link over a real connection, and a run that nobody answers.
 
 use crate::program::words::OPEN;
-use gc_console::run_program;
+use gc_console::{Streams, run_program};
 use gc_links::{Came, Link, TcpLink};
 use std::alloc::Global;
 use std::fs::{File, Files};
@@ -85,7 +85,17 @@ fn expect_fault(
     let mut told = Vec::new(alloc);
     let input = b"7 5003\n8 0\n".as_slice();
     let words = Ok(words.into_iter());
-    let status = run_program(rt, alloc, OPEN, words, input, &mut written, &mut told)?;
+    let status = run_program(
+        rt,
+        alloc,
+        OPEN,
+        words,
+        Streams {
+            input: input,
+            output: &mut written,
+            messages: &mut told,
+        },
+    )?;
     assert_eq!(rt; status, ExitCode::from(1));
     assert_eq!(rt; written.as_slice(), b"".as_slice());
     assert_eq!(rt; told.as_slice(), fault);

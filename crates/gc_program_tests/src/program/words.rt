@@ -1,6 +1,6 @@
 //! What a command line means: the statuses, the printed texts and each option, on and off.
 
-use gc_console::{Standard, run_program};
+use gc_console::{Standard, Streams, run_program};
 use std::alloc::{AllocError, Global};
 use std::env::Args;
 use std::fs::{File, Files};
@@ -51,7 +51,17 @@ pub(crate) fn expect_run(
     let mut written = Vec::new(alloc);
     let mut told = Vec::new(alloc);
     let words = Ok(words_of(alloc, texts)?);
-    let result = run_program(rt, alloc, OPEN, words, input, &mut written, &mut told)?;
+    let result = run_program(
+        rt,
+        alloc,
+        OPEN,
+        words,
+        Streams {
+            input: input,
+            output: &mut written,
+            messages: &mut told,
+        },
+    )?;
     let written = str::from_utf8(written.as_slice()).expect(rt, "the output is text");
     let told = str::from_utf8(told.as_slice()).expect(rt, "the messages are text");
     assert_eq!(rt; result, ExitCode::from(status), "{texts:?}: {told}");
@@ -186,7 +196,7 @@ const COMMAND_LINES: [(&str, &[&str], u8, &str, &str); 24] = [
         "help",
         &["geocom", "--help"],
         0,
-        "Usage: geocom <COMMAND>\n",
+        "a client for monitoring stations, and a simulated instrument\n\nUsage: geocom <COMMAND>\n",
         "",
     ),
     (
@@ -359,7 +369,17 @@ fn a_command_line_is_read_or_refused(rt: HostRuntime) -> Result<(), Fail> {
         let mut written = Vec::new(alloc);
         let mut told = Vec::new(alloc);
         let words = Ok(words_of(alloc, texts)?);
-        let result = run_program(&rt, alloc, OPEN, words, REQUESTS, &mut written, &mut told)?;
+        let result = run_program(
+            &rt,
+            alloc,
+            OPEN,
+            words,
+            Streams {
+                input: REQUESTS,
+                output: &mut written,
+                messages: &mut told,
+            },
+        )?;
         assert_eq!(rt; result, ExitCode::from(status), "{name}");
         let written = str::from_utf8(written.as_slice()).expect(&rt, name);
         let told = str::from_utf8(told.as_slice()).expect(&rt, name);
@@ -396,7 +416,17 @@ pub(crate) fn expect_fault<I: Read + Drop>(
     let mut told = Vec::new(alloc);
     let words = Ok(words_of(alloc, texts)?);
     let output: &mut [u8] = &mut room;
-    let result = run_program(rt, alloc, OPEN, words, input, output, &mut told)?;
+    let result = run_program(
+        rt,
+        alloc,
+        OPEN,
+        words,
+        Streams {
+            input: input,
+            output: output,
+            messages: &mut told,
+        },
+    )?;
     let told = str::from_utf8(told.as_slice()).expect(rt, "the messages are text");
     assert_eq!(rt; told, messages, "{texts:?}");
     assert_eq!(rt; result, ExitCode::from(1), "{texts:?}");
@@ -444,7 +474,17 @@ fn expect_words_refused(
     let mut written = Vec::new(alloc);
     let mut told = Vec::new(alloc);
     let words = Err(io::Error::from(kind));
-    let result = run_program(rt, alloc, OPEN, words, REQUESTS, &mut written, &mut told)?;
+    let result = run_program(
+        rt,
+        alloc,
+        OPEN,
+        words,
+        Streams {
+            input: REQUESTS,
+            output: &mut written,
+            messages: &mut told,
+        },
+    )?;
     let told = str::from_utf8(told.as_slice()).expect(rt, "the messages are text");
     assert_eq!(rt; told, messages);
     assert_eq!(rt; result, ExitCode::from(status), "{told}");

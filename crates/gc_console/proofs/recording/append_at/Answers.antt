@@ -1,9 +1,28 @@
-use Rattle.std.proofs.Common.{inr}
+use Rattle.std.proofs.Common.{inl, inr, sym}
 use Rattle.std.proofs.lemmas.Result.{IfOk-weaker}
 use Rattle.gc_console.proofs.recording.append_at.Goals as goal
 
 pub returns-in-Ok-clause-told : goal.returns-in-Ok-clause-told
 returns-in-Ok-clause-told g c =
-    IfOk-weaker c.measure_at.result.1 _ _
-    (λ status done. inr (λ zero. let r = done zero in (r.0, r.1, (r.2.0, r.2.1, r.2.2, c.tell_torn.new.messages, r.2.3, r.2.4, r.2.5, r.2.6, r.2.7))))
-    (rw (c.appended-station.ensures) at c.measure_at.ensures.done)
+    IfOk-weaker c.measure_at-filed.result.1 _ _
+    (λ status t. inr (
+      t.0,
+      c.tell_torn.new.messages,
+      t.1,
+      t.2,
+      t.3,
+      t.4,
+      t.5,
+      t.6,
+      elim t.8 [
+        | inl measured ↦ inl measured
+        | inr none ↦ inr (none.0, none.1, none.3)
+      ],
+    ))
+    (rw (c.appended.ensures, c.with_output-filed.ensures.input, c.with_output-filed.ensures.messages, sym c.with_output-streams.ensures.input, sym c.with_output-streams.ensures.messages) at c.measure_at-filed.ensures.told)
+
+pub returns-in-Ok-clause-done : goal.returns-in-Ok-clause-done
+returns-in-Ok-clause-done g c =
+    IfOk-weaker c.measure_at-filed.result.1 _ _
+    (λ status d zero. let r = d zero in (c.tell_torn.new.messages, r.0, r.1, r.2, r.3))
+    (rw (c.appended.ensures, c.with_output-filed.ensures.input, c.with_output-filed.ensures.messages, sym c.with_output-streams.ensures.input) at c.measure_at-filed.ensures.done)

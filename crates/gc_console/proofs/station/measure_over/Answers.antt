@@ -5,16 +5,14 @@ use Rattle.gc_console.proofs.station.measure_over.Goals as goal
 
 pub returns-clause-told : goal.returns-clause-told
 returns-clause-told g c =
-    let m = c.run_station_text-sink.ensures.measures in
-    IfOk-weaker c.tell_counts.result _ _
-    (λ status told. (c.run_station_text-sink.result.1, c.run_station_text-sink.new.messages, (m.0, m.1, m.3), c.run_station_text-sink.ensures.output, told))
-    c.tell_counts.ensures.told
+    let m = c.run_station_text-streams.ensures.measures in
+    IfOk-weaker c.tell_counts-ended.result _ _
+    (λ status told. (c.run_station_text-streams.result.1, c.run_station_text-streams.result.0.messages, (m.0, m.1, m.3), c.run_station_text-streams.ensures.output, told))
+    c.tell_counts-ended.ensures.told
 
 pub returns-clause-done : goal.returns-clause-done
 returns-clause-done g c =
-    let m = c.run_station_text-sink.ensures.measures in
-    IfOk-weaker c.tell_counts.result _ _
-    (λ status told zero.
-    let d = done_at_0 m.0 _ _ _ _ _ _ _ _ (exit_status status) _ _ m.3 told zero in
-    (m.0, m.1, (d.0, d.1, d.2, c.run_station_text-sink.new.messages, d.3, d.4)))
-    c.tell_counts.ensures.told
+    let m = c.run_station_text-streams.ensures.measures in
+    IfOk-weaker c.tell_counts-ended.result _ _
+    (λ status told zero. (c.run_station_text-streams.result.0.messages, done_at_0 m.0 _ _ _ _ (exit_status status) _ _ m.1 m.3 told zero))
+    c.tell_counts-ended.ensures.told

@@ -1,16 +1,18 @@
-//! `geocom serve`: an instrument on a port or on a device, over places of the standard streams that are all taken.
+//! `geocom serve`: its words, and an instrument on a port or on a device, over places of the standard streams that are all taken.
 
 ghost use Rattle.std.specs.Prelude.{◌≤◌, IfOk};
 ghost use Rattle.std.specs.Process.{exit_status};
 
 use crate::ending::{end_of, refuse_numbers, refuse_place};
-use crate::ports::serve_port;
+use crate::help::KEPT;
 use crate::scene::instrument_of;
 use crate::standard::Standard;
-use gc_ask::{Keeping, MOST_CONNECTIONS, keep_device, keep_tcp, serve_device};
+use crate::words::{flag_of, named_place, scene_word, where_word};
+use clap::{Arg, ArgMatches, Command, value_parser};
+use gc_ask::{Keeping, MOST_CONNECTIONS, keep_device, keep_tcp, serve_device, serve_tcp};
 use gc_instrument::Instrument;
 use gc_links::Place;
-use std::alloc::Global;
+use std::alloc::{AllocError, Global};
 use std::fs::File;
 use std::io::{self, Write};
 use std::net::{Net, TcpListener, TcpStream};
@@ -20,6 +22,77 @@ use std::time::Clock;
 
 // The longest time for which a kept connection may be idle, in seconds: a day.
 const LONGEST_IDLE: u32 = 86_400;
+
+/// What the words of `serve` ask for: the instrument of which scene, on which port or device, and for how many connections; one that
+/// is kept says after how many seconds a connection is idle.
+#[derive(Clone, Copy)]
+pub(crate) struct Serving<'a> {
+    pub scene: Option<&'a str>,
+    pub place: Place<'a>,
+    pub connections: Option<u32>,
+    pub idle: Option<u32>,
+}
+
+/// The words of `serve`.
+pub(crate) fn serve_command<'a>(alloc: Global) -> Result<Command<'a>, AllocError> {
+    let connections = Arg::new(alloc, "connections")
+        .long("connections")
+        .value_name("N")
+        .value_parser(value_parser!(u32).range(1..=1000))
+        .help(
+            "Serves so many connections, 1 to 1000, one after the other [default: 1, and with --keep no end]",
+        );
+    let command = Command::new(alloc, "serve")
+        .about("Serves a simulator on a port of 127.0.0.1, or on a device")
+        .after_help(KEPT)
+        .arg(where_word(
+            alloc,
+            "A port of 127.0.0.1, from 1 on, or the path of a device",
+        ))?
+        .arg(connections)?;
+    with_keeping(alloc, command)?.arg(scene_word(alloc))
+}
+
+// How a port or a device is kept.
+fn with_keeping<'a>(alloc: Global, command: Command<'a>) -> Result<Command<'a>, AllocError> {
+    let keep = flag_of(
+        alloc,
+        "keep",
+        "Serves on behind a connection that fails, which is told",
+    );
+    let idle = Arg::new(alloc, "idle")
+        .long("idle")
+        .value_name("SECONDS")
+        .value_parser(value_parser!(u32).range(1..=86_400))
+        .default_value("60")
+        .help(
+            "With --keep, on a port: closes a connection on which nothing came for so many seconds, 1 to 86400",
+        )
+        .requires_arg("keep")?;
+    command.arg(keep)?.arg(idle)
+}
+
+/// What the words of `serve` say, unless they name no place: a simulator is served on this machine alone.
+pub(crate) fn serving_of<'a>(words: &ArgMatches<'a>) -> Option<Serving<'a>> {
+    match named_place(words) {
+        None | Some(Place::Host(_)) => None,
+        Some(place) => Some(Serving {
+            scene: words.get_str("scene"),
+            place,
+            connections: words.get_one::<u32>("connections"),
+            idle: idle_of(words),
+        }),
+    }
+}
+
+// After how many seconds a connection is idle, where it is to be kept.
+fn idle_of(words: &ArgMatches) -> Option<u32> {
+    if words.get_flag("keep") {
+        Some(words.get_one::<u32>("idle").unwrap_or(0))
+    } else {
+        None
+    }
+}
 
 /// Serves a port or a device, or keeps it where it is told after how many seconds a connection is idle, and tells how it ended. The places
 /// of standard streams that are closed are filled first, and stay so. `StreamClosed` comes where that can't be done. Then the scene
@@ -31,10 +104,7 @@ pub(crate) fn serve_filled<
     rt: &R,
     alloc: Global,
     standard: Standard,
-    scene: Option<&str>,
-    place: Place<'_>,
-    connections: Option<u32>,
-    idle: Option<u32>,
+    serving: Serving<'_>,
     messages: &mut E,
 ) -> io::Result<ExitCode>
     ensures { IfOk result (λ status. exit_status status ≤ 2) }
@@ -42,6 +112,12 @@ pub(crate) fn serve_filled<
     let Ok(places) = standard.fill(rt) else {
         return standard.refuse(messages);
     };
+    let Serving {
+        scene,
+        place,
+        connections,
+        idle,
+    } = serving;
     let ended = match instrument_of(rt, alloc, scene) {
         Ok(mut instrument) => match idle {
             None => serve_place(
@@ -81,6 +157,25 @@ fn serve_place<
         ),
         Place::Host(_) => refuse_place(true, messages),
     }
+}
+
+// Serves a port, and tells how it ended. Numbers out of their range, which clap refuses by no clause, are refused here.
+fn serve_port<R: Net<Listener = TcpListener, Stream = TcpStream>, E: Write>(
+    rt: &R,
+    port: u16,
+    connections: u32,
+    instrument: &mut Instrument,
+    messages: &mut E,
+) -> io::Result<ExitCode>
+    ensures { IfOk result (λ status. exit_status status ≤ 2) }
+{
+    if port == 0 || connections == 0 || connections > MOST_CONNECTIONS {
+        return refuse_numbers(messages);
+    }
+    end_of(
+        serve_tcp(rt, port, connections, instrument, u32::MAX),
+        messages,
+    )
 }
 
 // Keeps a port or a device, and tells how it ended. Numbers out of their range, which clap refuses by no clause, are refused here.

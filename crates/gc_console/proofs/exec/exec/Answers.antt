@@ -1,5 +1,5 @@
 use Rattle.std.proofs.lemmas.Result.{IfOk-weaker}
-use Rattle.gc_console.proofs.streams.exec.Goals as goal
+use Rattle.gc_console.proofs.exec.exec.Goals as goal
 
 pub returns-clause-told : goal.returns-clause-told
 returns-clause-told g c = IfOk-weaker c.tell_end.result _ _ (λ status told. (c.serve.result, (c.serve.new.instrument, c.serve.ensures), told)) c.tell_end.ensures.told

@@ -1,7 +1,7 @@
 use Rattle.std.proofs.Common.{inr}
 use Rattle.std.proofs.lemmas.Result.{IfOk-weaker}
 use Rattle.gc_console.proofs.Started.{same_start}
-use Rattle.gc_console.proofs.streams.exec_scene.Goals as goal
+use Rattle.gc_console.proofs.exec.exec_scene.Goals as goal
 
 pub returns-in-Ok-clause-told : goal.returns-in-Ok-clause-told
 returns-in-Ok-clause-told g c =

@@ -1,7 +1,7 @@
 use Rattle.std.proofs.Common.{inl, inr}
 use Rattle.std.proofs.lemmas.Result.{IfOk-weaker}
 use Rattle.gc_console.proofs.Started.{same_start}
-use Rattle.gc_console.proofs.streams.drill_scene.Goals as goal
+use Rattle.gc_console.proofs.drill.drill_scene.Goals as goal
 
 pub returns-in-Ok-clause-done : goal.returns-in-Ok-clause-done
 returns-in-Ok-clause-done g c =

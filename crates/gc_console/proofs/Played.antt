@@ -1,0 +1,15 @@
+-- Status 0 is told only of a schedule that was played.
+use Rattle.std.proofs.Common.{◌≡◌, ℕ, Bool, List, Option, Result, Ok, Err, arith}
+use Rattle.std.specs.Io.KnownBytes.{Appends}
+use Rattle.gc_engines.specs.Drill.{drill_text_on, DrillsOn}
+use Rattle.gc_engines.specs.Schedule.{IsSchedule}
+use Rattle.gc_instrument.specs.State.{State}
+use Rattle.gc_texts.specs.Faults.{run_fault_text, Tells}
+use Rattle.gc_texts.specs.declared.fault.RunFault.{RunFault}
+use Rattle.gc_world.specs.declared.event.Event.{Event}
+
+pub played_at_0 : (start : State) (width : ℕ) (given : List ℕ) (totals : Bool) (old new : Option (List ℕ)) (end : Result (Unit {0}) RunFault) (status : ℕ) (told messages : Option (List ℕ))
+    → DrillsOn start width given totals old new end → Tells run_fault_text end status told messages → status ≡ 0
+    → (events : List Event) × IsSchedule given events × Appends old new (drill_text_on start width events totals)
+played_at_0 start width given totals old new (Ok x) status told messages drills tells zero = drills.1
+played_at_0 start width given totals old new (Err fault) status told messages drills tells zero = absurd (omega (arith, tells.0, zero))

@@ -1,0 +1,46 @@
+//! `geocom ask`: its words, and commands that are asked at a place.
+
+ghost use Rattle.std.specs.Prelude.{◌≤◌, IfOk};
+ghost use Rattle.std.specs.Process.{exit_status};
+
+use crate::ending::end_of;
+use crate::help::COMMANDS;
+use crate::words::place_word;
+use clap::Command;
+use gc_ask::ask_at;
+use gc_lines::{Sink, Source};
+use gc_links::Place;
+use std::alloc::{AllocError, Global};
+use std::fs::File;
+use std::io::{self, Write};
+use std::net::{Net, TcpListener, TcpStream};
+use std::process::ExitCode;
+use std::rt::Files;
+use std::time::Clock;
+
+/// The words of `ask`.
+pub(crate) fn ask_command<'a>(alloc: Global) -> Result<Command<'a>, AllocError> {
+    Command::new(alloc, "ask")
+        .about("Asks the commands of standard input at a place")
+        .after_help(COMMANDS)
+        .arg(place_word(alloc))
+}
+
+/// Asks at a place, and tells how it ended.
+pub(crate) fn ask_place<
+    R: Net<Listener = TcpListener, Stream = TcpStream> + Files<File = File> + Clock,
+    S: Source,
+    K: Sink,
+    E: Write,
+>(
+    rt: &R,
+    alloc: Global,
+    place: Place<'_>,
+    source: &mut S,
+    sink: &mut K,
+    messages: &mut E,
+) -> io::Result<ExitCode>
+    ensures { IfOk result (λ status. exit_status status ≤ 1) }
+{
+    end_of(ask_at(rt, alloc, place, source, sink, u32::MAX), messages)
+}

@@ -1,0 +1,186 @@
+//! `geocom drill`: its words, and a schedule of standard input that is played on an instrument.
+
+ghost use Rattle.std.specs.Prelude.{◌≡◌, ℕ, ◌<◌, ◌≤◌, ◌⊎◌, List, None, Result, IfOk, true};
+ghost use Rattle.std.specs.Io.KnownBytes.{Consumes, Appends, IsAtEnd};
+ghost use Rattle.std.specs.Process.{exit_status};
+ghost use Rattle.gc_instrument.specs.State.{State, simulator_opening};
+ghost use Rattle.gc_world.specs.declared.event.Event.{Event};
+ghost use Rattle.gc_texts.specs.declared.fault.RunFault.{RunFault};
+ghost use Rattle.gc_texts.specs.Faults.{run_fault_text, fault_line, Tells};
+ghost use Rattle.gc_console.specs.Refusals.{range_line};
+ghost use Rattle.gc_engines.specs.Schedule.{IsSchedule};
+ghost use Rattle.gc_engines.specs.Drill.{drill_text_on, DrillsOn, source_failed, sink_failed};
+
+use crate::ending::{end_of, refuse_numbers};
+use crate::help::EVENTS;
+use crate::scene::instrument_of;
+use crate::words::{flag_of, scene_word};
+use clap::{Arg, ArgMatches, Command, value_parser};
+use gc_client::WINDOW;
+use gc_engines::run_drill_on;
+use gc_instrument::Instrument;
+use gc_lines::{Sink, Source};
+use std::alloc::{AllocError, Global};
+use std::fs::Files;
+use std::io::{self, Write};
+use std::process::ExitCode;
+
+/// What the words of `drill` ask for: on the instrument of which scene, whether with totals, and with how many requests that may
+/// wait.
+#[derive(Clone, Copy)]
+pub(crate) struct Drilling<'a> {
+    pub scene: Option<&'a str>,
+    pub totals: bool,
+    pub width: u8,
+}
+
+/// The words of `drill`.
+pub(crate) fn drill_command<'a>(alloc: Global) -> Result<Command<'a>, AllocError> {
+    let width = Arg::new(alloc, "width")
+        .long("width")
+        .value_name("W")
+        .value_parser(value_parser!(u8).range(1..=7))
+        .default_value("7")
+        .help("Lets so many requests wait: a send beyond them is refused");
+    Command::new(alloc, "drill")
+        .about("Plays the schedule of standard input, and writes a line for each settlement")
+        .after_help(EVENTS)
+        .arg(flag_of(
+            alloc,
+            "totals",
+            "Writes a line of totals behind the settlements",
+        ))?
+        .arg(width)?
+        .arg(scene_word(alloc))
+}
+
+/// What the words of `drill` say.
+pub(crate) fn drilling_of<'a>(words: &ArgMatches<'a>) -> Drilling<'a> {
+    Drilling {
+        scene: words.get_str("scene"),
+        totals: words.get_flag("totals"),
+        width: words.get_one::<u8>("width").unwrap_or(0),
+    }
+}
+
+/// Reads the scene, plays a schedule on its instrument, and tells how it ended.
+pub(crate) fn drill_scene<R: Files, S: Source, K: Sink, E: Write>(
+    rt: &R,
+    alloc: Global,
+    drilling: Drilling<'_>,
+    source: &mut S,
+    sink: &mut K,
+    messages: &mut E,
+) -> io::Result<ExitCode>
+    // Either the scene was refused, which is told, and nothing was read or written; or the width was; or what became of the schedule
+    // on the instrument, which is the simulator where no scene is named.
+    ensures told { IfOk result (λ status.
+        ((fault : RunFault) × (exit_status status ≡ 1) × Appends (E.contents messages.old) (E.contents messages.new) (fault_line (run_fault_text fault))
+        × (S.remaining source.new ≡ S.remaining source.old) × (K.taken sink.new ≡ K.taken sink.old) × (drilling.entry.scene ≡ None → ⊥))
+        ⊎ (((exit_status status ≡ 2) × Appends (E.contents messages.old) (E.contents messages.new) range_line
+        × (S.remaining source.new ≡ S.remaining source.old) × (K.taken sink.new ≡ K.taken sink.old))
+        ⊎ ((start : State) × (drilling.entry.scene ≡ None → start ≡ simulator_opening) × (end : Result (Unit {0}) RunFault)
+        × ((given : List ℕ) × Consumes (S.remaining source.old) (S.remaining source.new) given × DrillsOn start drilling.entry.width given drilling.entry.totals (K.taken sink.old) (K.taken sink.new) end)
+        × (S.failed source.new ≡ source_failed end (S.failed source.old))
+        × (K.failed sink.new ≡ sink_failed end (K.failed sink.old))
+        × Tells run_fault_text end (exit_status status) (E.contents messages.old) (E.contents messages.new)))) }
+
+    // A width from 1 to 7 isn't refused.
+    ensures width { 1 ≤ drilling.entry.width → drilling.entry.width ≤ WINDOW → IfOk result (λ status. exit_status status ≤ 1) }
+
+    // Status 0 only where the sink took the output of the text's events, on the simulator where no scene is named.
+    ensures done { IfOk result (λ status. exit_status status ≡ 0 → (start : State) × (drilling.entry.scene ≡ None → start ≡ simulator_opening)
+        × ((given : List ℕ) × Consumes (S.remaining source.old) (S.remaining source.new) given
+        × ((events : List Event) × IsSchedule given events × Appends (K.taken sink.old) (K.taken sink.new) (drill_text_on start drilling.entry.width events drilling.entry.totals)))) }
+
+    // Status 0 only where the last read was the end, and the source has no byte left.
+    ensures whole { IfOk result (λ status. exit_status status ≡ 0
+        → IsAtEnd (S.remaining source.new) × (S.ended source.new ≡ true) × (S.reads source.old < S.reads source.new)) }
+    ensures bound { IfOk result (λ status. exit_status status ≤ 2) }
+{
+    match instrument_of(rt, alloc, drilling.scene) {
+        Ok(instrument) => drill_within(alloc, instrument, drilling, source, sink, messages),
+        Err(fault) => end_of(Err(fault), messages),
+    }
+}
+
+// Plays a schedule, and tells how it ended. A width out of its range, which clap refuses by no clause, is refused here.
+fn drill_within<S: Source, K: Sink, E: Write>(
+    alloc: Global,
+    instrument: Instrument,
+    drilling: Drilling<'_>,
+    source: &mut S,
+    sink: &mut K,
+    messages: &mut E,
+) -> io::Result<ExitCode>
+    // Either status 2 behind a refused number's line, and nothing was read or written; or what became of the schedule.
+    ensures told { IfOk result (λ status.
+        ((exit_status status ≡ 2) × Appends (E.contents messages.old) (E.contents messages.new) range_line
+        × (S.remaining source.new ≡ S.remaining source.old) × (K.taken sink.new ≡ K.taken sink.old))
+        ⊎ ((end : Result (Unit {0}) RunFault)
+        × ((given : List ℕ) × Consumes (S.remaining source.old) (S.remaining source.new) given × DrillsOn instrument drilling.entry.width given drilling.entry.totals (K.taken sink.old) (K.taken sink.new) end)
+        × (S.failed source.new ≡ source_failed end (S.failed source.old))
+        × (K.failed sink.new ≡ sink_failed end (K.failed sink.old))
+        × Tells run_fault_text end (exit_status status) (E.contents messages.old) (E.contents messages.new))) }
+
+    // A width from 1 to 7 isn't refused.
+    ensures width { 1 ≤ drilling.entry.width → drilling.entry.width ≤ WINDOW → IfOk result (λ status. exit_status status ≤ 1) }
+
+    // Status 0 only where the sink took the output of the text's events.
+    ensures done { IfOk result (λ status. exit_status status ≡ 0 → (given : List ℕ) × Consumes (S.remaining source.old) (S.remaining source.new) given
+        × ((events : List Event) × IsSchedule given events × Appends (K.taken sink.old) (K.taken sink.new) (drill_text_on instrument drilling.entry.width events drilling.entry.totals))) }
+
+    // Status 0 only where the last read was the end, and the source has no byte left.
+    ensures whole { IfOk result (λ status. exit_status status ≡ 0
+        → IsAtEnd (S.remaining source.new) × (S.ended source.new ≡ true) × (S.reads source.old < S.reads source.new)) }
+    ensures bound { IfOk result (λ status. exit_status status ≤ 2) }
+{
+    if drilling.width == 0 {
+        return refuse_numbers(messages);
+    }
+    if usize::from(drilling.width) > WINDOW {
+        return refuse_numbers(messages);
+    }
+    drill(alloc, instrument, drilling, source, sink, messages)
+}
+
+// Plays a schedule, and tells how it ended.
+fn drill<S: Source, K: Sink, E: Write>(
+    alloc: Global,
+    instrument: Instrument,
+    drilling: Drilling<'_>,
+    source: &mut S,
+    sink: &mut K,
+    messages: &mut E,
+) -> io::Result<ExitCode>
+    requires least { 1 ≤ drilling.width }
+    requires most { drilling.width ≤ WINDOW }
+
+    // What became of the schedule, and that the messages and the status tell it.
+    ensures told { IfOk result (λ status. (end : Result (Unit {0}) RunFault)
+        × ((given : List ℕ) × Consumes (S.remaining source.old) (S.remaining source.new) given × DrillsOn instrument drilling.entry.width given drilling.entry.totals (K.taken sink.old) (K.taken sink.new) end)
+        × (S.failed source.new ≡ source_failed end (S.failed source.old))
+        × (K.failed sink.new ≡ sink_failed end (K.failed sink.old))
+        × Tells run_fault_text end (exit_status status) (E.contents messages.old) (E.contents messages.new)) }
+
+    // Status 0 only where the sink took the output of the text's events.
+    ensures done { IfOk result (λ status. exit_status status ≡ 0 → (given : List ℕ) × Consumes (S.remaining source.old) (S.remaining source.new) given
+        × ((events : List Event) × IsSchedule given events × Appends (K.taken sink.old) (K.taken sink.new) (drill_text_on instrument drilling.entry.width events drilling.entry.totals))) }
+
+    // Status 0 only where the last read was the end, and the source has no byte left.
+    ensures whole { IfOk result (λ status. exit_status status ≡ 0
+        → IsAtEnd (S.remaining source.new) × (S.ended source.new ≡ true) × (S.reads source.old < S.reads source.new)) }
+    ensures bound { IfOk result (λ status. exit_status status ≤ 1) }
+{
+    end_of(
+        run_drill_on(
+            alloc,
+            instrument,
+            source,
+            sink,
+            drilling.totals,
+            drilling.width,
+        ),
+        messages,
+    )
+}

@@ -1,0 +1,99 @@
+//! `geocom exec`: its words, and an instrument that answers the requests of standard input on standard output.
+
+ghost use Rattle.std.specs.Prelude.{◌≡◌, ℕ, ◌+◌, ◌<◌, ◌≤◌, ◌↔◌, ◌⊎◌, None, Result, IfOk, true, false};
+ghost use Rattle.std.specs.Io.KnownBytes.{Appends};
+ghost use Rattle.std.specs.Process.{exit_status};
+ghost use Rattle.gc_lines.specs.Answering.{fault_text};
+ghost use Rattle.gc_lines.specs.declared.served.Served.{Served};
+ghost use Rattle.gc_lines.specs.declared.served.ServeFault.{ServeFault};
+ghost use Rattle.gc_instrument.specs.State.{State, simulator_opening};
+ghost use Rattle.gc_instrument.specs.Serving.{IsServing};
+ghost use Rattle.gc_texts.specs.declared.fault.RunFault.{RunFault};
+ghost use Rattle.gc_texts.specs.Faults.{run_fault_text, fault_line, Tells};
+
+use crate::ending::{end_of, tell_end};
+use crate::help::REQUESTS;
+use crate::scene::instrument_of;
+use crate::words::scene_word;
+use clap::Command;
+use gc_instrument::{Instrument, serve};
+use gc_lines::{Sink, Source};
+use std::alloc::{AllocError, Global};
+use std::fs::Files;
+use std::io::{self, Write};
+use std::process::ExitCode;
+
+/// The words of `exec`.
+pub(crate) fn exec_command<'a>(alloc: Global) -> Result<Command<'a>, AllocError> {
+    Command::new(alloc, "exec")
+        .about("Answers the requests of standard input on standard output")
+        .after_help(REQUESTS)
+        .arg(scene_word(alloc))
+}
+
+/// Reads the scene, serves with its instrument, and tells how it ended.
+pub(crate) fn exec_scene<R: Files, S: Source, K: Sink, E: Write>(
+    rt: &R,
+    alloc: Global,
+    scene: Option<&str>,
+    source: &mut S,
+    sink: &mut K,
+    messages: &mut E,
+) -> io::Result<ExitCode>
+    // Either the scene was refused, which is told, and nothing was read or written; or what was served, which is the simulator's
+    // where no scene is named.
+    ensures told { IfOk result (λ status.
+        ((fault : RunFault) × (exit_status status ≡ 1) × Appends (E.contents messages.old) (E.contents messages.new) (fault_line (run_fault_text fault))
+        × (S.remaining source.new ≡ S.remaining source.old) × (K.taken sink.new ≡ K.taken sink.old) × (scene.entry ≡ None → ⊥))
+        ⊎ ((start : State) × (scene.entry ≡ None → start ≡ simulator_opening) × (end : Result Served ServeFault)
+        × ((after : State) × IsServing start after
+        (record { remaining = S.remaining source.old; reads = S.reads source.old; ended = S.ended source.old; source_failed = S.failed source.old; taken = K.taken sink.old; sink_failed = K.failed sink.old })
+        (record { remaining = S.remaining source.new; reads = S.reads source.new; ended = S.ended source.new; source_failed = S.failed source.new; taken = K.taken sink.new; sink_failed = K.failed sink.new })
+        4294967295 end)
+        × Tells fault_text end (exit_status status) (E.contents messages.old) (E.contents messages.new))) }
+
+    // Status 0 exactly where the last read was the end.
+    ensures done { IfOk result (λ status. (exit_status status ≡ 0)
+        ↔ ((S.reads source.old < S.reads source.new) × (S.ended source.new ≡ true))) }
+
+    // Without a scene, status 1 only where a port failed, or all reads that a u32 counts were used up.
+    ensures fault { scene.entry ≡ None → S.failed source.old ≡ false → K.failed sink.old ≡ false
+        → IfOk result (λ status. exit_status status ≡ 1
+        → (S.failed source.new ≡ true) ⊎ ((K.failed sink.new ≡ true)
+        ⊎ (S.reads source.new ≡ S.reads source.old + 4294967295))) }
+    ensures bound { IfOk result (λ status. exit_status status ≤ 1) }
+{
+    match instrument_of(rt, alloc, scene) {
+        Ok(instrument) => exec(instrument, source, sink, messages),
+        Err(fault) => end_of(Err(fault), messages),
+    }
+}
+
+// Serves, and tells how it ended.
+fn exec<S: Source, K: Sink, E: Write>(
+    mut instrument: Instrument,
+    source: &mut S,
+    sink: &mut K,
+    messages: &mut E,
+) -> io::Result<ExitCode>
+    // What was served, why it ended, and that the messages and the status tell it.
+    ensures told { IfOk result (λ status. (end : Result Served ServeFault)
+        × ((after : State) × IsServing instrument after
+        (record { remaining = S.remaining source.old; reads = S.reads source.old; ended = S.ended source.old; source_failed = S.failed source.old; taken = K.taken sink.old; sink_failed = K.failed sink.old })
+        (record { remaining = S.remaining source.new; reads = S.reads source.new; ended = S.ended source.new; source_failed = S.failed source.new; taken = K.taken sink.new; sink_failed = K.failed sink.new })
+        4294967295 end)
+        × Tells fault_text end (exit_status status) (E.contents messages.old) (E.contents messages.new)) }
+
+    // Status 0 exactly where the last read was the end.
+    ensures done { IfOk result (λ status. (exit_status status ≡ 0)
+        ↔ ((S.reads source.old < S.reads source.new) × (S.ended source.new ≡ true))) }
+
+    // Status 1 only where a port failed, or all reads that a u32 counts were used up.
+    ensures fault { S.failed source.old ≡ false → K.failed sink.old ≡ false
+        → IfOk result (λ status. exit_status status ≡ 1
+        → (S.failed source.new ≡ true) ⊎ ((K.failed sink.new ≡ true)
+        ⊎ (S.reads source.new ≡ S.reads source.old + 4294967295))) }
+    ensures bound { IfOk result (λ status. exit_status status ≤ 1) }
+{
+    tell_end(serve(&mut instrument, source, sink, u32::MAX), messages)
+}

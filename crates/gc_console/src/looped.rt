@@ -1,0 +1,50 @@
+//! `geocom loop`: its words, and commands that are asked over a connection to a simulator of its own.
+
+ghost use Rattle.std.specs.Prelude.{◌≤◌, IfOk};
+ghost use Rattle.std.specs.Process.{exit_status};
+
+use crate::ending::end_of;
+use crate::help::COMMANDS;
+use crate::scene::instrument_of;
+use crate::words::scene_word;
+use clap::Command;
+use gc_ask::loop_tcp_on;
+use gc_lines::{Sink, Source};
+use std::alloc::{AllocError, Global};
+use std::io::{self, Write};
+use std::net::{Net, TcpListener, TcpStream};
+use std::process::ExitCode;
+use std::rt::Files;
+
+/// The words of `loop`.
+pub(crate) fn loop_command<'a>(alloc: Global) -> Result<Command<'a>, AllocError> {
+    Command::new(alloc, "loop")
+        .about("Asks the commands of standard input over a connection to a simulator of its own")
+        .after_help(COMMANDS)
+        .arg(scene_word(alloc))
+}
+
+/// Asks over a connection to the instrument of a scene, which is read first, and tells how it ended.
+pub(crate) fn loop_port<
+    R: Net<Listener = TcpListener, Stream = TcpStream> + Files,
+    S: Source,
+    K: Sink,
+    E: Write,
+>(
+    rt: &R,
+    alloc: Global,
+    scene: Option<&str>,
+    source: &mut S,
+    sink: &mut K,
+    messages: &mut E,
+) -> io::Result<ExitCode>
+    ensures { IfOk result (λ status. exit_status status ≤ 1) }
+{
+    match instrument_of(rt, alloc, scene) {
+        Ok(instrument) => end_of(
+            loop_tcp_on(rt, alloc, instrument, source, sink, u32::MAX),
+            messages,
+        ),
+        Err(fault) => end_of(Err(fault), messages),
+    }
+}
