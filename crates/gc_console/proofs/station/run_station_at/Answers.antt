@@ -1,6 +1,5 @@
 use Rattle.std.proofs.Common.{[], inl, inr, refl, Err}
 use Rattle.std.proofs.lemmas.Result.{IfOk-weaker}
-use Rattle.gc_console.specs.Stops.{fault_without_link}
 use Rattle.gc_console.specs.declared.stop.Stop.TheVariants.{Run}
 use Rattle.gc_console.proofs.Linkless.{linkless}
 use Rattle.gc_console.proofs.station.run_station_at.Goals as goal
