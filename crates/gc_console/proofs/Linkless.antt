@@ -1,7 +1,6 @@
 -- A station that has no link: what it doesn't reach.
-use Rattle.std.proofs.Common.{◌≡◌, Bool, Option, Some, None, Result, Err, refl, ap, sym, subst}
-use Rattle.gc_console.specs.Stops.{fault_without_link, IsLinkless, with_fault}
-use Rattle.gc_console.specs.declared.stop.Stop.{Stop}
+use Rattle.std.proofs.Common.{◌≡◌, Bool, Option, Some, None, Err, refl, ap, sym, subst}
+use Rattle.gc_console.specs.Stops.{fault_without_link, IsLinkless}
 use Rattle.gc_console.specs.declared.stop.Stop.TheVariants.{Run}
 use Rattle.gc_links.specs.declared.device.Unusable.{Unusable}
 use Rattle.gc_links.specs.declared.device.Unusable.TheVariants.{NoTerminal, Held, Forbidden}
