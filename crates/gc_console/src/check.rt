@@ -2,7 +2,7 @@
 
 ghost use Rattle.std.specs.Prelude.{◌≡◌, ◌<◌, ◌≤◌, ◌↔◌, Result, IfOk, true};
 ghost use Rattle.std.specs.Process.{exit_status};
-ghost use Rattle.gc_lines.specs.Answering.{fault_text};
+ghost use Rattle.gc_lines.specs.Answering.{fault_text, ports_of};
 ghost use Rattle.gc_lines.specs.declared.served.Served.{Served};
 ghost use Rattle.gc_lines.specs.declared.served.ServeFault.{ServeFault};
 ghost use Rattle.gc_texts.specs.Faults.{Tells};
@@ -36,8 +36,8 @@ pub(crate) fn check<S: Source, K: Sink, E: Write>(
     // What was checked, why it ended, and that the messages and the status tell it.
     ensures told { IfOk result (λ status. (end : Result Served ServeFault)
         × IsChecking
-        (record { remaining = S.remaining source.old; reads = S.reads source.old; ended = S.ended source.old; source_failed = S.failed source.old; taken = K.taken sink.old; sink_failed = K.failed sink.old })
-        (record { remaining = S.remaining source.new; reads = S.reads source.new; ended = S.ended source.new; source_failed = S.failed source.new; taken = K.taken sink.new; sink_failed = K.failed sink.new })
+        (ports_of S.Source source.old K.Sink sink.old)
+        (ports_of S.Source source.new K.Sink sink.new)
         4294967295 end
         × Tells fault_text end (exit_status status) (E.contents messages.old) (E.contents messages.new)) }
 
@@ -58,8 +58,8 @@ pub(crate) fn check_log<S: Source, K: Sink, E: Write>(
     // What was checked, why it ended, and that the messages and the status tell it.
     ensures told { IfOk result (λ status. (end : Result Served ServeFault)
         × IsCheckingLog
-        (record { remaining = S.remaining source.old; reads = S.reads source.old; ended = S.ended source.old; source_failed = S.failed source.old; taken = K.taken sink.old; sink_failed = K.failed sink.old })
-        (record { remaining = S.remaining source.new; reads = S.reads source.new; ended = S.ended source.new; source_failed = S.failed source.new; taken = K.taken sink.new; sink_failed = K.failed sink.new })
+        (ports_of S.Source source.old K.Sink sink.old)
+        (ports_of S.Source source.new K.Sink sink.new)
         4294967295 end
         × Tells fault_text end (exit_status status) (E.contents messages.old) (E.contents messages.new)) }
 

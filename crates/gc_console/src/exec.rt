@@ -3,7 +3,7 @@
 ghost use Rattle.std.specs.Prelude.{◌≡◌, ℕ, ◌+◌, ◌<◌, ◌≤◌, ◌↔◌, ◌⊎◌, None, Result, IfOk, true, false};
 ghost use Rattle.std.specs.Io.KnownBytes.{Appends};
 ghost use Rattle.std.specs.Process.{exit_status};
-ghost use Rattle.gc_lines.specs.Answering.{fault_text};
+ghost use Rattle.gc_lines.specs.Answering.{fault_text, ports_of};
 ghost use Rattle.gc_lines.specs.declared.served.Served.{Served};
 ghost use Rattle.gc_lines.specs.declared.served.ServeFault.{ServeFault};
 ghost use Rattle.gc_instrument.specs.State.{State, simulator_opening};
@@ -47,8 +47,8 @@ pub(crate) fn exec_scene<R: Files, S: Source, K: Sink, E: Write>(
         × (S.remaining source.new ≡ S.remaining source.old) × (K.taken sink.new ≡ K.taken sink.old) × (scene.entry ≡ None → ⊥))
         ⊎ ((start : State) × (scene.entry ≡ None → start ≡ simulator_opening) × (end : Result Served ServeFault)
         × ((after : State) × IsServing start after
-        (record { remaining = S.remaining source.old; reads = S.reads source.old; ended = S.ended source.old; source_failed = S.failed source.old; taken = K.taken sink.old; sink_failed = K.failed sink.old })
-        (record { remaining = S.remaining source.new; reads = S.reads source.new; ended = S.ended source.new; source_failed = S.failed source.new; taken = K.taken sink.new; sink_failed = K.failed sink.new })
+        (ports_of S.Source source.old K.Sink sink.old)
+        (ports_of S.Source source.new K.Sink sink.new)
         4294967295 end)
         × Tells fault_text end (exit_status status) (E.contents messages.old) (E.contents messages.new))) }
 
@@ -79,8 +79,8 @@ fn exec<S: Source, K: Sink, E: Write>(
     // What was served, why it ended, and that the messages and the status tell it.
     ensures told { IfOk result (λ status. (end : Result Served ServeFault)
         × ((after : State) × IsServing instrument after
-        (record { remaining = S.remaining source.old; reads = S.reads source.old; ended = S.ended source.old; source_failed = S.failed source.old; taken = K.taken sink.old; sink_failed = K.failed sink.old })
-        (record { remaining = S.remaining source.new; reads = S.reads source.new; ended = S.ended source.new; source_failed = S.failed source.new; taken = K.taken sink.new; sink_failed = K.failed sink.new })
+        (ports_of S.Source source.old K.Sink sink.old)
+        (ports_of S.Source source.new K.Sink sink.new)
         4294967295 end)
         × Tells fault_text end (exit_status status) (E.contents messages.old) (E.contents messages.new)) }
 

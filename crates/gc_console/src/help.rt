@@ -112,8 +112,9 @@ pub(crate) const STATION: &str =
     "A command is a line `T RPC` or `T RPC PARAMS`, which asks target T for procedure RPC; empty lines and lines that
 begin with # are skipped. Other lines say how the commands behind them go out, and what a target is called:
   deadline MS   1 to 86400000: how long each waits before it is given up
-  chained       each but the first of a row, which is of one target, waits for the one before it to be answered well: with
-                both codes 0 and values that read. Where it isn't, or the connection was closed since, the rest is skipped
+  chained       commands for one target that follow one another are a chain: each but the first waits for the one before it to
+                be answered well, with both codes 0 and values that read. Where it isn't, or the connection was closed since,
+                the rest of the chain is skipped
   unchained     each goes out by itself
   name T TEXT   1 to 64 bytes, for all rows of target T
 
@@ -122,7 +123,7 @@ Each is asked once in each cycle, and each gets a line as it ends, which begins 
   unreadable N  its reply came before its deadline, with both codes 0, and its values have fault N, 11 to 15
   late          its reply came after it was given up; what it said is dropped
   lost          no reply came, and none will be taken
-  skipped       it wasn't sent: the one before it in its row wasn't answered well
+  skipped       it wasn't sent: the one before it in its chain wasn't answered well
   missed        it wasn't sent: its cycle couldn't begin before the next was due
 
 A request that is given up keeps its id, and holds up no other. The connection is closed and made anew where it ends or
@@ -140,9 +141,9 @@ line with the counts is written over, too. With --silent it tells nothing of tha
 
 Each answer is the reply to its own request, also by an instrument that keeps its last reply, where
   - the station is alone on the line: no other client sends on it;
-  - the line keeps order, over connections too, loses lines whole, and repeats a line only directly behind it;
+  - the line keeps order, over connections too, loses requests and replies whole, and repeats one only directly behind it;
   - nothing from before is under way once a beginning was drained;
-  - what else comes reads as no reply with an id, and a line feed behind half a request clears it at the instrument;
+  - what else comes doesn't look like a numbered reply, and a line feed after half a request clears it at the instrument;
   - the clock goes as time does.
 
 Example, beside `geocom serve 4001`:

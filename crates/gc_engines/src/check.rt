@@ -2,6 +2,7 @@
 
 ghost use Rattle.std.specs.Prelude.{◌≡◌, ◌+◌, ◌≤◌, length};
 ghost use Rattle.gc_engines.specs.Checking.{IsChecking};
+ghost use Rattle.gc_lines.specs.Answering.{ports_of};
 
 use crate::verdict::{push_decimal, push_verdict, verdict_of};
 use gc_lines::{Answers, Lent, Outgoing, ServeFault, Served, Sink, Source, answer_frames};
@@ -56,8 +57,8 @@ pub fn run_check<S: Source, K: Sink>(
     max_reads: u32,
 ) -> Result<Served, ServeFault>
     ensures { IsChecking
-        (record { remaining = S.remaining source.old; reads = S.reads source.old; ended = S.ended source.old; source_failed = S.failed source.old; taken = K.taken sink.old; sink_failed = K.failed sink.old })
-        (record { remaining = S.remaining source.new; reads = S.reads source.new; ended = S.ended source.new; source_failed = S.failed source.new; taken = K.taken sink.new; sink_failed = K.failed sink.new })
+        (ports_of S.Source source.old K.Sink sink.old)
+        (ports_of S.Source source.new K.Sink sink.new)
         max_reads result }
 {
     answer_frames(&mut Judge { frames: 0 }, source, sink, max_reads, true)

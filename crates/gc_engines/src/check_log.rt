@@ -6,6 +6,7 @@ ghost use Rattle.gc_lines.specs.Frames.{rest_behind};
 ghost use Rattle.gc_lines.specs.Ports.{FailsWith};
 ghost use Rattle.gc_texts.specs.Logs.{mark_text};
 ghost use Rattle.gc_engines.specs.LogChecking.{IsWholeVerdict, part_verdict, ends_cleared, IsSaid, IsLogVerdict, KeepsLine, SaysAll, SaysPart, IsCheckingLog};
+ghost use Rattle.gc_lines.specs.Answering.{ports_of};
 
 use crate::verdict::{Verdict, line_verdict, push_verdict};
 use arrayvec::ArrayVec;
@@ -69,8 +70,8 @@ pub fn run_check_log<S: Source, K: Sink>(
     max_reads: u32,
 ) -> Result<Served, ServeFault>
     ensures { IsCheckingLog
-        (record { remaining = S.remaining source.old; reads = S.reads source.old; ended = S.ended source.old; source_failed = S.failed source.old; taken = K.taken sink.old; sink_failed = K.failed sink.old })
-        (record { remaining = S.remaining source.new; reads = S.reads source.new; ended = S.ended source.new; source_failed = S.failed source.new; taken = K.taken sink.new; sink_failed = K.failed sink.new })
+        (ports_of S.Source source.old K.Sink sink.old)
+        (ports_of S.Source source.new K.Sink sink.new)
         max_reads result }
 {
     let mut kept = Underway::new();

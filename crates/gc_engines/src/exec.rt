@@ -2,6 +2,7 @@
 
 ghost use Rattle.gc_instrument.specs.State.{State, simulator_opening};
 ghost use Rattle.gc_instrument.specs.Serving.{IsServing};
+ghost use Rattle.gc_lines.specs.Answering.{ports_of};
 
 use gc_instrument::{Instrument, ServeFault, Served, serve};
 use gc_lines::{Sink, Source};
@@ -15,8 +16,8 @@ pub fn run_exec<S: Source, K: Sink>(
     max_reads: u32,
 ) -> Result<Served, ServeFault>
     ensures { (after : State) × IsServing simulator_opening after
-        (record { remaining = S.remaining source.old; reads = S.reads source.old; ended = S.ended source.old; source_failed = S.failed source.old; taken = K.taken sink.old; sink_failed = K.failed sink.old })
-        (record { remaining = S.remaining source.new; reads = S.reads source.new; ended = S.ended source.new; source_failed = S.failed source.new; taken = K.taken sink.new; sink_failed = K.failed sink.new })
+        (ports_of S.Source source.old K.Sink sink.old)
+        (ports_of S.Source source.new K.Sink sink.new)
         max_reads result }
 {
     serve(&mut Instrument::simulator(), source, sink, max_reads)

@@ -1,5 +1,7 @@
-use Rattle.std.proofs.Common.{inl, inr, sym}
+use Rattle.std.proofs.Common.{inl, inr, refl, sym, subst}
 use Rattle.std.proofs.lemmas.Result.{IfOk-weaker}
+use Rattle.std.specs.Io.KnownBytes.{Appends}
+use Rattle.gc_texts.specs.Faults.{fault_line, run_fault_text}
 use Rattle.gc_console.proofs.recording.append_at.Goals as goal
 
 pub returns-in-Ok-clause-told : goal.returns-in-Ok-clause-told
@@ -26,3 +28,14 @@ returns-in-Ok-clause-done g c =
     IfOk-weaker c.measure_at-filed.result.1 _ _
     (λ status d zero. let r = d zero in (c.tell_torn.new.messages, r.0, r.1, r.2, r.3))
     (rw (c.appended.ensures, c.with_output-filed.ensures.input, c.with_output-filed.ensures.messages, sym c.with_output-streams.ensures.input) at c.measure_at-filed.ensures.done)
+
+pub returns-in-Err-clause-told : goal.returns-in-Err-clause-told
+returns-in-Err-clause-told g c =
+    IfOk-weaker c.tell_counts-ended.result _ _
+    (λ status t. inl (
+      c.in-Err.why,
+      t.0,
+      subst (λ fault. Appends (g.E.Write.contents c.args.streams.messages) (g.E.Write.contents c.tell_counts-ended.new.messages) (fault_line (run_fault_text fault))) c.fault_of_unfit.ensures t.1,
+      refl,
+    ))
+    c.tell_counts-ended.ensures.told
