@@ -1,5 +1,5 @@
 -- A command text that is read whole and asked: this project's own.
-use Rattle.std.specs.Prelude.{◌≡◌, ℕ, ◌+◌, ◌*◌, ◌-◌, ◌≤◌, ◌⊎◌, List, length, Result, Err}
+use Rattle.std.specs.Prelude.{◌≡◌, false, ℕ, ◌+◌, ◌*◌, ◌-◌, ◌≤◌, ◌⊎◌, List, length, Result, Err}
 use Rattle.std.specs.Io.KnownBytes.{Consumes}
 use Rattle.gc_lines.specs.Answering.{Ports}
 use Rattle.gc_ask.specs.Asking.{Taken, Written, Asks, LinkEnds, EndsWith}
@@ -28,6 +28,14 @@ pub record AsksOver (commands : List Command) (most : ℕ) (old new : Seen) (res
   pub too_many : result ≡ Err TooManyReads → new.link.reads ≡ old.link.reads + most
   pub ends : EndsWith (LinkEnds old.link new.link) old.sink.failed new.sink.failed result
 
+-- commands were asked over a link that hadn't failed, and of which nothing was read before, in so many reads at most, with this end
+pub record AsksOverOne (commands : List Command) (most : ℕ) (old new : Taken) (result : Result (Unit {0}) RunFault) : Type 0 where
+  pub before : Ports
+  pub after : Ports
+  pub unread : before.reads ≡ 0
+  pub sound : (before.source_failed ≡ false) × (before.sink_failed ≡ false)
+  pub asks : AsksOver commands most (record { link = before; sink = old }) (record { link = after; sink = new }) result
+
 -- a run over a source of commands, a link and a sink: the text was refused, and then nothing was read of the link, sent or written; or
 -- its commands were asked
 abbrev pub AskRuns : (text_old text_new : Input) → (most : ℕ) → (old new : Seen) → Result (Unit {0}) RunFault → Type 0
@@ -36,3 +44,13 @@ AskRuns text_old text_new most old new result =
     × (text_new.reads ≤ text_old.reads + length given + end_reads text_new.ended)
     × (((fault : RunFault) × (result ≡ Err fault) × RefusesCommands given text_old text_new fault × (new ≡ old))
     ⊎ ((commands : List Command) × GivesCommands given text_old text_new commands × AsksOver commands most old new result))
+
+-- a run over a source of commands, a connection that it makes, and a sink: the text was refused, or it was read and no connection
+-- could be had, with such a fault, and in both cases nothing was written; or its commands were asked over the connection
+abbrev pub AskRunsAt : (IsNone : RunFault → Type 0) → (text_old text_new : Input) → (most : ℕ) → (old new : Taken) → Result (Unit {0}) RunFault → Type 0
+AskRunsAt IsNone text_old text_new most old new result =
+    (given : List ℕ) × Consumes text_old.remaining text_new.remaining given
+    × (text_new.reads ≤ text_old.reads + length given + end_reads text_new.ended)
+    × (((fault : RunFault) × (result ≡ Err fault) × RefusesCommands given text_old text_new fault × (new ≡ old))
+    ⊎ ((commands : List Command) × GivesCommands given text_old text_new commands
+    × (((fault : RunFault) × (result ≡ Err fault) × IsNone fault × (new ≡ old)) ⊎ AsksOverOne commands most old new result)))

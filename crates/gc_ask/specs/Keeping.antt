@@ -3,7 +3,6 @@ use Rattle.std.specs.Prelude.{◌≡◌, ℕ, ◌+◌, Bool, true, List, [], ◌
 use Rattle.std.specs.Fmt.{decimal}
 use Rattle.std.specs.Io.KnownBytes.{Appends}
 use Rattle.gc_lines.specs.Answering.{numbered, how_far}
-use Rattle.gc_lines.specs.declared.served.TheConstants.{READ_FAILED, WRITE_FAILED, READS_SPENT}
 use Rattle.gc_lines.specs.declared.served.Served.{Served}
 use Rattle.gc_lines.specs.declared.served.ServeFault.{ServeFault}
 use Rattle.gc_lines.specs.declared.served.ServeFault.TheVariants as serving
@@ -18,9 +17,9 @@ End = Result (Unit {0}) CallerFault
 
 -- a fault as it is printed: an idle connection has no number, since nothing failed
 abbrev pub caller_fault_text : CallerFault → List ℕ
-caller_fault_text Read = numbered READ_FAILED
-caller_fault_text (Write count bytes) = numbered WRITE_FAILED ++ how_far count bytes
-caller_fault_text TooManyReads = numbered READS_SPENT
+caller_fault_text Read = numbered 42
+caller_fault_text (Write count bytes) = numbered 43 ++ how_far count bytes
+caller_fault_text TooManyReads = numbered 44
 caller_fault_text Socket = run_fault_text fault.Socket
 caller_fault_text Idle = codes "idle"
 

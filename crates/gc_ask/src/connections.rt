@@ -1,23 +1,28 @@
 //! What is asked and served over real connections, to their ends: what makes a connection stands in `gc_links`.
 
-ghost use Rattle.std.specs.Prelude.{◌≡◌, ◌≤◌, Result};
+ghost use Rattle.std.specs.Prelude.{◌≡◌, ◌≤◌, Option, Result};
 ghost use Rattle.gc_lines.specs.declared.served.Served.{Served};
 ghost use Rattle.gc_lines.specs.declared.served.ServeFault.{ServeFault};
 ghost use Rattle.gc_instrument.specs.Serving.{IsServing};
 ghost use Rattle.gc_instrument.specs.State.{restarted};
+ghost use Rattle.gc_ask.specs.AskRuns.{AskRunsAt, AsksOverOne};
+ghost use Rattle.gc_ask.specs.Asking.{taken_by};
 ghost use Rattle.gc_ask.specs.Places.{fault_of_reason};
-ghost use Rattle.gc_ask.specs.declared.connections.TheConstants.{MOST_CONNECTIONS};
 ghost use Rattle.gc_texts.specs.Faults.{end_of_serving};
 ghost use Rattle.gc_lines.specs.Answering.{ports_of};
+ghost use Rattle.gc_links.specs.declared.device.Unusable.{Unusable};
+ghost use Rattle.gc_texts.specs.WholeTexts.{input_of};
+ghost use Rattle.gc_texts.specs.declared.fault.RunFault.{RunFault};
 
 use crate::ask::ask_all;
 use crate::looped::loop_all;
 use gc_instrument::{Instrument, ServeFault, serve};
 use gc_lines::{FromReader, Sink, Source, ToWriter};
-use gc_links::{Place, Unusable, accept, both_ends, listen, wire_to};
-use gc_texts::{RunFault, read_command_text};
+use gc_links::{Place, Unusable, accept, both_ends, connect_here, listen, wire_to};
+use gc_texts::{Command, RunFault, read_command_text};
 use std::alloc::Global;
 use std::fs::File;
+use std::io::{Read, Write};
 use std::net::{Net, TcpListener, TcpStream};
 use std::rt::Files;
 use std::time::Clock;
@@ -86,7 +91,7 @@ pub fn serve_tcp<R: Net<Listener = TcpListener, Stream = TcpStream>>(
 ) -> Result<(), RunFault>
     requires port { 1 ≤ port }
     requires some { 1 ≤ connections }
-    requires few { connections ≤ MOST_CONNECTIONS }
+    requires few { connections ≤ 1000 }
 {
     let Ok(listener) = listen(rt, port) else {
         return Err(RunFault::Socket);
@@ -104,7 +109,7 @@ pub fn serve_on(
     instrument: &mut Instrument,
     max_reads: u32,
 ) -> Result<(), RunFault>
-    requires { connections ≤ MOST_CONNECTIONS }
+    requires { connections ≤ 1000 }
 {
     for _ in 0..connections {
         let Ok(stream) = accept(listener) else {
@@ -120,11 +125,35 @@ pub fn serve_on(
     Ok(())
 }
 
-/// Reads the whole command text of a source, connects to a place or opens it, and asks the commands over that connection, in at
+/// Reads the whole command text of a source, connects to a port of 127.0.0.1, and asks the commands over that connection, in at
 /// most `max_reads` reads of it.
 ///
-/// The faults are those of `run_ask`, and those of `fault_of` where no connection could be had. None is made before the whole
-/// text was read.
+/// The faults are those of `run_ask`, and `Socket` where no connection could be had. None is made before the whole text was read.
+pub fn ask_tcp<R: Net<Listener = TcpListener, Stream = TcpStream>, S: Source, K: Sink>(
+    rt: &R,
+    alloc: Global,
+    port: u16,
+    commands: &mut S,
+    sink: &mut K,
+    max_reads: u32,
+) -> Result<(), RunFault>
+    requires { 1 ≤ port }
+    ensures asks { AskRunsAt (λ fault. fault ≡ RunFault.Socket) (input_of S.Source commands.old) (input_of S.Source commands.new) max_reads
+        (taken_by K.Sink sink.old) (taken_by K.Sink sink.new) result }
+{
+    let commands = match read_command_text(alloc, commands) {
+        Ok(commands) => commands,
+        Err(fault) => return Err(fault),
+    };
+    let Ok(stream) = connect_here(rt, port) else {
+        return Err(RunFault::Socket);
+    };
+    ask_over(commands.as_slice(), &stream, &stream, sink, max_reads)
+}
+
+/// Asks the commands of a source as `ask_tcp` does, at a place: connects to it, or opens it where it is a device.
+///
+/// The faults are those of `run_ask`, and those of `fault_of` where no connection could be had.
 pub fn ask_at<
     R: Net<Listener = TcpListener, Stream = TcpStream> + Files<File = File> + Clock,
     S: Source,
@@ -136,16 +165,35 @@ pub fn ask_at<
     commands: &mut S,
     sink: &mut K,
     max_reads: u32,
-) -> Result<(), RunFault> {
-    let commands = read_command_text(alloc, commands)?;
+) -> Result<(), RunFault>
+    ensures asks { AskRunsAt (λ fault. (reason : Option Unusable) × (fault ≡ fault_of_reason reason)) (input_of S.Source commands.old) (input_of S.Source commands.new) max_reads
+        (taken_by K.Sink sink.old) (taken_by K.Sink sink.new) result }
+{
+    let commands = match read_command_text(alloc, commands) {
+        Ok(commands) => commands,
+        Err(fault) => return Err(fault),
+    };
     let wire = match wire_to(rt, place) {
         Ok(wire) => wire,
         Err(reason) => return Err(fault_of(reason)),
     };
+    ask_over(commands.as_slice(), &wire, &wire, sink, max_reads)
+}
+
+// Asks commands over the two directions of a connection that was just made.
+fn ask_over<I: Read + Drop, O: Write + Drop, K: Sink>(
+    commands: &[Command],
+    reader: I,
+    writer: O,
+    sink: &mut K,
+    max_reads: u32,
+) -> Result<(), RunFault>
+    ensures { AsksOverOne commands.now max_reads (taken_by K.Sink sink.old) (taken_by K.Sink sink.new) result }
+{
     ask_all(
-        commands.as_slice(),
-        &mut FromReader::new(&wire),
-        &mut ToWriter::new(&wire),
+        commands,
+        &mut FromReader::new(reader),
+        &mut ToWriter::new(writer),
         sink,
         max_reads,
     )

@@ -3,12 +3,11 @@
 ghost use Rattle.std.specs.Prelude.{◌≡◌, ◌≤◌, Some, None, IfErr, IfOk};
 ghost use Rattle.gc_ask.specs.Keeping.{Kept, most_callers};
 ghost use Rattle.gc_ask.specs.Places.{fault_of_reason};
-ghost use Rattle.gc_ask.specs.declared.connections.TheConstants.{MOST_CONNECTIONS};
 ghost use Rattle.gc_links.specs.declared.device.Unusable.{Unusable};
 
 use crate::caller::serve_caller;
 use crate::callers::{CallerFault, Callers, keep};
-use crate::connections::{MOST_CONNECTIONS, fault_of, serve_connection};
+use crate::connections::{fault_of, serve_connection};
 use crate::kept_port::Keeping;
 use gc_instrument::Instrument;
 use gc_lines::{FromReader, ToWriter};
@@ -35,7 +34,7 @@ pub fn serve_device<R: Files<File = File> + Clock>(
     instrument: &mut Instrument,
     max_reads: u32,
 ) -> Result<(), RunFault>
-    requires { connections ≤ MOST_CONNECTIONS }
+    requires { connections ≤ 1000 }
 {
     for _ in 0..connections {
         let wire = match wire_on(rt, path) {

@@ -62,9 +62,9 @@ impl Error for WindowFull {}
 /// 2. Read, waiting until [`next_deadline`](Client::next_deadline) at most.
 /// 3. Hand the moment after the read to `expire`, on the clock of the deadlines. Then hand each line that came, without
 ///    its CR LF, to `on_line`. So a reply that came past its deadline is late. Go on at 1.
-/// 4. Where the connection fails, or all that wait were given up and nothing comes any more, close it, open it anew and
-///    `restart`. Ids then begin at 0 again. So no line may be under way, and an instrument that keeps its last reply has
-///    to restart too. By that call the caller vouches for both.
+/// 4. Where the connection fails, close it, keep the client, and go on over a new one: ids go on. Only where seven wait that
+///    are all given up, discard what comes until the line is quiet, `restart`, and send a null procedure alone until it is
+///    answered: ids begin at 0 again (`docs/CLIENT.md`). By that call the caller vouches that no line is under way.
 ///
 /// What to do at each outcome:
 ///
@@ -325,9 +325,9 @@ impl<W: Window> Client<W> {
 
     /// Settles all that wait as lost, in order, and begins anew at id 0, with the same width.
     ///
-    /// The caller vouches that no line is under way in either direction, and that the instrument restarts too: one that
-    /// still kept the reply to its last request would take a new request with that id for a repeat, and not act on it. An
-    /// operator closes the connection, switches the instrument off and on, and opens the connection anew.
+    /// The caller vouches that no line is under way in either direction. An instrument that still keeps the reply to its
+    /// last request would take a new request with that id for a repeat, and not act on it. So either the instrument restarts
+    /// too, or the first request is a null procedure, alone until it is answered (`docs/CLIENT.md`).
     pub fn restart(&mut self) -> ArrayVec<Settlement, WINDOW>
         ensures settled { AreSettlements result.items (restarts self.old.ids).settlements }
         ensures client { self.new ≡ record self.old { ids = (restarts self.old.ids).client } }

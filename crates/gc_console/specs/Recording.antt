@@ -3,6 +3,7 @@ use Rattle.std.specs.Prelude.{ℕ, List, [], ◌++◌, ◌==◌, if◌then◌els
 use Rattle.std.specs.Fmt.{decimal}
 use Rattle.gc_files.specs.declared.system.Unfit.{Unfit}
 use Rattle.gc_files.specs.declared.system.Unfit.TheVariants.{Unopened, Held, Foreign, Failed}
+use Rattle.gc_texts.specs.Faults.{run_fault_text, fault_line}
 use Rattle.gc_texts.specs.declared.fault.RunFault.{RunFault}
 use Rattle.gc_texts.specs.declared.fault.RunFault.TheVariants.{RecordsUnopened, RecordsHeld, RecordsForeign, Output}
 
@@ -12,6 +13,17 @@ fault_of_unfit Unopened = RecordsUnopened
 fault_of_unfit Held = RecordsHeld
 fault_of_unfit Foreign = RecordsForeign
 fault_of_unfit Failed = Output
+
+-- what is told behind the fault: where a file holds something else than such rows, what may have come of it, and how to rotate it
+abbrev pub rotation_line : Unfit → List ℕ
+rotation_line Unopened = []
+rotation_line Held = []
+rotation_line Foreign = codes "geocom: the file does not begin as this station's rows do: it has other columns, or a rotation cut off its header (copytruncate). To rotate it, stop the station, rename the file, wait seven quiet times, and start it\n"
+rotation_line Failed = []
+
+-- all that is told of a path that can't be had as a file of records
+abbrev pub unfit_text : Unfit → List ℕ
+unfit_text why = fault_line (run_fault_text (fault_of_unfit why)) ++ rotation_line why
 
 -- what is told of so many bytes of a torn row that were cut off: nothing where there were none
 abbrev pub torn_line : ℕ → List ℕ

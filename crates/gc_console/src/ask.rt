@@ -3,9 +3,9 @@
 ghost use Rattle.std.specs.Prelude.{◌≤◌, IfOk};
 ghost use Rattle.std.specs.Process.{exit_status};
 
+use crate::arguments::{Argument, PLACE, command_of};
 use crate::ending::end_of;
 use crate::help::COMMANDS;
-use crate::words::place_word;
 use clap::Command;
 use gc_ask::ask_at;
 use gc_lines::{Sink, Source};
@@ -18,12 +18,18 @@ use std::process::ExitCode;
 use std::rt::Files;
 use std::time::Clock;
 
+// Its arguments.
+const ARGUMENTS: &[Argument<'static>] = &[PLACE];
+
 /// The words of `ask`.
 pub(crate) fn ask_command<'a>(alloc: Global) -> Result<Command<'a>, AllocError> {
-    Command::new(alloc, "ask")
-        .about("Asks the commands of standard input at a place")
-        .after_help(COMMANDS)
-        .arg(place_word(alloc))
+    command_of(
+        alloc,
+        "ask",
+        "Asks the commands of standard input at a place",
+        COMMANDS,
+        ARGUMENTS,
+    )
 }
 
 /// Asks at a place, and tells how it ended.

@@ -9,9 +9,9 @@ ghost use Rattle.gc_texts.specs.Faults.{Tells};
 ghost use Rattle.gc_engines.specs.Checking.{IsChecking};
 ghost use Rattle.gc_engines.specs.LogChecking.{IsCheckingLog};
 
+use crate::arguments::{Argument, FLAG, command_of};
 use crate::ending::tell_end;
 use crate::help::VERDICTS;
-use crate::words::flag_of;
 use clap::Command;
 use gc_engines::{run_check, run_check_log};
 use gc_lines::{Sink, Source};
@@ -19,12 +19,22 @@ use std::alloc::{AllocError, Global};
 use std::io::{self, Write};
 use std::process::ExitCode;
 
+// Its arguments.
+const ARGUMENTS: &[Argument<'static>] = &[Argument {
+    name: "log",
+    help: "Reads a log that `station --log` wrote",
+    ..FLAG
+}];
+
 /// The words of `check`.
 pub(crate) fn check_command<'a>(alloc: Global) -> Result<Command<'a>, AllocError> {
-    Command::new(alloc, "check")
-        .about("Says of each frame of standard input what it is, or what is wrong with it")
-        .after_help(VERDICTS)
-        .arg(flag_of(alloc, "log", "Reads a log that `station --log` wrote"))
+    command_of(
+        alloc,
+        "check",
+        "Says of each frame of standard input what it is, or what is wrong with it",
+        VERDICTS,
+        ARGUMENTS,
+    )
 }
 
 /// Checks a stream, and tells how it ended.

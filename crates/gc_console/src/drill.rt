@@ -11,11 +11,11 @@ ghost use Rattle.gc_console.specs.Refusals.{range_line};
 ghost use Rattle.gc_engines.specs.Schedule.{IsSchedule};
 ghost use Rattle.gc_engines.specs.Drill.{drill_text_on, DrillsOn, source_failed, sink_failed};
 
+use crate::arguments::{Argument, FLAG, SCENE, Takes, command_of};
 use crate::ending::{end_of, refuse_numbers};
 use crate::help::EVENTS;
 use crate::scene::instrument_of;
-use crate::words::{flag_of, scene_word};
-use clap::{Arg, ArgMatches, Command, value_parser};
+use clap::{ArgMatches, Command};
 use gc_client::WINDOW;
 use gc_engines::run_drill_on;
 use gc_instrument::Instrument;
@@ -34,24 +34,33 @@ pub(crate) struct Drilling<'a> {
     pub width: u8,
 }
 
+// Its arguments.
+const ARGUMENTS: &[Argument<'static>] = &[
+    Argument {
+        name: "totals",
+        help: "Writes a line of totals behind the settlements",
+        ..FLAG
+    },
+    Argument {
+        name: "width",
+        takes: Takes::Signed(1, 7),
+        value_name: &["W"],
+        default: &["7"],
+        help: "Lets so many requests wait: a send beyond them is refused",
+        ..FLAG
+    },
+    SCENE,
+];
+
 /// The words of `drill`.
 pub(crate) fn drill_command<'a>(alloc: Global) -> Result<Command<'a>, AllocError> {
-    let width = Arg::new(alloc, "width")
-        .long("width")
-        .value_name("W")
-        .value_parser(value_parser!(u8).range(1..=7))
-        .default_value("7")
-        .help("Lets so many requests wait: a send beyond them is refused");
-    Command::new(alloc, "drill")
-        .about("Plays the schedule of standard input, and writes a line for each settlement")
-        .after_help(EVENTS)
-        .arg(flag_of(
-            alloc,
-            "totals",
-            "Writes a line of totals behind the settlements",
-        ))?
-        .arg(width)?
-        .arg(scene_word(alloc))
+    command_of(
+        alloc,
+        "drill",
+        "Plays the schedule of standard input, and writes a line for each settlement",
+        EVENTS,
+        ARGUMENTS,
+    )
 }
 
 /// What the words of `drill` say.

@@ -11,10 +11,10 @@ ghost use Rattle.gc_instrument.specs.Serving.{IsServing};
 ghost use Rattle.gc_texts.specs.declared.fault.RunFault.{RunFault};
 ghost use Rattle.gc_texts.specs.Faults.{run_fault_text, fault_line, Tells};
 
+use crate::arguments::{Argument, SCENE, command_of};
 use crate::ending::{end_of, tell_end};
 use crate::help::REQUESTS;
 use crate::scene::instrument_of;
-use crate::words::scene_word;
 use clap::Command;
 use gc_instrument::{Instrument, serve};
 use gc_lines::{Sink, Source};
@@ -23,12 +23,18 @@ use std::fs::Files;
 use std::io::{self, Write};
 use std::process::ExitCode;
 
+// Its arguments.
+const ARGUMENTS: &[Argument<'static>] = &[SCENE];
+
 /// The words of `exec`.
 pub(crate) fn exec_command<'a>(alloc: Global) -> Result<Command<'a>, AllocError> {
-    Command::new(alloc, "exec")
-        .about("Answers the requests of standard input on standard output")
-        .after_help(REQUESTS)
-        .arg(scene_word(alloc))
+    command_of(
+        alloc,
+        "exec",
+        "Answers the requests of standard input on standard output",
+        REQUESTS,
+        ARGUMENTS,
+    )
 }
 
 /// Reads the scene, serves with its instrument, and tells how it ended.

@@ -140,10 +140,13 @@ quiet, nothing was heard or commands were skipped, and that a cycle is late. Whe
 line with the counts is written over, too. With --silent it tells nothing of that.
 
 Each answer is the reply to its own request, also by an instrument that keeps its last reply, where
+  - the instrument answers in turn, one request at a time, each with its request's id, and what it sends again is its reply
+    to the request directly before;
   - the station is alone on the line: no other client sends on it;
   - the line keeps order, over connections too, loses requests and replies whole, and repeats one only directly behind it;
   - nothing from before is under way once a beginning was drained;
-  - what else comes doesn't look like a numbered reply, and a line feed after half a request clears it at the instrument;
+  - what else comes doesn't look like a numbered reply;
+  - the line feed behind half a request arrives, and clears it at the instrument;
   - the clock goes as time does.
 
 Example, beside `geocom serve 4001`:

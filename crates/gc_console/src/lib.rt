@@ -1,6 +1,7 @@
 //! The program `geocom`: its command line, and a station over its ports; the engines behind the other subcommands under one name.
 #![tactic(auto)]
 
+mod arguments;
 mod ask;
 mod asking;
 mod check;
@@ -24,11 +25,12 @@ mod station;
 mod stop;
 mod streams;
 mod task_text;
+mod turns;
 mod version;
 mod words;
 
 pub use choice::{Choice, Watch};
-pub use gc_ask::{ask_at, loop_tcp, run_ask, run_loop, serve_tcp};
+pub use gc_ask::{ask_at, ask_tcp, loop_tcp, run_ask, run_loop, serve_tcp};
 pub use gc_engines::{read_schedule, run_check, run_drill, run_drill_width, run_exec};
 pub use gc_instrument::{ServeFault, Served};
 pub use gc_links::Link;

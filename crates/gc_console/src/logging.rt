@@ -16,12 +16,11 @@ use crate::oddity::{Noticing, Oddities};
 use crate::station::{Station, link_at, measure_over, tell_counts};
 use crate::stop::Stop;
 use crate::streams::Streams;
-use clap::{Arg, Command};
 use gc_lines::{Lasting, Source, ToWriter};
 use gc_links::{Place, Telling};
-use gc_station::Logged;
+use gc_logs::Logged;
 use gc_texts::RunFault;
-use std::alloc::{AllocError, Global};
+use std::alloc::Global;
 use std::cell::Cell;
 use std::fs::{File, OpenOptions, TryLockError};
 use std::io::{self, Write};
@@ -29,14 +28,6 @@ use std::net::{Net, TcpListener, TcpStream};
 use std::process::ExitCode;
 use std::rt::Files;
 use std::time::Clock;
-
-/// The word of `station` that names the file of its log.
-pub(crate) fn with_log<'a>(alloc: Global, command: Command<'a>) -> Result<Command<'a>, AllocError> {
-    let log = Arg::new(alloc, "log").long("log").value_name("FILE").help(
-        "Appends each line that went or came to a file, with its moment; `check --log` reads it",
-    );
-    command.arg(log)
-}
 
 // The file of a log, unless another program, or the records of this one, hold it. Where a file can't be held it is nobody's.
 fn open_log<R: Files<File = File>>(rt: &R, path: &str) -> Option<File> {

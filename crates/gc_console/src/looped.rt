@@ -3,10 +3,10 @@
 ghost use Rattle.std.specs.Prelude.{◌≤◌, IfOk};
 ghost use Rattle.std.specs.Process.{exit_status};
 
+use crate::arguments::{Argument, SCENE, command_of};
 use crate::ending::end_of;
 use crate::help::COMMANDS;
 use crate::scene::instrument_of;
-use crate::words::scene_word;
 use clap::Command;
 use gc_ask::loop_tcp_on;
 use gc_lines::{Sink, Source};
@@ -16,12 +16,18 @@ use std::net::{Net, TcpListener, TcpStream};
 use std::process::ExitCode;
 use std::rt::Files;
 
+// Its arguments.
+const ARGUMENTS: &[Argument<'static>] = &[SCENE];
+
 /// The words of `loop`.
 pub(crate) fn loop_command<'a>(alloc: Global) -> Result<Command<'a>, AllocError> {
-    Command::new(alloc, "loop")
-        .about("Asks the commands of standard input over a connection to a simulator of its own")
-        .after_help(COMMANDS)
-        .arg(scene_word(alloc))
+    command_of(
+        alloc,
+        "loop",
+        "Asks the commands of standard input over a connection to a simulator of its own",
+        COMMANDS,
+        ARGUMENTS,
+    )
 }
 
 /// Asks over a connection to the instrument of a scene, which is read first, and tells how it ended.

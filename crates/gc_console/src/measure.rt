@@ -22,6 +22,7 @@ use crate::station::Station;
 use crate::stop::Stop;
 use crate::streams::Streams;
 use crate::task_text::read_task_text;
+use crate::turns::tell_turns;
 use gc_lines::{Lasting, PortFailed, Source, write_whole};
 use gc_links::{Link, Moment};
 use gc_station::{Book, Plan, Sight, Stamp, Tally, run_station};
@@ -38,9 +39,9 @@ use std::io::{self, Write};
 /// comes with the faults of [`run_station`], and with `Output` where the output failed: in front of the records, and then the link
 /// wasn't used, or at a record.
 ///
-/// A quiet time that is shorter than the longest deadline is told on the messages at the start, and so are signs of life, each at
-/// most once a minute, where the choice has them, and once what is noticed of the line in `oddities`. Where that can't be written
-/// the station measures on.
+/// What is odd of the choice and of the text is told on the messages at the start: each angle of a positioning that lies outside one
+/// turn, and a quiet time that is shorter than the longest deadline. So are signs of life, each at most once a minute, where the
+/// choice has them, and once what is noticed of the line in `oddities`. Where that can't be written the station measures on.
 pub fn run_station_text<L: Link, S: Source, K: Lasting, E: Write>(
     alloc: Global,
     link: &mut L,
@@ -73,14 +74,17 @@ pub fn run_station_text<L: Link, S: Source, K: Lasting, E: Write>(
         (record { input = input_of S.Source result.0.input; acts = L.acts link.new; taken = K.taken result.0.output; messages = E.contents result.0.messages })
         result.1 }
 {
-    let tasks = match read_task_text(alloc, &mut streams.input, &station.choice) {
-        Ok(tasks) => tasks,
+    let (tasks, text) = match read_task_text(alloc, &mut streams.input, &station.choice) {
+        Ok(read) => read,
         Err(stop) => return (streams, Err(stop)),
     };
     let Ok(()) = write_front(&mut streams.output, station.layout) else {
         return (streams, Err(Stop::Run(RunFault::Output)));
     };
     let Tasks { tasks, names } = tasks;
+    let _ = tell_turns(text.as_slice(), tasks.as_slice(), &mut streams.messages);
+    // A run may take months.
+    drop(text);
     let named = Tasks {
         tasks: Vec::new(alloc),
         names,

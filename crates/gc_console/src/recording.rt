@@ -1,11 +1,11 @@
-//! Records in a file that outlasts the program: its words, and a station that appends to it.
+//! Records in a file that outlasts the program: what the words say of it, and a station that appends to it.
 
 ghost use Rattle.std.specs.Prelude.{◌≡◌, ◌≤◌, ◌⊎◌, ℕ, Bool, List, [], Some, None, Result, Ok, Err, IfOk, OnOk};
 ghost use Rattle.std.specs.Io.KnownBytes.{Appends};
 ghost use Rattle.std.specs.Process.{exit_status};
 ghost use Rattle.gc_console.specs.Logging.{TellsLoss};
 ghost use Rattle.gc_console.specs.Measuring.{appended, begun_at, MeasuresBegun, IsMeasured, TellsCounts};
-ghost use Rattle.gc_console.specs.Recording.{fault_of_unfit, torn_line};
+ghost use Rattle.gc_console.specs.Recording.{fault_of_unfit, rotation_line, unfit_text, torn_line};
 ghost use Rattle.gc_console.specs.Stops.{with_fault, IsLinkless};
 ghost use Rattle.gc_texts.specs.WholeTexts.{input_of};
 ghost use Rattle.gc_console.specs.declared.stop.Stop.{Stop};
@@ -14,19 +14,17 @@ ghost use Rattle.gc_files.specs.declared.system.Unfit.{Unfit};
 ghost use Rattle.gc_links.specs.Acts.{Act};
 ghost use Rattle.gc_station.specs.Runs.{FailsAtOutput};
 ghost use Rattle.gc_station.specs.declared.tally.Tally.{Tally};
-ghost use Rattle.gc_texts.specs.Faults.{run_fault_text, fault_line};
 ghost use Rattle.gc_texts.specs.declared.fault.RunFault.{RunFault};
 
 use crate::logging::run_logged_at;
 use crate::station::{Site, Station, run_station_at, tell_counts};
 use crate::stop::Stop;
 use crate::streams::Streams;
-use crate::words::flag_of;
-use clap::{Arg, ArgMatches, Command};
+use clap::ArgMatches;
 use gc_files::{RowsFile, SystemFile, Unfit, open_at};
 use gc_lines::{Lasting, Source};
 use gc_texts::{Form, RunFault, head, sign};
-use std::alloc::{AllocError, Global};
+use std::alloc::Global;
 use std::fs::File;
 use std::io::{self, Write};
 use std::net::{Net, TcpListener, TcpStream};
@@ -39,26 +37,6 @@ use std::time::Clock;
 pub(crate) struct Recording<'a> {
     pub path: &'a str,
     pub sync: bool,
-}
-
-/// The words of `station` that name the file of its records.
-pub(crate) fn with_recording<'a>(
-    alloc: Global,
-    command: Command<'a>,
-) -> Result<Command<'a>, AllocError> {
-    let append = Arg::new(alloc, "append")
-        .long("append")
-        .value_name("FILE")
-        .help(
-            "Appends each record as a row to this file, behind its whole rows, and writes none on standard output",
-        );
-    let sync = flag_of(
-        alloc,
-        "sync",
-        "With --append: has each row on the disk before the next command goes out",
-    )
-    .requires_arg("append")?;
-    command.arg(append)?.arg(sync)
 }
 
 /// What the words of `station` say of its records' file.
@@ -93,6 +71,33 @@ fn tell_torn<E: Write>(torn: u64, messages: &mut E) -> io::Result<()>
         return write!(messages, "");
     }
     writeln!(messages, "geocom: {torn} bytes of a torn row were cut off")
+}
+
+// Tells behind the fault how to rotate a file, where it holds something else than such rows. The status stays.
+fn tell_rotation<E: Write>(
+    ended: io::Result<ExitCode>,
+    why: Unfit,
+    messages: &mut E,
+) -> io::Result<ExitCode>
+    ensures told { IfOk result (λ status. (ended ≡ Ok status) × Appends (E.contents messages.old) (E.contents messages.new) (rotation_line why)) }
+{
+    let status = ended?;
+    write_rotation(why, messages)?;
+    Ok(status)
+}
+
+// The line of it, where there is one.
+fn write_rotation<E: Write>(why: Unfit, messages: &mut E) -> io::Result<()>
+    ensures { OnOk result (Appends (E.contents messages.old) (E.contents messages.new) (rotation_line why)) }
+{
+    match why {
+        Unfit::Foreign => writeln!(
+            messages,
+            "geocom: the file does not begin as this station's rows do: it has other columns, or a rotation cut off its header (copytruncate). To rotate it, stop the station, rename the file, wait seven quiet times, and start it"
+        ),
+        // Nothing, and by its clause nothing.
+        Unfit::Unopened | Unfit::Held | Unfit::Failed => write!(messages, ""),
+    }
 }
 
 // Opens the file of records in this form, which then syncs as it was asked to. It gives how many bytes of a torn row were cut off, too.
@@ -146,7 +151,8 @@ pub(crate) fn measure_at<
 
 /// Measures at a site, and appends the records as rows to a file, which is opened before anything else is done. Where it can't be had,
 /// nothing is read, and nothing is sent: `RecordsUnopened`, `RecordsHeld`, `RecordsForeign`, and `Output` where a call of the system
-/// failed. What stood in it stays, but for half a row at its end, which is cut off and told. The streams are handed back.
+/// failed. Of `RecordsForeign` it is told, too, how a file is rotated. What stood in it stays, but for half a row at its end, which is
+/// cut off and told. The streams are handed back.
 pub(crate) fn append_at<
     R: Net<Listener = TcpListener, Stream = TcpStream> + Clock + Files<File = File>,
     S: Source,
@@ -163,7 +169,7 @@ pub(crate) fn append_at<
     // Either the file can't be had, which is told with status 1, and nothing was read; or the status and the messages tell how it ended, as
     // where the rows go elsewhere, but for what was told of half a row.
     ensures told { IfOk result.1 (λ status.
-        ((why : Unfit) × (exit_status status ≡ 1) × Appends (E.contents streams.messages) (E.contents result.0.messages) (fault_line (run_fault_text (fault_of_unfit why)))
+        ((why : Unfit) × (exit_status status ≡ 1) × Appends (E.contents streams.messages) (E.contents result.0.messages) (unfit_text why)
         × (result.0.input ≡ streams.input))
         ⊎ ((end : Result Tally Stop) × (begun between behind : E) × (acts : List Act) × (is_lost : Bool)
         × TellsCounts end (exit_status status) (E.contents between) (E.contents behind)
@@ -195,6 +201,7 @@ pub(crate) fn append_at<
         Err(why) => {
             let stop = Stop::Run(fault_of_unfit(why));
             let ended = tell_counts(Err(stop), &mut streams.messages);
+            let ended = tell_rotation(ended, why, &mut streams.messages);
             (streams, ended)
         }
     }

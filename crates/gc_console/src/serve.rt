@@ -3,12 +3,13 @@
 ghost use Rattle.std.specs.Prelude.{◌≤◌, IfOk};
 ghost use Rattle.std.specs.Process.{exit_status};
 
+use crate::arguments::{Argument, FLAG, PLACE, SCENE, Takes, command_of};
 use crate::ending::{end_of, refuse_numbers, refuse_place};
 use crate::help::KEPT;
 use crate::scene::instrument_of;
 use crate::standard::Standard;
-use crate::words::{flag_of, named_place, scene_word, where_word};
-use clap::{Arg, ArgMatches, Command, value_parser};
+use crate::words::named_place;
+use clap::{ArgMatches, Command};
 use gc_ask::{Keeping, MOST_CONNECTIONS, keep_device, keep_tcp, serve_device, serve_tcp};
 use gc_instrument::Instrument;
 use gc_links::Place;
@@ -33,43 +34,45 @@ pub(crate) struct Serving<'a> {
     pub idle: Option<u32>,
 }
 
+// Its arguments.
+const ARGUMENTS: &[Argument<'static>] = &[
+    Argument {
+        help: "A port of 127.0.0.1, from 1 on, or the path of a device",
+        ..PLACE
+    },
+    Argument {
+        name: "connections",
+        takes: Takes::Signed(1, 1000),
+        value_name: &["N"],
+        help: "Serves so many connections, 1 to 1000, one after the other [default: 1, and with --keep no end]",
+        ..FLAG
+    },
+    Argument {
+        name: "keep",
+        help: "Serves on behind a connection that fails, which is told",
+        ..FLAG
+    },
+    Argument {
+        name: "idle",
+        takes: Takes::Signed(1, 86_400),
+        value_name: &["SECONDS"],
+        default: &["60"],
+        needs: &["keep"],
+        help: "With --keep, on a port: closes a connection on which nothing came for so many seconds, 1 to 86400",
+        ..FLAG
+    },
+    SCENE,
+];
+
 /// The words of `serve`.
 pub(crate) fn serve_command<'a>(alloc: Global) -> Result<Command<'a>, AllocError> {
-    let connections = Arg::new(alloc, "connections")
-        .long("connections")
-        .value_name("N")
-        .value_parser(value_parser!(u32).range(1..=1000))
-        .help(
-            "Serves so many connections, 1 to 1000, one after the other [default: 1, and with --keep no end]",
-        );
-    let command = Command::new(alloc, "serve")
-        .about("Serves a simulator on a port of 127.0.0.1, or on a device")
-        .after_help(KEPT)
-        .arg(where_word(
-            alloc,
-            "A port of 127.0.0.1, from 1 on, or the path of a device",
-        ))?
-        .arg(connections)?;
-    with_keeping(alloc, command)?.arg(scene_word(alloc))
-}
-
-// How a port or a device is kept.
-fn with_keeping<'a>(alloc: Global, command: Command<'a>) -> Result<Command<'a>, AllocError> {
-    let keep = flag_of(
+    command_of(
         alloc,
-        "keep",
-        "Serves on behind a connection that fails, which is told",
-    );
-    let idle = Arg::new(alloc, "idle")
-        .long("idle")
-        .value_name("SECONDS")
-        .value_parser(value_parser!(u32).range(1..=86_400))
-        .default_value("60")
-        .help(
-            "With --keep, on a port: closes a connection on which nothing came for so many seconds, 1 to 86400",
-        )
-        .requires_arg("keep")?;
-    command.arg(keep)?.arg(idle)
+        "serve",
+        "Serves a simulator on a port of 127.0.0.1, or on a device",
+        KEPT,
+        ARGUMENTS,
+    )
 }
 
 /// What the words of `serve` say, unless they name no place: a simulator is served on this machine alone.

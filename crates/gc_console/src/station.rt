@@ -12,18 +12,17 @@ ghost use Rattle.gc_links.specs.declared.device.Unusable.{Unusable};
 ghost use Rattle.gc_station.specs.Runs.{FailsAtOutput};
 ghost use Rattle.gc_station.specs.declared.tally.Tally.{Tally};
 
+use crate::arguments::{Argument, FLAG, PLACE, Takes, command_of};
 use crate::asking::Asking;
 use crate::choice::{Choice, Watch};
 use crate::help::STATION;
 use crate::layout::Layout;
-use crate::logging::with_log;
 use crate::measure::run_station_text;
 use crate::oddity::{Noticing, Oddities};
-use crate::recording::{recording_of, with_recording};
+use crate::recording::recording_of;
 use crate::stop::Stop;
 use crate::streams::Streams;
-use crate::words::{flag_of, place_word};
-use clap::{Arg, ArgMatches, Command, value_parser};
+use clap::{ArgMatches, Command};
 use gc_ask::fault_of;
 use gc_lines::{Lasting, Source};
 use gc_links::{Link, Moment, Place, PlacedLink, Telling, Unusable};
@@ -93,108 +92,113 @@ impl Station {
     }
 }
 
+// Its arguments.
+const ARGUMENTS: &[Argument<'static>] = &[
+    PLACE,
+    Argument {
+        name: "width",
+        takes: Takes::Signed(1, 7),
+        value_name: &["W"],
+        default: &["1"],
+        help: "Lets so many requests be under way that aren't given up, 1 to 7; more than 1 for plain readings alone",
+        ..FLAG
+    },
+    Argument {
+        name: "deadline",
+        takes: Takes::Unsigned(1, 86_400_000),
+        value_name: &["MS"],
+        default: &["10000"],
+        help: "Gives a request up so many milliseconds after it was sent, 1 to 86400000, until a line `deadline MS` says otherwise",
+        ..FLAG
+    },
+    Argument {
+        name: "every",
+        takes: Takes::Unsigned(0, 86_400),
+        value_name: &["SECONDS"],
+        default: &["0"],
+        help: "Begins a cycle so many seconds after the last was due, 1 to 86400, or 0: once the last is done",
+        ..FLAG
+    },
+    Argument {
+        name: "cycles",
+        takes: Takes::Unsigned(0, u64::MAX),
+        value_name: &["N"],
+        default: &["1"],
+        help: "Asks all commands so many times, or 0: without end",
+        ..FLAG
+    },
+    Argument {
+        name: "quiet",
+        takes: Takes::Unsigned(1, 86_400_000),
+        value_name: &["MS"],
+        help: "Takes the line for quiet where nothing came or went for so many milliseconds, 1 to 86400000 [default: the longest deadline]",
+        ..FLAG
+    },
+    Argument {
+        name: "retries",
+        takes: Takes::Signed(0, 4_294_967_295),
+        value_name: &["N"],
+        default: &["10"],
+        help: "Connects anew so many times in a row, or 0: without end",
+        ..FLAG
+    },
+    Argument {
+        name: "csv",
+        help: "Writes comma-separated values, with a header",
+        ..FLAG
+    },
+    Argument {
+        name: "columns",
+        help: "Writes comma-separated values, with a column for each quantity, too",
+        ..FLAG
+    },
+    Argument {
+        name: "json",
+        excludes: &["csv", "columns"],
+        help: "Writes each record as an object of JSON on a line of its own",
+        ..FLAG
+    },
+    Argument {
+        name: "unchained",
+        help: "Sends each command by itself, until a line `chained` says otherwise",
+        ..FLAG
+    },
+    Argument {
+        name: "silent",
+        help: "Leaves out the signs of life",
+        ..FLAG
+    },
+    Argument {
+        name: "append",
+        takes: Takes::Text,
+        value_name: &["FILE"],
+        help: "Appends each record as a row to this file, behind its whole rows, and writes none on standard output",
+        ..FLAG
+    },
+    Argument {
+        name: "sync",
+        needs: &["append"],
+        help: "With --append: has each row on the disk before the next command goes out",
+        ..FLAG
+    },
+    Argument {
+        name: "log",
+        takes: Takes::Text,
+        value_name: &["FILE"],
+        help: "Appends each line that went or came to a file, with its moment; `check --log` reads it",
+        ..FLAG
+    },
+];
+
 /// The words of `station`.
-// Each function adds few of them: the proof of a chain of calls grows faster than the chain.
 pub(crate) fn station_command<'a>(alloc: Global) -> Result<Command<'a>, AllocError> {
-    let command = Command::new(alloc, "station")
-        .about(
-            "Measures the commands of standard input at a place, cycle after cycle, with deadlines",
-        )
-        .after_help(STATION)
-        .arg(place_word(alloc))?;
-    let command = with_pace(alloc, command)?;
-    let command = with_bounds(alloc, command)?;
-    let command = with_forms(alloc, command)?;
-    let command = with_flags(alloc, command)?;
-    let command = with_recording(alloc, command)?;
-    with_log(alloc, command)
-}
-
-// How many requests are under way, how long each waits, and how far apart the cycles begin.
-fn with_pace<'a>(alloc: Global, command: Command<'a>) -> Result<Command<'a>, AllocError> {
-    let width = Arg::new(alloc, "width")
-        .long("width")
-        .value_name("W")
-        .value_parser(value_parser!(u8).range(1..=7))
-        .default_value("1")
-        .help("Lets so many requests be under way that aren't given up, 1 to 7");
-    let deadline = time_of(
+    command_of(
         alloc,
-        "deadline",
-        "MS",
-        "Gives a request up so many milliseconds after it was sent, 1 to 86400000, until a line `deadline MS` says otherwise",
+        "station",
+        "Measures the commands of standard input at a place, cycle after cycle, with deadlines",
+        STATION,
+        ARGUMENTS,
     )
-    .default_value("10000");
-    let every = time_of(
-        alloc,
-        "every",
-        "SECONDS",
-        "Begins a cycle so many seconds after the last was due, 1 to 86400, or 0: once the last is done",
-    )
-    .value_parser(value_parser!(u64).range(0..=86_400))
-    .default_value("0");
-    command.arg(width)?.arg(deadline)?.arg(every)
-}
-
-// How many cycles, how long a silence, and how many connections in a row.
-fn with_bounds<'a>(alloc: Global, command: Command<'a>) -> Result<Command<'a>, AllocError> {
-    let cycles = Arg::new(alloc, "cycles")
-        .long("cycles")
-        .value_name("N")
-        .value_parser(value_parser!(u64))
-        .default_value("1")
-        .help("Asks all commands so many times, or 0: without end");
-    let quiet = time_of(
-        alloc,
-        "quiet",
-        "MS",
-        "Takes the line for quiet where nothing came or went for so many milliseconds, 1 to 86400000 [default: the longest deadline]",
-    );
-    let retries = Arg::new(alloc, "retries")
-        .long("retries")
-        .value_name("N")
-        .value_parser(value_parser!(u32))
-        .default_value("10")
-        .help("Connects anew so many times in a row, or 0: without end");
-    command.arg(cycles)?.arg(quiet)?.arg(retries)
-}
-
-// How records are written.
-fn with_forms<'a>(alloc: Global, command: Command<'a>) -> Result<Command<'a>, AllocError> {
-    let csv = flag_of(alloc, "csv", "Writes comma-separated values, with a header");
-    let columns = flag_of(
-        alloc,
-        "columns",
-        "Writes comma-separated values, with a column for each quantity, too",
-    );
-    let json = flag_of(
-        alloc,
-        "json",
-        "Writes each record as an object of JSON on a line of its own",
-    )
-    .conflicts_with("csv")?
-    .conflicts_with("columns")?;
-    command.arg(csv)?.arg(columns)?.arg(json)
-}
-
-// What is there or not: chains, and signs of life.
-fn with_flags<'a>(alloc: Global, command: Command<'a>) -> Result<Command<'a>, AllocError> {
-    let unchained = flag_of(
-        alloc,
-        "unchained",
-        "Sends each command by itself, until a line `chained` says otherwise",
-    );
-    let silent = flag_of(alloc, "silent", "Leaves out the signs of life");
-    command.arg(unchained)?.arg(silent)
-}
-
-// A time, as a word.
-fn time_of<'a>(alloc: Global, name: &'a str, value: &'a str, help: &'a str) -> Arg<'a> {
-    Arg::new(alloc, name)
-        .long(name)
-        .value_name(value)
-        .value_parser(value_parser!(u64).range(1..=86_400_000))
-        .help(help)
 }
 
 /// What the words of `station` ask for at a place, with its records and its log in files where they name them.
@@ -209,7 +213,7 @@ pub(crate) fn measured_at<'a>(place: Place<'a>, words: &ArgMatches<'a>) -> Askin
     }
 }
 
-// What they say but of files.
+// What they say but of files. A default stands in its row alone: clap has filled it in, and the zeros here are never used.
 fn station_of(matches: &ArgMatches) -> Station {
     let number = |name: &str| matches.get_one::<u64>(name).unwrap_or(0);
     Station {
@@ -219,13 +223,13 @@ fn station_of(matches: &ArgMatches) -> Station {
             run: 0,
         },
         choice: Choice {
-            width: matches.get_one::<u8>("width").unwrap_or(1),
+            width: matches.get_one::<u8>("width").unwrap_or(0),
             deadline: number("deadline"),
             chained: !matches.get_flag("unchained"),
             every: number("every").saturating_mul(1000),
-            cycles: cycles_of(matches),
+            cycles: cycles_of(number("cycles")),
             quiet: matches.get_one::<u64>("quiet"),
-            retries: retries_of(matches),
+            retries: retries_of(matches.get_one::<u32>("retries").unwrap_or(0)),
             watch: if matches.get_flag("silent") {
                 Watch::Nobody
             } else {
@@ -249,20 +253,18 @@ fn form_of(matches: &ArgMatches) -> Form {
 }
 
 // How many times in a row it connects anew: 0 stands for no end.
-fn retries_of(matches: &ArgMatches) -> u32 {
-    match matches.get_one::<u32>("retries") {
-        Some(0) => u32::MAX,
-        Some(retries) => retries,
-        None => 1,
+fn retries_of(chosen: u32) -> u32 {
+    match chosen {
+        0 => u32::MAX,
+        retries => retries,
     }
 }
 
 // How many cycles are measured: 0 stands for no end.
-fn cycles_of(matches: &ArgMatches) -> u64 {
-    match matches.get_one::<u64>("cycles") {
-        Some(0) => u64::MAX,
-        Some(cycles) => cycles,
-        None => 1,
+fn cycles_of(chosen: u64) -> u64 {
+    match chosen {
+        0 => u64::MAX,
+        cycles => cycles,
     }
 }
 

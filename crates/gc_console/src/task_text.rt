@@ -13,20 +13,20 @@ use gc_lines::Source;
 use gc_texts::{RunFault, Tasks, line_at, read_tasks, read_text, trouble_of};
 use std::alloc::Global;
 
-/// Reads the whole text of a station from a source. Until a line says otherwise the commands have the deadline that was chosen, and are
+/// Reads the whole text of a station from a source, and hands over what it gives, with the text itself. Until a line says otherwise the commands have the deadline that was chosen, and are
 /// chained or not, as was chosen. The faults are those of `read_tasks`, and `Read` where a read failed; of a faulty line
 /// the trouble is told, too.
 pub(crate) fn read_task_text<S: Source>(
     alloc: Global,
     source: &mut S,
     choice: &Choice,
-) -> Result<Tasks, Stop>
+) -> Result<(Tasks, Vec<u8>), Stop>
     ensures found { IfOk result (λ all. (given : List ℕ) × Consumes (S.remaining source.old) (S.remaining source.new) given
         × (S.reads source.new ≤ S.reads source.old + length given + end_reads (S.ended source.new))
         × GivesTasks given
         (input_of S.Source source.old)
         (input_of S.Source source.new)
-        choice.now all.tasks.items all.names.items) }
+        choice.now all.0.tasks.items all.0.names.items) }
     ensures refused { IfErr result (λ stop. (given : List ℕ) × Consumes (S.remaining source.old) (S.remaining source.new) given
         × (S.reads source.new ≤ S.reads source.old + length given + end_reads (S.ended source.new))
         × RefusesTasks given
@@ -40,7 +40,7 @@ pub(crate) fn read_task_text<S: Source>(
         Err(fault) => return Err(Stop::Text(fault)),
     };
     match read_tasks(alloc, text.as_slice(), choice.deadline, choice.chained) {
-        Ok(tasks) => Ok(tasks),
+        Ok(tasks) => Ok((tasks, text)),
         Err(fault) => Err(refusal(text.as_slice(), fault)),
     }
 }

@@ -1,4 +1,4 @@
-//! The words of the command line: which subcommand they ask for, and the words that several subcommands have.
+//! The words of the command line: which subcommand they ask for, and the place that they name.
 
 use crate::ask::ask_command;
 use crate::asking::Asking;
@@ -10,7 +10,7 @@ use crate::looped::loop_command;
 use crate::serve::{Serving, serve_command, serving_of};
 use crate::station::{measured_at, station_command};
 use crate::version::VERSION;
-use clap::{Arg, ArgAction, ArgMatches, Command, Error};
+use clap::{ArgMatches, Command, Error};
 use gc_links::{Place, place_of};
 use std::alloc::{AllocError, Global};
 
@@ -26,41 +26,74 @@ pub(crate) enum Subcommand<'a> {
     Nowhere { serves: bool },
 }
 
+// The subcommands by their names.
+#[derive(Clone, Copy)]
+enum Name {
+    Exec,
+    Check,
+    Drill,
+    Loop,
+    Serve,
+    Ask,
+    Station,
+}
+
+// They stand in this order in help.
+const NAMES: [Name; 7] = [
+    Name::Exec,
+    Name::Check,
+    Name::Drill,
+    Name::Loop,
+    Name::Serve,
+    Name::Ask,
+    Name::Station,
+];
+
 /// What the words ask for. A subcommand is required.
-// Each function adds few of them: the proof of a chain of calls grows faster than the chain.
+// A loop makes the subcommands: the proof of a chain of `.subcommand(..)?` grows faster than the chain.
 pub(crate) fn subcommand_of<'a>(
     alloc: Global,
     words: &'a [String],
 ) -> Result<Subcommand<'a>, Error> {
-    let command = Command::new(alloc, "geocom")
+    let subcommands = subcommands_of(alloc)?;
+    let matches = geocom(alloc)
+        .subcommands(subcommands)?
+        .try_get_matches_from(words)?;
+    Ok(asked_for(&matches))
+}
+
+// The program, with no subcommand yet.
+fn geocom<'a>(alloc: Global) -> Command<'a> {
+    Command::new(alloc, "geocom")
         .version(VERSION)
         .about(
             "Both ends of GeoCOM's ASCII protocol: a client for monitoring stations, and a simulated instrument",
         )
         .after_help(SCENES_AND_FAULTS)
         .subcommand_required(true)
-        .disable_help_subcommand(true);
-    let command = with_streams(alloc, command)?;
-    let matches = with_ports(alloc, command)?.try_get_matches_from(words)?;
-    Ok(asked_for(&matches))
+        .disable_help_subcommand(true)
 }
 
-// The subcommands that go from standard input to standard output.
-fn with_streams<'a>(alloc: Global, command: Command<'a>) -> Result<Command<'a>, AllocError> {
-    command
-        .subcommand(exec_command(alloc)?)?
-        .subcommand(check_command(alloc)?)?
-        .subcommand(drill_command(alloc)?)
+// The subcommands in turn.
+fn subcommands_of<'a>(alloc: Global) -> Result<Vec<Command<'a>>, AllocError> {
+    let mut subcommands = Vec::new(alloc);
+    for name in NAMES {
+        subcommands.push(command_named(alloc, name)?)?;
+    }
+    Ok(subcommands)
 }
 
-// The subcommands over connections.
-fn with_ports<'a>(alloc: Global, command: Command<'a>) -> Result<Command<'a>, AllocError> {
-    let command = command
-        .subcommand(loop_command(alloc)?)?
-        .subcommand(serve_command(alloc)?)?;
-    command
-        .subcommand(ask_command(alloc)?)?
-        .subcommand(station_command(alloc)?)
+// The subcommand of a name.
+fn command_named<'a>(alloc: Global, name: Name) -> Result<Command<'a>, AllocError> {
+    match name {
+        Name::Exec => exec_command(alloc),
+        Name::Check => check_command(alloc),
+        Name::Drill => drill_command(alloc),
+        Name::Loop => loop_command(alloc),
+        Name::Serve => serve_command(alloc),
+        Name::Ask => ask_command(alloc),
+        Name::Station => station_command(alloc),
+    }
 }
 
 // Which subcommand the words ask for.
@@ -110,36 +143,4 @@ pub(crate) fn named_place<'a>(words: &ArgMatches<'a>) -> Option<Place<'a>> {
         Some(word) => place_of(word),
         None => None,
     }
-}
-
-/// The place of an instrument, as a required word.
-pub(crate) fn place_word<'a>(alloc: Global) -> Arg<'a> {
-    where_word(
-        alloc,
-        "A port of 127.0.0.1, from 1 on, HOST:PORT, [ADDRESS]:PORT, or the path of a device, which has a slash",
-    )
-}
-
-/// A place, as a required word.
-pub(crate) fn where_word<'a>(alloc: Global, help: &'a str) -> Arg<'a> {
-    Arg::new(alloc, "where")
-        .value_name("WHERE")
-        .required(true)
-        .help(help)
-}
-
-/// The file of a scene.
-pub(crate) fn scene_word<'a>(alloc: Global) -> Arg<'a> {
-    Arg::new(alloc, "scene")
-        .long("scene")
-        .value_name("FILE")
-        .help("Sets up the instrument of this file: `geocom --help` says how")
-}
-
-/// A word that is there or not.
-pub(crate) fn flag_of<'a>(alloc: Global, name: &'a str, help: &'a str) -> Arg<'a> {
-    Arg::new(alloc, name)
-        .long(name)
-        .action(ArgAction::SetTrue)
-        .help(help)
 }

@@ -38,7 +38,7 @@ module _ (s : State) (line : List ℕ) where
   heard_is fits k = ap (λ (h : Handed State). ends.heard h.reply) (sym (handed_is k)) ∙ exchange.reads s 1 NullProc fits (lit< tt)
 
   -- only one request reaches it
-  only : (front later : List Move) → two_at_once line ≡ front ++ OnLine Up_deliver ∷ later → front ≡ Sends 1 NullProc 9 ∷ Sends 2 NullProc 9 ∷ OnLine (Up_lose 0) ∷ []
+  only : (front later : List (Move State)) → two_at_once line ≡ front ++ OnLine Up_deliver ∷ later → front ≡ Sends 1 NullProc 9 ∷ Sends 2 NullProc 9 ∷ OnLine (Up_lose 0) ∷ []
   only [] later e = let never : ⊥ = cc in absurd never
   only (a ∷ []) later e = let never : ⊥ = cc in absurd never
   only (a ∷ b ∷ []) later e = let never : ⊥ = cc in absurd never

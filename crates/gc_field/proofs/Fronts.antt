@@ -36,10 +36,10 @@ use Rattle.gc_field.specs.Fronts.{request_bytes, IsWholeOrNothing}
 
 -- Bytes above the sign that begins a request.
 
-abbrev AreAbove : List ℕ → Type 0
+abbrev pub AreAbove : List ℕ → Type 0
 AreAbove bytes = AllByRecursion (λ b. 37 < b) bytes
 
-joined : (P : ℕ → Type 0) (xs ys : List ℕ) → AllByRecursion P xs → AllByRecursion P ys → AllByRecursion P (xs ++ ys)
+pub joined : (P : ℕ → Type 0) (xs ys : List ℕ) → AllByRecursion P xs → AllByRecursion P ys → AllByRecursion P (xs ++ ys)
 joined P [] ys h k = k
 joined P (x ∷ xs) ys h k = (h.0, joined P xs ys h.1 k)
 
@@ -48,7 +48,7 @@ dropped P zero xs h = h
 dropped P (suc k) [] h = tt
 dropped P (suc k) (x ∷ xs) h = dropped P k xs h.1
 
-taken : (P : ℕ → Type 0) (k : ℕ) (xs : List ℕ) → AllByRecursion P xs → AllByRecursion P (take k xs)
+pub taken : (P : ℕ → Type 0) (k : ℕ) (xs : List ℕ) → AllByRecursion P xs → AllByRecursion P (take k xs)
 taken P zero xs h = tt
 taken P (suc k) [] h = tt
 taken P (suc k) (x ∷ xs) h = (h.0, taken P k xs h.1)
@@ -61,7 +61,7 @@ above_digits : (ds : List ℕ) → AreDigits ds → AreAbove ds
 above_digits [] h = tt
 above_digits (d ∷ ds) h = ((let low = h.0.0 in omega (arith, low)), above_digits ds h.1)
 
-above_decimal_digits : (ds : List ℕ) → AllDigits 10 ds → AreAbove ds
+pub above_decimal_digits : (ds : List ℕ) → AllDigits 10 ds → AreAbove ds
 above_decimal_digits [] h = tt
 above_decimal_digits (c ∷ cs) h = (omega (arith, digit_at (c ∷ cs) 0 h (omega arith)), above_decimal_digits cs h.1)
 
@@ -127,18 +127,18 @@ above_params : (vs : List Value) → AreValues vs → AllByRecursion IsNoText vs
 above_params [] h g = tt
 above_params (v ∷ vs) h g = rw (params_of-cons v vs) (joined (λ b. 37 < b) (text v) (behind_commas vs) (above_value v h.0 g.0) (above_behind vs h.1 g.1))
 
-above_id : (id : Option ℕ) → AreAbove (id_text id)
+pub above_id : (id : Option ℕ) → AreAbove (id_text id)
 above_id None = tt
 above_id (Some i) = (lit< tt, (omega arith, tt))
 
 -- a request behind its first byte
-abbrev body : ℕ → Call → List ℕ
+abbrev pub body : ℕ → Call → List ℕ
 body id call = 82 ∷ 49 ∷ 81 ∷ 44 ∷ (decimal (call_fields call).number ++ (id_text (Some id) ++ 58 ∷ params_of (call_fields call).values))
 
 line_is : (id : ℕ) (call : Call) → request_line (Some id) call ≡ 37 ∷ body id call
 line_is id call = refl
 
-above_body : (id : ℕ) (call : Call) → IsFitting call → AreAbove (body id call)
+pub above_body : (id : ℕ) (call : Call) → IsFitting call → AreAbove (body id call)
 above_body id call h =
     let n = (call_fields call).number in (
       lit< tt,

@@ -1,7 +1,10 @@
 pub mod Fronts
+pub mod Joined
 pub mod Answered
 pub mod Once
 pub mod Vouched
+pub mod Instruments
+pub mod Possible
 pub mod Seen
 pub mod Moving
 pub mod Faithful
@@ -13,3 +16,14 @@ pub mod Meant
 pub mod InTime
 pub mod Joining
 pub mod Witness
+pub mod Between
+pub mod Ordered
+pub mod Chained
+pub mod Pointed
+pub mod ChainWitness
+pub mod SecondExecution
+pub mod LostLineFeed
+pub mod Needed
+pub mod Drifting
+pub mod CountingChain
+pub mod LateAnswer

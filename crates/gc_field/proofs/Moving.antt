@@ -1,14 +1,13 @@
 -- Over any moves the run by ids is the run by numbers, and each reply is its own request's.
-use Rattle.std.proofs.Common.{◌≡◌, ℕ, ◌+◌, ◌-◌, ◌%◌, ◌<◌, ◌≤◌, ◌⊎◌, inl, inr, Bool, true, false, List, [], ◌∷◌, ◌++◌, length, drop, Option, Some, None, refl, sym, ◌∙◌, ap, subst, arith, ltb, eqb}
+use Rattle.std.proofs.Common.{◌≡◌, ℕ, ◌+◌, ◌-◌, ◌%◌, ◌<◌, ◌≤◌, ◌⊎◌, inl, inr, Bool, true, false, List, [], ◌∷◌, ◌++◌, length, drop, Option, Some, refl, sym, ◌∙◌, ap, subst, arith, ltb, eqb}
 use Rattle.std.proofs.lemmas.List.{length_push}
 use Rattle.std.proofs.lemmas.Bool.{le-ltb}
 use Rattle.gc_catalogue.specs.declared.call.Call.{Call}
 use Rattle.gc_catalogue.specs.Texts.{request_line}
 use Rattle.gc_client.specs.Rule.{ById, settle}
-use Rattle.gc_instrument.specs.Replying.{Handed, kept_line}
 use Rattle.gc_instrument.specs.State.{KeptReply}
 use Rattle.gc_world.specs.Clients.{ByNumber, by_ids, by_numbers, ids_open, numbers_open, number_send, number_reply}
-use Rattle.gc_world.specs.Exchange.{IsExchange, IsKeeper}
+use Rattle.gc_world.specs.Exchange.{IsExchange}
 use Rattle.gc_world.specs.Order.{Each}
 use Rattle.gc_world.specs.World.{Request, Sent, Numbered, Ends, Step, Send, Up_deliver, Up_lose, Up_repeat, Down_deliver, Down_lose, Down_repeat, Expire, Restart_client, Restart_instrument, Nothing, World, Wire, without, doubled, replied, up_delivered, with_up, with_down, started, on_wire, requested, down_delivered, happens}
 use Rattle.gc_world.proofs.Agree.{Agree, agrees}
@@ -16,13 +15,14 @@ use Rattle.gc_world.proofs.Places.{get_push}
 use Rattle.gc_world.proofs.Replay.{IsOf, of_more}
 use Rattle.gc_world.proofs.Rows.{each_append, each_more, each_without, each_doubled}
 use Rattle.gc_world.proofs.Sound.{IsGoing, Sound, sound_step, sound_open}
-use Rattle.gc_field.specs.Field.{Move, Sends, Tells, Comes, Foreign, OnLine, Anew, IsOfLine, moves, moved, IsPossible, ArePossible, IsFirstAlone}
+use Rattle.gc_field.specs.Field.{Move, Sends, Tells, Comes, Foreign, OnLine, Anew, Changes, Joins, IsOfLine, moves, moved, IsPossible, ArePossible, IsFirstAlone}
+use Rattle.gc_field.specs.Instrument.{IsAnInstrument, KeepsItsReply}
 use Rattle.gc_field.proofs.Answered.{AllSo}
-use Rattle.gc_field.specs.Once.{ActsOnce}
-use Rattle.gc_field.proofs.Once.{IsClimbing, once_few, climbing_first}
-use Rattle.gc_field.proofs.Vouched.{kept_own, Vouched, KeptIs, True, IsOn, true_requested, true_down, true_line, true_started}
+use Rattle.gc_field.specs.Once.{ActsOnce, IsInOrder}
+use Rattle.gc_field.proofs.Once.{IsClimbing, once_few, climbing_first, order_few, ordered_first}
+use Rattle.gc_field.proofs.Vouched.{Vouched, kept_one, True, IsOn, true_requested, true_down, true_line, true_started, true_changed}
 
-module _ {State : Type 0} (width : ℕ) (narrow : width ≤ 7) (ends : Ends State) (Good : State → Type 0) (ex : IsExchange ends Good) where
+module _ {State : Type 0} (width : ℕ) (narrow : width ≤ 7) (ends : Ends State) (Good : State → Type 0) (ex : IsExchange ends Good) (kept : State → Option KeptReply) where
   -- the two worlds agree, and the line is as it has to be
   pub record Both (a : World ById State) (b : World ByNumber State) : Type 0 where
     pub agree : Agree width narrow ends Good a b
@@ -34,18 +34,24 @@ module _ {State : Type 0} (width : ℕ) (narrow : width ≤ 7) (ends : Ends Stat
   both_step : (a : World ById State) (b : World ByNumber State) (step : Step) → Both a b → Both (happens ends (by_ids width ends) a step) (happens ends (by_numbers width) b step)
   both_step a b step h = record { agree = agrees width narrow ends Good a b step h.sound h.agree; sound = sound_step width ends Good ex b step h.sound }
 
-  pub both_move : (a : World ById State) (b : World ByNumber State) (m : Move) → Both a b → Both (moves ends (by_ids width ends) a m) (moves ends (by_numbers width) b m)
-  both_move a b (Sends target call deadline) h = both_step a b (Send target call deadline) h
-  both_move a b (Tells now) h = both_step a b (Expire now) h
-  both_move a b (Comes line) h = both_step a b Down_deliver h
-  both_move a b (Foreign line) h = h
-  both_move a b (OnLine step) h = both_step a b step h
-  both_move a b Anew h =
-      record { agree = record { wire = ap (λ (w : Wire State). started ends w true) h.agree.wire; client = h.agree.client }; sound = sound_anew b h.sound }
+  pub sound_changed : (b : World ByNumber State) (state : State) → Good state → Sound width ends Good b → Sound width ends Good (on_wire b (record b.wire { state = state }))
+  sound_changed b state good h = record { good = good; counted = h.counted; booked = h.booked; begun = h.begun; within = h.within; few = h.few; order = h.order; going = h.going; coming = h.coming }
 
-  pub both_all : (ms : List Move) (a : World ById State) (b : World ByNumber State) → Both a b → Both (moved ends (by_ids width ends) ms a) (moved ends (by_numbers width) ms b)
-  both_all [] a b h = h
-  both_all (m ∷ ms) a b h = both_all ms _ _ (both_move a b m h)
+  pub both_move : (a : World ById State) (b : World ByNumber State) (m : Move State) → IsPossible Good kept a m → Both a b → Both (moves ends (by_ids width ends) a m) (moves ends (by_numbers width) b m)
+  both_move a b (Sends target call deadline) p h = both_step a b (Send target call deadline) h
+  both_move a b (Tells now) p h = both_step a b (Expire now) h
+  both_move a b (Comes line) p h = both_step a b Down_deliver h
+  both_move a b (Foreign line) p h = h
+  both_move a b (OnLine step) p h = both_step a b step h
+  both_move a b Anew p h =
+      record { agree = record { wire = ap (λ (w : Wire State). started ends w true) h.agree.wire; client = h.agree.client }; sound = sound_anew b h.sound }
+  both_move a b (Changes state) p h =
+      record { agree = record { wire = ap (λ (w : Wire State). record w { state = state }) h.agree.wire; client = h.agree.client }; sound = sound_changed b state p.0 h.sound }
+  both_move a b (Joins line) p h = absurd p
+
+  pub both_all : (ms : List (Move State)) (a : World ById State) (b : World ByNumber State) → ArePossible ends Good kept (by_ids width ends) ms a → Both a b → Both (moved ends (by_ids width ends) ms a) (moved ends (by_numbers width) ms b)
+  both_all [] a b p h = h
+  both_all (m ∷ ms) a b p h = both_all ms _ _ p.1 (both_move a b m p.0 h)
 
   pub both_open : (state : State) → Good state → Both (ids_open state) (numbers_open state)
   both_open state good =
@@ -70,7 +76,7 @@ module _ {State : Type 0} (width : ℕ) (narrow : width ≤ 7) (ends : Ends Stat
       ∙ ap (λ l. a.wire.settled ++ settle (n - b.client.count) line l) (sym h.agree.client.window)
       ∙ ap (λ k. a.wire.settled ++ settle (n - k) line a.client.waiting) (sym size)
 
-module _ {State : Type 0} (width : ℕ) (narrow : width ≤ 7) (ends : Ends State) (Good : State → Type 0) (ex : IsExchange ends Good) (kept : State → Option KeptReply) (keeper : IsKeeper ends kept) (low : ℕ) (beyond : 0 < low) (M : ℕ → Call → List ℕ → Type 0) where
+module _ {State : Type 0} (width : ℕ) (narrow : width ≤ 7) (ends : Ends State) (Good : State → Type 0) (ex : IsExchange ends Good) (kept : State → Option KeptReply) (keeper : IsAnInstrument ends Good kept) (low : ℕ) (beyond : 0 < low) (M : ℕ → Call → List ℕ → Type 0) where
   abbrev Trusted : World ByNumber State → Type 0
   Trusted w = True width narrow ends Good ex kept keeper low M w
 
@@ -80,32 +86,36 @@ module _ {State : Type 0} (width : ℕ) (narrow : width ≤ 7) (ends : Ends Stat
   -- each answer is vouched for, and between two starts each request is executed at most once
   pub record IsVouchedFor (w : Wire State) : Type 0 where
     pub answers : AllSo (Vouches w) 0 w.settled
-    pub once : ActsOnce w.executed w.starts
+    pub order : IsInOrder w.executed
+    pub once : KeepsItsReply ends Good kept → ActsOnce w.executed w.starts
 
   -- where a request reaches the instrument at one of these moves, and is executed, M is so of its reply
-  abbrev pub AreOn : List Move → World ByNumber State → Type 0
+  abbrev pub AreOn : List (Move State) → World ByNumber State → Type 0
   AreOn ms b =
-      (front later : List Move) → ms ≡ front ++ OnLine Up_deliver ∷ later → (x : Numbered Request) (rest : List (Numbered Request)) → (moved ends (by_numbers width) front b).wire.up ≡ x ∷ rest →
+      (front later : List (Move State)) → ms ≡ front ++ OnLine Up_deliver ∷ later → (x : Numbered Request) (rest : List (Numbered Request)) → (moved ends (by_numbers width) front b).wire.up ≡ x ∷ rest →
       IsOn width narrow ends Good ex kept keeper low M (moved ends (by_numbers width) front b) x
 
   -- the same of the moves behind the first
-  are_on_behind : (m : Move) (ms : List Move) (b : World ByNumber State) → AreOn (m ∷ ms) b → AreOn ms (moves ends (by_numbers width) b m)
+  are_on_behind : (m : Move State) (ms : List (Move State)) (b : World ByNumber State) → AreOn (m ∷ ms) b → AreOn ms (moves ends (by_numbers width) b m)
   are_on_behind m ms b on = λ front later e. on (m ∷ front) later (ap (λ l. m ∷ l) e)
 
-  trusted_move : (m : Move) (ms : List Move) (a : World ById State) (b : World ByNumber State) → IsPossible a m → AreOn (m ∷ ms) b → Sound width ends Good b → Trusted b → Trusted (moves ends (by_numbers width) b m)
-  trusted_move (Sends target call deadline) ms a b p on s t =
+  trusted_move : (m : Move State) (ms : List (Move State)) (a : World ById State) (b : World ByNumber State) → Both width narrow ends Good ex kept a b → IsPossible Good kept a m → AreOn (m ∷ ms) b → Sound width ends Good b → Trusted b → Trusted (moves ends (by_numbers width) b m)
+  trusted_move (Sends target call deadline) ms a b both p on s t =
       true_requested width narrow ends Good ex kept keeper low M b target call deadline ((by_numbers width).send b.client target call deadline) refl t
-  trusted_move (Tells now) ms a b p on s t = t
-  trusted_move (Comes line) ms a b p on s t = true_down width narrow ends Good ex kept keeper low M b b.wire.down refl s t
-  trusted_move (Foreign line) ms a b p on s t = t
-  trusted_move (OnLine step) ms a b p on s t =
+  trusted_move (Tells now) ms a b both p on s t = t
+  trusted_move (Comes line) ms a b both p on s t = true_down width narrow ends Good ex kept keeper low M b b.wire.down refl s t
+  trusted_move (Foreign line) ms a b both p on s t = t
+  trusted_move (OnLine step) ms a b both p on s t =
       true_line width narrow ends Good ex kept keeper low M b step p (λ x rest e q. on [] ms (ap (λ (y : Step). OnLine y ∷ ms) e) x rest q) s t
-  trusted_move Anew ms a b p on s t = true_started width narrow ends Good ex kept keeper low M b true t
+  trusted_move Anew ms a b both p on s t = true_started width narrow ends Good ex kept keeper low M b true s.good t
+  trusted_move (Changes state) ms a b both p on s t =
+      true_changed width narrow ends Good ex kept keeper low M b state (p.1 ∙ ap (λ (w : Wire State). kept w.state) both.agree.wire) t
+  trusted_move (Joins line) ms a b both p on s t = absurd p
 
-  whole_all : (ms : List Move) (a : World ById State) (b : World ByNumber State) → Both width narrow ends Good ex a b → ArePossible ends (by_ids width ends) ms a → AreOn ms b → Trusted b → IsVouchedFor (moved ends (by_numbers width) ms b).wire
-  whole_all [] a b h p on t = record { answers = t.answers; once = t.once.once }
+  whole_all : (ms : List (Move State)) (a : World ById State) (b : World ByNumber State) → Both width narrow ends Good ex kept a b → ArePossible ends Good kept (by_ids width ends) ms a → AreOn ms b → Trusted b → IsVouchedFor (moved ends (by_numbers width) ms b).wire
+  whole_all [] a b h p on t = record { answers = t.answers; order = t.order.order; once = λ keeps. (t.once keeps).once }
   whole_all (m ∷ ms) a b h p on t =
-      whole_all ms _ _ (both_move width narrow ends Good ex a b m h) p.1 (are_on_behind m ms b on) (trusted_move m ms a b p.0 on h.sound t)
+      whole_all ms _ _ (both_move width narrow ends Good ex kept a b m p.0 h) p.1 (are_on_behind m ms b on) (trusted_move m ms a b h p.0 on h.sound t)
 
   -- Before the first request reached the instrument, which may keep anything.
   abbrev pub ones : Bool → ℕ
@@ -125,17 +135,6 @@ module _ {State : Type 0} (width : ℕ) (narrow : width ≤ 7) (ends : Ends Stat
   each_all P f [] = tt
   each_all P f (x ∷ xs) = (f x, each_all P f xs)
 
-  -- what is kept behind an exchange has its id
-  kept_some : (k : Option KeptReply) (id : ℕ) (line : List ℕ) → kept_line k (Some id) ≡ Some line → (r : KeptReply) × (k ≡ Some r) × (r.id ≡ id)
-  kept_some None id line e = let never : ⊥ = cc in absurd never
-  kept_some (Some r) id line e = (r, refl, (kept_own r id line e).0)
-
-  kept_behind : (s : State) (id : ℕ) (call : Call) (o : Option (List ℕ)) → kept_line (kept s) (Some id) ≡ o → (r : KeptReply) × (kept (ends.handed s id call).state ≡ Some r) × (r.id ≡ id)
-  kept_behind s id call None e = (record { id = id; line = (ends.handed s id call).reply }, keeper.keeps s id call e, refl)
-  kept_behind s id call (Some line) e =
-      let f = kept_some (kept s) id line e in
-      (f.0, ap (λ (h : Handed State). kept h.state) (keeper.again s id call line e) ∙ f.1, f.2)
-
   -- the first request reaches it: from then on what is kept has the id of the last request that it was handed
   module _ (b : World ByNumber State) (out : Bool) (s : Sound width ends Good b) (f : IsFresh b out) where
     fresh_reached : (x : Numbered Request) (rest : List (Numbered Request)) → b.wire.up ≡ x ∷ rest → Trusted (on_wire b (replied b.wire x.number rest (ends.handed b.wire.state x.line.id x.line.call)))
@@ -147,10 +146,9 @@ module _ {State : Type 0} (width : ℕ) (narrow : width ≤ 7) (ends : Ends Stat
         let few : length v.sent ≤ 1 = below_two out f.sent in
         let nought : x.number ≡ 0 = omega (arith, g.0.sent, s.counted, few) in
         let m : Numbered (List ℕ) = record { number = x.number; line = hd.reply } in
-        let k = kept_behind v.state x.line.id x.line.call (kept_line (kept v.state) (Some x.line.id)) refl in
         let w = replied v x.number rest hd in
         let P = Vouches w in
-        let id : k.0.id ≡ 0 = omega (arith, k.2, g.0.id, nought) in
+        let id : x.line.id ≡ (1 - 1 - b.client.since) % 8 = omega (arith, g.0.id, nought, f.since) in
         let early : x.number < low = omega (arith, nought, beyond) in
         record {
           top = 1;
@@ -158,11 +156,14 @@ module _ {State : Type 0} (width : ℕ) (narrow : width ≤ 7) (ends : Ends Stat
           within = omega (arith, g.0.sent, s.counted);
           above = each_all (λ (y : Numbered Request). 1 ≤ y.number + 1) (λ y. omega arith) rest;
           below = subst (λ l. Each (λ (y : Numbered (List ℕ)). y.number < 1) (l ++ m ∷ [])) (sym f.down) (omega (arith, nought), tt);
-          holds = subst (λ l. KeptIs width narrow ends Good ex kept keeper low M P b.client.since 1 l) (sym k.1) (omega (arith, f.since), omega (arith, id, f.since), inl beyond);
+          holds = kept_one width narrow ends Good ex kept keeper low M P b.client.since 1 x.line.id hd.reply (kept hd.state) (omega (arith, f.since)) id (inl beyond) (keeper.keeps v.state x.line.id x.line.call s.good o.0.small);
           lines = o.1;
           coming = subst (λ l. Each (λ (y : Numbered (List ℕ)). P y.number y.line) (l ++ m ∷ [])) (sym f.down) (inl early, tt);
           answers = subst (λ l. AllSo P 0 l) (sym f.settled) tt;
-          once = subst (λ l. IsClimbing 1 w.executed v.starts l) (sym k.1) (climbing_first x.number v.executed v.starts hd.executed k.0 f.executed nought);
+          order = ordered_first x.number v.executed hd.executed f.executed nought;
+          once = λ keeps.
+              subst (λ l. IsClimbing 1 w.executed v.starts l) (sym (keeps.always v.state x.line.id x.line.call s.good o.0.small))
+              (climbing_first x.number v.executed v.starts hd.executed (record { id = x.line.id; line = hd.reply }) f.executed nought);
         }
       where
         below_two : (out : Bool) → length b.wire.sent ≤ ones out → length b.wire.sent ≤ 1
@@ -211,24 +212,25 @@ module _ {State : Type 0} (width : ℕ) (narrow : width ≤ 7) (ends : Ends Stat
         lines = each_append _ b.wire.up _ (each_more _ _ (of_more b.wire.sent (r ∷ [])) b.wire.up f.lines) (record { request = r; found = get_push b.wire.sent r; small = omega arith; call = refl; text = refl }, tt);
       }
 
-  nothing_down : (a : World ById State) (b : World ByNumber State) (out : Bool) (x : Numbered (List ℕ)) (rest : List (Numbered (List ℕ))) → Both width narrow ends Good ex a b → IsFresh b out → a.wire.down ≡ x ∷ rest → ⊥
+  nothing_down : (a : World ById State) (b : World ByNumber State) (out : Bool) (x : Numbered (List ℕ)) (rest : List (Numbered (List ℕ))) → Both width narrow ends Good ex kept a b → IsFresh b out → a.wire.down ≡ x ∷ rest → ⊥
   nothing_down a b out x rest h f e =
       let none : [] ≡ x ∷ rest = sym f.down ∙ sym (ap (λ (w : Wire State). w.down) h.agree.wire) ∙ e in
       cc
 
   -- whatever it kept when the first request went out
-  pub early_all : (ms : List Move) (out : Bool) (a : World ById State) (b : World ByNumber State) → Both width narrow ends Good ex a b → ArePossible ends (by_ids width ends) ms a → IsFirstAlone out ms → AreOn ms b → IsFresh b out → IsVouchedFor (moved ends (by_numbers width) ms b).wire
+  pub early_all : (ms : List (Move State)) (out : Bool) (a : World ById State) (b : World ByNumber State) → Both width narrow ends Good ex kept a b → ArePossible ends Good kept (by_ids width ends) ms a → IsFirstAlone out ms → AreOn ms b → IsFresh b out → IsVouchedFor (moved ends (by_numbers width) ms b).wire
   early_all [] out a b h p l on f =
       record {
         answers = subst (λ s. AllSo (Vouches b.wire) 0 s) (sym f.settled) tt;
-        once = once_few b.wire.executed b.wire.starts (omega (arith, ap (λ (l : List ℕ). length l) f.executed));
+        order = order_few b.wire.executed (omega (arith, ap (λ (l : List ℕ). length l) f.executed));
+        once = λ keeps. once_few b.wire.executed b.wire.starts (omega (arith, ap (λ (l : List ℕ). length l) f.executed));
       }
   early_all (Sends target call deadline ∷ ms) false a b h p l on f =
-      early_all ms true _ _ (both_move width narrow ends Good ex a b (Sends target call deadline) h) p.1 l (are_on_behind (Sends target call deadline) ms b on)
+      early_all ms true _ _ (both_move width narrow ends Good ex kept a b (Sends target call deadline) p.0 h) p.1 l (are_on_behind (Sends target call deadline) ms b on)
       (fresh_sent b target call deadline (eqb (length b.client.requests - b.client.count) width) f)
   early_all (Sends target call deadline ∷ ms) true a b h p l on f = absurd l
   early_all (Tells now ∷ ms) out a b h p l on f =
-      early_all ms out _ _ (both_move width narrow ends Good ex a b (Tells now) h) p.1 (alone_tells out l) (are_on_behind (Tells now) ms b on)
+      early_all ms out _ _ (both_move width narrow ends Good ex kept a b (Tells now) p.0 h) p.1 (alone_tells out l) (are_on_behind (Tells now) ms b on)
       (record { since = f.since; count = f.count; down = f.down; executed = f.executed; settled = f.settled; sent = f.sent; lines = f.lines })
     where
       alone_tells : (out : Bool) → IsFirstAlone out (Tells now ∷ ms) → IsFirstAlone out ms
@@ -240,7 +242,7 @@ module _ {State : Type 0} (width : ℕ) (narrow : width ≤ 7) (ends : Ends Stat
     alone_foreign true l = l
     alone_foreign false l = l
   early_all (OnLine step ∷ ms) out a b h p l on f =
-      let both = both_move width narrow ends Good ex a b (OnLine step) h in
+      let both = both_move width narrow ends Good ex kept a b (OnLine step) p.0 h in
       elim (fresh_line b out h.sound f step p.0) [
         | inl g ↦ early_all ms out _ _ both p.1 (alone_line out l) (are_on_behind (OnLine step) ms b on) g
         | inr t ↦ whole_all ms _ _ both p.1 (are_on_behind (OnLine step) ms b on) t
@@ -250,14 +252,22 @@ module _ {State : Type 0} (width : ℕ) (narrow : width ≤ 7) (ends : Ends Stat
       alone_line true l = l
       alone_line false l = l
   early_all (Anew ∷ ms) out a b h p l on f =
-      early_all ms out _ _ (both_move width narrow ends Good ex a b Anew h) p.1 (alone_anew out l) (are_on_behind Anew ms b on)
+      early_all ms out _ _ (both_move width narrow ends Good ex kept a b Anew p.0 h) p.1 (alone_anew out l) (are_on_behind Anew ms b on)
       (record { since = f.since; count = f.count; down = f.down; executed = f.executed; settled = f.settled; sent = f.sent; lines = f.lines })
     where
       alone_anew : (out : Bool) → IsFirstAlone out (Anew ∷ ms) → IsFirstAlone out ms
       alone_anew true l = l
       alone_anew false l = l
+  early_all (Changes state ∷ ms) out a b h p l on f =
+      early_all ms out _ _ (both_move width narrow ends Good ex kept a b (Changes state) p.0 h) p.1 (alone_changes out l) (are_on_behind (Changes state) ms b on)
+      (record { since = f.since; count = f.count; down = f.down; executed = f.executed; settled = f.settled; sent = f.sent; lines = f.lines })
+    where
+      alone_changes : (out : Bool) → IsFirstAlone out (Changes state ∷ ms) → IsFirstAlone out ms
+      alone_changes true l = l
+      alone_changes false l = l
+  early_all (Joins line ∷ ms) out a b h p l on f = absurd p.0
 
-  pub vouched_at : (ms : List Move) (state : State) → Good state → ArePossible ends (by_ids width ends) ms (ids_open state) → IsFirstAlone false ms → AreOn ms (numbers_open state) → IsVouchedFor (moved ends (by_numbers width) ms (numbers_open state)).wire
+  pub vouched_at : (ms : List (Move State)) (state : State) → Good state → ArePossible ends Good kept (by_ids width ends) ms (ids_open state) → IsFirstAlone false ms → AreOn ms (numbers_open state) → IsVouchedFor (moved ends (by_numbers width) ms (numbers_open state)).wire
   vouched_at ms state good p l on =
-      early_all ms false (ids_open state) (numbers_open state) (both_open width narrow ends Good ex state good) p l on
+      early_all ms false (ids_open state) (numbers_open state) (both_open width narrow ends Good ex kept state good) p l on
       (record { since = refl; count = refl; down = refl; executed = refl; settled = refl; sent = omega arith; lines = tt })

@@ -1,14 +1,13 @@
 -- Between two starts what is executed climbs: an instrument that keeps a reply is handed the last request again or a later one.
-use Rattle.std.proofs.Common.{◌≡◌, ℕ, zero, suc, ◌+◌, ◌-◌, ◌%◌, ◌<◌, ◌≤◌, ◌⊎◌, inl, inr, Bool, true, false, List, [], ◌∷◌, ◌++◌, length, Option, Some, None, cond, refl, sym, ◌∙◌, ap, subst, arith, ltb, eqb}
-use Rattle.std.proofs.lemmas.Bool.{eq-eqb, ltb-true, ltb-false}
+use Rattle.std.proofs.Common.{◌≡◌, ℕ, zero, suc, ◌+◌, ◌-◌, ◌%◌, ◌<◌, ◌≤◌, ◌⊎◌, inl, inr, Bool, true, false, List, [], ◌∷◌, ◌++◌, length, Option, Some, None, cond, refl, sym, ◌∙◌, ap, subst, arith, ltb}
+use Rattle.std.proofs.lemmas.Bool.{ltb-true, ltb-false}
 use Rattle.std.specs.Prelude.{slice_get}
-use Rattle.gc_instrument.specs.Replying.{kept_line}
 use Rattle.gc_instrument.specs.State.{KeptReply}
 use Rattle.gc_world.specs.Order.{Each}
 use Rattle.gc_world.proofs.Options.{some_is, none_is_not}
 use Rattle.gc_world.proofs.Places.{below, each_get}
 use Rattle.gc_world.proofs.Rows.{each_append, each_more}
-use Rattle.gc_field.specs.Once.{HasNoStart, ActsOnce}
+use Rattle.gc_field.specs.Once.{HasNoStart, ActsOnce, IsInOrder}
 
 -- Lists.
 
@@ -43,6 +42,40 @@ pub record IsClimbing (top : ℕ) (executed starts : List ℕ) (k : Option KeptR
   pub below : Each (λ n. n < top) executed
   pub idle : k ≡ None → IsIdle executed starts
 
+-- all that was executed is below this number, and in order
+pub record IsOrdered (top : ℕ) (executed : List ℕ) : Type 0 where
+  pub order : IsInOrder executed
+  pub below : Each (λ n. n < top) executed
+
+pub order_few : (executed : List ℕ) → length executed ≤ 1 → IsInOrder executed
+order_few executed few j k m n lt a b =
+    let size : k < length executed = below executed k n b in
+    absurd (omega (arith, size, few, lt))
+
+-- a request is executed that is none before the last
+pub ordered_acted : (top n : ℕ) (executed : List ℕ) → top ≤ n + 1 → IsOrdered top executed → IsOrdered (n + 1) (executed ++ n ∷ [])
+ordered_acted top n executed le h =
+    record {
+      order = λ i j x y lt a b. elim (get_pushed executed n j y b) [
+        | inl old ↦ (let size : j < length executed = below executed j y old in
+            elim (get_pushed executed n i x a) [
+              | inl first ↦ h.order i j x y lt first old
+              | inr last ↦ absurd (omega (arith, last.0, lt, size))
+            ])
+        | inr new ↦ elim (get_pushed executed n i x a) [
+          | inl first ↦ subst (λ z. x ≤ z) new.1 (let l : x < top = each_get (λ m. m < top) executed i x h.below first in omega (arith, l, le))
+          | inr last ↦ absurd (omega (arith, last.0, lt, new.0))
+        ]
+      ];
+      below = each_append (λ m. m < n + 1) executed (n ∷ []) (each_more (λ m. m < top) (λ m. m < n + 1) (λ m l. omega (arith, l, le)) executed h.below) (omega arith, tt);
+    }
+
+pub ordered_first : (n : ℕ) (executed : List ℕ) (acted : Bool) → executed ≡ [] → n ≡ 0 → IsOrdered 1 (cond acted (executed ++ n ∷ []) executed)
+ordered_first n executed acted none nought = subst (λ l. IsOrdered 1 (cond acted (l ++ n ∷ []) l)) (sym none) (chosen acted) where
+  chosen : (acted : Bool) → IsOrdered 1 (cond acted (n ∷ []) [])
+  chosen true = record { order = order_few (n ∷ []) (omega arith); below = (omega (arith, nought), tt) }
+  chosen false = record { order = order_few [] (omega arith); below = tt }
+
 -- at most one execution
 pub once_few : (executed starts : List ℕ) → length executed ≤ 1 → ActsOnce executed starts
 once_few executed starts few j k m n lt run a b =
@@ -57,6 +90,11 @@ climbing_started top executed starts k after h =
       below = h.below;
       idle = λ e. inr (starts, refl);
     }
+
+-- something is kept
+pub climbing_kept : (top : ℕ) (executed starts : List ℕ) (k after : Option KeptReply) (r : KeptReply) → after ≡ Some r → IsClimbing top executed starts k → IsClimbing top executed starts after
+climbing_kept top executed starts k after r e h =
+    record { once = h.once; below = h.below; idle = λ none. let same : None ≡ Some r = sym none ∙ e in let never : ⊥ = cc in absurd never }
 
 -- nothing was executed since the last start, so it came between these two executions
 never_idle : (executed starts : List ℕ) (j k m : ℕ) → IsIdle executed starts → HasNoStart starts j k → slice_get executed j ≡ Some m → k ≡ length executed → ⊥
@@ -98,19 +136,13 @@ climbing_first n executed starts acted kept none nought = subst (λ l. IsClimbin
   chosen true = record { once = once_few (n ∷ []) starts (omega arith); below = (omega (arith, nought), tt); idle = λ e. let never : ⊥ = cc in absurd never }
   chosen false = record { once = once_few [] starts (omega arith); below = tt; idle = λ e. let never : ⊥ = cc in absurd never }
 
-kept_has : (k : KeptReply) (id : ℕ) → k.id ≡ id → kept_line (Some k) (Some id) ≡ None → ⊥
-kept_has k id same none = chosen (eqb k.id id) (eq-eqb k.id id same) none where
-  chosen : (b : Bool) → b ≡ true → cond b (Some k.line) None ≡ None → ⊥
-  chosen true t none = cc
-  chosen false t none = cc
-
 -- an id that isn't the kept one is that of a later request than the last
-pub newer : (since top n id : ℕ) (k : KeptReply) → k.id ≡ (top - 1 - since) % 8 → since < top → id ≡ (n - since) % 8 → top ≤ n + 1 → kept_line (Some k) (Some id) ≡ None → top ≤ n
-newer since top n id k own recent mine le none = chosen (ltb n top) refl where
+pub newer : (since top n id : ℕ) (k : KeptReply) → k.id ≡ (top - 1 - since) % 8 → since < top → id ≡ (n - since) % 8 → top ≤ n + 1 → (k.id ≡ id → ⊥) → top ≤ n
+newer since top n id k own recent mine le other = chosen (ltb n top) refl where
   chosen : (b : Bool) → ltb n top ≡ b → top ≤ n
   chosen false t = ltb-false n top t
   chosen true t =
       let l : n < top = ltb-true n top t in
       let last : top - 1 ≡ n = omega (arith, l, le) in
       let same : k.id ≡ id = own ∙ ap (λ i. (i - since) % 8) last ∙ sym mine in
-      absurd (kept_has k id same none)
+      absurd (other same)

@@ -5,12 +5,13 @@ use Rattle.gc_catalogue.specs.declared.call.Call.{Call}
 use Rattle.gc_catalogue.specs.Texts.{request_line}
 use Rattle.gc_client.specs.OneForOne.{Course, course, sent_on, settled_on, begun}
 use Rattle.gc_client.specs.Rule.{ById, Sending, sends, hears, heard}
+use Rattle.gc_instrument.specs.State.{KeptReply}
 use Rattle.gc_world.specs.Clients.{by_ids, ids_open}
 use Rattle.gc_world.specs.World.{Request, Numbered, Ends, Step, Send, Up_deliver, Up_lose, Up_repeat, Down_deliver, Down_lose, Down_repeat, Expire, Restart_client, Restart_instrument, Nothing, World, without, doubled, up_delivered, with_up, with_down, on_wire, requested, with_settled, down_delivered, happens}
 use Rattle.gc_world.proofs.Settled.{of_sent}
-use Rattle.gc_field.specs.Field.{Move, Sends, Tells, Comes, Foreign, OnLine, Anew, IsOfLine, moved, ArePossible, seen}
+use Rattle.gc_field.specs.Field.{Move, Sends, Tells, Comes, Foreign, OnLine, Anew, Changes, Joins, IsOfLine, moved, ArePossible, seen}
 
-module _ {State : Type 0} (width : ℕ) (ends : Ends State) (same_heard : (line : List ℕ) → ends.heard line ≡ heard line) where
+module _ {State : Type 0} (width : ℕ) (ends : Ends State) (same_heard : (line : List ℕ) → ends.heard line ≡ heard line) (Good : State → Type 0) (kept : State → Option KeptReply) where
   -- the course of a client and the world have the same requests, settlements and client
   pub record SameAs (x : Course) (w : World ById State) : Type 0 where
     pub sent : x.sent ≡ map of_sent w.wire.sent
@@ -67,7 +68,7 @@ module _ {State : Type 0} (width : ℕ) (ends : Ends State) (same_heard : (line 
   same_line x w Restart_instrument p h = absurd p
   same_line x w Nothing p h = record { sent = h.sent; settled = h.settled; client = h.client }
 
-  pub same_all : (ms : List Move) (x : Course) (w : World ById State) → ArePossible ends (by_ids width ends) ms w → SameAs x w → SameAs (course width x (seen ms)) (moved ends (by_ids width ends) ms w)
+  pub same_all : (ms : List (Move State)) (x : Course) (w : World ById State) → ArePossible ends Good kept (by_ids width ends) ms w → SameAs x w → SameAs (course width x (seen ms)) (moved ends (by_ids width ends) ms w)
   same_all [] x w p h = h
   same_all (Sends target call deadline ∷ ms) x w p h = same_all ms _ _ p.1 (same_send x w target call deadline h)
   same_all (Tells now ∷ ms) x w p h = same_all ms _ _ p.1 (record { sent = h.sent; settled = h.settled; client = ap (λ c. (by_ids width ends).expire c now) h.client })
@@ -75,6 +76,8 @@ module _ {State : Type 0} (width : ℕ) (ends : Ends State) (same_heard : (line 
   same_all (Foreign line ∷ ms) x w p h = same_all ms _ _ p.1 (same_foreign x w line p.0 h)
   same_all (OnLine step ∷ ms) x w p h = same_all ms x _ p.1 (same_line x w step p.0 h)
   same_all (Anew ∷ ms) x w p h = same_all ms x _ p.1 (record { sent = h.sent; settled = h.settled; client = h.client })
+  same_all (Changes state ∷ ms) x w p h = same_all ms x _ p.1 (record { sent = h.sent; settled = h.settled; client = h.client })
+  same_all (Joins line ∷ ms) x w p h = absurd p.0
 
   pub same_open : (state : State) → SameAs begun (ids_open state)
   same_open state = record { sent = refl; settled = refl; client = refl }

@@ -5,6 +5,7 @@ use Rattle.std.specs.List.{AllByRecursion}
 use Rattle.gc_catalogue.specs.declared.call.Call.{Call}
 use Rattle.gc_client.specs.OneForOne.{Step, Send, Hear, Expire, Restart, Course, begun, sent_on, settled_on, goes, course}
 use Rattle.gc_client.specs.Rule.{ById, Sending, Settled, Settlement, sends, heard, hears, expires, restarts, lost}
+use Rattle.gc_instrument.specs.State.{KeptReply}
 use Rattle.gc_world.specs.Clients.{ids_open}
 use Rattle.gc_world.specs.World.{Ends}
 use Rattle.gc_field.specs.Field.{Move, IsField, seen}
@@ -43,8 +44,8 @@ course_append : (width : ℕ) (first later : List Step) (x : Course) → course 
 course_append width [] later x = refl
 course_append width (step ∷ first) later x = course_append width first later (goes width x step)
 
-module _ {State : Type 0} (width : ℕ) (ends : Ends State) (Good : State → Type 0) (same_heard : (line : List ℕ) → ends.heard line ≡ heard line) (one : (state : State) → Good state → (ms : List Move) → IsField width ends state ms → IsFaithful width ends state ms Good) where
-  settled_all : (ss : List (Stretch State)) → ArePossible width ends Good ss → (course width begun (steps_over ss)).settlements ≡ settled_over width ends ss
+module _ {State : Type 0} (width : ℕ) (ends : Ends State) (Good : State → Type 0) (kept : State → Option KeptReply) (same_heard : (line : List ℕ) → ends.heard line ≡ heard line) (one : (state : State) → Good state → (ms : List (Move State)) → IsField width ends Good kept state ms → IsFaithful width ends state ms Good kept) where
+  settled_all : (ss : List (Stretch State)) → ArePossible width ends Good kept ss → (course width begun (steps_over ss)).settlements ≡ settled_over width ends ss
   settled_all [] h = refl
   settled_all (s ∷ []) h = (one s.state h.0.0 s.moves h.0.1).settled
   settled_all (s ∷ next ∷ others) h =
@@ -52,7 +53,7 @@ module _ {State : Type 0} (width : ℕ) (ends : Ends State) (Good : State → Ty
       let w = left width ends s.state s.moves in
       let z = settled_on x (restarts x.client) in
       let later = steps_over (next ∷ others) in
-      let same = same_all width ends same_heard s.moves begun (ids_open s.state) h.0.1.possible (same_open width ends same_heard s.state) in
+      let same = same_all width ends same_heard Good kept s.moves begun (ids_open s.state) h.0.1.possible (same_open width ends same_heard Good kept s.state) in
       let here : z.settlements ≡ w.wire.settled ++ map lost w.client.waiting =
       ap (λ l. l ++ map lost x.client.waiting) same.settled ∙ ap (λ (c : ById). w.wire.settled ++ map lost c.waiting) same.client in
       let on = behind_all width z.settlements later z begun (record { settled = sym (append-nil z.settlements); client = refl }) in
@@ -61,11 +62,11 @@ module _ {State : Type 0} (width : ℕ) (ends : Ends State) (Good : State → Ty
       ∙ ap (λ l. l ++ (course width begun later).settlements) here
       ∙ ap (λ l. (w.wire.settled ++ map lost w.client.waiting) ++ l) (settled_all (next ∷ others) h.1)
 
-  each_all : (ss : List (Stretch State)) → ArePossible width ends Good ss → AllByRecursion (λ s. IsFaithful width ends s.state s.moves Good) ss
+  each_all : (ss : List (Stretch State)) → ArePossible width ends Good kept ss → AllByRecursion (λ s. IsFaithful width ends s.state s.moves Good kept) ss
   each_all [] h = tt
   each_all (s ∷ ss) h = (one s.state h.0.0 s.moves h.0.1, each_all ss h.1)
 
-  client_all : (ss : List (Stretch State)) → ArePossible width ends Good ss → (course width begun (steps_over ss)).client ≡ client_over width ends ss
+  client_all : (ss : List (Stretch State)) → ArePossible width ends Good kept ss → (course width begun (steps_over ss)).client ≡ client_over width ends ss
   client_all [] h = refl
   client_all (s ∷ []) h = (one s.state h.0.0 s.moves h.0.1).stands
   client_all (s ∷ next ∷ others) h =
@@ -76,5 +77,5 @@ module _ {State : Type 0} (width : ℕ) (ends : Ends State) (Good : State → Ty
       ∙ (behind_all width z.settlements later z begun (record { settled = sym (append-nil z.settlements); client = refl })).client
       ∙ client_all (next ∷ others) h.1
 
-  pub stretches : (ss : List (Stretch State)) → ArePossible width ends Good ss → AreFaithful width ends Good ss
+  pub stretches : (ss : List (Stretch State)) → ArePossible width ends Good kept ss → AreFaithful width ends Good kept ss
   stretches ss h = record { settled = settled_all ss h; stands = client_all ss h; each = each_all ss h }

@@ -1,15 +1,15 @@
 -- Each line that comes was made for its request as its call was executed, whatever is repeated or lost, and however often the
 -- instrument starts anew: but those of the first few requests.
-use Rattle.std.proofs.Common.{◌≡◌, ℕ, ◌+◌, ◌-◌, ◌%◌, ◌<◌, ◌≤◌, ◌⊎◌, inl, inr, Bool, true, false, List, [], ◌∷◌, ◌++◌, length, drop, Option, Some, None, cond, refl, sym, ◌∙◌, ap, subst, arith, ltb, eqb}
+use Rattle.std.proofs.Common.{◌≡◌, ℕ, ◌+◌, ◌-◌, ◌%◌, ◌<◌, ◌≤◌, ◌⊎◌, inl, inr, Bool, true, false, List, [], ◌∷◌, ◌++◌, length, drop, Option, Some, None, refl, sym, ◌∙◌, ap, subst, arith, ltb, eqb}
 use Rattle.std.proofs.lemmas.List.{length_push}
-use Rattle.std.proofs.lemmas.Bool.{eqb-true, ltb-false}
+use Rattle.std.proofs.lemmas.Bool.{ltb-false}
 use Rattle.gc_catalogue.specs.declared.call.Call.{Call}
 use Rattle.gc_catalogue.specs.Texts.{request_line}
 use Rattle.gc_client.specs.Rule.{Settlement, Sending, pending_of}
-use Rattle.gc_instrument.specs.Replying.{Handed, kept_line}
+use Rattle.gc_instrument.specs.Replying.{Handed}
 use Rattle.gc_instrument.specs.State.{KeptReply}
 use Rattle.gc_world.specs.Clients.{ByNumber, number_send, number_reply, by_numbers}
-use Rattle.gc_world.specs.Exchange.{IsExchange, IsKeeper}
+use Rattle.gc_world.specs.Exchange.{IsExchange}
 use Rattle.gc_world.specs.Order.{Each, Rising, numbers}
 use Rattle.gc_world.specs.World.{Request, Sent, Numbered, Ends, Step, Send, Up_deliver, Up_lose, Up_repeat, Down_deliver, Down_lose, Down_repeat, Expire, Restart_client, Restart_instrument, Nothing, World, without, doubled, idle, replied, up_delivered, with_up, with_down, started, on_wire, requested, with_settled, down_delivered, happens}
 use Rattle.gc_world.proofs.Booked.{Has, has_more, has_push}
@@ -20,8 +20,9 @@ use Rattle.gc_world.proofs.Replay.{IsOf, of_more}
 use Rattle.gc_world.proofs.Rows.{each_append, each_more, each_without, each_doubled}
 use Rattle.gc_world.proofs.Sound.{IsGoing, Sound}
 use Rattle.gc_field.specs.Field.{IsOfLine}
+use Rattle.gc_field.specs.Instrument.{IsAnInstrument, KeepsItsReply}
 use Rattle.gc_field.proofs.Answered.{AllSo, all_so_more, all_so_append, all_so_settle}
-use Rattle.gc_field.proofs.Once.{IsClimbing, climbing_started, climbing_acted, newer}
+use Rattle.gc_field.proofs.Once.{IsClimbing, IsOrdered, climbing_started, climbing_acted, climbing_kept, ordered_acted, newer}
 
 -- no number under way upward is below the one in front
 pub rising_each : (low : ℕ) (xs : List (Numbered Request)) → Rising low (numbers xs) → Each (λ x. low ≤ x.number + 1) xs
@@ -32,14 +33,10 @@ pub rising_tail : (low n : ℕ) (xs ys : List ℕ) → Rising low (xs ++ n ∷ y
 rising_tail low n [] ys h = h
 rising_tail low n (x ∷ xs) ys h = let r = rising_tail (x + 1) n xs ys h.1 in (omega (arith, h.0, r.0), r.1)
 
--- the line that is kept for an id: its own
-pub kept_own : (k : KeptReply) (id : ℕ) (line : List ℕ) → kept_line (Some k) (Some id) ≡ Some line → (k.id ≡ id) × (k.line ≡ line)
-kept_own k id line e = chosen (eqb k.id id) refl e where
-  chosen : (b : Bool) → eqb k.id id ≡ b → cond b (Some k.line) None ≡ Some line → (k.id ≡ id) × (k.line ≡ line)
-  chosen true t e = (eqb-true k.id id t, some_is k.line line e)
-  chosen false t e = let never : ⊥ = cc in absurd never
+true_is_not : true ≡ false → ⊥
+true_is_not e = cc
 
-module _ {State : Type 0} (width : ℕ) (narrow : width ≤ 7) (ends : Ends State) (Good : State → Type 0) (ex : IsExchange ends Good) (kept : State → Option KeptReply) (keeper : IsKeeper ends kept) (low : ℕ) (M : ℕ → Call → List ℕ → Type 0) where
+module _ {State : Type 0} (width : ℕ) (narrow : width ≤ 7) (ends : Ends State) (Good : State → Type 0) (ex : IsExchange ends Good) (kept : State → Option KeptReply) (keeper : IsAnInstrument ends Good kept) (low : ℕ) (M : ℕ → Call → List ℕ → Type 0) where
   -- the line was made for this request, as its call was executed; and M is so of it, as it is of the reply to each request that is executed
   pub record IsVouched (sent : List Sent) (executed : List ℕ) (made : List (Numbered (List ℕ))) (n : ℕ) (line : List ℕ) : Type 0 where
     pub among : Has (record { number = n; line = line }) made
@@ -78,10 +75,21 @@ module _ {State : Type 0} (width : ℕ) (narrow : width ≤ 7) (ends : Ends Stat
   kept_none : (P : ℕ → List ℕ → Type 0) (since top : ℕ) (k : Option KeptReply) → k ≡ None → KeptIs P since top k
   kept_none P since top k e = subst (λ k. KeptIs P since top k) (sym e) tt
 
-  -- a request whose id isn't the kept one is a later one than the last, or nothing is kept
-  later_or_none : (P : ℕ → List ℕ → Type 0) (since top n id : ℕ) (k : Option KeptReply) → KeptIs P since top k → id ≡ (n - since) % 8 → top ≤ n + 1 → kept_line k (Some id) ≡ None → (k ≡ None) ⊎ (top ≤ n)
-  later_or_none P since top n id None h mine le none = inl refl
-  later_or_none P since top n id (Some k) h mine le none = inr (newer since top n id k h.1 h.0 mine le none)
+  -- where nothing is kept, or this line with this id
+  pub kept_one : (P : ℕ → List ℕ → Type 0) (since top id : ℕ) (line : List ℕ) (k : Option KeptReply) → since < top → id ≡ (top - 1 - since) % 8 → P (top - 1) line → (k ≡ None) ⊎ (k ≡ Some (record { id = id; line = line })) → KeptIs P since top k
+  kept_one P since top id line k low own p (inl none) = kept_none P since top k none
+  kept_one P since top id line k low own p (inr e) = subst (λ k. KeptIs P since top k) (sym e) (low, own, p)
+
+  -- nothing is kept, or what was
+  kept_still : (P : ℕ → List ℕ → Type 0) (since top : ℕ) (k after : Option KeptReply) → (after ≡ None) ⊎ (after ≡ k) → KeptIs P since top k → KeptIs P since top after
+  kept_still P since top k after (inl none) h = kept_none P since top after none
+  kept_still P since top k after (inr same) h = subst (λ k. KeptIs P since top k) (sym same) h
+
+  -- an instrument that keeps its reply executed a request: it is a later one than the last, or nothing was kept
+  later_or_none : (P : ℕ → List ℕ → Type 0) (since top n id : ℕ) (k : Option KeptReply) → KeptIs P since top k → id ≡ (n - since) % 8 → top ≤ n + 1 → ((line : List ℕ) → k ≡ Some (record { id = id; line = line }) → ⊥) → (k ≡ None) ⊎ (top ≤ n)
+  later_or_none P since top n id None h mine le other = inl refl
+  later_or_none P since top n id (Some k) h mine le other =
+      inr (newer since top n id k h.1 h.0 mine le (λ same. other k.line (ap (λ i. Some (record { id = i; line = k.line })) same)))
 
   pub record IsTrue (since count : ℕ) (sent : List Sent) (executed starts : List ℕ) (made : List (Numbered (List ℕ))) (settled : List Settlement) (up : List (Numbered Request)) (down : List (Numbered (List ℕ))) (k : Option KeptReply) : Type 0 where
     -- the number of the last request that the instrument was handed is one less than this
@@ -94,7 +102,8 @@ module _ {State : Type 0} (width : ℕ) (narrow : width ≤ 7) (ends : Ends Stat
     pub lines : Each (IsOf sent) up
     pub coming : Each (λ x. Vouched sent executed made x.number x.line) down
     pub answers : AllSo (Vouched sent executed made) 0 settled
-    pub once : IsClimbing top executed starts k
+    pub order : IsOrdered top executed
+    pub once : KeepsItsReply ends Good kept → IsClimbing top executed starts k
 
   abbrev pub True : World ByNumber State → Type 0
   True w = IsTrue w.client.since w.client.count w.wire.sent w.wire.executed w.wire.starts w.wire.made w.wire.settled w.wire.up w.wire.down (kept w.wire.state)
@@ -116,6 +125,7 @@ module _ {State : Type 0} (width : ℕ) (narrow : width ≤ 7) (ends : Ends Stat
         lines = each_append _ up _ (each_more _ _ (of_more sent (r ∷ [])) up h.lines) (record { request = r; found = get_push sent r; small = digit; call = refl; text = refl }, tt);
         coming = each_more (λ (x : Numbered (List ℕ)). P x.number x.line) (λ x. Q x.number x.line) (λ x. f x.number x.line) down h.coming;
         answers = all_so_more P Q f 0 settled h.answers;
+        order = h.order;
         once = h.once;
       }
 
@@ -144,42 +154,44 @@ module _ {State : Type 0} (width : ℕ) (narrow : width ≤ 7) (ends : Ends Stat
         lines = h.lines;
         coming = each_more (λ (x : Numbered (List ℕ)). P x.number x.line) (λ x. Q x.number x.line) (λ x. f x.number x.line) down h.coming;
         answers = all_so_more P Q f 0 settled h.answers;
+        order = h.order;
         once = h.once;
       }
 
   -- the last one comes again, and has the kept line
-  true_again : (w : World ByNumber State) (x : Numbered Request) (rest : List (Numbered Request)) (line : List ℕ) (k : Option KeptReply) → kept w.wire.state ≡ k → w.wire.up ≡ x ∷ rest → kept_line k (Some x.line.id) ≡ Some line → Sound width ends Good w → True w → True (on_wire w (replied w.wire x.number rest (record { state = w.wire.state; reply = line; executed = false })))
+  true_again : (w : World ByNumber State) (x : Numbered Request) (rest : List (Numbered Request)) (hd : Handed State) (k : Option KeptReply) → kept w.wire.state ≡ k → w.wire.up ≡ x ∷ rest → k ≡ Some (record { id = x.line.id; line = hd.reply }) → (kept hd.state ≡ None) ⊎ (kept hd.state ≡ Some (record { id = x.line.id; line = hd.reply })) → (KeepsItsReply ends Good kept → kept hd.state ≡ Some (record { id = x.line.id; line = hd.reply })) → Sound width ends Good w → True w → True (on_wire w (replied w.wire x.number rest (record hd { executed = false })))
   unfolding true_made
-  true_again w x rest line None ke q e s h = let never : ⊥ = cc in absurd never
-  true_again w x rest line (Some k) ke q e s h =
+  true_again w x rest hd None ke q e now always s h = let never : ⊥ = cc in absurd never
+  true_again w x rest hd (Some k) ke q e now always s h =
       let c = w.client in
       let v = w.wire in
-      let own = kept_own k x.line.id line e in
+      let line = hd.reply in
       let g = subst (λ l. Each (IsGoing c.since (length c.requests)) l) q s.going in
       let a = subst (λ l. Each (λ y. h.top ≤ y.number + 1) l) q h.above in
       let o = subst (λ l. Each (IsOf v.sent) l) q h.lines in
-      let held = subst (λ k. KeptIs (Vouched v.sent v.executed v.made) c.since h.top k) ke h.holds in
-      let last : h.top - 1 ≡ x.number = omega (arith, own.0, held.0, held.1, g.0.id, g.0.recent, g.0.sent, s.few, h.counted, a.0, narrow) in
+      let held = subst (λ k. KeptIs (Vouched v.sent v.executed v.made) c.since h.top k) (ke ∙ e) h.holds in
+      let last : h.top - 1 ≡ x.number = omega (arith, held.0, held.1, g.0.id, g.0.recent, g.0.sent, s.few, h.counted, a.0, narrow) in
       let m : Numbered (List ℕ) = record { number = x.number; line = line } in
-      let vouched : Vouched v.sent v.executed v.made x.number line =
-      subst (λ n. Vouched v.sent v.executed v.made n line) last (subst (λ l. Vouched v.sent v.executed v.made (h.top - 1) l) own.1 held.2) in
+      let vouched : Vouched v.sent v.executed v.made x.number line = subst (λ n. Vouched v.sent v.executed v.made n line) last held.2 in
       let t = true_made c.since c.count v.sent v.executed v.starts v.made v.settled v.up v.down (kept v.state) m h in
+      let more = vouched_made v.sent v.executed v.made (m ∷ []) x.number line vouched in
       record {
         top = h.top;
         counted = h.counted;
         within = h.within;
         above = a.1;
         below = each_append _ v.down _ h.below (omega (arith, last, held.0), tt);
-        holds = t.holds;
+        holds = kept_one (Vouched v.sent v.executed (v.made ++ m ∷ [])) c.since h.top x.line.id line (kept hd.state) held.0 held.1 (subst (λ n. Vouched v.sent v.executed (v.made ++ m ∷ []) n line) (sym last) more) now;
         lines = o.1;
-        coming = each_append _ v.down _ t.coming (vouched_made v.sent v.executed v.made (m ∷ []) x.number line vouched, tt);
+        coming = each_append _ v.down _ t.coming (more, tt);
         answers = t.answers;
-        once = h.once;
+        order = h.order;
+        once = λ keeps. climbing_kept h.top v.executed v.starts (kept v.state) (kept hd.state) (record { id = x.line.id; line = line }) (always keeps) (h.once keeps);
       }
 
   -- one is executed
-  true_new : (w : World ByNumber State) (x : Numbered Request) (rest : List (Numbered Request)) (hd : Handed State) → w.wire.up ≡ x ∷ rest → ends.handed w.wire.state x.line.id x.line.call ≡ hd → kept_line (kept w.wire.state) (Some x.line.id) ≡ None → hd.executed ≡ true → M x.number x.line.call hd.reply → Sound width ends Good w → True w → True (on_wire w (replied w.wire x.number rest (record hd { executed = true })))
-  true_new w x rest hd q is none exe on s h =
+  true_new : (w : World ByNumber State) (x : Numbered Request) (rest : List (Numbered Request)) (hd : Handed State) → w.wire.up ≡ x ∷ rest → ends.handed w.wire.state x.line.id x.line.call ≡ hd → hd.executed ≡ true → M x.number x.line.call hd.reply → Sound width ends Good w → True w → True (on_wire w (replied w.wire x.number rest (record hd { executed = true })))
+  true_new w x rest hd q is exe on s h =
       let c = w.client in
       let v = w.wire in
       let n = x.number in
@@ -187,8 +199,12 @@ module _ {State : Type 0} (width : ℕ) (narrow : width ≤ 7) (ends : Ends Stat
       let a = subst (λ l. Each (λ y. h.top ≤ y.number + 1) l) q h.above in
       let o = subst (λ l. Each (IsOf v.sent) l) q h.lines in
       let order = rising_tail c.count n (numbers v.down) (numbers rest) (subst (λ l. Rising c.count (numbers v.down ++ numbers l)) q s.order) in
-      let keeps_it : kept hd.state ≡ Some (record { id = x.line.id; line = hd.reply }) =
-      subst (λ (k : Handed State). kept k.state ≡ Some (record { id = x.line.id; line = k.reply })) is (keeper.keeps v.state x.line.id x.line.call none) in
+      let now : (kept hd.state ≡ None) ⊎ (kept hd.state ≡ Some (record { id = x.line.id; line = hd.reply })) =
+      subst (λ (k : Handed State). (kept k.state ≡ None) ⊎ (kept k.state ≡ Some (record { id = x.line.id; line = k.reply }))) is (keeper.keeps v.state x.line.id x.line.call s.good o.0.small) in
+      let always : KeepsItsReply ends Good kept → kept hd.state ≡ Some (record { id = x.line.id; line = hd.reply }) =
+      λ keeps. subst (λ (k : Handed State). kept k.state ≡ Some (record { id = x.line.id; line = k.reply })) is (keeps.always v.state x.line.id x.line.call s.good o.0.small) in
+      let other : KeepsItsReply ends Good kept → (line : List ℕ) → kept v.state ≡ Some (record { id = x.line.id; line = line }) → ⊥ =
+      λ keeps line same. true_is_not (sym exe ∙ sym (ap (λ (k : Handed State). k.executed) is) ∙ keeps.again v.state x.line.id x.line.call line s.good o.0.small same) in
       let m : Numbered (List ℕ) = record { number = n; line = hd.reply } in
       let P = Vouched v.sent v.executed v.made in
       let Q = Vouched v.sent (v.executed ++ n ∷ []) (v.made ++ m ∷ []) in
@@ -217,19 +233,28 @@ module _ {State : Type 0} (width : ℕ) (narrow : width ≤ 7) (ends : Ends Stat
         within = omega (arith, g.0.sent, s.counted);
         above = rising_each (n + 1) rest order.1;
         below = each_append _ v.down _ (each_more (λ (y : Numbered (List ℕ)). y.number < h.top) (λ y. y.number < n + 1) (λ y l. omega (arith, l, a.0)) v.down h.below) (omega arith, tt);
-        holds = subst (λ k. KeptIs Q c.since (n + 1) k) (sym keeps_it) (omega (arith, g.0.recent), g.0.id ∙ ap (λ i. (i - c.since) % 8) back, subst (λ i. Q i hd.reply) back new);
+        holds = kept_one Q c.since (n + 1) x.line.id hd.reply (kept hd.state) (omega (arith, g.0.recent)) (g.0.id ∙ ap (λ i. (i - c.since) % 8) back) (subst (λ i. Q i hd.reply) back new) now;
         lines = o.1;
         coming = each_append _ v.down _ (each_more (λ (y : Numbered (List ℕ)). P y.number y.line) (λ y. Q y.number y.line) (λ y. f y.number y.line) v.down h.coming) (new, tt);
         answers = all_so_more P Q f 0 v.settled h.answers;
-        once = subst (λ k. IsClimbing (n + 1) (v.executed ++ n ∷ []) v.starts k) (sym keeps_it) (climbing_acted h.top n v.executed v.starts (kept v.state) (record { id = x.line.id; line = hd.reply }) a.0 (later_or_none P c.since h.top n x.line.id (kept v.state) h.holds g.0.id a.0 none) h.once);
+        order = ordered_acted h.top n v.executed a.0 h.order;
+        once = λ keeps.
+            subst (λ k. IsClimbing (n + 1) (v.executed ++ n ∷ []) v.starts k) (sym (always keeps))
+            (climbing_acted h.top n v.executed v.starts (kept v.state) (record { id = x.line.id; line = hd.reply }) a.0 (later_or_none P c.since h.top n x.line.id (kept v.state) h.holds g.0.id a.0 (other keeps)) (h.once keeps));
       }
 
-  true_handed : (w : World ByNumber State) (x : Numbered Request) (rest : List (Numbered Request)) (hd : Handed State) (o : Option (List ℕ)) → w.wire.up ≡ x ∷ rest → ends.handed w.wire.state x.line.id x.line.call ≡ hd → kept_line (kept w.wire.state) (Some x.line.id) ≡ o → (hd.executed ≡ true → M x.number x.line.call hd.reply) → Sound width ends Good w → True w → True (on_wire w (replied w.wire x.number rest hd))
-  true_handed w x rest hd (Some line) q is o on s h =
-      subst (λ (k : Handed State). True (on_wire w (replied w.wire x.number rest k))) (sym (keeper.again w.wire.state x.line.id x.line.call line o) ∙ is) (true_again w x rest line (kept w.wire.state) refl q o s h)
-  true_handed w x rest hd None q is o on s h =
-      let exe : hd.executed ≡ true = sym (ap (λ (k : Handed State). k.executed) is) ∙ keeper.executes w.wire.state x.line.id x.line.call o in
-      subst (λ b. True (on_wire w (replied w.wire x.number rest (record hd { executed = b })))) (sym exe) (true_new w x rest hd q is o exe (on exe) s h)
+  true_handed : (w : World ByNumber State) (x : Numbered Request) (rest : List (Numbered Request)) (hd : Handed State) (b : Bool) → w.wire.up ≡ x ∷ rest → ends.handed w.wire.state x.line.id x.line.call ≡ hd → hd.executed ≡ b → (hd.executed ≡ true → M x.number x.line.call hd.reply) → Sound width ends Good w → True w → True (on_wire w (replied w.wire x.number rest (record hd { executed = b })))
+  true_handed w x rest hd false q is not on s h =
+      let v = w.wire in
+      let o = subst (λ l. Each (IsOf v.sent) l) q h.lines in
+      let same : kept v.state ≡ Some (record { id = x.line.id; line = hd.reply }) =
+      subst (λ (k : Handed State). k.executed ≡ false → kept v.state ≡ Some (record { id = x.line.id; line = k.reply })) is (keeper.repeats v.state x.line.id x.line.call s.good o.0.small) not in
+      let now : (kept hd.state ≡ None) ⊎ (kept hd.state ≡ Some (record { id = x.line.id; line = hd.reply })) =
+      subst (λ (k : Handed State). (kept k.state ≡ None) ⊎ (kept k.state ≡ Some (record { id = x.line.id; line = k.reply }))) is (keeper.keeps v.state x.line.id x.line.call s.good o.0.small) in
+      let always : KeepsItsReply ends Good kept → kept hd.state ≡ Some (record { id = x.line.id; line = hd.reply }) =
+      λ keeps. subst (λ (k : Handed State). kept k.state ≡ Some (record { id = x.line.id; line = k.reply })) is (keeps.always v.state x.line.id x.line.call s.good o.0.small) in
+      true_again w x rest hd (kept v.state) refl q same now always s h
+  true_handed w x rest hd true q is exe on s h = true_new w x rest hd q is exe (on exe) s h
 
   true_reply : (w : World ByNumber State) (x : Numbered (List ℕ)) (rest : List (Numbered (List ℕ))) (old : Bool) → ltb x.number w.client.count ≡ old → w.wire.down ≡ x ∷ rest → length w.wire.settled ≡ w.client.count → True w → True (with_settled (record w.wire { down = rest }) (number_reply w.client x old))
   true_reply w x rest true t e s h =
@@ -247,6 +272,7 @@ module _ {State : Type 0} (width : ℕ) (narrow : width ≤ 7) (ends : Ends Stat
         lines = h.lines;
         coming = m.1;
         answers = all_so_append P 0 w.client.count v.settled [] (omega (arith, s)) h.answers tt;
+        order = h.order;
         once = h.once;
       }
   true_reply w x rest false t e s h =
@@ -267,13 +293,14 @@ module _ {State : Type 0} (width : ℕ) (narrow : width ≤ 7) (ends : Ends Stat
         answers =
             all_so_append P 0 w.client.count v.settled _ (omega (arith, s)) h.answers
             (all_so_settle P w.client.count x.number (x.number - w.client.count) x.line (drop w.client.count w.client.requests) (omega (arith, ge)) m.0);
+        order = h.order;
         once = h.once;
       }
 
   -- the instrument starts anew, whatever is under way
-  pub true_started : (w : World ByNumber State) (b : Bool) → True w → True (on_wire w (started ends w.wire b))
-  true_started w false h = h
-  true_started w true h =
+  pub true_started : (w : World ByNumber State) (b : Bool) → Good w.wire.state → True w → True (on_wire w (started ends w.wire b))
+  true_started w false good h = h
+  true_started w true good h =
       let v = w.wire in
       record {
         top = h.top;
@@ -281,15 +308,34 @@ module _ {State : Type 0} (width : ℕ) (narrow : width ≤ 7) (ends : Ends Stat
         within = h.within;
         above = h.above;
         below = h.below;
-        holds = kept_none (Vouched v.sent v.executed v.made) w.client.since h.top (kept (ends.restarted v.state)) (keeper.forgets v.state);
+        holds = kept_still (Vouched v.sent v.executed v.made) w.client.since h.top (kept v.state) (kept (ends.restarted v.state)) (keeper.starts v.state good) h.holds;
         lines = h.lines;
         coming = h.coming;
         answers = h.answers;
-        once = climbing_started h.top v.executed v.starts (kept v.state) (kept (ends.restarted v.state)) h.once;
+        order = h.order;
+        once = λ keeps. climbing_started h.top v.executed v.starts (kept v.state) (kept (ends.restarted v.state)) (h.once keeps);
+      }
+
+  -- its state changes by itself
+  pub true_changed : (w : World ByNumber State) (state : State) → kept state ≡ kept w.wire.state → True w → True (on_wire w (record w.wire { state = state }))
+  true_changed w state same h =
+      let v = w.wire in
+      record {
+        top = h.top;
+        counted = h.counted;
+        within = h.within;
+        above = h.above;
+        below = h.below;
+        holds = kept_still (Vouched v.sent v.executed v.made) w.client.since h.top (kept v.state) (kept state) (inr same) h.holds;
+        lines = h.lines;
+        coming = h.coming;
+        answers = h.answers;
+        order = h.order;
+        once = λ keeps. subst (λ k. IsClimbing h.top v.executed v.starts k) (sym same) (h.once keeps);
       }
 
   true_queues : (w : World ByNumber State) (up : List (Numbered Request)) (down : List (Numbered (List ℕ))) (h : True w) → Each (λ x. h.top ≤ x.number + 1) up → Each (IsOf w.wire.sent) up → Each (λ x. x.number < h.top) down → Each (λ x. Vouched w.wire.sent w.wire.executed w.wire.made x.number x.line) down → True (on_wire w (record w.wire { up = up; down = down }))
-  true_queues w up down h a l b c = record { top = h.top; counted = h.counted; within = h.within; above = a; below = b; holds = h.holds; lines = l; coming = c; answers = h.answers; once = h.once }
+  true_queues w up down h a l b c = record { top = h.top; counted = h.counted; within = h.within; above = a; below = b; holds = h.holds; lines = l; coming = c; answers = h.answers; order = h.order; once = h.once }
 
   -- nothing but a count changes
   true_idle : (w : World ByNumber State) → True w → True (on_wire w (idle w.wire))
@@ -305,7 +351,7 @@ module _ {State : Type 0} (width : ℕ) (narrow : width ≤ 7) (ends : Ends Stat
   pub true_up : (w : World ByNumber State) (q : List (Numbered Request)) → w.wire.up ≡ q → ((x : Numbered Request) (rest : List (Numbered Request)) → q ≡ x ∷ rest → IsOn w x) → Sound width ends Good w → True w → True (on_wire w (up_delivered ends w.wire q))
   true_up w [] e on s h = true_idle w h
   true_up w (x ∷ rest) e on s h =
-      true_handed w x rest (ends.handed w.wire.state x.line.id x.line.call) (kept_line (kept w.wire.state) (Some x.line.id)) e refl refl (on x rest refl) s h
+      true_handed w x rest (ends.handed w.wire.state x.line.id x.line.call) (ends.handed w.wire.state x.line.id x.line.call).executed e refl refl (on x rest refl) s h
 
   pub true_down : (w : World ByNumber State) (q : List (Numbered (List ℕ))) → w.wire.down ≡ q → Sound width ends Good w → True w → True (down_delivered (by_numbers width) w q)
   true_down w [] e s h = true_idle w h

@@ -5,15 +5,15 @@ use Rattle.std.proofs.lemmas.Bool.{ltb-true}
 use Rattle.gc_catalogue.specs.declared.call.Call.{Call}
 use Rattle.gc_client.specs.declared.pending.Pending.{Pending}
 use Rattle.gc_client.specs.Rule.{ById, Settlement, expired, hears, id_send, id_settled, pending_of, place_in, settle}
-use Rattle.gc_instrument.specs.State.{State}
-use Rattle.gc_world.specs.Clients.{ends, by_ids}
-use Rattle.gc_world.specs.World.{Numbered, Request, Step, Send, Up_deliver, Up_lose, Up_repeat, Down_deliver, Down_lose, Down_repeat, Expire, Restart_client, Restart_instrument, Nothing, World, without, doubled, up_delivered, with_up, with_down, on_wire, requested, down_delivered}
+use Rattle.gc_instrument.specs.State.{KeptReply}
+use Rattle.gc_world.specs.Clients.{by_ids}
+use Rattle.gc_world.specs.World.{Ends, Numbered, Request, Step, Send, Up_deliver, Up_lose, Up_repeat, Down_deliver, Down_lose, Down_repeat, Expire, Restart_client, Restart_instrument, Nothing, World, without, doubled, up_delivered, with_up, with_down, on_wire, requested, down_delivered}
 use Rattle.gc_world.proofs.Rows.{length-settle}
-use Rattle.gc_field.specs.Field.{Move, Sends, Tells, Comes, Foreign, OnLine, Anew, IsOfLine, moves, moved, ArePossible}
+use Rattle.gc_field.specs.Field.{Move, Sends, Tells, Comes, Foreign, OnLine, Anew, Changes, Joins, IsOfLine, moves, moved, ArePossible}
 use Rattle.gc_field.specs.Runs.{gives_up}
 
 -- what becomes of a request that waits
-abbrev pub after_moves : Pending → List Move → Pending
+abbrev pub after_moves : {State : Type 0} → Pending → List (Move State) → Pending
 after_moves p [] = p
 after_moves p (Tells now ∷ ms) = after_moves (expired now p) ms
 after_moves p (Sends target call deadline ∷ ms) = after_moves p ms
@@ -21,6 +21,8 @@ after_moves p (Comes line ∷ ms) = after_moves p ms
 after_moves p (Foreign line ∷ ms) = after_moves p ms
 after_moves p (OnLine step ∷ ms) = after_moves p ms
 after_moves p (Anew ∷ ms) = after_moves p ms
+after_moves p (Changes state ∷ ms) = after_moves p ms
+after_moves p (Joins line ∷ ms) = after_moves p ms
 
 or_assoc : (a b c : Bool) → ((a || b) || c) ≡ (a || (b || c))
 or_assoc true b c = refl
@@ -30,7 +32,7 @@ or_none : (a : Bool) → a ≡ (a || false)
 or_none true = refl
 or_none false = refl
 
-pub after_is : (p : Pending) (ms : List Move) → after_moves p ms ≡ record p { given_up = p.given_up || gives_up p.deadline ms }
+pub after_is : {State : Type 0} (p : Pending) (ms : List (Move State)) → after_moves p ms ≡ record p { given_up = p.given_up || gives_up p.deadline ms }
 after_is p [] = ap (λ b. record p { given_up = b }) (or_none p.given_up)
 after_is p (Tells now ∷ ms) = after_is (expired now p) ms ∙ ap (λ b. record p { given_up = b }) (or_assoc p.given_up (nat_le p.deadline now) (gives_up p.deadline ms))
 after_is p (Sends target call deadline ∷ ms) = after_is p ms
@@ -38,12 +40,14 @@ after_is p (Comes line ∷ ms) = after_is p ms
 after_is p (Foreign line ∷ ms) = after_is p ms
 after_is p (OnLine step ∷ ms) = after_is p ms
 after_is p (Anew ∷ ms) = after_is p ms
+after_is p (Changes state ∷ ms) = after_is p ms
+after_is p (Joins line ∷ ms) = after_is p ms
 
 -- request n, where it isn't settled yet, waits so
 abbrev pub WaitsAt : ℕ → List Pending → ℕ → Pending → Type 0
 WaitsAt size waiting n p = size ≤ n → slice_get waiting (n - size) ≡ Some p
 
-abbrev pub Waits : World ById State → ℕ → Pending → Type 0
+abbrev pub Waits : {State : Type 0} → World ById State → ℕ → Pending → Type 0
 Waits w n p = WaitsAt (length w.wire.settled) w.client.waiting n p
 
 get_front : (xs ys : List Pending) (k : ℕ) (p : Pending) → slice_get xs k ≡ Some p → slice_get (xs ++ ys) k ≡ Some p
@@ -90,44 +94,47 @@ waits_heard c line None before n p h = λ le.
     subst (λ i. slice_get c.waiting i ≡ Some p) same (h (omega (arith, size, le)))
 waits_heard c line (Some id) before n p h = waits_settled c line (place_in c id) (nat_lt (place_in c id) (length c.waiting)) before n p refl h
 
-waits_came : (w : World ById State) (q : List (Numbered (List ℕ))) (n : ℕ) (p : Pending) → Waits w n p → Waits (down_delivered (by_ids 7 ends) w q) n p
-waits_came w [] n p h = h
-waits_came w (x ∷ rest) n p h = waits_heard w.client x.line (ends.heard x.line) w.wire.settled n p h
+module _ {State : Type 0} (ends : Ends State) (Good : State → Type 0) (kept : State → Option KeptReply) where
+  waits_came : (w : World ById State) (q : List (Numbered (List ℕ))) (n : ℕ) (p : Pending) → Waits w n p → Waits (down_delivered (by_ids 7 ends) w q) n p
+  waits_came w [] n p h = h
+  waits_came w (x ∷ rest) n p h = waits_heard w.client x.line (ends.heard x.line) w.wire.settled n p h
 
-waits_sent : (w : World ById State) (target : ℕ) (call : Call) (deadline : ℕ) (b : Bool) (n : ℕ) (p : Pending) → Waits w n p → Waits (requested w target call (id_send w.client target call deadline b)) n p
-waits_sent w target call deadline true n p h = h
-waits_sent w target call deadline false n p h = λ le. get_front w.client.waiting (pending_of target call deadline ∷ []) (n - length w.wire.settled) p (h le)
+  waits_sent : (w : World ById State) (target : ℕ) (call : Call) (deadline : ℕ) (b : Bool) (n : ℕ) (p : Pending) → Waits w n p → Waits (requested w target call (id_send w.client target call deadline b)) n p
+  waits_sent w target call deadline true n p h = h
+  waits_sent w target call deadline false n p h = λ le. get_front w.client.waiting (pending_of target call deadline ∷ []) (n - length w.wire.settled) p (h le)
 
-waits_up : (w : World ById State) (q : List (Numbered Request)) (n : ℕ) (p : Pending) → Waits w n p → Waits (on_wire w (up_delivered ends w.wire q)) n p
-waits_up w [] n p h = h
-waits_up w (x ∷ rest) n p h = h
+  waits_up : (w : World ById State) (q : List (Numbered Request)) (n : ℕ) (p : Pending) → Waits w n p → Waits (on_wire w (up_delivered ends w.wire q)) n p
+  waits_up w [] n p h = h
+  waits_up w (x ∷ rest) n p h = h
 
-waits_with_up : (w : World ById State) (q : List (Numbered Request)) (b : Bool) (n : ℕ) (p : Pending) → Waits w n p → Waits (on_wire w (with_up w.wire q b)) n p
-waits_with_up w q true n p h = h
-waits_with_up w q false n p h = h
+  waits_with_up : (w : World ById State) (q : List (Numbered Request)) (b : Bool) (n : ℕ) (p : Pending) → Waits w n p → Waits (on_wire w (with_up w.wire q b)) n p
+  waits_with_up w q true n p h = h
+  waits_with_up w q false n p h = h
 
-waits_with_down : (w : World ById State) (q : List (Numbered (List ℕ))) (b : Bool) (n : ℕ) (p : Pending) → Waits w n p → Waits (on_wire w (with_down w.wire q b)) n p
-waits_with_down w q true n p h = h
-waits_with_down w q false n p h = h
+  waits_with_down : (w : World ById State) (q : List (Numbered (List ℕ))) (b : Bool) (n : ℕ) (p : Pending) → Waits w n p → Waits (on_wire w (with_down w.wire q b)) n p
+  waits_with_down w q true n p h = h
+  waits_with_down w q false n p h = h
 
-waits_line : (w : World ById State) (step : Step) (n : ℕ) (p : Pending) → IsOfLine step → Waits w n p → Waits (moves ends (by_ids 7 ends) w (OnLine step)) n p
-waits_line w (Send target call deadline) n p o h = absurd o
-waits_line w Up_deliver n p o h = waits_up w w.wire.up n p h
-waits_line w (Up_lose k) n p o h = waits_with_up w (without k w.wire.up) (nat_lt k (length w.wire.up)) n p h
-waits_line w (Up_repeat k) n p o h = waits_with_up w (doubled k w.wire.up) (nat_lt k (length w.wire.up)) n p h
-waits_line w Down_deliver n p o h = absurd o
-waits_line w (Down_lose k) n p o h = waits_with_down w (without k w.wire.down) (nat_lt k (length w.wire.down)) n p h
-waits_line w (Down_repeat k) n p o h = waits_with_down w (doubled k w.wire.down) (nat_lt k (length w.wire.down)) n p h
-waits_line w (Expire now) n p o h = absurd o
-waits_line w Restart_client n p o h = absurd o
-waits_line w Restart_instrument n p o h = absurd o
-waits_line w Nothing n p o h = h
+  waits_line : (w : World ById State) (step : Step) (n : ℕ) (p : Pending) → IsOfLine step → Waits w n p → Waits (moves ends (by_ids 7 ends) w (OnLine step)) n p
+  waits_line w (Send target call deadline) n p o h = absurd o
+  waits_line w Up_deliver n p o h = waits_up w w.wire.up n p h
+  waits_line w (Up_lose k) n p o h = waits_with_up w (without k w.wire.up) (nat_lt k (length w.wire.up)) n p h
+  waits_line w (Up_repeat k) n p o h = waits_with_up w (doubled k w.wire.up) (nat_lt k (length w.wire.up)) n p h
+  waits_line w Down_deliver n p o h = absurd o
+  waits_line w (Down_lose k) n p o h = waits_with_down w (without k w.wire.down) (nat_lt k (length w.wire.down)) n p h
+  waits_line w (Down_repeat k) n p o h = waits_with_down w (doubled k w.wire.down) (nat_lt k (length w.wire.down)) n p h
+  waits_line w (Expire now) n p o h = absurd o
+  waits_line w Restart_client n p o h = absurd o
+  waits_line w Restart_instrument n p o h = absurd o
+  waits_line w Nothing n p o h = h
 
-pub waits_all : (ms : List Move) (w : World ById State) (n : ℕ) (p : Pending) → ArePossible ends (by_ids 7 ends) ms w → Waits w n p → Waits (moved ends (by_ids 7 ends) ms w) n (after_moves p ms)
-waits_all [] w n p o h = h
-waits_all (Sends target call deadline ∷ ms) w n p o h = waits_all ms _ n p o.1 (waits_sent w target call deadline (nat_eq (length w.client.waiting) 7) n p h)
-waits_all (Tells now ∷ ms) w n p o h = waits_all ms _ n (expired now p) o.1 (λ le. get_map now w.client.waiting (n - length w.wire.settled) p (h le))
-waits_all (Comes line ∷ ms) w n p o h = waits_all ms _ n p o.1 (waits_came w w.wire.down n p h)
-waits_all (Foreign line ∷ ms) w n p o h = waits_all ms w n p o.1 h
-waits_all (OnLine step ∷ ms) w n p o h = waits_all ms _ n p o.1 (waits_line w step n p o.0 h)
-waits_all (Anew ∷ ms) w n p o h = waits_all ms _ n p o.1 h
+  pub waits_all : (ms : List (Move State)) (w : World ById State) (n : ℕ) (p : Pending) → ArePossible ends Good kept (by_ids 7 ends) ms w → Waits w n p → Waits (moved ends (by_ids 7 ends) ms w) n (after_moves p ms)
+  waits_all [] w n p o h = h
+  waits_all (Sends target call deadline ∷ ms) w n p o h = waits_all ms _ n p o.1 (waits_sent w target call deadline (nat_eq (length w.client.waiting) 7) n p h)
+  waits_all (Tells now ∷ ms) w n p o h = waits_all ms _ n (expired now p) o.1 (λ le. get_map now w.client.waiting (n - length w.wire.settled) p (h le))
+  waits_all (Comes line ∷ ms) w n p o h = waits_all ms _ n p o.1 (waits_came w w.wire.down n p h)
+  waits_all (Foreign line ∷ ms) w n p o h = waits_all ms w n p o.1 h
+  waits_all (OnLine step ∷ ms) w n p o h = waits_all ms _ n p o.1 (waits_line w step n p o.0 h)
+  waits_all (Anew ∷ ms) w n p o h = waits_all ms _ n p o.1 h
+  waits_all (Changes state ∷ ms) w n p o h = waits_all ms _ n p o.1 h
+  waits_all (Joins line ∷ ms) w n p o h = absurd o.0

@@ -28,7 +28,7 @@ named =
       plain = (above 71 (lit< tt), (above 69 (lit< tt), (above 79 (lit< tt), (above 67 (lit< tt), (above 79 (lit< tt), (above 77 (lit< tt), (space, (above 83 (lit< tt), (above 73 (lit< tt), (above 77 (lit< tt), tt))))))))));
     }
 
-fits : IsFittingState simulator_opening
+pub fits : IsFittingState simulator_opening
 fits =
     record {
       precision = omega arith;

@@ -9,16 +9,16 @@ use Rattle.gc_instrument.specs.State.{State, IsFittingState}
 use Rattle.gc_world.specs.Clients.{ends, by_ids, ids_open}
 use Rattle.gc_world.specs.World.{Up_lose, Up_deliver}
 use Rattle.gc_field.specs.Field.{Move, Sends, OnLine, Comes, ArePossible}
-use Rattle.gc_field.specs.Laws.{left}
+use Rattle.gc_field.specs.Laws.{left, kept_of}
 use Rattle.gc_field.specs.Made.{WasMadeOn}
 
 -- two requests go out, the first is lost, and the second has the reply that is kept
-abbrev pub two_at_once : List ℕ → List Move
+abbrev pub two_at_once : List ℕ → List (Move State)
 two_at_once line = Sends 1 NullProc 9 ∷ Sends 2 NullProc 9 ∷ OnLine (Up_lose 0) ∷ OnLine Up_deliver ∷ Comes line ∷ []
 
 -- it is booked as the second one's answer, and nothing was executed; so the line wasn't made on executing that
 pub record IsBookedUnexecuted (state : State) (line : List ℕ) : Type 0 where
-  pub possible : ArePossible ends (by_ids WINDOW ends) (two_at_once line) (ids_open state)
+  pub possible : ArePossible ends IsFittingState kept_of (by_ids WINDOW ends) (two_at_once line) (ids_open state)
   pub settled : (left WINDOW ends state (two_at_once line)).wire.settled ≡ record { target = 1; call = NullProc; outcome = Lost } ∷ record { target = 2; call = NullProc; outcome = Answered line } ∷ []
   pub executed : (left WINDOW ends state (two_at_once line)).wire.executed ≡ []
   pub unmade : WasMadeOn WINDOW ends state (two_at_once line) 1 NullProc line → ⊥

@@ -1,24 +1,31 @@
 -- The field, this project's own: what happens between a client and an instrument over any number of connections, and what may happen to
 -- the lines meanwhile. It is the world's line, which keeps order, loses lines whole and repeats a line directly behind it; a
 -- connection has no word in it, since a close is a loss of lines; and the instrument may start anew at any moment.
-use Rattle.std.specs.Prelude.{◌≡◌, ℕ, Bool, true, false, List, [], ◌∷◌, None}
+use Rattle.std.specs.Prelude.{◌≡◌, ℕ, Bool, true, false, List, [], ◌∷◌, ◌++◌, Option, None}
 use Rattle.gc_catalogue.specs.declared.call.Call.{Call}
 use Rattle.gc_client.specs.OneForOne as client
 use Rattle.gc_client.specs.Rule.{heard}
+use Rattle.gc_instrument.specs.State.{KeptReply}
 use Rattle.gc_world.specs.Clients.{by_ids, ids_open}
-use Rattle.gc_world.specs.World.{Numbered, Ends, Rule, World, Step, Send, Up_deliver, Up_lose, Up_repeat, Down_deliver, Down_lose, Down_repeat, Expire, Restart_client, Restart_instrument, Nothing, started, on_wire, happens}
+use Rattle.gc_world.specs.World.{Numbered, Request, Wire, Ends, Rule, World, Step, Send, Up_deliver, Up_lose, Up_repeat, Down_deliver, Down_lose, Down_repeat, Expire, Restart_client, Restart_instrument, Nothing, started, on_wire, happens}
+use Rattle.gc_field.specs.Instrument.{MayBecome}
 
 -- what may happen next
-pub data Move : Type 0 where
+pub data Move (State : Type 0) : Type 0 where
   -- the client's part: a request goes out, whole or in part; a moment is told; a reply comes; a line comes that is no reply with an id
-  Sends : (target : ℕ) (call : Call) (deadline : ℕ) → Move
-  Tells : (now : ℕ) → Move
-  Comes : (line : List ℕ) → Move
-  Foreign : (line : List ℕ) → Move
+  Sends : (target : ℕ) (call : Call) (deadline : ℕ) → Move State
+  Tells : (now : ℕ) → Move State
+  Comes : (line : List ℕ) → Move State
+  Foreign : (line : List ℕ) → Move State
   -- the line's part: a request reaches the instrument, or a line is lost or comes twice
-  OnLine : (step : Step) → Move
+  OnLine : (step : Step) → Move State
   -- the instrument starts anew, whatever is under way
-  Anew : Move
+  Anew : Move State
+  -- its state changes by itself, to this one
+  Changes : (state : State) → Move State
+  -- the line feed that clears the front of a request that was cut is lost: that front and the next request reach it as one line, and this
+  -- is its reply
+  Joins : (line : List ℕ) → Move State
 
 -- the client has no part in it, and nothing starts anew
 abbrev pub IsOfLine : Step → Type 0
@@ -34,37 +41,49 @@ IsOfLine Restart_client = ⊥
 IsOfLine Restart_instrument = ⊥
 IsOfLine Nothing = Unit {0}
 
+-- two requests reach the instrument as one line, which has this reply
+abbrev pub joined : {State : Type 0} → Wire State → List (Numbered Request) → List ℕ → Wire State
+joined w (x ∷ y ∷ rest) line =
+    let reply : Numbered (List ℕ) = record { number = x.number; line = line } in
+    record w { up = rest; made = w.made ++ reply ∷ []; down = w.down ++ reply ∷ [] }
+joined w _ line = w
+
 module _ {Client State : Type 0} where
   -- what a move does to the world
-  abbrev pub moves : Ends State → Rule Client → World Client State → Move → World Client State
+  abbrev pub moves : Ends State → Rule Client → World Client State → Move State → World Client State
   moves ends rule w (Sends target call deadline) = happens ends rule w (Send target call deadline)
   moves ends rule w (Tells now) = happens ends rule w (Expire now)
   moves ends rule w (Comes line) = happens ends rule w Down_deliver
   moves ends rule w (Foreign line) = w
   moves ends rule w (OnLine step) = happens ends rule w step
   moves ends rule w Anew = on_wire w (started ends w.wire true)
+  moves ends rule w (Changes state) = on_wire w (record w.wire { state = state })
+  moves ends rule w (Joins line) = on_wire w (joined w.wire w.wire.up line)
 
   -- a move for each of the list, in order
-  abbrev pub moved : Ends State → Rule Client → List Move → World Client State → World Client State
+  abbrev pub moved : Ends State → Rule Client → List (Move State) → World Client State → World Client State
   moved ends rule [] w = w
   moved ends rule (m ∷ ms) w = moved ends rule ms (moves ends rule w m)
 
   -- what comes is the whole reply in front of those under way, or no reply with an id: an echo, noise, or what is left of a line that was cut
-  abbrev pub IsPossible : World Client State → Move → Type 0
-  IsPossible w (Sends target call deadline) = Unit {0}
-  IsPossible w (Tells now) = Unit {0}
-  IsPossible w (Comes line) = (n : ℕ) × (rest : List (Numbered (List ℕ))) × (w.wire.down ≡ record { number = n; line = line } ∷ rest)
-  IsPossible w (Foreign line) = heard line ≡ None
-  IsPossible w (OnLine step) = IsOfLine step
-  IsPossible w Anew = Unit {0}
+  abbrev pub IsPossible : (State → Type 0) → (State → Option KeptReply) → World Client State → Move State → Type 0
+  IsPossible Good kept w (Sends target call deadline) = Unit {0}
+  IsPossible Good kept w (Tells now) = Unit {0}
+  IsPossible Good kept w (Comes line) = (n : ℕ) × (rest : List (Numbered (List ℕ))) × (w.wire.down ≡ record { number = n; line = line } ∷ rest)
+  IsPossible Good kept w (Foreign line) = heard line ≡ None
+  IsPossible Good kept w (OnLine step) = IsOfLine step
+  IsPossible Good kept w Anew = Unit {0}
+  IsPossible Good kept w (Changes state) = MayBecome Good kept w.wire.state state
+  -- a line feed arrives behind the front of a request, before the next request does
+  IsPossible Good kept w (Joins line) = ⊥
 
   -- each of the list is possible in its turn
-  abbrev pub ArePossible : Ends State → Rule Client → List Move → World Client State → Type 0
-  ArePossible ends rule [] w = Unit {0}
-  ArePossible ends rule (m ∷ ms) w = IsPossible w m × ArePossible ends rule ms (moves ends rule w m)
+  abbrev pub ArePossible : Ends State → (State → Type 0) → (State → Option KeptReply) → Rule Client → List (Move State) → World Client State → Type 0
+  ArePossible ends Good kept rule [] w = Unit {0}
+  ArePossible ends Good kept rule (m ∷ ms) w = IsPossible Good kept w m × ArePossible ends Good kept rule ms (moves ends rule w m)
 
 -- what the moves are to the client: those of the line are nothing to it
-abbrev pub seen : List Move → List client.Step
+abbrev pub seen : {State : Type 0} → List (Move State) → List client.Step
 seen [] = []
 seen (Sends target call deadline ∷ ms) = client.Send target call deadline ∷ seen ms
 seen (Tells now ∷ ms) = client.Expire now ∷ seen ms
@@ -72,9 +91,11 @@ seen (Comes line ∷ ms) = client.Hear line ∷ seen ms
 seen (Foreign line ∷ ms) = client.Hear line ∷ seen ms
 seen (OnLine step ∷ ms) = seen ms
 seen (Anew ∷ ms) = seen ms
+seen (Changes state ∷ ms) = seen ms
+seen (Joins line ∷ ms) = seen ms
 
 -- the first request goes out alone: no other before a reply came. It is told whether the first went out
-abbrev pub IsFirstAlone : Bool → List Move → Type 0
+abbrev pub IsFirstAlone : {State : Type 0} → Bool → List (Move State) → Type 0
 IsFirstAlone out [] = Unit {0}
 IsFirstAlone false (Sends target call deadline ∷ ms) = IsFirstAlone true ms
 IsFirstAlone true (Sends target call deadline ∷ ms) = ⊥
@@ -83,9 +104,11 @@ IsFirstAlone out (Comes line ∷ ms) = Unit {0}
 IsFirstAlone out (Foreign line ∷ ms) = IsFirstAlone out ms
 IsFirstAlone out (OnLine step ∷ ms) = IsFirstAlone out ms
 IsFirstAlone out (Anew ∷ ms) = IsFirstAlone out ms
+IsFirstAlone out (Changes state ∷ ms) = IsFirstAlone out ms
+IsFirstAlone out (Joins line ∷ ms) = IsFirstAlone out ms
 
 -- from a new client on, and with nothing under way, these moves are possible, whatever the instrument keeps; and the first request goes
 -- out alone
-pub record IsField {State : Type 0} (width : ℕ) (ends : Ends State) (state : State) (ms : List Move) : Type 0 where
-  pub possible : ArePossible ends (by_ids width ends) ms (ids_open state)
+pub record IsField {State : Type 0} (width : ℕ) (ends : Ends State) (Good : State → Type 0) (kept : State → Option KeptReply) (state : State) (ms : List (Move State)) : Type 0 where
+  pub possible : ArePossible ends Good kept (by_ids width ends) ms (ids_open state)
   pub alone : IsFirstAlone false ms

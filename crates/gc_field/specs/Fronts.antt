@@ -3,7 +3,8 @@
 use Rattle.std.specs.Prelude.{◌≡◌, ℕ, ◌+◌, ◌<◌, ◌≤◌, List, [], ◌∷◌, ◌++◌, length, take, drop, Some}
 use Rattle.gc_lines.specs.Frames.{lines}
 use Rattle.gc_lines.specs.Lines.{with_end}
-use Rattle.gc_catalogue.specs.Calls.{IsFitting}
+use Rattle.gc_lines.specs.Requests.{RequestFields, IsRequest}
+use Rattle.gc_catalogue.specs.Calls.{call_fields, IsFitting}
 use Rattle.gc_catalogue.specs.declared.call.Call.{Call}
 use Rattle.gc_catalogue.specs.Texts.{request_line}
 use Rattle.gc_instrument.specs.Laws.{HasNoRequest}
@@ -21,3 +22,10 @@ pub record IsWholeOrNothing (id : ℕ) (call : Call) : Type 0 where
 
 abbrev pub CutRequestsAreWholeOrNothing : Type 0
 CutRequestsAreWholeOrNothing = (id : ℕ) (call : Call) → IsFitting call → IsWholeOrNothing id call
+
+-- Where that line feed is lost, the front and the next request are one line. If it is a request at all, then it is one of the front's id
+-- and procedure; and so is its reply
+abbrev pub JoinedRequestsHaveTheFrontsId : Type 0
+JoinedRequestsHaveTheFrontsId =
+    (id : ℕ) (call : Call) (next : ℕ) (behind : Call) (count : ℕ) → id < 8 → IsFitting call → 0 < count → (q : RequestFields) →
+    IsRequest (take count (request_line (Some id) call) ++ request_line (Some next) behind) q → (q.id ≡ Some id) × (q.rpc ≡ (call_fields call).number)

@@ -1,9 +1,9 @@
 -- What holds in the field, whenever a client sends: this project's own.
-use Rattle.std.specs.Prelude.{◌≡◌, ℕ, ◌-◌, ◌<◌, ◌≤◌, List, ◌∷◌, ◌++◌, length, map, Some, slice_get}
+use Rattle.std.specs.Prelude.{◌≡◌, ℕ, ◌-◌, ◌<◌, ◌≤◌, List, ◌∷◌, ◌++◌, length, map, Option, Some, slice_get}
 use Rattle.gc_client.specs.declared.window.TheConstants.{WINDOW}
 use Rattle.gc_client.specs.OneForOne.{Asked, begun, course, of_settled, of_pending}
-use Rattle.gc_client.specs.Rule.{ById, Settlement, Answered, fresh, settle}
-use Rattle.gc_instrument.specs.State.{State, IsFittingState}
+use Rattle.gc_client.specs.Rule.{ById, Settlement, Answered, Late, fresh, settle}
+use Rattle.gc_instrument.specs.State.{KeptReply, State, IsFittingState}
 use Rattle.gc_links.specs.Acts.{Act}
 use Rattle.gc_world.specs.Clients.{ends, by_ids, by_numbers, ids_open, numbers_open}
 use Rattle.gc_world.specs.Record.{IsBooked, IsOneForOne}
@@ -12,7 +12,8 @@ use Rattle.gc_field.specs.Carried.{IsCarried}
 use Rattle.gc_field.specs.Field.{Move, Comes, IsField, moved, moves, seen}
 use Rattle.gc_field.specs.Made.{WasMadeOn}
 use Rattle.gc_field.specs.Meaning.{client_after}
-use Rattle.gc_field.specs.Once.{ActsOnce}
+use Rattle.gc_field.specs.Instrument.{IsAnInstrument, KeepsItsReply, AnyState}
+use Rattle.gc_field.specs.Once.{ActsOnce, IsInOrder}
 
 -- whom a request was for, and what it asks for
 abbrev pub asked : Sent → Asked
@@ -22,7 +23,7 @@ asked r = record { target = r.target; call = r.call }
 abbrev pub WasExecuted : List ℕ → ℕ → Type 0
 WasExecuted executed m = (j : ℕ) × (slice_get executed j ≡ Some m)
 
-module _ {State : Type 0} (width : ℕ) (ends : Ends State) (state : State) (ms : List Move) where
+module _ {State : Type 0} (width : ℕ) (ends : Ends State) (state : State) (ms : List (Move State)) where
   -- the world behind the moves, with the client that knows ids, and with the one that is told the numbers
   abbrev pub left : World ById State
   left = moved ends (by_ids width ends) ms (ids_open state)
@@ -31,7 +32,7 @@ module _ {State : Type 0} (width : ℕ) (ends : Ends State) (state : State) (ms 
   left_by_numbers = (moved ends (by_numbers width) ms (numbers_open state)).wire
 
   -- what holds of them, for an instrument whose states are good ones
-  pub record IsFaithful (Good : State → Type 0) : Type 0 where
+  pub record IsFaithful (Good : State → Type 0) (kept : State → Option KeptReply) : Type 0 where
     -- a client that takes these steps settles what the world's settled, and stands where that stands
     pub settled : (course width begun (seen ms)).settlements ≡ left.wire.settled
     pub stands : (course width begun (seen ms)).client ≡ left.client
@@ -50,8 +51,13 @@ module _ {State : Type 0} (width : ℕ) (ends : Ends State) (state : State) (ms 
     -- which executed it, and this line was its reply
     pub made_on :
         (m : ℕ) (s : Settlement) (line : List ℕ) → 0 < m → slice_get left.wire.settled m ≡ Some s → s.outcome ≡ Answered line → WasMadeOn width ends state ms m s.call line
-    -- acts once: between two starts of the instrument each request is executed at most once, in the order of sending
-    pub once : ActsOnce left.wire.executed left.wire.starts
+    -- in order: requests are executed in the order of sending, over starts too
+    pub in_order : IsInOrder left.wire.executed
+    -- late: the instrument dealt with the request, though its reply came too late
+    pub late :
+        (m : ℕ) (s : Settlement) → 0 < m → slice_get left.wire.settled m ≡ Some s → s.outcome ≡ Late → (line : List ℕ) × WasMadeOn width ends state ms m s.call line
+    -- acts once: where the instrument keeps its reply, between two of its starts each request is executed at most once
+    pub once : KeepsItsReply ends Good kept → ActsOnce left.wire.executed left.wire.starts
     -- agreement: all is as with a client that is told the number of each reply's request
     pub agrees : left.wire ≡ left_by_numbers
     -- in time: a reply whose request isn't settled settles it, and those before it as lost; where it isn't given up, it is answered with
@@ -60,17 +66,39 @@ module _ {State : Type 0} (width : ℕ) (ends : Ends State) (state : State) (ms 
         (n : ℕ) (line : List ℕ) (rest : List (Numbered (List ℕ))) → left.wire.down ≡ record { number = n; line = line } ∷ rest → length left.wire.settled ≤ n →
         (moves ends (by_ids width ends) left (Comes line)).wire.settled ≡ left.wire.settled ++ settle (n - length left.wire.settled) line left.client.waiting
 
--- for the simulated instrument in any state that fits, whatever it keeps, and a client with a window of any width
-abbrev pub AnswersAreTheirOwn : Type 0
-AnswersAreTheirOwn =
-    (width : ℕ) → width ≤ WINDOW → (state : State) → IsFittingState state → (ms : List Move) → IsField width ends state ms → IsFaithful width ends state ms IsFittingState
+-- for any instrument in any state, whatever it keeps, and a client with a window of any width
+abbrev pub AnswersAreTheirOwn : Type 0 → Type 0
+AnswersAreTheirOwn State =
+    (ends : Ends State) (kept : State → Option KeptReply) → IsAnInstrument ends AnyState kept →
+    (width : ℕ) → width ≤ WINDOW → (state : State) (ms : List (Move State)) → IsField width ends AnyState kept state ms → IsFaithful width ends state ms AnyState kept
+
+-- what the simulator keeps
+abbrev pub kept_of : State → Option KeptReply
+kept_of s = s.kept
+
+-- the simulated instrument is one, in any state that fits, and one that keeps its reply. What it is handed are calls of its table: its
+-- refusals of other requests leave what it keeps, so with them it isn't one
+pub record SimulatorIsAnInstrument : Type 0 where
+  pub is : IsAnInstrument ends IsFittingState kept_of
+  pub keeps : KeepsItsReply ends IsFittingState kept_of
+
+-- the same for it, in any state that fits
+abbrev pub SimulatorsAnswersAreTheirOwn : Type 0
+SimulatorsAnswersAreTheirOwn =
+    (width : ℕ) → width ≤ WINDOW → (state : State) → IsFittingState state → (ms : List (Move State)) → IsField width ends IsFittingState kept_of state ms → IsFaithful width ends state ms IsFittingState kept_of
 
 -- the same of a station's acts: and its client stands where the world's does
-pub record IsStationFaithful (state : State) (ms : List Move) : Type 0 where
-  pub faithful : IsFaithful WINDOW ends state ms IsFittingState
+pub record IsStationFaithful {State : Type 0} (ends : Ends State) (Good : State → Type 0) (kept : State → Option KeptReply) (state : State) (ms : List (Move State)) : Type 0 where
+  pub faithful : IsFaithful WINDOW ends state ms Good kept
   pub client : client_after fresh (seen ms) ≡ (left WINDOW ends state ms).client
 
 -- and for a station, whatever its acts are
-abbrev pub StationsAnswersAreTheirOwn : Type 0
-StationsAnswersAreTheirOwn =
-    (state : State) → IsFittingState state → (acts : List Act) (ms : List Move) → IsCarried ends state acts ms → IsStationFaithful state ms
+abbrev pub StationsAnswersAreTheirOwn : Type 0 → Type 0
+StationsAnswersAreTheirOwn State =
+    (ends : Ends State) (kept : State → Option KeptReply) → IsAnInstrument ends AnyState kept →
+    (state : State) (acts : List Act) (ms : List (Move State)) → IsCarried ends AnyState kept state acts ms → IsStationFaithful ends AnyState kept state ms
+
+-- and for a station over the simulated instrument
+abbrev pub SimulatorsStationsAnswersAreTheirOwn : Type 0
+SimulatorsStationsAnswersAreTheirOwn =
+    (state : State) → IsFittingState state → (acts : List Act) (ms : List (Move State)) → IsCarried ends IsFittingState kept_of state acts ms → IsStationFaithful ends IsFittingState kept_of state ms

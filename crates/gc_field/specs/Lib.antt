@@ -1,3 +1,4 @@
+pub mod Instrument
 pub mod Field
 pub mod Once
 pub mod Meaning
@@ -9,3 +10,12 @@ pub mod Stretches
 pub mod Alone
 pub mod Runs
 pub mod Witness
+pub mod Chains
+pub mod Pointing
+pub mod ChainWitness
+pub mod SecondExecution
+pub mod LostLineFeed
+pub mod Needed
+pub mod Drifting
+pub mod CountingChain
+pub mod LateAnswer

@@ -7,15 +7,15 @@ use Rattle.gc_field.specs.Field.{Move, OnLine, moved}
 
 module _ {State : Type 0} (width : ℕ) (ends : Ends State) (state : State) where
   -- the wire as these moves leave it
-  abbrev pub wire_behind : List Move → Wire State
+  abbrev pub wire_behind : List (Move State) → Wire State
   wire_behind ms = (moved ends (by_ids width ends) ms (ids_open state)).wire
 
   -- at one of these moves request m, with this call, reaches the instrument; it executes the call, in the state in which it is by then;
   -- and this line is its reply
-  pub record WasMadeOn (ms : List Move) (m : ℕ) (call : Call) (line : List ℕ) : Type 0 where
+  pub record WasMadeOn (ms : List (Move State)) (m : ℕ) (call : Call) (line : List ℕ) : Type 0 where
     -- the moves before that one, and those behind it
-    pub front : List Move
-    pub later : List Move
+    pub front : List (Move State)
+    pub later : List (Move State)
     pub split : ms ≡ front ++ OnLine Up_deliver ∷ later
     -- request m is the first of those under way to the instrument
     pub id : ℕ

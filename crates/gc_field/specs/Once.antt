@@ -7,6 +7,10 @@ use Rattle.gc_world.specs.Order.{Each}
 abbrev pub HasNoStart : List ℕ → ℕ → ℕ → Type 0
 HasNoStart starts j k = Each (λ s. (s ≤ j) ⊎ (k < s)) starts
 
+-- executions keep their order over starts, too: of two of them the later one is of the same request, or of one that was sent later
+abbrev pub IsInOrder : List ℕ → Type 0
+IsInOrder executed = (j k m n : ℕ) → j < k → slice_get executed j ≡ Some m → slice_get executed k ≡ Some n → m ≤ n
+
 -- of two executions with no start between them the later one is of a request that was sent later: these are the numbers of the
 -- requests that were executed, and how many had been at each start
 abbrev pub ActsOnce : List ℕ → List ℕ → Type 0

@@ -6,7 +6,7 @@ use Rattle.gc_catalogue.specs.declared.answer.Answer.TheVariants.{Long}
 use Rattle.gc_catalogue.specs.declared.answer.Reading.TheVariants.{Value}
 use Rattle.gc_catalogue.specs.declared.call.Call.TheVariants.{NullProc, InstrumentNo}
 use Rattle.gc_client.specs.declared.window.TheConstants.{WINDOW}
-use Rattle.gc_instrument.specs.State.{State, simulator_opening}
+use Rattle.gc_instrument.specs.State.{State, IsFittingState, simulator_opening}
 use Rattle.gc_texts.specs.declared.tasks.Task.{Task}
 use Rattle.gc_texts.specs.Endings as end
 use Rattle.gc_links.specs.declared.link.Moment.{Moment}
@@ -18,6 +18,7 @@ use Rattle.gc_station.specs.Scopes.{Scope}
 use Rattle.gc_world.specs.Clients.{ends}
 use Rattle.gc_world.specs.World.{Up_deliver}
 use Rattle.gc_field.specs.Field.{Move, Sends, Tells, Comes, OnLine}
+use Rattle.gc_field.specs.Laws.{kept_of}
 use Rattle.gc_field.specs.Made.{WasMadeOn}
 use Rattle.gc_field.specs.Runs.{IsInField}
 use Rattle.gc_field.specs.Stretches.{Stretch}
@@ -62,7 +63,7 @@ acts =
     ∷ []
 
 -- what happens on the line meanwhile: each request reaches the simulator as it is at the start, and each reply comes
-abbrev pub moves : List Move
+abbrev pub moves : List (Move State)
 moves =
     Tells 0
     ∷ Tells 10
@@ -86,7 +87,7 @@ stretches = record { state = simulator_opening; moves = moves } ∷ record { sta
 -- it is a run in the field, behind which no act follows; it has written the command's answer down, and that was made on executing the
 -- command's request
 pub record IsAnsweredInField : Type 0 where
-  pub field : IsInField plan commands scope acts stretches
+  pub field : IsInField ends IsFittingState kept_of plan commands scope acts stretches
   pub over : is_over (stood plan commands scope acts).progress ≡ true
   pub records :
       (stood plan commands scope acts).records

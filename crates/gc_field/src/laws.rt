@@ -1,39 +1,118 @@
 //! What is proved of the field. Each function does nothing: its contract is the law.
 
 ghost use Rattle.gc_field.specs.Alone.{TwoAtOnceAreBookedWrong};
-ghost use Rattle.gc_field.specs.Fronts.{CutRequestsAreWholeOrNothing};
-ghost use Rattle.gc_field.specs.Laws.{AnswersAreTheirOwn, StationsAnswersAreTheirOwn};
-ghost use Rattle.gc_field.specs.Runs.{RunsAreFaithful};
-ghost use Rattle.gc_field.specs.Stretches.{StretchesAreFaithful};
+ghost use Rattle.gc_field.specs.ChainWitness.{IsPointedInField};
+ghost use Rattle.gc_field.specs.Chains.{ChainsAreExecuted};
+ghost use Rattle.gc_field.specs.CountingChain.{IsCountedInField};
+ghost use Rattle.gc_field.specs.Fronts.{CutRequestsAreWholeOrNothing, JoinedRequestsHaveTheFrontsId};
+ghost use Rattle.gc_field.specs.Instrument.{KeepingNothingSuffices};
+ghost use Rattle.gc_field.specs.LateAnswer.{IsLateInField};
+ghost use Rattle.gc_field.specs.Laws.{AnswersAreTheirOwn, StationsAnswersAreTheirOwn, SimulatorIsAnInstrument, SimulatorsAnswersAreTheirOwn, SimulatorsStationsAnswersAreTheirOwn};
+ghost use Rattle.gc_field.specs.Drifting.{IsAnsweredByDrifting};
+ghost use Rattle.gc_field.specs.LostLineFeed.{IsBookedJoined};
+ghost use Rattle.gc_field.specs.Needed.{IsAllNeeded};
+ghost use Rattle.gc_field.specs.Pointing.{ChainsAreMeasuredWhereTheyPointed, SimulatorHasItsEffect};
+ghost use Rattle.gc_field.specs.Runs.{RunsAreFaithful, SimulatorsRunsAreFaithful};
+ghost use Rattle.gc_field.specs.SecondExecution.{IsExecutedAgain};
+ghost use Rattle.gc_field.specs.Stretches.{StretchesAreFaithful, SimulatorsStretchesAreFaithful};
 ghost use Rattle.gc_field.specs.Witness.{SomeRunIsInField};
 
-/// Over any number of connections, whenever a client sends, each answer that it settles was made on executing that very request,
-/// but for the first one, which goes out alone; and between two of its starts the instrument executes each request at most once.
-pub fn answers_are_their_own()
-    ensures { AnswersAreTheirOwn }
+/// For any instrument: over any number of connections, whenever a client sends, each answer that it settles was made on executing that
+/// very request, but for the first one, which goes out alone; the instrument dealt with each that is late; executions keep the order of
+/// sending; and where the instrument keeps its reply, between two of its starts it executes each request at most once.
+pub fn answers_are_their_own<State>()
+    ensures { AnswersAreTheirOwn State }
 {}
 
 /// The same of a station's acts.
-pub fn stations_answers_are_their_own()
-    ensures { StationsAnswersAreTheirOwn }
+pub fn stations_answers_are_their_own<State>()
+    ensures { StationsAnswersAreTheirOwn State }
 {}
 
 /// The same of any sequence of steps of a client, with restarts among them: of each stretch between two restarts, and what is
 /// settled over all of them is what each settled, with what waited at each restart as lost.
-pub fn stretches_are_faithful()
-    ensures { StretchesAreFaithful }
+pub fn stretches_are_faithful<State>()
+    ensures { StretchesAreFaithful State }
 {}
 
-/// Of every run of a station, over any number of connections, with whatever the line does and an instrument that may start anew at
-/// any time: each answer that it writes down was made on executing the very request of that cycle and place; the records and what
-/// waits are the commands sent, one for one; and each stretch from one beginning to the next is faithful.
-pub fn runs_are_faithful()
-    ensures { RunsAreFaithful }
+/// Of every run of a station, for any instrument, over any number of connections, with whatever the line does, and with an instrument
+/// that may start anew and change by itself at any time: each answer that it writes down was made on executing the very request of that
+/// cycle and place; the instrument dealt with each that is late; the records and what waits are the commands sent, one for one; and each
+/// stretch from one beginning to the next is faithful.
+pub fn runs_are_faithful<State>()
+    ensures { RunsAreFaithful State }
+{}
+
+/// In every such run, for any instrument, a command of a chain is executed behind each one before it in the chain, whose answer is the
+/// reply to that execution: in the same stretch, with nothing executed between the two but what was sent between them; and where nothing
+/// else disturbed the instrument, it is what these made of it.
+pub fn chains_are_executed<State>()
+    ensures { ChainsAreExecuted State }
+{}
+
+/// In every such run over the simulator: where no command of a chain between two turned the telescope, and the instrument neither
+/// started anew nor changed by itself between their executions, the telescope pointed, when the later one was executed, where the
+/// earlier one had left it: where that was a positioning, to the direction that it commanded, in the same face.
+pub fn chains_are_measured_where_they_pointed()
+    ensures { ChainsAreMeasuredWhereTheyPointed }
+{}
+
+/// The simulated instrument is an instrument for the calls of its table, and one that keeps its reply.
+pub fn simulator_is_an_instrument()
+    ensures { SimulatorIsAnInstrument }
+{}
+
+/// What a call makes of the simulator is what carrying it out gives, apart from the reply that is kept; a reply that is sent again
+/// changes nothing.
+pub fn simulator_has_its_effect()
+    ensures { SimulatorHasItsEffect }
+{}
+
+/// `answers_are_their_own` of the simulator, in any state that fits.
+pub fn simulators_answers_are_their_own()
+    ensures { SimulatorsAnswersAreTheirOwn }
+{}
+
+/// `stations_answers_are_their_own` of the simulator, in any state that fits.
+pub fn simulators_stations_answers_are_their_own()
+    ensures { SimulatorsStationsAnswersAreTheirOwn }
+{}
+
+/// `stretches_are_faithful` of the simulator, in any state that fits.
+pub fn simulators_stretches_are_faithful()
+    ensures { SimulatorsStretchesAreFaithful }
+{}
+
+/// `runs_are_faithful` of the simulator, in any state that fits.
+pub fn simulators_runs_are_faithful()
+    ensures { SimulatorsRunsAreFaithful }
+{}
+
+/// An instrument that keeps no reply is an instrument, if each of its replies has its request's id.
+pub fn keeping_nothing_suffices<State>()
+    ensures { KeepingNothingSuffices State }
+{}
+
+/// Each clause of what is asked of an instrument is needed: one that lacks that alone has an answer booked for a request that it never
+/// executed, or executes a request twice.
+pub fn what_is_asked_is_needed()
+    ensures { IsAllNeeded }
 {}
 
 /// A request that is cut reaches the instrument whole or not at all: no front with a line feed behind it is a request, and no tail.
 pub fn cut_requests_are_whole_or_nothing()
     ensures { CutRequestsAreWholeOrNothing }
+{}
+
+/// Where the line feed that clears the front of a request is lost, the front and the next request are one line: a request of the
+/// front's id and procedure, if any.
+pub fn joined_requests_have_the_fronts_id()
+    ensures { JoinedRequestsHaveTheFrontsId }
+{}
+
+/// Why that line feed has to arrive: the reply to that line is booked for the request that was cut, which was not executed.
+pub fn a_lost_line_feed_is_booked_wrong()
+    ensures { IsBookedJoined }
 {}
 
 /// Why the first request goes out alone: an instrument that keeps a reply with the id of the second one gives that, and it would
@@ -45,4 +124,31 @@ pub fn two_at_once_are_booked_wrong()
 /// Some run is such a run: of one command, over one connection, whose answer, made on executing its request, it writes down.
 pub fn some_run_is_in_the_field()
     ensures { SomeRunIsInField }
+{}
+
+/// Some run is over an instrument that keeps no reply and changes by itself: with a beginning in vain, a lost reply, a request that is
+/// given up, a start of the instrument and a new connection.
+pub fn some_run_is_over_a_drifting_instrument()
+    ensures { IsAnsweredByDrifting }
+{}
+
+/// Some run has a late record: its command's reply comes behind the deadline, and was made on executing its request all the same.
+pub fn some_late_record_is_in_the_field()
+    ensures { IsLateInField }
+{}
+
+/// Some run of a chain is such a run: it points the telescope, measures, and reads the angles and the distance there.
+pub fn some_chain_is_in_the_field()
+    ensures { IsPointedInField }
+{}
+
+/// Some run of a chain is over an instrument that counts what it executes and keeps its reply, and meets every premise of
+/// `chains_are_executed`: its count at the third command is what the first and the second made of it.
+pub fn some_chain_is_over_a_counting_instrument()
+    ensures { IsCountedInField }
+{}
+
+/// A request may be executed twice where the instrument starts between, and its answer be the second execution's.
+pub fn some_answer_is_of_a_second_execution()
+    ensures { IsExecutedAgain }
 {}

@@ -46,6 +46,8 @@ fn headers_refused(rt: HostRuntime) {
         ("%R1Q,000000:", 2),
         ("%R1Q,0,:", 3),
         ("%R1Q,0,07:", 3),
+        ("%R1Q,5003,8:", 3),
+        ("%R1Q,5003,12:", 3),
         ("%R1Q,0", 4),
     ] {
         assert_eq!(rt; request_fault(line.as_bytes()), want, "{line}");

@@ -6,7 +6,6 @@ use Rattle.std.specs.List.{flat_map}
 use Rattle.std.specs.Option.{option_to_list}
 use Rattle.gc_lines.specs.Frames.{frames}
 use Rattle.gc_lines.specs.declared.frame.Frame.{Frame}
-use Rattle.gc_lines.specs.declared.served.TheConstants.{READ_FAILED, WRITE_FAILED, READS_SPENT}
 use Rattle.gc_lines.specs.declared.ports.Source.{Ghosts as Source}
 use Rattle.gc_lines.specs.declared.ports.Sink.{Ghosts as Sink}
 use Rattle.gc_lines.specs.declared.served.Served.{Served}
@@ -15,9 +14,9 @@ use Rattle.gc_lines.specs.declared.served.ServeFault.TheVariants.{Read, Write, T
 
 -- the number of a fault
 abbrev pub fault_number : ServeFault → ℕ
-fault_number (Read _) = READ_FAILED
-fault_number (Write _ _) = WRITE_FAILED
-fault_number (TooManyReads _) = READS_SPENT
+fault_number (Read _) = 42
+fault_number (Write _ _) = 43
+fault_number (TooManyReads _) = 44
 
 -- a fault with this number, as it is printed
 abbrev pub numbered : ℕ → List ℕ
@@ -29,9 +28,9 @@ how_far replies bytes = codes " reply " ++ (decimal replies ++ (codes " byte " +
 
 -- a fault as it is printed
 abbrev pub fault_text : ServeFault → List ℕ
-fault_text (Read _) = numbered READ_FAILED
-fault_text (Write replies bytes) = numbered WRITE_FAILED ++ how_far replies bytes
-fault_text (TooManyReads _) = numbered READS_SPENT
+fault_text (Read _) = numbered 42
+fault_text (Write replies bytes) = numbered 43 ++ how_far replies bytes
+fault_text (TooManyReads _) = numbered 44
 
 -- what answering may do: the state before a frame, the frame, the state after it, and the text that is written for it, if there is one
 abbrev pub AnswerRule : Type 0 → Type 1
@@ -114,10 +113,10 @@ pub record HasEnded (old new : Ports) (most : ℕ) (result : Result Served Serve
   -- it is served exactly where the last read was the end
   pub served : IsOk result ↔ ((old.reads < new.reads) × (new.ended ≡ true))
   -- 42 exactly where the source failed, 43 exactly where the sink did
-  pub read : old.source_failed ≡ false → IsErrAnd result (λ fault. fault_number fault ≡ READ_FAILED) ↔ (new.source_failed ≡ true)
-  pub write : old.sink_failed ≡ false → IsErrAnd result (λ fault. fault_number fault ≡ WRITE_FAILED) ↔ (new.sink_failed ≡ true)
+  pub read : old.source_failed ≡ false → IsErrAnd result (λ fault. fault_number fault ≡ 42) ↔ (new.source_failed ≡ true)
+  pub write : old.sink_failed ≡ false → IsErrAnd result (λ fault. fault_number fault ≡ 43) ↔ (new.sink_failed ≡ true)
   -- 44 exactly where all reads were answered, none was the end, and no port failed
-  pub too_many : old.source_failed ≡ false → old.sink_failed ≡ false → IsErrAnd result (λ fault. fault_number fault ≡ READS_SPENT)
+  pub too_many : old.source_failed ≡ false → old.sink_failed ≡ false → IsErrAnd result (λ fault. fault_number fault ≡ 44)
       ↔ ((new.reads ≡ old.reads + most) × (old.reads < new.reads → new.ended ≡ false) × (new.source_failed ≡ false) × (new.sink_failed ≡ false))
 
 -- of the bytes that the source gave, the frames were answered, and the sink took the texts, or the part that the fault says

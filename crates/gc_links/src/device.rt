@@ -106,15 +106,18 @@ pub(crate) fn write_some<R: Clock>(
 }
 
 /// A serial device by its path, and the time since the link was made. No clause says what a device carried, so its acts are not
-/// known. Each of its calls ends, whatever the device does, but for an opening that waits for the carrier.
+/// known. Each of its calls ends, whatever the device does, but for an opening that waits for the carrier. A close lets the device
+/// go only where it ended or failed; else it stays locked, and the next opening takes it again.
 #[derive(Drop)]
 pub struct DeviceLink<'a, R> {
     rt: &'a R,
     timer: Timer<'a, R>,
     path: &'a str,
     file: Option<File>,
-    // What `look` opened, for the link's first opening.
-    first: Option<File>,
+    // Whether the device ended or failed in this connection: it may come back under another name.
+    gone: bool,
+    // The device where no connection is open, so that its lock stays: as `look` opened it, or as the last connection left it.
+    held: Option<File>,
 }
 
 impl<'a, R: Files<File = File> + Clock> DeviceLink<'a, R> {
@@ -125,14 +128,21 @@ impl<'a, R: Files<File = File> + Clock> DeviceLink<'a, R> {
             timer: Timer::new(rt)?,
             path,
             file: None,
-            first: None,
+            gone: false,
+            held: None,
         })
     }
 
-    /// Looks whether the device is there, and opens it for the link's first opening.
+    /// Looks whether the device is there, and opens it. It is held for the link's first opening.
     pub fn look(&mut self) -> Result<(), Option<Unusable>> {
-        self.first = Some(open_device(self.rt, self.path)?);
+        self.held = Some(open_device(self.rt, self.path)?);
         Ok(())
+    }
+
+    // The device that is held, unless its line went away meanwhile: then it is let go.
+    fn still_held(&mut self) -> Option<File> {
+        let held = self.held.take()?;
+        if held.is_terminal() { Some(held) } else { None }
     }
 
     // One read: some bytes, none where the device is gone, or `None` where nothing has come.
@@ -159,9 +169,15 @@ impl<'a, R: Files<File = File> + Clock> DeviceLink<'a, R> {
                 return Came::NoMoment;
             };
             match self.read_once(buf) {
-                Ok(Some(n)) => return self.timer.came(n),
+                Ok(Some(n)) => {
+                    self.gone = n == 0;
+                    return self.timer.came(n);
+                }
                 Ok(None) => {}
-                Err(_) => return Came::Failure,
+                Err(_) => {
+                    self.gone = true;
+                    return Came::Failure;
+                }
             }
             let gone = moment.elapsed.saturating_sub(began);
             if gone >= millis {
@@ -198,21 +214,29 @@ impl<'a, R: Files<File = File> + Clock> Link for DeviceLink<'a, R> {
         let mut rests = 0;
         while at < bytes.len() {
             match write_some(self.rt, file, &bytes[at..], &mut rests) {
-                Ok(0) | Err(_) => return Err(at),
+                Ok(0) | Err(_) => {
+                    self.gone = true;
+                    return Err(at);
+                }
                 Ok(n) => at += n,
             }
         }
         Ok(())
     }
 
+    // A device that neither ended nor failed stays open, and so stays locked. What comes until the next opening waits in the system.
     fn close(&mut self) {
-        self.file = None;
+        let file = self.file.take();
+        if file.is_some() && !self.gone {
+            self.held = file;
+        }
+        self.gone = false;
     }
 
     fn open(&mut self) -> Result<(), PortFailed> {
-        self.file = None;
-        self.file = match self.first.take() {
-            Some(first) => Some(first),
+        self.close();
+        self.file = match self.still_held() {
+            Some(held) => Some(held),
             None => Some(open_device(self.rt, self.path).map_err(|_| PortFailed)?),
         };
         Ok(())

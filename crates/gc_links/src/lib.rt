@@ -17,7 +17,7 @@ mod wire;
 pub use device::{DeviceLink, Unusable};
 pub use history::{History, Note};
 pub use link::{Came, Link, Moment};
-pub use listening::{accept, both_ends, listen};
+pub use listening::{accept, both_ends, connect_here, listen};
 pub use place::{Place, place_of};
 pub use placed::PlacedLink;
 pub use tcp::TcpLink;

@@ -1,4 +1,4 @@
-//! Ports of 127.0.0.1 that are listened at, and the connections that come.
+//! Ports of 127.0.0.1: they are listened at and connected to, and connections come.
 
 use crate::connection::{PATIENCE, Peer, connect, here, send_at_once};
 use std::io;
@@ -20,16 +20,20 @@ pub fn accept(listener: &TcpListener) -> io::Result<TcpStream> {
     Ok(stream)
 }
 
+/// Connects to a port of 127.0.0.1.
+pub fn connect_here<R: Net<Listener = TcpListener, Stream = TcpStream>>(
+    rt: &R,
+    port: u16,
+) -> io::Result<TcpStream> {
+    connect(rt, Peer::Port(port), Duration::from_millis(PATIENCE))
+}
+
 /// Both ends of one connection of this machine to itself.
 pub fn both_ends<R: Net<Listener = TcpListener, Stream = TcpStream>>(
     rt: &R,
 ) -> io::Result<(TcpStream, TcpStream)> {
     let listener = listen(rt, 0)?;
-    let near = connect(
-        rt,
-        Peer::Port(listener.local_addr()?.port()),
-        Duration::from_millis(PATIENCE),
-    )?;
+    let near = connect_here(rt, listener.local_addr()?.port())?;
     let far = accept(&listener)?;
     Ok((near, far))
 }

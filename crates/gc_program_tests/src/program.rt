@@ -13,4 +13,5 @@ mod places;
 mod scenes;
 mod signs;
 mod station;
+mod turns;
 mod words;

@@ -11,18 +11,20 @@ use Rattle.gc_station.specs.declared.plan.Plan.{Plan}
 use Rattle.gc_station.specs.declared.cause.Cause.{Cause}
 use Rattle.gc_station.specs.declared.cause.Cause.TheVariants as cause
 use Rattle.gc_station.specs.declared.progress.Phase.{Phase}
-use Rattle.gc_station.specs.declared.progress.Phase.TheVariants.{Down, Pausing, Clearing, Draining, Probing, Ready, Closing, Over}
+use Rattle.gc_station.specs.declared.progress.Phase.TheVariants.{Down, Pausing, Draining, Probing, Ready, Closing, Over}
 use Rattle.gc_station.specs.declared.progress.Progress.{Progress}
 use Rattle.gc_station.specs.declared.progress.Until.{Until}
 use Rattle.gc_station.specs.declared.progress.Waiting.{Waiting}
 use Rattle.gc_links.specs.Acts.{Act, Told, Cut, Gave, Silent, Ended, Broke, Opened}
 use Rattle.gc_station.specs.Deciding.{is_up, is_past, drain_of}
 use Rattle.gc_station.specs.Marks.{commands_in}
-use Rattle.gc_station.specs.Progressing.{told, failing, opened, again, is_finished, is_spared, quieted, drained, time_passed, silent, is_idle, quiet_renewed, begins_anew, beginning_anew, closed, closed_again}
+use Rattle.gc_station.specs.Progressing.{told, failing, opened, again, is_finished, is_spared, quieted, drained, time_passed, silent, is_idle, quiet_renewed, beginning_anew, closed, closed_again}
 use Rattle.gc_station.specs.Standing.{Standing, with_progress, with_moment, with_rest, waiting_of, line_came, lines_came, lines_behind, came, is_heard, reckoned, piece_at, after_clock, after_put, after_open, after_read, after_close, is_nil}
+use Rattle.gc_station.proofs.Lists.{none_dropped}
 use Rattle.gc_station.proofs.Facts.{both_true}
 use Rattle.gc_station.proofs.Fine.{is_bare, is_done, says_done}
 use Rattle.gc_station.proofs.Midway.{Placed, SoundAt, PlacedAt, Mid, clash, sound_moment, sound_settles}
+use Rattle.gc_station.proofs.Walk.{closed_along}
 
 -- it can't go on
 fail_placed : (p : Progress) (rest : List ℕ) (next : ℕ) (marks : List (Option Mark)) (why : Cause) (up : Bool) → is_up p.phase ≡ up → is_done why ≡ false → PlacedAt p rest next marks
@@ -160,28 +162,10 @@ close_placed plan w cause.Done p next marks done begins = over_placed plan cause
 close_placed plan w cause.Clock p next marks done begins = over_placed plan cause.Clock p next marks (λ e. cc) begins
 close_placed plan w cause.Turns p next marks done begins = over_placed plan cause.Turns p next marks (λ e. cc) begins
 close_placed plan w cause.Silence p next marks done begins = closed_placed plan w cause.Silence p next marks true refl (λ e. cc)
-close_placed plan w cause.Dead p next marks done begins = closed_placed plan w cause.Dead p next marks (p.alone || p.anew) refl (first_false p.alone p.anew)
-close_placed plan w cause.Read p next marks done begins = closed_placed plan w cause.Read p next marks (p.alone || p.anew) refl (first_false p.alone p.anew)
-close_placed plan w cause.End p next marks done begins = closed_placed plan w cause.End p next marks (p.alone || p.anew) refl (first_false p.alone p.anew)
-close_placed plan w (cause.Write n m) p next marks done begins = closed_placed plan w (cause.Write n m) p next marks (p.alone || p.anew) refl (first_false p.alone p.anew)
-close_placed plan w cause.Open p next marks done begins = closed_placed plan w cause.Open p next marks (p.alone || p.anew) refl (first_false p.alone p.anew)
+close_placed plan w why p next marks done begins = closed_placed plan w why p next marks (p.alone || p.anew) refl (first_false p.alone p.anew)
 
 close_sound : (plan : Plan) (commands : List Task) (s : Standing) (w : Waiting) (why : Cause) → SoundAt plan commands s.progress s.client s.marks s.records → SoundAt plan commands (closed plan w why s.progress) s.client s.marks s.records
-close_sound plan commands s w why sound = kept why where
-  anew_kept : (why : Cause) (b : Bool) → SoundAt plan commands (closed_again plan w why b s.progress) s.client s.marks s.records
-  anew_kept why true = sound
-  anew_kept why false = sound
-
-  kept : (why : Cause) → SoundAt plan commands (closed plan w why s.progress) s.client s.marks s.records
-  kept cause.Done = sound
-  kept cause.Clock = sound
-  kept cause.Turns = sound
-  kept cause.Silence = sound
-  kept cause.Dead = anew_kept cause.Dead (begins_anew cause.Dead s.progress)
-  kept cause.Read = anew_kept cause.Read (begins_anew cause.Read s.progress)
-  kept cause.End = anew_kept cause.End (begins_anew cause.End s.progress)
-  kept (cause.Write n m) = anew_kept (cause.Write n m) (begins_anew (cause.Write n m) s.progress)
-  kept cause.Open = anew_kept cause.Open (begins_anew cause.Open s.progress)
+close_sound plan commands s w why sound = closed_along (λ (q : Progress). SoundAt plan commands q s.client s.marks s.records) plan w why s.progress sound (λ anew. sound) (λ on. sound)
 
 pub mid_close : (plan : Plan) (commands : List Task) (s : Standing) (why : Cause) → (why ≡ cause.Done → (s.progress.left ≡ 0) × (s.progress.unsent ≡ 0)) → Mid plan commands s → Mid plan commands (after_close plan why s)
 mid_close plan commands s why done mid =
@@ -194,11 +178,6 @@ pub record Listening (plan : Plan) (commands : List Task) (s : Standing) : Type 
   pub is_ready : s.progress.phase ≡ Ready
   pub begun : s.progress.anew ≡ false
   pub few : s.progress.alone ≡ true → ((s.marks ≡ []) ⊎ (s.marks ≡ None ∷ [])) × (s.client.next ≡ 1)
-
-none_dropped : (n : ℕ) (marks : List (Option Mark)) → marks ≡ [] → drop n marks ≡ []
-none_dropped zero marks e = e
-none_dropped (suc n) [] e = refl
-none_dropped (suc n) (m ∷ marks) e = cc
 
 few_left : (marks : List (Option Mark)) (n : ℕ) → (marks ≡ []) ⊎ (marks ≡ None ∷ []) → (drop n marks ≡ []) ⊎ (drop n marks ≡ None ∷ [])
 few_left marks n (inl e) = inl (none_dropped n marks e)
@@ -229,14 +208,8 @@ listen_lines plan commands s [] l = l
 listen_lines plan commands s (line ∷ others) l = listen_lines plan commands (line_came s line) others (listen_line plan commands s line l)
 
 pub heard_ready : (phase : Phase) → is_heard phase ≡ true → phase ≡ Ready
-heard_ready Down e = cc
-heard_ready Pausing e = cc
-heard_ready Clearing e = cc
-heard_ready Draining e = cc
-heard_ready Probing e = cc
 heard_ready Ready e = refl
-heard_ready (Closing why) e = cc
-heard_ready (Over why) e = cc
+heard_ready phase e = cc
 
 -- what is left of it where nothing was heard
 still_alone : (phase : Phase) (anew alone b : Bool) (left unsent : ℕ) (rest : List ℕ) (next : ℕ) (marks : List (Option Mark)) → Placed phase anew alone left unsent rest next marks → Placed phase anew (alone && b) left unsent rest next marks
@@ -336,12 +309,7 @@ drained_there plan commands s p false is mid = mid
 quiet_there : (plan : Plan) (commands : List Task) (s : Standing) (phase : Phase) (p : Progress) → p.phase ≡ phase → MidAt plan commands s p → MidAt plan commands s (quieted plan phase p)
 quiet_there plan commands s Pausing p is mid = (mid.0, down_placed (is_past p.pause p && not (is_idle plan p)) p.anew p.alone p.phase p.left p.unsent s.rest s.client.next s.marks is mid.1)
 quiet_there plan commands s Draining p is mid = drained_there plan commands s p (is_past (drain_of plan p) p) is mid
-quiet_there plan commands s Down p is mid = mid
-quiet_there plan commands s Clearing p is mid = mid
-quiet_there plan commands s Probing p is mid = mid
-quiet_there plan commands s Ready p is mid = mid
-quiet_there plan commands s (Closing why) p is mid = mid
-quiet_there plan commands s (Over why) p is mid = mid
+quiet_there plan commands s phase p is mid = mid
 
 pub mid_silent : (plan : Plan) (commands : List Task) (s : Standing) (until : Until) (gave_up : Bool) (m : Moment) → Mid plan commands s → Mid plan commands (with_moment m (with_progress (λ p. quiet_renewed gave_up m (silent plan until m p)) s))
 mid_silent plan commands s until gave_up m mid =

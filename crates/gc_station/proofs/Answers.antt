@@ -44,17 +44,9 @@ use Rattle.gc_station.specs.Scopes.{Scope}
 -- A request goes out.
 
 puts_still : (bytes : List ℕ) (act : Act) → Puts bytes act → (d : ℕ) → IsBefore d act
-puts_still bytes (Told m) o d = absurd o
-puts_still bytes Untold o d = absurd o
 puts_still bytes (Put out) o d = tt
 puts_still bytes (Cut out n) o d = tt
-puts_still bytes (Gave heard m) o d = absurd o
-puts_still bytes (Silent m) o d = absurd o
-puts_still bytes Ended o d = absurd o
-puts_still bytes Broke o d = absurd o
-puts_still bytes Closed o d = absurd o
-puts_still bytes Opened o d = absurd o
-puts_still bytes Unopened o d = absurd o
+puts_still bytes act o d = absurd o
 
 -- where the window has room
 abbrev pub with_sent : ById → ℕ → Call → ℕ → ById
@@ -165,17 +157,8 @@ null_honest plan commands scope acts act f fine h room asks puts =
       never m e = cc
 
 put_honest : (plan : Plan) (commands : List Task) (scope : Scope) (acts : List Act) (requests : ℕ) (f : Standing → Standing) (t : Standing) (act : Act) → IsHonest plan commands scope acts acts (f t) → IsHonest plan commands scope acts acts (after_put requests f t act)
-put_honest plan commands scope acts requests f t (Told m) h = h
-put_honest plan commands scope acts requests f t Untold h = h
-put_honest plan commands scope acts requests f t (Put out) h = h
 put_honest plan commands scope acts requests f t (Cut out n) h = h
-put_honest plan commands scope acts requests f t (Gave bytes m) h = h
-put_honest plan commands scope acts requests f t (Silent m) h = h
-put_honest plan commands scope acts requests f t Ended h = h
-put_honest plan commands scope acts requests f t Broke h = h
-put_honest plan commands scope acts requests f t Closed h = h
-put_honest plan commands scope acts requests f t Opened h = h
-put_honest plan commands scope acts requests f t Unopened h = h
+put_honest plan commands scope acts requests f t act h = h
 
 -- A command that isn't sent is neither answered nor late nor lost.
 
@@ -198,46 +181,25 @@ clock_honest : (plan : Plan) (commands : List Task) (scope : Scope) (acts : List
     → IsHonest plan commands scope (acts ++ act ∷ []) (acts ++ act ∷ []) (after_clock f (with_progress turned s) act)
 clock_honest plan commands scope acts (Told m) f s h o = moment_told plan commands scope acts (Told m) m.elapsed _ _ _ (λ d low. low) (λ d past. past) h
 clock_honest plan commands scope acts Untold f s h o = still plan commands scope acts Untold _ _ _ (λ d. tt) h
-clock_honest plan commands scope acts (Put out) f s h o = absurd o
-clock_honest plan commands scope acts (Cut out n) f s h o = absurd o
-clock_honest plan commands scope acts (Gave bytes m) f s h o = absurd o
-clock_honest plan commands scope acts (Silent m) f s h o = absurd o
-clock_honest plan commands scope acts Ended f s h o = absurd o
-clock_honest plan commands scope acts Broke f s h o = absurd o
-clock_honest plan commands scope acts Closed f s h o = absurd o
-clock_honest plan commands scope acts Opened f s h o = absurd o
-clock_honest plan commands scope acts Unopened f s h o = absurd o
+clock_honest plan commands scope acts act f s h o = absurd o
 
 open_honest : (plan : Plan) (commands : List Task) (scope : Scope) (acts : List Act) (act : Act) (s : Standing) → IsHonest plan commands scope acts (acts ++ act ∷ []) s → IsOpening act
     → IsHonest plan commands scope (acts ++ act ∷ []) (acts ++ act ∷ []) (after_open plan (with_progress turned s) act)
-open_honest plan commands scope acts (Told m) s h o = absurd o
-open_honest plan commands scope acts Untold s h o = absurd o
-open_honest plan commands scope acts (Put out) s h o = absurd o
-open_honest plan commands scope acts (Cut out n) s h o = absurd o
-open_honest plan commands scope acts (Gave bytes m) s h o = absurd o
-open_honest plan commands scope acts (Silent m) s h o = absurd o
-open_honest plan commands scope acts Ended s h o = absurd o
-open_honest plan commands scope acts Broke s h o = absurd o
-open_honest plan commands scope acts Closed s h o = absurd o
 open_honest plan commands scope acts Opened s h o = still plan commands scope acts Opened _ _ _ (λ d. tt) h
 open_honest plan commands scope acts Unopened s h o = still plan commands scope acts Unopened _ _ _ (λ d. tt) h
+open_honest plan commands scope acts act s h o = absurd o
 
 read_honest : (plan : Plan) (commands : List Task) (scope : Scope) (acts : List Act) (until : Until) (act : Act) (tail : List Record) → Fine plan commands (stood plan commands scope acts) → IsHonest plan commands scope acts (acts ++ act ∷ []) (stood plan commands scope acts) → IsReading act
     → (stood plan commands scope (acts ++ act ∷ [])).records ≡ (after_read plan until (with_progress turned (stood plan commands scope acts)) act).records ++ tail
     → IsHonest plan commands scope (acts ++ act ∷ []) (acts ++ act ∷ []) (after_read plan until (with_progress turned (stood plan commands scope acts)) act)
-read_honest plan commands scope acts until (Told m) tail fine h o ends = absurd o
 read_honest plan commands scope acts until Untold tail fine h o ends = still plan commands scope acts Untold _ _ _ (λ d. tt) h
-read_honest plan commands scope acts until (Put out) tail fine h o ends = absurd o
-read_honest plan commands scope acts until (Cut out n) tail fine h o ends = absurd o
 read_honest plan commands scope acts until (Gave bytes m) tail fine h o ends =
     let s = stood plan commands scope acts in
     piece_honest plan commands scope acts bytes m (is_heard s.progress.phase) tail ends (record { digit = fine.digit; few = fine.window }) h
 read_honest plan commands scope acts until (Silent m) tail fine h o ends = moment_told plan commands scope acts (Silent m) m.elapsed _ _ _ (λ d low. low) (λ d past. past) h
 read_honest plan commands scope acts until Ended tail fine h o ends = still plan commands scope acts Ended _ _ _ (λ d. tt) h
 read_honest plan commands scope acts until Broke tail fine h o ends = still plan commands scope acts Broke _ _ _ (λ d. tt) h
-read_honest plan commands scope acts until Closed tail fine h o ends = absurd o
-read_honest plan commands scope acts until Opened tail fine h o ends = absurd o
-read_honest plan commands scope acts until Unopened tail fine h o ends = absurd o
+read_honest plan commands scope acts until act tail fine h o ends = absurd o
 
 close_still : (act : Act) → act ≡ Closed → (d : ℕ) → IsBefore d act
 close_still act is d = subst (λ (x : Act). IsBefore d x) (sym is) tt

@@ -1,6 +1,6 @@
 -- Where a station begins anew nothing but moments is told to its client until the null procedure goes out, and no other request behind
 -- that before a reply came.
-use Rattle.std.proofs.Common.{◌≡◌, ◌⊎◌, inl, inr, ℕ, ◌&&◌, ◌||◌, Bool, true, false, not, List, [], ◌∷◌, ◌++◌, length, map, if◌then◌else◌, nat_eq, Option, Some, None, refl, sym, ◌∙◌, ap, subst}
+use Rattle.std.proofs.Common.{◌≡◌, ◌⊎◌, inl, inr, ℕ, ◌&&◌, ◌||◌, Bool, true, false, not, List, [], ◌∷◌, ◌++◌, length, map, nat_eq, Option, Some, None, refl, sym, ◌∙◌, ap, subst}
 use Rattle.gc_lines.specs.Frames.{rest_behind}
 use Rattle.gc_catalogue.specs.declared.call.Call.{Call}
 use Rattle.gc_catalogue.specs.declared.call.Call.TheVariants.{NullProc}
@@ -18,16 +18,18 @@ use Rattle.gc_station.specs.declared.progress.Phase.TheVariants as phase
 use Rattle.gc_station.specs.declared.progress.Progress.{Progress}
 use Rattle.gc_station.specs.declared.progress.Until.{Until}
 use Rattle.gc_station.specs.declared.progress.Waiting.{Waiting}
-use Rattle.gc_links.specs.Acts.{Act, Told, Untold, Put, Cut, Gave, Silent, Ended, Broke, Closed, Opened, Unopened}
-use Rattle.gc_station.specs.Deciding.{is_up, is_past, drain_of, later, order_in, order_on}
+use Rattle.gc_links.specs.Acts.{Act, Put, Cut, Gave, Closed}
+use Rattle.gc_station.specs.Deciding.{is_up, later, order_in, order_on}
 use Rattle.gc_station.specs.Marks.{commands_in}
 use Rattle.gc_station.specs.Parts.{Part, only, asking, putting, hearing, acting}
-use Rattle.gc_station.specs.Progressing.{told, turned, begun, time_passed, quieted, drained, reckoned_early, begins_anew, closed, closed_again, is_over_in, is_over, loses_all}
+use Rattle.gc_station.specs.Progressing.{told, turned, time_passed, begins_anew, closed, is_over_in, is_over, loses_all}
 use Rattle.gc_station.specs.Reasons.{IsFor}
-use Rattle.gc_station.specs.Standing.{Standing, order_at, waiting_of, request_text, Puts, ReadsClock, IsOpening, IsReading, Obeys, with_progress, with_moment, with_rest, lines_came, lines_behind, is_heard, came, reckoned, after_read, after_clock, after_open, moved}
+use Rattle.gc_station.specs.Standing.{Standing, order_at, waiting_of, Obeys, with_progress, with_moment, with_rest, lines_came, lines_behind, is_heard, came, reckoned, moved}
+use Rattle.gc_station.proofs.Facts.{or_true}
 use Rattle.gc_station.proofs.Acting.{heard_ready}
 use Rattle.gc_station.proofs.Fine.{Fine}
 use Rattle.gc_station.proofs.Midway.{clash}
+use Rattle.gc_station.proofs.Walk.{closed_along, quieted_along, walk}
 use Rattle.gc_station.proofs.Probing.{Alone, Goes, alone_moved, alone_told, alone_lines, some_wait, over_stops}
 
 -- moments alone
@@ -96,130 +98,44 @@ module _ (plan : Plan) (commands : List Task) where
   abbrev Begins : Part → Standing → Type 0
   Begins p t = IsQuiet p t ⊎ IsProbed p t
 
-  begins_clock : (s : Standing) (f : Moment → Progress → Progress) (o : Order) (act : Act) → ((m : Moment) → (f m (turned s.progress)).anew ≡ s.progress.anew) → s.progress.anew ≡ true → ReadsClock act
-      → Begins (acting plan commands s o act) (after_clock f (with_progress turned s) act)
-  begins_clock s f o (Told m) same w tells = inl (record { steps = tt; marks = refl; anew = same m ∙ w })
-  begins_clock s f o Untold same w tells = inl (record { steps = tt; marks = refl; anew = w })
-  begins_clock s f o (Put bytes) same w tells = absurd tells
-  begins_clock s f o (Cut bytes count) same w tells = absurd tells
-  begins_clock s f o (Gave bytes m) same w tells = absurd tells
-  begins_clock s f o (Silent m) same w tells = absurd tells
-  begins_clock s f o Ended same w tells = absurd tells
-  begins_clock s f o Broke same w tells = absurd tells
-  begins_clock s f o Closed same w tells = absurd tells
-  begins_clock s f o Opened same w tells = absurd tells
-  begins_clock s f o Unopened same w tells = absurd tells
-
-  begins_open : (s : Standing) (o : Order) (act : Act) → s.progress.anew ≡ true → IsOpening act → Begins (acting plan commands s o act) (after_open plan (with_progress turned s) act)
-  begins_open s o Opened w asked = inl (record { steps = tt; marks = refl; anew = w })
-  begins_open s o Unopened w asked = inl (record { steps = tt; marks = refl; anew = w })
-  begins_open s o (Told m) w asked = absurd asked
-  begins_open s o Untold w asked = absurd asked
-  begins_open s o (Put bytes) w asked = absurd asked
-  begins_open s o (Cut bytes count) w asked = absurd asked
-  begins_open s o (Gave bytes m) w asked = absurd asked
-  begins_open s o (Silent m) w asked = absurd asked
-  begins_open s o Ended w asked = absurd asked
-  begins_open s o Broke w asked = absurd asked
-  begins_open s o Closed w asked = absurd asked
-
-  -- a line feed
-  begins_clear : (s : Standing) (act : Act) (bytes : List ℕ) → s.progress.anew ≡ true → Puts bytes act → Begins (acting plan commands s order.Clear act) (moved plan commands order.Clear (with_progress turned s) act)
-  begins_clear s (Put out) bytes w puts = inl (record { steps = tt; marks = refl; anew = w })
-  begins_clear s (Cut out count) bytes w puts = inl (record { steps = tt; marks = refl; anew = w })
-  begins_clear s (Told m) bytes w puts = absurd puts
-  begins_clear s Untold bytes w puts = absurd puts
-  begins_clear s (Gave piece m) bytes w puts = absurd puts
-  begins_clear s (Silent m) bytes w puts = absurd puts
-  begins_clear s Ended bytes w puts = absurd puts
-  begins_clear s Broke bytes w puts = absurd puts
-  begins_clear s Closed bytes w puts = absurd puts
-  begins_clear s Opened bytes w puts = absurd puts
-  begins_clear s Unopened bytes w puts = absurd puts
-
-  -- the null procedure
-  begins_probe : (s : Standing) (act : Act) (bytes : List ℕ) → Puts bytes act → Begins (acting plan commands s order.Probe act) (moved plan commands order.Probe (with_progress turned s) act)
-  begins_probe s (Put out) bytes puts = inr (record { target = 0; call = NullProc; deadline = later s.progress.moment.elapsed plan.deadline; part = refl; anew = refl; alone = refl; goes_on = refl })
-  begins_probe s (Cut out count) bytes puts = inr (record { target = 0; call = NullProc; deadline = later s.progress.moment.elapsed plan.deadline; part = refl; anew = refl; alone = refl; goes_on = refl })
-  begins_probe s (Told m) bytes puts = absurd puts
-  begins_probe s Untold bytes puts = absurd puts
-  begins_probe s (Gave piece m) bytes puts = absurd puts
-  begins_probe s (Silent m) bytes puts = absurd puts
-  begins_probe s Ended bytes puts = absurd puts
-  begins_probe s Broke bytes puts = absurd puts
-  begins_probe s Closed bytes puts = absurd puts
-  begins_probe s Opened bytes puts = absurd puts
-  begins_probe s Unopened bytes puts = absurd puts
-
   -- a piece is dropped
   begins_piece : (s : Standing) (until : Until) (h : Bool) (piece : List ℕ) (m : Moment) → h ≡ false → s.progress.anew ≡ true
       → IsQuiet (only (Expire m.elapsed ∷ hearing h s.rest piece)) (reckoned plan until (commands_in s.marks) (came h piece (with_moment m (with_progress (told m) (with_progress turned s)))))
   begins_piece s until true piece m is w = cc
   begins_piece s until false piece m is w = record { steps = tt; marks = refl; anew = w }
 
-  drained_anew : (p : Progress) (b : Bool) → (if b then drained p else p).anew ≡ p.anew
-  drained_anew p true = refl
-  drained_anew p false = refl
-
-  quieted_anew : (at : Phase) (p : Progress) → (quieted plan at p).anew ≡ p.anew
-  quieted_anew phase.Down p = refl
-  quieted_anew phase.Pausing p = refl
-  quieted_anew phase.Clearing p = refl
-  quieted_anew phase.Draining p = drained_anew p (is_past (drain_of plan p) p)
-  quieted_anew phase.Probing p = refl
-  quieted_anew phase.Ready p = refl
-  quieted_anew (phase.Closing why) p = refl
-  quieted_anew (phase.Over why) p = refl
-
-  begins_read : (s : Standing) (until : Until) (o : Order) (act : Act) → is_heard s.progress.phase ≡ false → s.progress.anew ≡ true → IsReading act
-      → Begins (acting plan commands s o act) (after_read plan until (with_progress turned s) act)
-  begins_read s until o (Gave bytes m) unheard w reads = inl (begins_piece s until (is_heard s.progress.phase) bytes m unheard w)
-  begins_read s until o (Silent m) unheard w reads = inl (record { steps = tt; marks = refl; anew = quieted_anew s.progress.phase (time_passed until m (turned s.progress)) ∙ w })
-  begins_read s until o Ended unheard w reads = inl (record { steps = tt; marks = refl; anew = w })
-  begins_read s until o Broke unheard w reads = inl (record { steps = tt; marks = refl; anew = w })
-  begins_read s until o Untold unheard w reads = inl (record { steps = tt; marks = refl; anew = w })
-  begins_read s until o (Told m) unheard w reads = absurd reads
-  begins_read s until o (Put bytes) unheard w reads = absurd reads
-  begins_read s until o (Cut bytes count) unheard w reads = absurd reads
-  begins_read s until o Closed unheard w reads = absurd reads
-  begins_read s until o Opened unheard w reads = absurd reads
-  begins_read s until o Unopened unheard w reads = absurd reads
-
-  again_anew : (w : Waiting) (why : Cause) (p : Progress) (b : Bool) → p.anew ≡ true → (closed_again plan w why b p).anew ≡ true
-  again_anew w why p true is = refl
-  again_anew w why p false is = is
-
-  closed_anew : (w : Waiting) (why : Cause) (p : Progress) → p.anew ≡ true → (closed plan w why p).anew ≡ true
-  closed_anew w cause.Done p is = is
-  closed_anew w cause.Clock p is = is
-  closed_anew w cause.Turns p is = is
-  closed_anew w cause.Silence p is = refl
-  closed_anew w cause.Dead p is = again_anew w cause.Dead p (begins_anew cause.Dead p) is
-  closed_anew w cause.Read p is = again_anew w cause.Read p (begins_anew cause.Read p) is
-  closed_anew w cause.End p is = again_anew w cause.End p (begins_anew cause.End p) is
-  closed_anew w (cause.Write n m) p is = again_anew w (cause.Write n m) p (begins_anew (cause.Write n m) p) is
-  closed_anew w cause.Open p is = again_anew w cause.Open p (begins_anew cause.Open p) is
-
   -- where it begins anew it isn't ready
   unheard_anew : (s : Standing) → Fine plan commands s → s.progress.anew ≡ true → (h : Bool) → is_heard s.progress.phase ≡ h → is_heard s.progress.phase ≡ false
   unheard_anew s fine w true is = absurd (clash s.progress.anew w (fine.ready (heard_ready s.progress.phase is)))
   unheard_anew s fine w false is = is
 
+  abbrev BeginsSo : Order → Standing → Act → Standing → Type 0
+  BeginsSo o s act t = Begins (acting plan commands s o act) t
+
   begins_order : (s : Standing) (o : Order) (act : Act) → Fine plan commands s → IsFor plan s.progress (waiting_of s) o → Obeys commands s o act → s.progress.anew ≡ true
       → Begins (acting plan commands s o act) (moved plan commands o (with_progress turned s) act)
-  begins_order s order.ReadClock act fine is obeys w = begins_clock s (λ m p. reckoned_early plan (commands_in s.marks) (told m p)) order.ReadClock act (λ m. refl) w obeys
-  begins_order s order.Begin act fine is obeys w = begins_clock s (begun plan (length commands)) order.Begin act (λ m. refl) w obeys
   begins_order s order.Skip act fine is obeys w = absurd (clash s.progress.anew w (fine.ready is.0))
-  begins_order s order.Open act fine is obeys w = begins_open s order.Open act w obeys
-  begins_order s order.Clear act fine is obeys w = begins_clear s act (10 ∷ []) w obeys
-  begins_order s order.Probe act fine is obeys w = begins_probe s act (request_text s.client NullProc) obeys
   begins_order s order.Send act fine is obeys w = absurd (clash s.progress.anew w (fine.ready is.0))
   begins_order s order.Flush act fine is obeys w = absurd (clash s.progress.anew w (fine.ready is.0))
-  begins_order s (order.Read until) act fine is obeys w = begins_read s until (order.Read until) act (unheard_anew s fine w (is_heard s.progress.phase) refl) w obeys
+  begins_order s order.Probe act fine is obeys w =
+      walk plan commands (BeginsSo order.Probe s) order.Probe (with_progress turned s) act obeys (
+        λ m. inr (record { target = 0; call = NullProc; deadline = later s.progress.moment.elapsed plan.deadline; part = refl; anew = refl; alone = refl; goes_on = refl }),
+        λ n. inr (record { target = 0; call = NullProc; deadline = later s.progress.moment.elapsed plan.deadline; part = refl; anew = refl; alone = refl; goes_on = refl }),
+      )
+  begins_order s (order.Read until) act fine is obeys w =
+      walk plan commands (BeginsSo (order.Read until) s) (order.Read until) (with_progress turned s) act obeys (
+        λ bytes m. inl (begins_piece s until (is_heard s.progress.phase) bytes m (unheard_anew s fine w (is_heard s.progress.phase) refl) w),
+        λ m. inl (record { steps = tt; marks = refl; anew = quieted_along (λ (q : Progress). q.anew ≡ true) plan s.progress.phase (time_passed until m (turned s.progress)) w w w }),
+        inl (record { steps = tt; marks = refl; anew = w }),
+        inl (record { steps = tt; marks = refl; anew = w }),
+        inl (record { steps = tt; marks = refl; anew = w }),
+      )
   begins_order s (order.Close why) act fine is obeys w =
-      subst (λ (a : Act). Begins (acting plan commands s (order.Close why) a) (moved plan commands (order.Close why) (with_progress turned s) a)) (sym obeys)
-      (inl (record { steps = tt; marks = refl; anew = closed_anew (waiting_of (with_rest [] (with_progress turned s))) why (turned s.progress) w }))
+      walk plan commands (BeginsSo (order.Close why) s) (order.Close why) (with_progress turned s) act obeys
+      (inl (record { steps = tt; marks = refl; anew = closed_along (λ (q : Progress). q.anew ≡ true) plan (waiting_of (with_rest [] (with_progress turned s))) why (turned s.progress) w (λ anew. refl) (λ on. w) }))
   begins_order s (order.Stop why) act fine is obeys w = absurd obeys
+  begins_order s o act fine is obeys w =
+      walk plan commands (BeginsSo o s) o (with_progress turned s) act obeys (λ m. inl (record { steps = tt; marks = refl; anew = w }), λ n. inl (record { steps = tt; marks = refl; anew = w }))
 
   pub begins : (s : Standing) (o : Order) (act : Act) → Fine plan commands s → IsFor plan s.progress (waiting_of s) o → Obeys commands s o act → s.progress.anew ≡ true
       → IsQuiet (acting plan commands s o act) (moved plan commands o (with_progress turned s) act) ⊎ IsProbed (acting plan commands s o act) (moved plan commands o (with_progress turned s) act)
@@ -260,62 +176,26 @@ module _ (plan : Plan) (commands : List Task) where
 
   -- no request goes out
   no_request : (s : Standing) (o : Order) → Fine plan commands s → IsFor plan s.progress (waiting_of s) o → s.progress.alone ≡ true → s.progress.anew ≡ false → Passes (putting plan commands s o)
-  no_request s order.ReadClock fine is w n = λ later h. h
-  no_request s order.Begin fine is w n = λ later h. h
-  no_request s order.Skip fine is w n = λ later h. h
-  no_request s order.Open fine is w n = λ later h. h
-  no_request s order.Clear fine is w n = λ later h. h
   no_request s order.Probe fine is w n = absurd (clash s.progress.anew (fine.probing is.0) n)
   no_request s order.Send fine is w n = absurd (clash s.progress.alone w is.1)
   no_request s order.Flush fine is w n = absurd (clash s.progress.alone w is.1)
-  no_request s (order.Read until) fine is w n = λ later h. h
-  no_request s (order.Close why) fine is w n = λ later h. h
-  no_request s (order.Stop why) fine is w n = λ later h. h
+  no_request s o fine is w n = λ later h. h
 
   gave_waits : (s : Standing) (o : Order) (piece : List ℕ) (m : Moment) → Obeys commands s o (Gave piece m) → Alone s → Waits (acting plan commands s o (Gave piece m)) (moved plan commands o (with_progress turned s) (Gave piece m))
   gave_waits s (order.Read until) piece m obeys w = waits_piece s until (is_heard s.progress.phase) piece m w
-  gave_waits s order.ReadClock piece m obeys w = absurd obeys
-  gave_waits s order.Begin piece m obeys w = absurd obeys
-  gave_waits s order.Skip piece m obeys w = absurd obeys
-  gave_waits s order.Open piece m obeys w = absurd obeys
-  gave_waits s order.Clear piece m obeys w = absurd obeys
-  gave_waits s order.Probe piece m obeys w = absurd obeys
-  gave_waits s order.Send piece m obeys w = absurd obeys
-  gave_waits s order.Flush piece m obeys w = absurd obeys
   gave_waits s (order.Close why) piece m obeys w = cc
-  gave_waits s (order.Stop why) piece m obeys w = absurd obeys
+  gave_waits s o piece m obeys w = absurd obeys
 
-  or_true : (a : Bool) → (a || true) ≡ true
-  or_true true = refl
-  or_true false = refl
-
-  again_loses : (w : Waiting) (why : Cause) (p : Progress) (b : Bool) → b ≡ true → loses_all (closed_again plan w why b p) ≡ true
-  again_loses w why p true is = refl
-  again_loses w why p false is = cc
+  alone_begins : (why : Cause) (p : Progress) → p.alone ≡ true → begins_anew why p ≡ true
+  alone_begins cause.Silence p is = refl
+  alone_begins why p is = ap (λ b. b || p.anew) is
 
   closed_loses : (w : Waiting) (why : Cause) (p : Progress) → p.alone ≡ true → loses_all (closed plan w why p) ≡ true
-  closed_loses w cause.Done p is = or_true p.anew
-  closed_loses w cause.Clock p is = or_true p.anew
-  closed_loses w cause.Turns p is = or_true p.anew
-  closed_loses w cause.Silence p is = refl
-  closed_loses w cause.Dead p is = again_loses w cause.Dead p (begins_anew cause.Dead p) (ap (λ b. b || p.anew) is)
-  closed_loses w cause.Read p is = again_loses w cause.Read p (begins_anew cause.Read p) (ap (λ b. b || p.anew) is)
-  closed_loses w cause.End p is = again_loses w cause.End p (begins_anew cause.End p) (ap (λ b. b || p.anew) is)
-  closed_loses w (cause.Write n m) p is = again_loses w (cause.Write n m) p (begins_anew (cause.Write n m) p) (ap (λ b. b || p.anew) is)
-  closed_loses w cause.Open p is = again_loses w cause.Open p (begins_anew cause.Open p) (ap (λ b. b || p.anew) is)
+  closed_loses w why p is = closed_along (λ (q : Progress). loses_all q ≡ true) plan w why p (or_true p.anew) (λ anew. refl) (λ on. absurd (clash (begins_anew why p) (alone_begins why p is) on))
 
   closed_waits : (s : Standing) (o : Order) → Obeys commands s o Closed → s.progress.alone ≡ true → loses_all (moved plan commands o (with_progress turned s) Closed).progress ≡ true
   closed_waits s (order.Close why) obeys w = closed_loses (waiting_of (with_rest [] (with_progress turned s))) why (turned s.progress) w
-  closed_waits s order.ReadClock obeys w = absurd obeys
-  closed_waits s order.Begin obeys w = absurd obeys
-  closed_waits s order.Skip obeys w = absurd obeys
-  closed_waits s order.Open obeys w = absurd obeys
-  closed_waits s order.Clear obeys w = absurd obeys
-  closed_waits s order.Probe obeys w = absurd obeys
-  closed_waits s order.Send obeys w = absurd obeys
-  closed_waits s order.Flush obeys w = absurd obeys
-  closed_waits s (order.Read until) obeys w = absurd obeys
-  closed_waits s (order.Stop why) obeys w = absurd obeys
+  closed_waits s o obeys w = absurd obeys
 
   pub waits : (s : Standing) (o : Order) (act : Act) → Fine plan commands s → IsFor plan s.progress (waiting_of s) o → Obeys commands s o act → Alone s → s.progress.anew ≡ false
       → Waits (acting plan commands s o act) (moved plan commands o (with_progress turned s) act)
@@ -323,13 +203,7 @@ module _ (plan : Plan) (commands : List Task) where
   waits s o Closed fine is obeys w n = (λ later h. h, inr (inr (closed_waits s o obeys w.0)))
   waits s o (Put bytes) fine is obeys w n = (no_request s o fine is w.0 n, inr (inl (still_waits s o (Put bytes) (λ piece m e. cc) (alone_moved plan commands s o (Put bytes) obeys tt w))))
   waits s o (Cut bytes count) fine is obeys w n = (no_request s o fine is w.0 n, inr (inl (still_waits s o (Cut bytes count) (λ piece m e. cc) (alone_moved plan commands s o (Cut bytes count) obeys tt w))))
-  waits s o (Told m) fine is obeys w n = (λ later h. h, inr (inl (still_waits s o (Told m) (λ piece m e. cc) (alone_moved plan commands s o (Told m) obeys tt w))))
-  waits s o (Silent m) fine is obeys w n = (λ later h. h, inr (inl (still_waits s o (Silent m) (λ piece m e. cc) (alone_moved plan commands s o (Silent m) obeys tt w))))
-  waits s o Untold fine is obeys w n = (λ later h. h, inr (inl (still_waits s o Untold (λ piece m e. cc) (alone_moved plan commands s o Untold obeys tt w))))
-  waits s o Ended fine is obeys w n = (λ later h. h, inr (inl (still_waits s o Ended (λ piece m e. cc) (alone_moved plan commands s o Ended obeys tt w))))
-  waits s o Broke fine is obeys w n = (λ later h. h, inr (inl (still_waits s o Broke (λ piece m e. cc) (alone_moved plan commands s o Broke obeys tt w))))
-  waits s o Opened fine is obeys w n = (λ later h. h, inr (inl (still_waits s o Opened (λ piece m e. cc) (alone_moved plan commands s o Opened obeys tt w))))
-  waits s o Unopened fine is obeys w n = (λ later h. h, inr (inl (still_waits s o Unopened (λ piece m e. cc) (alone_moved plan commands s o Unopened obeys tt w))))
+  waits s o act fine is obeys w n = (λ later h. h, inr (inl (still_waits s o act (λ piece m e. cc) (alone_moved plan commands s o act obeys tt w))))
 
   -- Where it is over no act follows.
 
@@ -344,11 +218,6 @@ module _ (plan : Plan) (commands : List Task) where
     stops e both = subst (λ (o : Order). Obeys commands s o act) (e ∙ none_left (is_up s.progress.phase) (nat_eq s.progress.turns 0) refl refl both) obeys
 
     by_phase : (at : Phase) → s.progress.phase ≡ at → (is_over_in s.progress.phase || (not (is_up s.progress.phase) && nat_eq s.progress.turns 0)) ≡ true → ⊥
-    by_phase phase.Down is o = stops (ap (λ at. order_in at plan s.progress (waiting_of s)) is) (sym (ap (λ at. is_over_in at || (not (is_up s.progress.phase) && nat_eq s.progress.turns 0)) is) ∙ o)
-    by_phase phase.Pausing is o = stops (ap (λ at. order_in at plan s.progress (waiting_of s)) is) (sym (ap (λ at. is_over_in at || (not (is_up s.progress.phase) && nat_eq s.progress.turns 0)) is) ∙ o)
-    by_phase phase.Clearing is o = stops (ap (λ at. order_in at plan s.progress (waiting_of s)) is) (sym (ap (λ at. is_over_in at || (not (is_up s.progress.phase) && nat_eq s.progress.turns 0)) is) ∙ o)
-    by_phase phase.Draining is o = stops (ap (λ at. order_in at plan s.progress (waiting_of s)) is) (sym (ap (λ at. is_over_in at || (not (is_up s.progress.phase) && nat_eq s.progress.turns 0)) is) ∙ o)
-    by_phase phase.Probing is o = stops (ap (λ at. order_in at plan s.progress (waiting_of s)) is) (sym (ap (λ at. is_over_in at || (not (is_up s.progress.phase) && nat_eq s.progress.turns 0)) is) ∙ o)
-    by_phase phase.Ready is o = stops (ap (λ at. order_in at plan s.progress (waiting_of s)) is) (sym (ap (λ at. is_over_in at || (not (is_up s.progress.phase) && nat_eq s.progress.turns 0)) is) ∙ o)
     by_phase (phase.Closing why) is o = let never : false ≡ true = sym (ap (λ at. is_over_in at || (not (is_up at) && nat_eq s.progress.turns 0)) is) ∙ o in cc
     by_phase (phase.Over why) is o = over_stops plan commands s act obeys why is
+    by_phase other is o = stops (ap (λ at. order_in at plan s.progress (waiting_of s)) is) (sym (ap (λ at. is_over_in at || (not (is_up s.progress.phase) && nat_eq s.progress.turns 0)) is) ∙ o)

@@ -3,7 +3,7 @@ use Rattle.std.proofs.Common.{◌≡◌, ℕ, ◌≤◌, ◌⊎◌, inl, inr, �
 use Rattle.std.specs.List.{AllByRecursion, filter_map}
 use Rattle.std.proofs.lemmas.List.{map-append}
 use Rattle.std.proofs.lemmas.List.Elements.{filter_map-append}
-use Rattle.gc_lines.specs.Frames.{frame_of, line_in, lines, pieces_behind, rest_behind, rest_of}
+use Rattle.gc_lines.specs.Frames.{frame_of, line_in, lines, pieces_behind, rest_of}
 use Rattle.gc_lines.proofs.Cutting.{pieces-append, rest-append}
 use Rattle.gc_catalogue.specs.declared.call.Call.TheVariants.{NullProc}
 use Rattle.gc_client.specs.Rule.{ById, heard}
@@ -17,18 +17,16 @@ use Rattle.gc_station.specs.declared.progress.Phase.TheVariants as phase
 use Rattle.gc_station.specs.declared.progress.Order.{Order}
 use Rattle.gc_station.specs.declared.progress.Order.TheVariants as orders
 use Rattle.gc_station.specs.declared.progress.Progress.{Progress}
-use Rattle.gc_station.specs.declared.progress.Until.{Until}
 use Rattle.gc_station.specs.declared.progress.Waiting.{Waiting}
-use Rattle.gc_links.specs.Acts.{Act, Told, Untold, Put, Cut, Gave, Silent, Ended, Broke, Closed, Opened}
+use Rattle.gc_links.specs.Acts.{Act, Told, Untold, Put, Cut, Gave, Silent, Ended, Broke, Closed}
 use Rattle.gc_station.specs.Beginnings.{null_text, IsFirst, bytes_in, IsAnsweredAmong}
-use Rattle.gc_station.specs.Deciding.{is_up, is_past, drain_of, order_in}
-use Rattle.gc_station.specs.Marks.{commands_in}
+use Rattle.gc_station.specs.Deciding.{is_up, order_in}
 use Rattle.gc_station.specs.Probing.{KeepsOpen}
-use Rattle.gc_station.specs.Progressing.{turned, told, reckoned_early, cleared, probed, time_passed, quieted, drained, begins_anew, closed_again, closed}
+use Rattle.gc_station.specs.Progressing.{turned, probed, closed_again, closed}
 use Rattle.gc_station.specs.Quiet.{IsRequest, AsksNothing, StaysConnected}
 use Rattle.gc_station.specs.Reasons.{IsFor}
 use Rattle.gc_station.specs.Runs.{stood}
-use Rattle.gc_station.specs.Standing.{Standing, opening, order_at, waiting_of, with_progress, with_moment, with_rest, line_came, lines_came, lines_behind, came, is_heard, request_text, asks_null, after_clock, after_put, after_open, after_read, ReadsClock, IsReading, Puts, Obeys, moved, after, after_all, Runs}
+use Rattle.gc_station.specs.Standing.{Standing, opening, order_at, waiting_of, with_progress, lines_behind, is_heard, request_text, asks_null, after_put, ReadsClock, IsReading, Puts, Obeys, moved, after, after_all, Runs}
 use Rattle.gc_station.proofs.Closings.{runs_split}
 use Rattle.gc_station.proofs.Counts.{ended_progress}
 use Rattle.gc_station.proofs.Drains.{along}
@@ -36,58 +34,18 @@ use Rattle.gc_station.proofs.EachRun.{fine_stood}
 use Rattle.gc_station.proofs.Facts.{order_for}
 use Rattle.gc_station.proofs.Fine.{Fine, is_bare}
 use Rattle.gc_station.proofs.Givens.{rest_with, after_rest}
-use Rattle.gc_station.proofs.Going.{after_all-append}
+use Rattle.gc_station.proofs.Going.{after_all-append, runs_behind}
 use Rattle.gc_station.proofs.Lists.{all_append}
+use Rattle.gc_station.proofs.Walk.{closed_along, moved_changed}
 use Rattle.gc_station.proofs.Midway.{clash}
 use Rattle.gc_station.proofs.Probing.{Comes, Goes, alone_moved, alone_fine, over_stops}
-use Rattle.gc_station.proofs.Quiets.{stage_in, stage_stood, not_clock, not_opening, not_reading, not_clearing, not_closing}
+use Rattle.gc_station.proofs.Quiets.{stage_in, stage_stood, asks_not, not_closing}
 use Rattle.gc_station.specs.Scopes.{Scope}
 
 -- While it begins anew it goes on doing so, until the null procedure goes out.
 
-pub anew_clock : (f : Moment → Progress → Progress) (s : Standing) (act : Act) → ((m : Moment) → (f m s.progress).anew ≡ true) → s.progress.anew ≡ true → (after_clock f s act).progress.anew ≡ true
-anew_clock f s (Told m) step d = step m
-anew_clock f s act step d = d
-
-pub anew_put : (requests : ℕ) (f : Standing → Standing) (s : Standing) (act : Act) → (f s).progress.anew ≡ true → (after_put requests f s act).progress.anew ≡ true
-anew_put requests f s (Cut out n) d = d
-anew_put requests f s act d = d
-
-pub anew_open : (plan : Plan) (s : Standing) (act : Act) → s.progress.anew ≡ true → (after_open plan s act).progress.anew ≡ true
-anew_open plan s Opened d = d
-anew_open plan s act d = d
-
-anew_lines : (s : Standing) (lines : List (List ℕ)) → s.progress.anew ≡ true → (lines_came s lines).progress.anew ≡ true
-anew_lines s [] d = d
-anew_lines s (line ∷ others) d = anew_lines (line_came s line) others d
-
-anew_came : (heard : Bool) (piece : List ℕ) (s : Standing) → s.progress.anew ≡ true → (came heard piece s).progress.anew ≡ true
-anew_came true piece s d = anew_lines (with_rest (rest_behind s.rest piece) s) (lines_behind s.rest piece) d
-anew_came false piece s d = d
-
-anew_test : (p : Progress) (b : Bool) → p.anew ≡ true → (if b then drained p else p).anew ≡ true
-anew_test p true d = d
-anew_test p false d = d
-
-anew_quiet : (plan : Plan) (at : Phase) (p : Progress) → p.anew ≡ true → (quieted plan at p).anew ≡ true
-anew_quiet plan phase.Draining p d = anew_test p (is_past (drain_of plan p) p) d
-anew_quiet plan phase.Pausing p d = d
-anew_quiet plan at p d = d
-
-pub anew_read : (plan : Plan) (until : Until) (s : Standing) (act : Act) → s.progress.anew ≡ true → (after_read plan until s act).progress.anew ≡ true
-anew_read plan until s (Gave bytes m) d = anew_came (is_heard s.progress.phase) bytes (with_moment m (with_progress (told m) s)) d
-anew_read plan until s (Silent m) d = anew_quiet plan s.progress.phase (time_passed until m s.progress) d
-anew_read plan until s act d = d
-
-anew_again : (plan : Plan) (w : Waiting) (why : Cause) (b : Bool) (p : Progress) → p.anew ≡ true → (closed_again plan w why b p).anew ≡ true
-anew_again plan w why true p d = refl
-anew_again plan w why false p d = d
-
 pub anew_close : (plan : Plan) (w : Waiting) (why : Cause) (p : Progress) → p.anew ≡ true → (closed plan w why p).anew ≡ true
-anew_close plan w cause.Done p d = d
-anew_close plan w cause.Clock p d = d
-anew_close plan w cause.Turns p d = d
-anew_close plan w why p d = anew_again plan w why (begins_anew why p) p d
+anew_close plan w why p d = closed_along (λ (q : Progress). q.anew ≡ true) plan w why p d (λ anew. refl) (λ on. d)
 
 -- A line with its id, behind all that came.
 
@@ -188,39 +146,28 @@ calm_reading act o = absurd o
 lone_act : (commands : List Task) (plan : Plan) (next : Order) (s : Standing) (act : Act) → Obeys commands s next act → IsFor plan s.progress (waiting_of s) next → s.progress.phase ≡ phase.Ready → s.progress.alone ≡ true
     → ((why : Cause) × (next ≡ orders.Close why) × (act ≡ Closed)) ⊎ IsCalm act
 lone_act commands plan orders.ReadClock s act o needs is alone = inr (calm_clock act o)
-lone_act commands plan orders.Begin s act o needs is alone = absurd (clash s.progress.alone alone needs.1)
 lone_act commands plan orders.Open s act o needs is alone = let other : phase.Ready ≡ phase.Down = sym is ∙ needs in cc
 lone_act commands plan orders.Clear s act o needs is alone = let other : phase.Ready ≡ phase.Clearing = sym is ∙ needs in cc
 lone_act commands plan orders.Probe s act o needs is alone = let other : phase.Ready ≡ phase.Probing = sym is ∙ needs.0 in cc
-lone_act commands plan orders.Send s act o needs is alone = absurd (clash s.progress.alone alone needs.1)
-lone_act commands plan orders.Skip s act o needs is alone = absurd (clash s.progress.alone alone needs.1)
-lone_act commands plan orders.Flush s act o needs is alone = absurd (clash s.progress.alone alone needs.1)
 lone_act commands plan (orders.Read until) s act o needs is alone = inr (calm_reading act o)
 lone_act commands plan (orders.Close why) s act o needs is alone = inl (why, refl, o)
 lone_act commands plan (orders.Stop why) s act o needs is alone = absurd o
+lone_act commands plan next s act o needs is alone = absurd (clash s.progress.alone alone needs.1)
 
 -- where it is while it waits
 lone_at : (at : Phase) (alone : Bool) → (is_bare at ≡ true → alone ≡ false) → alone ≡ true → (at ≡ phase.Ready) ⊎ (((why : Cause) × (at ≡ phase.Closing why)) ⊎ ((why : Cause) × (at ≡ phase.Over why)))
-lone_at phase.Down alone bare is = absurd (clash alone is (bare refl))
-lone_at phase.Pausing alone bare is = absurd (clash alone is (bare refl))
-lone_at phase.Clearing alone bare is = absurd (clash alone is (bare refl))
-lone_at phase.Draining alone bare is = absurd (clash alone is (bare refl))
-lone_at phase.Probing alone bare is = absurd (clash alone is (bare refl))
 lone_at phase.Ready alone bare is = inl refl
 lone_at (phase.Closing why) alone bare is = inr (inl (why, refl))
 lone_at (phase.Over why) alone bare is = inr (inr (why, refl))
+lone_at at alone bare is = absurd (clash alone is (bare refl))
 
 -- a connection that ends before it is answered begins again, or none does
-lone_again : (plan : Plan) (w : Waiting) (why : Cause) (b : Bool) (p : Progress) → b ≡ true → (closed_again plan w why b p).anew ≡ true
-lone_again plan w why true p is = refl
-lone_again plan w why false p is = cc
-
 lone_close : (plan : Plan) (w : Waiting) (why : Cause) (p : Progress) → p.alone ≡ true → ((closed plan w why p).anew ≡ true) ⊎ ((c : Cause) × ((closed plan w why p).phase ≡ phase.Over c))
 lone_close plan w cause.Done p is = inr (cause.Done, refl)
 lone_close plan w cause.Clock p is = inr (cause.Clock, refl)
 lone_close plan w cause.Turns p is = inr (cause.Turns, refl)
 lone_close plan w cause.Silence p is = inl refl
-lone_close plan w why p is = inl (lone_again plan w why (begins_anew why p) p (ap (λ b. b || p.anew) is))
+lone_close plan w why p is = inl (ap (λ (b : Bool). (closed_again plan w why b p).anew) (ap (λ b. b || p.anew) is))
 
 -- One act more.
 
@@ -254,20 +201,17 @@ lone_put requests f s act acts heard rest o none left is alone = absurd o
 
 anew_moved : (plan : Plan) (commands : List Task) (next : Order) (s : Standing) (act : Act) (acts : List Act) (rest : List ℕ) → Obeys commands s next act → IsFor plan s.progress (waiting_of s) next → Fine plan commands s → s.progress.anew ≡ true
     → rest ≡ rest_with (is_heard s.progress.phase) act s.rest → Begun (moved plan commands next (with_progress turned s) act).progress rest (acts ++ act ∷ [])
-anew_moved plan commands orders.ReadClock s act acts rest o needs fine d left = inl (anew_clock (λ (m : Moment) (p : Progress). reckoned_early plan (commands_in s.marks) (told m p)) (with_progress turned s) act (λ m. d) d)
-anew_moved plan commands orders.Begin s act acts rest o needs fine d left = absurd (clash s.progress.anew d (fine.ready needs.0))
-anew_moved plan commands orders.Open s act acts rest o needs fine d left = inl (anew_open plan (with_progress turned s) act d)
-anew_moved plan commands orders.Clear s act acts rest o needs fine d left = inl (anew_put _ (with_progress cleared) (with_progress turned s) act d)
 anew_moved plan commands orders.Probe s act acts rest o needs fine d left =
     let none = fine.rest (ap is_bare needs.0) in
     let puts = subst (λ (c : ById). Puts (request_text c NullProc) act) (fine.anew d).0 o in
     inr (inl (lone_put _ (λ (x : Standing). with_progress probed (asks_null plan x)) (with_progress turned s) act acts (is_heard s.progress.phase) rest puts none left refl refl))
+anew_moved plan commands orders.Begin s act acts rest o needs fine d left = absurd (clash s.progress.anew d (fine.ready needs.0))
 anew_moved plan commands orders.Send s act acts rest o needs fine d left = absurd (clash s.progress.anew d (fine.ready needs.0))
 anew_moved plan commands orders.Skip s act acts rest o needs fine d left = absurd (clash s.progress.anew d (fine.ready needs.0))
 anew_moved plan commands orders.Flush s act acts rest o needs fine d left = absurd (clash s.progress.anew d (fine.ready needs.0))
-anew_moved plan commands (orders.Read until) s act acts rest o needs fine d left = inl (anew_read plan until (with_progress turned s) act d)
 anew_moved plan commands (orders.Close why) s act acts rest o needs fine d left = inl (anew_close plan (waiting_of s) why (turned s.progress) d)
 anew_moved plan commands (orders.Stop why) s act acts rest o needs fine d left = absurd o
+anew_moved plan commands next s act acts rest o needs fine d left = inl (ap (λ (t : Standing). t.progress.anew) (moved_changed plan commands next (with_progress turned s) act) ∙ d)
 
 -- it waits on
 lone_more : (s : Standing) (act : Act) (acts : List Act) (at : Phase) (alone : Bool) (rest : List ℕ) → IsCalm act → s.progress.phase ≡ phase.Ready → alone ≡ true → rest ≡ rest_with (is_heard s.progress.phase) act s.rest
@@ -353,17 +297,10 @@ begun_stood plan commands scope earlier between anew runs =
 -- the request that goes out where it begins anew
 pub first_act : (plan : Plan) (commands : List Task) (next : Order) (s : Standing) (act : Act) → Obeys commands s next act → IsRequest act → IsFor plan s.progress (waiting_of s) next → Fine plan commands s → s.progress.anew ≡ true
     → (s.progress.phase ≡ phase.Probing) × Puts null_text act
-first_act plan commands orders.ReadClock s act o asks needs fine d = absurd (not_clock act o asks)
-first_act plan commands orders.Begin s act o asks needs fine d = absurd (not_clock act o asks)
-first_act plan commands orders.Open s act o asks needs fine d = absurd (not_opening act o asks)
-first_act plan commands orders.Clear s act o asks needs fine d = absurd (not_clearing act o asks)
 first_act plan commands orders.Probe s act o asks needs fine d = (needs.0, subst (λ (c : ById). Puts (request_text c NullProc) act) (fine.anew d).0 o)
 first_act plan commands orders.Send s act o asks needs fine d = absurd (clash s.progress.anew d (fine.ready needs.0))
-first_act plan commands orders.Skip s act o asks needs fine d = absurd (not_clock act o asks)
 first_act plan commands orders.Flush s act o asks needs fine d = absurd (clash s.progress.anew d (fine.ready needs.0))
-first_act plan commands (orders.Read until) s act o asks needs fine d = absurd (not_reading act o asks)
-first_act plan commands (orders.Close why) s act o asks needs fine d = absurd (not_closing act o asks)
-first_act plan commands (orders.Stop why) s act o asks needs fine d = absurd o
+first_act plan commands next s act o asks needs fine d = absurd (asks_not plan commands next s act o (λ is. cc, λ is. cc, λ is. cc) asks)
 
 -- none goes out while it waits
 lone_none : (plan : Plan) (commands : List Task) (s : Standing) (act : Act) (acts : List Act) → Obeys commands s (order_at plan s) act → IsRequest act → Fine plan commands s → IsLone s.progress.phase s.progress.alone s.rest acts → ⊥
@@ -376,10 +313,6 @@ lone_none plan commands s act acts o asks fine l = by_phase (lone_at s.progress.
   by_phase (inl ready) = acts_on (lone_act commands plan (order_at plan s) s act o (order_for plan s.progress (waiting_of s)) ready l.is)
   by_phase (inr (inl closing)) = not_closing act (subst (λ (x : Phase). Obeys commands s (order_in x plan s.progress (waiting_of s)) act) closing.1 o) asks
   by_phase (inr (inr over)) = over_stops plan commands s act o over.0 over.1
-
-pub runs_behind : (plan : Plan) (commands : List Task) (s : Standing) (xs ys : List Act) → Runs plan commands s (xs ++ ys) → Runs plan commands (after_all plan commands s xs) ys
-runs_behind plan commands s [] ys runs = runs
-runs_behind plan commands s (x ∷ xs) ys runs = runs_behind plan commands (after plan commands s x) xs ys runs.1
 
 pub beginning_answered : (plan : Plan) (commands : List Task) (scope : Scope) (earlier between later : List Act) (act : Act) → plan.quiet ≤ 18446744073709551615 → Runs plan commands (opening plan scope) ((earlier ++ between) ++ act ∷ later)
     → (stood plan commands scope earlier).progress.anew ≡ true → IsRequest act → IsFirst plan.quiet (earlier ++ between) act ⊎ IsAnsweredAmong between

@@ -1,47 +1,42 @@
 -- A command of a chain goes out only behind the answer of the one before it.
-use Rattle.std.proofs.Common.{◌≡◌, ◌⊎◌, inl, inr, ℕ, ◌+◌, ◌-◌, ◌<◌, ◌≤◌, ◌||◌, Bool, true, false, if◌then◌else◌, List, [], ◌∷◌, ◌++◌, length, drop, map, Option, Some, None, refl, sym, ap, ◌∙◌, subst, arith, append_assoc}
+use Rattle.std.proofs.Common.{◌≡◌, ◌⊎◌, inl, inr, ℕ, ◌+◌, ◌-◌, ◌<◌, ◌≤◌, ◌||◌, Bool, true, false, List, [], ◌∷◌, ◌++◌, length, drop, map, Option, Some, None, refl, sym, ap, ◌∙◌, subst, arith, append_assoc}
 use Rattle.std.specs.List.{AllByRecursion}
 use Rattle.std.proofs.lemmas.List.{length-drop, map-append}
-use Rattle.gc_lines.specs.Frames.{rest_behind}
 use Rattle.gc_catalogue.specs.declared.answer.Answer.{Answer}
 use Rattle.gc_catalogue.specs.declared.answer.Reading.{Reading}
 use Rattle.gc_catalogue.specs.declared.call.Call.{Call}
 use Rattle.gc_texts.specs.declared.tasks.Task.{Task}
-use Rattle.gc_texts.specs.Endings.{End, Answered, Unreadable, Late, Lost, Skipped, Missed}
+use Rattle.gc_texts.specs.Endings.{End, Answered}
 use Rattle.gc_station.specs.declared.cause.Cause.{Cause}
 use Rattle.gc_station.specs.declared.cause.Cause.TheVariants as cause
-use Rattle.gc_station.specs.declared.mark.Mark.{Mark}
 use Rattle.gc_station.specs.declared.plan.Plan.{Plan}
 use Rattle.gc_station.specs.declared.progress.Order.{Order}
-use Rattle.gc_station.specs.declared.progress.Order.TheVariants.{ReadClock, Begin, Open, Clear, Probe, Send, Skip, Flush, Read, Close, Stop}
-use Rattle.gc_station.specs.declared.progress.Phase.{Phase}
-use Rattle.gc_station.specs.declared.progress.Phase.TheVariants as phase
+use Rattle.gc_station.specs.declared.progress.Order.TheVariants.{Begin, Open, Send, Skip, Read, Close, Stop}
 use Rattle.gc_station.specs.declared.progress.Progress.{Progress}
-use Rattle.gc_station.specs.declared.progress.Until.{Until}
 use Rattle.gc_station.specs.declared.progress.Waiting.{Waiting}
-use Rattle.gc_links.specs.Acts.{Act, Told, Cut, Gave, Silent, Ended, Broke, Closed, Opened}
+use Rattle.gc_links.specs.Acts.{Act, Told, Cut, Closed, Opened}
 use Rattle.gc_station.specs.Answers.{IsTrueRecord, answer_of}
 use Rattle.gc_station.specs.Chains.{IsChained, IsLinked}
-use Rattle.gc_station.specs.Deciding.{is_past, drain_of}
 use Rattle.gc_station.specs.EachOnce.{Request, of_record, of_task, requests, sent_by}
 use Rattle.gc_station.specs.Marks.{commands_in, is_value, is_well, last_well}
 use Rattle.gc_station.specs.Probing.{KeepsOpen}
-use Rattle.gc_station.specs.Progressing.{turned, told, begun, skipped, cleared, asking, probed, sent, reckoned_early, closed_again, closed, quieted, drained, time_passed}
+use Rattle.gc_station.specs.Progressing.{failing, turned, begun}
 use Rattle.gc_station.specs.Reasons.{IsFor, MayGo}
 use Rattle.gc_station.specs.Records.{Record}
 use Rattle.gc_station.specs.Runs.{stood}
 use Rattle.gc_station.specs.Scopes.{Scope}
-use Rattle.gc_station.specs.Standing.{Standing, Obeys, ReadsClock, IsOpening, IsReading, Puts, Runs, opening, order_at, waiting_of, place_next, cycles_begun, mark_next, is_chained, bound_next, with_progress, with_moment, with_rest, with_records, skips, asks_null, asks_first, asks_next, line_came, lines_came, lines_behind, came, is_heard, after_clock, after_put, after_open, after_read, moved}
+use Rattle.gc_station.specs.Standing.{Standing, requests_out, Obeys, Puts, Runs, opening, order_at, waiting_of, place_next, cycles_begun, is_chained, bound_next, with_progress, with_rest, moved}
 use Rattle.gc_station.proofs.Answers.{answers_true}
 use Rattle.gc_station.proofs.Counts.{ended_progress}
 use Rattle.gc_station.proofs.Each.{each_settled, sent_next}
 use Rattle.gc_station.proofs.EachRun.{fine_stood}
-use Rattle.gc_station.proofs.Facts.{order_for}
+use Rattle.gc_station.proofs.Facts.{or_true, order_for}
 use Rattle.gc_station.proofs.Fine.{Fine}
 use Rattle.gc_station.proofs.Going.{after_all-append}
 use Rattle.gc_station.proofs.Lists.{all_append}
 use Rattle.gc_station.proofs.Midway.{clash}
 use Rattle.gc_station.proofs.Readings.{stood_reads}
+use Rattle.gc_station.proofs.Walk.{closed_along, is_sent, moved_changed, walk}
 
 -- What an act does to the place in a cycle, and to the chain that is there.
 
@@ -72,107 +67,43 @@ Steps count bound Skip p q = Still p q ⊎ (Next bound p q × (q.whole ≡ false
 Steps count bound (Close why) p q = Still p q × (q.whole ≡ false)
 Steps count bound _ p q = Still p q
 
-still : (p : Progress) → Still p p
-still p = record { left = refl; unsent = refl; missed = refl; bound = refl; whole = λ e. e }
+still : (p q : Progress) → q.left ≡ p.left → q.unsent ≡ p.unsent → q.missed ≡ p.missed → q.bound ≡ p.bound → q.whole ≡ p.whole → Still p q
+still p q left unsent missed bound whole = record { left = left; unsent = unsent; missed = missed; bound = bound; whole = λ e. sym whole ∙ e }
 
-lines_still : (s : Standing) (lines : List (List ℕ)) → Still s.progress (lines_came s lines).progress
-lines_still s [] = still s.progress
-lines_still s (line ∷ others) = let k = lines_still (line_came s line) others in record { left = k.left; unsent = k.unsent; missed = k.missed; bound = k.bound; whole = k.whole }
-
-came_still : (heard : Bool) (piece : List ℕ) (s : Standing) → Still s.progress (came heard piece s).progress
-came_still true piece s = let k = lines_still (with_rest (rest_behind s.rest piece) s) (lines_behind s.rest piece) in record { left = k.left; unsent = k.unsent; missed = k.missed; bound = k.bound; whole = k.whole }
-came_still false piece s = still s.progress
-
-drained_still : (b : Bool) (p : Progress) → Still p (if b then drained p else p)
-drained_still true p = record { left = refl; unsent = refl; missed = refl; bound = refl; whole = λ e. e }
-drained_still false p = still p
-
-quieted_still : (plan : Plan) (phase : Phase) (p : Progress) → Still p (quieted plan phase p)
-quieted_still plan phase.Pausing p = record { left = refl; unsent = refl; missed = refl; bound = refl; whole = λ e. e }
-quieted_still plan phase.Draining p = drained_still (is_past (drain_of plan p) p) p
-quieted_still plan phase p = still p
-
-read_still : (plan : Plan) (until : Until) (s : Standing) (act : Act) → Still s.progress (after_read plan until s act).progress
-read_still plan until s (Gave bytes m) =
-    let k = came_still (is_heard s.progress.phase) bytes (with_moment m (with_progress (told m) s)) in record { left = k.left; unsent = k.unsent; missed = k.missed; bound = k.bound; whole = k.whole }
-read_still plan until s (Silent m) =
-    let k = quieted_still plan s.progress.phase (time_passed until m s.progress) in record { left = k.left; unsent = k.unsent; missed = k.missed; bound = k.bound; whole = k.whole }
-read_still plan until s Ended = record { left = refl; unsent = refl; missed = refl; bound = refl; whole = λ e. e }
-read_still plan until s Broke = record { left = refl; unsent = refl; missed = refl; bound = refl; whole = λ e. e }
-read_still plan until s act = record { left = refl; unsent = refl; missed = refl; bound = refl; whole = λ e. e }
-
-clock_still : (plan : Plan) (n : ℕ) (s : Standing) (act : Act) → Still s.progress (after_clock (λ m p. reckoned_early plan n (told m p)) s act).progress
-clock_still plan n s (Told m) = record { left = refl; unsent = refl; missed = refl; bound = refl; whole = λ e. e }
-clock_still plan n s act = record { left = refl; unsent = refl; missed = refl; bound = refl; whole = λ e. e }
-
-begin_steps : (plan : Plan) (count : ℕ) (s : Standing) (act : Act) → Still s.progress (after_clock (begun plan count) s act).progress ⊎ Anew count (after_clock (begun plan count) s act).progress
-begin_steps plan count s (Told m) = inr (record { unsent = refl; whole = refl })
-begin_steps plan count s act = inl (record { left = refl; unsent = refl; missed = refl; bound = refl; whole = λ e. e })
-
-skip_steps : (plan : Plan) (n : ℕ) (bound : Bool) (s : Standing) (act : Act)
-    → Still s.progress (after_clock (λ m p. reckoned_early plan n (skipped bound m p)) s act).progress
-    ⊎ (Next bound s.progress (after_clock (λ m p. reckoned_early plan n (skipped bound m p)) s act).progress × ((after_clock (λ m p. reckoned_early plan n (skipped bound m p)) s act).progress.whole ≡ false))
-skip_steps plan n bound s (Told m) = inr (record { left = refl; unsent = refl; missed = refl; is_bound = refl }, refl)
-skip_steps plan n bound s act = inl (record { left = refl; unsent = refl; missed = refl; bound = refl; whole = λ e. e })
-
-put_still : (p : Progress) (requests : ℕ) (f : Standing → Standing) (s : Standing) (act : Act) → Still p (f s).progress → Still p (after_put requests f s act).progress
-put_still p requests f s (Cut bytes n) k = record { left = k.left; unsent = k.unsent; missed = k.missed; bound = k.bound; whole = k.whole }
-put_still p requests f s act k = k
-
-put_next : (bound : Bool) (p : Progress) (requests : ℕ) (f : Standing → Standing) (s : Standing) (act : Act) → Next bound p (f s).progress → Next bound p (after_put requests f s act).progress
-put_next bound p requests f s (Cut bytes n) k = record { left = k.left; unsent = k.unsent; missed = k.missed; is_bound = k.is_bound }
-put_next bound p requests f s act k = k
-
-first_next : (bound : Bool) (mark : Mark) (left : List Task) (s : Standing) → Next bound s.progress (with_progress (sent bound) (asks_first mark left s)).progress
-first_next bound mark [] s = record { left = refl; unsent = refl; missed = refl; is_bound = refl }
-first_next bound mark (task ∷ others) s = record { left = refl; unsent = refl; missed = refl; is_bound = refl }
-
-open_still : (plan : Plan) (s : Standing) (act : Act) → Still s.progress (after_open plan s act).progress
-open_still plan s Opened = record { left = refl; unsent = refl; missed = refl; bound = refl; whole = λ e. e }
-open_still plan s act = record { left = refl; unsent = refl; missed = refl; bound = refl; whole = λ e. cc }
-
-again_steps : (plan : Plan) (w : Waiting) (why : Cause) (b : Bool) (p : Progress) → Still p (closed_again plan w why b p) × ((closed_again plan w why b p).whole ≡ false)
-again_steps plan w why true p = (record { left = refl; unsent = refl; missed = refl; bound = refl; whole = λ e. cc }, refl)
-again_steps plan w why false p = (record { left = refl; unsent = refl; missed = refl; bound = refl; whole = λ e. cc }, refl)
-
-closed_steps : (plan : Plan) (w : Waiting) (why : Cause) (p : Progress) → Still p (closed plan w why p) × ((closed plan w why p).whole ≡ false)
-closed_steps plan w cause.Done p = (record { left = refl; unsent = refl; missed = refl; bound = refl; whole = λ e. cc }, refl)
-closed_steps plan w cause.Clock p = (record { left = refl; unsent = refl; missed = refl; bound = refl; whole = λ e. cc }, refl)
-closed_steps plan w cause.Turns p = (record { left = refl; unsent = refl; missed = refl; bound = refl; whole = λ e. cc }, refl)
-closed_steps plan w cause.Silence p = again_steps plan w cause.Silence true p
-closed_steps plan w why p = again_steps plan w why (p.alone || p.anew) p
+-- and is broken
+broken : (p q : Progress) → q.left ≡ p.left → q.unsent ≡ p.unsent → q.missed ≡ p.missed → q.bound ≡ p.bound → q.whole ≡ false → Still p q × (q.whole ≡ false)
+broken p q left unsent missed bound whole = (record { left = left; unsent = unsent; missed = missed; bound = bound; whole = λ e. let both : true ≡ false = sym e ∙ whole in cc }, whole)
 
 moved_steps : (plan : Plan) (commands : List Task) (order : Order) (s : Standing) (act : Act) → Steps (length commands) (bound_next commands s.progress) order s.progress (moved plan commands order s act).progress
-moved_steps plan commands ReadClock s act = clock_still plan (commands_in s.marks) s act
-moved_steps plan commands Begin s act = begin_steps plan (length commands) s act
-moved_steps plan commands Open s act = open_still plan s act
-moved_steps plan commands Clear s act = put_still s.progress _ (with_progress cleared) s act (record { left = refl; unsent = refl; missed = refl; bound = refl; whole = λ e. e })
-moved_steps plan commands Probe s act = put_still s.progress _ (λ (x : Standing). with_progress probed (asks_null plan x)) s act (record { left = refl; unsent = refl; missed = refl; bound = refl; whole = λ e. e })
+moved_steps plan commands Begin s (Told m) = inr (record { unsent = refl; whole = refl })
+moved_steps plan commands Begin s act = inl (still s.progress _ refl refl refl refl refl)
+moved_steps plan commands Open s Opened = still s.progress _ refl refl refl refl refl
+moved_steps plan commands Open s act = (broken s.progress _ refl refl refl refl refl).0
+moved_steps plan commands Send s (Cut bytes n) =
+    subst (λ (x : Standing). Next (bound_next commands s.progress) s.progress (failing (cause.Write (requests_out plan commands s.progress) n) x.progress)) (is_sent plan commands s)
+    (record { left = refl; unsent = refl; missed = refl; is_bound = refl })
 moved_steps plan commands Send s act =
-    put_next (bound_next commands s.progress) s.progress _ (λ (x : Standing). with_progress (sent (bound_next commands x.progress)) (asks_next plan commands x)) s act
-    (first_next (bound_next commands s.progress) (mark_next plan commands s.progress) (drop (place_next commands s.progress) commands) s)
-moved_steps plan commands Skip s act = skip_steps plan (commands_in s.marks) (bound_next commands s.progress) (with_records (skips plan commands s.progress act) s) act
-moved_steps plan commands Flush s act = put_still s.progress _ (λ (x : Standing). with_progress asking (asks_null plan x)) s act (record { left = refl; unsent = refl; missed = refl; bound = refl; whole = λ e. e })
-moved_steps plan commands (Read until) s act = read_still plan until s act
-moved_steps plan commands (Close why) s act = closed_steps plan (waiting_of (with_rest [] s)) why s.progress
-moved_steps plan commands (Stop why) s act = still s.progress
+    subst (λ (x : Standing). Next (bound_next commands s.progress) s.progress x.progress) (is_sent plan commands s) (record { left = refl; unsent = refl; missed = refl; is_bound = refl })
+moved_steps plan commands Skip s (Told m) = inr (record { left = refl; unsent = refl; missed = refl; is_bound = refl }, refl)
+moved_steps plan commands Skip s act = inl (still s.progress _ refl refl refl refl refl)
+moved_steps plan commands (Close why) s act =
+    closed_along (λ (q : Progress). Still s.progress q × (q.whole ≡ false)) plan (waiting_of (with_rest [] s)) why s.progress
+    (broken s.progress _ refl refl refl refl refl) (λ anew. broken s.progress _ refl refl refl refl refl) (λ on. broken s.progress _ refl refl refl refl refl)
+moved_steps plan commands order s act =
+    let is = moved_changed plan commands order s act in
+    still s.progress _ (ap (λ (x : Standing). x.progress.left) is) (ap (λ (x : Standing). x.progress.unsent) is) (ap (λ (x : Standing). x.progress.missed) is) (ap (λ (x : Standing). x.progress.bound) is)
+    (ap (λ (x : Standing). x.progress.whole) is)
 
 -- only a close closes
-puts_open : (bytes : List ℕ) (act : Act) → Puts bytes act → KeepsOpen act
+pub puts_open : (bytes : List ℕ) (act : Act) → Puts bytes act → KeepsOpen act
 puts_open bytes Closed o = absurd o
 puts_open bytes act o = tt
 
-clock_open : (act : Act) → ReadsClock act → KeepsOpen act
-clock_open Closed o = absurd o
-clock_open act o = tt
-
-opening_open : (act : Act) → IsOpening act → KeepsOpen act
-opening_open Closed o = absurd o
-opening_open act o = tt
-
-reading_open : (act : Act) → IsReading act → KeepsOpen act
-reading_open Closed o = absurd o
-reading_open act o = tt
+stays_open : (plan : Plan) (commands : List Task) (next : Order) (s : Standing) (act : Act) → Obeys commands s next act → ((why : Cause) → next ≡ Close why → ⊥) → KeepsOpen act
+stays_open plan commands (Read until) s act o other = walk plan commands (λ a (t : Standing). KeepsOpen a) (Read until) s act o (λ bytes m. tt, λ m. tt, tt, tt, tt)
+stays_open plan commands (Close why) s act o other = absurd (other why refl)
+stays_open plan commands (Stop why) s act o other = absurd o
+stays_open plan commands next s act o other = walk plan commands (λ a (t : Standing). KeepsOpen a) next s act o (λ m. tt, λ n. tt)
 
 -- What every run keeps of the chain where it stands.
 
@@ -265,19 +196,14 @@ chain_moved : (plan : Plan) (commands : List Task) (scope : Scope) (acts : List 
     → order_at plan (stood plan commands scope acts) ≡ order → IsFor plan (stood plan commands scope acts).progress w order → Obeys commands (stood plan commands scope acts) order act
     → Steps (length commands) (bound_next commands (turned (stood plan commands scope acts).progress)) order (turned (stood plan commands scope acts).progress) q
     → Chain plan commands scope acts (turned (stood plan commands scope acts).progress) → Chain plan commands scope (acts ++ act ∷ []) q
-chain_moved plan commands scope acts act Begin w q fine is needs o (inl k) h = chain_still plan commands scope acts act _ q k (clock_open act o) h
+chain_moved plan commands scope acts act Begin w q fine is needs o (inl k) h = chain_still plan commands scope acts act _ q k (stays_open plan commands Begin (stood plan commands scope acts) act o (λ why e. cc)) h
 chain_moved plan commands scope acts act Begin w q fine is needs o (inr a) h = chain_anew plan commands scope (acts ++ act ∷ []) q a
 chain_moved plan commands scope acts act Send w q fine is needs o n h = chain_sent plan commands scope acts act (turned (stood plan commands scope acts).progress) q refl is n needs.2 fine.unsent
-chain_moved plan commands scope acts act Skip w q fine is needs o (inl k) h = chain_still plan commands scope acts act _ q k (clock_open act o) h
+chain_moved plan commands scope acts act Skip w q fine is needs o (inl k) h = chain_still plan commands scope acts act _ q k (stays_open plan commands Skip (stood plan commands scope acts) act o (λ why e. cc)) h
 chain_moved plan commands scope acts act Skip w q fine is needs o (inr n) h = chain_skipped plan commands scope (acts ++ act ∷ []) (turned (stood plan commands scope acts).progress) q n.0 n.1 needs.2 fine.unsent
 chain_moved plan commands scope acts act (Close why) w q fine is needs o k h = chain_closed plan commands scope acts (acts ++ act ∷ []) _ q k.0 k.1 h
 chain_moved plan commands scope acts act (Stop why) w q fine is needs o k h = absurd o
-chain_moved plan commands scope acts act ReadClock w q fine is needs o k h = chain_still plan commands scope acts act _ q k (clock_open act o) h
-chain_moved plan commands scope acts act Open w q fine is needs o k h = chain_still plan commands scope acts act _ q k (opening_open act o) h
-chain_moved plan commands scope acts act Clear w q fine is needs o k h = chain_still plan commands scope acts act _ q k (puts_open _ act o) h
-chain_moved plan commands scope acts act Probe w q fine is needs o k h = chain_still plan commands scope acts act _ q k (puts_open _ act o) h
-chain_moved plan commands scope acts act Flush w q fine is needs o k h = chain_still plan commands scope acts act _ q k (puts_open _ act o) h
-chain_moved plan commands scope acts act (Read until) w q fine is needs o k h = chain_still plan commands scope acts act _ q k (reading_open act o) h
+chain_moved plan commands scope acts act next w q fine is needs o k h = chain_still plan commands scope acts act _ q k (stays_open plan commands next (stood plan commands scope acts) act o (λ why e. cc)) h
 
 -- and so each run
 chain_along : (plan : Plan) (commands : List Task) (scope : Scope) (done acts : List Act) → Runs plan commands (stood plan commands scope done) acts → Chain plan commands scope done (stood plan commands scope done).progress
@@ -324,11 +250,7 @@ record Last (reads : Call → List ℕ → Reading) (records : List Record) : Ty
 
 well_end : (reads : Call → List ℕ → Reading) (call : Call) (end : End) → is_well reads call end ≡ true → (said : Option Answer) × (line : List ℕ) × (end ≡ Answered said line) × (is_value (reads call line) ≡ true)
 well_end reads call (Answered said line) e = (said, line, refl, e)
-well_end reads call (Unreadable line fault) e = cc
-well_end reads call Late e = cc
-well_end reads call Lost e = cc
-well_end reads call Skipped e = cc
-well_end reads call Missed e = cc
+well_end reads call end e = cc
 
 last_one : (reads : Call → List ℕ → Reading) (r : Record) (rs : List Record) → last_well reads (is_well reads r.command.call r.end) rs ≡ true → Last reads (r ∷ rs)
 last_one reads r [] e = let it = well_end reads r.command.call r.end e in record { earlier = []; answer = r; last = refl; said = it.0; line = it.1; answered = it.2; well = it.3 }
@@ -377,10 +299,7 @@ chain_kept plan commands scope acts runs is chained = of_may needs.4 where
   needs = subst (λ (o : Order). IsFor plan s.progress (waiting_of s) o) is (order_for plan s.progress (waiting_of s))
 
   bound : s.progress.bound ≡ true
-  bound = h.bound chained.0 ∙ ap (λ (b : Bool). s.progress.missed || b) chained.1 ∙ or_true s.progress.missed where
-    or_true : (b : Bool) → (b || true) ≡ true
-    or_true true = refl
-    or_true false = refl
+  bound = h.bound chained.0 ∙ ap (λ (b : Bool). s.progress.missed || b) chained.1 ∙ or_true s.progress.missed
 
   of_last : commands_in s.marks ≡ 0 → Last scope.reads s.records → Whole plan commands scope acts s.progress → IsLinked plan commands scope acts
   of_last settled l w =

@@ -1,33 +1,31 @@
 -- A connection is closed, and a run stops, only for a cause: whatever decides the end, the act that did it shows.
-use Rattle.std.proofs.Common.{◌≡◌, ℕ, ◌⊎◌, inl, inr, ◌&&◌, ◌||◌, Bool, true, false, not, List, [], ◌∷◌, ◌++◌, length, drop, Option, Some, None, if◌then◌else◌, nat_lt, nat_eq, refl, sym, ap, ◌∙◌, subst, arith}
+use Rattle.std.proofs.Common.{◌≡◌, ℕ, ◌⊎◌, inl, inr, ◌&&◌, ◌||◌, Bool, true, false, not, List, [], ◌∷◌, ◌++◌, drop, Option, Some, None, if◌then◌else◌, nat_lt, nat_eq, refl, sym, ap, ◌∙◌, subst, arith}
 use Rattle.std.proofs.lemmas.Bool.Decides.{nat_tests}
-use Rattle.gc_lines.specs.Frames.{rest_behind}
+use Rattle.gc_catalogue.specs.declared.call.Call.TheVariants.{NullProc}
 use Rattle.gc_texts.specs.declared.tasks.Task.{Task}
 use Rattle.gc_station.specs.declared.plan.Plan.{Plan}
 use Rattle.gc_station.specs.declared.cause.Cause.{Cause}
 use Rattle.gc_station.specs.declared.cause.Cause.TheVariants as cause
-use Rattle.gc_links.specs.declared.link.Moment.{Moment}
-use Rattle.gc_station.specs.declared.mark.Mark.{Mark}
 use Rattle.gc_station.specs.declared.progress.Phase.{Phase}
 use Rattle.gc_station.specs.declared.progress.Phase.TheVariants.{Pausing, Draining, Probing, Ready, Closing, Over, Down}
 use Rattle.gc_station.specs.declared.progress.Order.{Order}
 use Rattle.gc_station.specs.declared.progress.Order.TheVariants as order
 use Rattle.gc_station.specs.declared.progress.Progress.{Progress}
-use Rattle.gc_station.specs.declared.progress.Until.{Until}
 use Rattle.gc_station.specs.declared.progress.Waiting.{Waiting}
-use Rattle.gc_links.specs.Acts.{Act, Told, Untold, Put, Cut, Gave, Silent, Ended, Broke, Closed, Opened, Unopened}
-use Rattle.gc_station.specs.Deciding.{is_up, is_past, drain_of, order_in}
+use Rattle.gc_links.specs.Acts.{Act, Untold, Cut, Ended, Broke, Closed}
+use Rattle.gc_station.specs.Deciding.{is_up, is_past, order_in}
 use Rattle.gc_station.specs.Marks.{commands_in}
-use Rattle.gc_station.specs.Progressing.{turned, told, begun, skipped, failing, quieted, drained, time_passed, asking, reckoned_early, is_finished, is_idle, begins_anew, closed_again, closed, cleared, probed, sent, is_spared}
+use Rattle.gc_station.specs.Progressing.{turned, told, failing, quieted, time_passed, is_finished, is_idle, begins_anew, closed_again, closed, is_spared}
 use Rattle.gc_station.specs.Closing.{IsAlone, IsReasoned, Shows, ClosesForACause, EndsDone, EndsBehind, EndsGone, Ends, StopsForACause, commands_behind}
 use Rattle.gc_station.specs.Reasons.{IsFor, IsAtItsEnd}
 use Rattle.gc_station.specs.Runs.{stood}
-use Rattle.gc_station.specs.Standing.{Standing, waiting_of, opening, order_at, place_next, bound_next, mark_next, with_progress, with_moment, with_rest, is_heard, line_came, lines_came, lines_behind, came, asks_null, asks_first, asks_next, with_records, skips, after_clock, after_put, after_open, after_read, Puts, ReadsClock, IsOpening, IsReading, Obeys, moved, after, after_all, Runs}
+use Rattle.gc_station.specs.Standing.{Standing, requests_out, request_text, first_text, waiting_of, opening, order_at, place_next, with_progress, with_moment, is_heard, came, Obeys, moved, after, after_all, Runs}
 use Rattle.gc_station.proofs.Counts.{ended_progress}
 use Rattle.gc_station.proofs.EachRun.{fine_stood}
 use Rattle.gc_station.proofs.Facts.{order_for}
 use Rattle.gc_station.proofs.Fine.{Fine, is_bare, says_done}
 use Rattle.gc_station.proofs.Going.{after_all-append}
+use Rattle.gc_station.proofs.Walk.{came_along, quieted_along, walk}
 use Rattle.gc_station.proofs.Turns.{again_down, closed_down}
 use Rattle.gc_station.specs.Scopes.{Scope}
 
@@ -54,19 +52,6 @@ fail_decides before at false why c act is shows down e = let same : why ≡ c = 
 failed : {Other : Type 0} (s : Standing) (why c : Cause) (act : Act) → Shows why act → end_of (with_progress (failing why) s).progress.phase ≡ Some c → Decides Other s.progress.phase (with_progress (failing why) s).progress.phase c act
 failed s why c act shows e = fail_decides s.progress.phase s.progress.phase (is_up s.progress.phase) why c act refl shows (λ d. d) e
 
-clock_decides : {Other : Type 0} (f : Moment → Progress → Progress) (s : Standing) (act : Act) (c : Cause) → ReadsClock act → ((m : Moment) → (f m s.progress).phase ≡ s.progress.phase) → end_of (after_clock f s act).progress.phase ≡ Some c
-    → Decides Other s.progress.phase (after_clock f s act).progress.phase c act
-clock_decides f s (Told m) c o same e = inr (inr (same m))
-clock_decides f s Untold c o same e = failed s cause.Clock c Untold refl e
-clock_decides f s act c o same e = absurd o
-
-put_decides : {Other : Type 0} (requests : ℕ) (bytes : List ℕ) (f : Standing → Standing) (s : Standing) (act : Act) (c : Cause) → Puts bytes act
-    → (end_of (f s).progress.phase ≡ Some c → (f s).progress.phase ≡ s.progress.phase) → (is_up (f s).progress.phase ≡ false → is_up s.progress.phase ≡ false) → end_of (after_put requests f s act).progress.phase ≡ Some c
-    → Decides Other s.progress.phase (after_put requests f s act).progress.phase c act
-put_decides requests bytes f s (Put out) c o same down e = inr (inr (same e))
-put_decides requests bytes f s (Cut out n) c o same down e = fail_decides s.progress.phase (f s).progress.phase (is_up (f s).progress.phase) (cause.Write requests n) c (Cut out n) refl (out, refl) down e
-put_decides requests bytes f s act c o same down e = absurd o
-
 drained_none : (p : Progress) (anew : Bool) (c : Cause) → end_of (if anew then Probing else Ready) ≡ Some c → ⊥
 drained_none p true c e = cc
 drained_none p false c e = cc
@@ -75,32 +60,14 @@ paused_same : (at : Phase) (b : Bool) (c : Cause) → end_of (if b then Down els
 paused_same at true c e = cc
 paused_same at false c e = refl
 
-drained_same : (p : Progress) (b : Bool) (c : Cause) → end_of (if b then drained p else p).phase ≡ Some c → (if b then drained p else p).phase ≡ p.phase
-drained_same p true c e = absurd (drained_none p p.anew c e)
-drained_same p false c e = refl
-
 quiet_same : (plan : Plan) (phase : Phase) (p : Progress) (c : Cause) → end_of (quieted plan phase p).phase ≡ Some c → (quieted plan phase p).phase ≡ p.phase
-quiet_same plan Pausing p c e = paused_same p.phase (is_past p.pause p && not (is_idle plan p)) c e
-quiet_same plan Draining p c e = drained_same p (is_past (drain_of plan p) p) c e
-quiet_same plan phase p c e = refl
+quiet_same plan phase p c =
+    quieted_along (λ (q : Progress). end_of q.phase ≡ Some c → q.phase ≡ p.phase) plan phase p
+    (λ e. paused_same p.phase (is_past p.pause p && not (is_idle plan p)) c e) (λ e. absurd (drained_none p p.anew c e)) (λ e. refl)
 
 -- no line changes the phase
-lines_phase : (s : Standing) (lines : List (List ℕ)) → (lines_came s lines).progress.phase ≡ s.progress.phase
-lines_phase s [] = refl
-lines_phase s (line ∷ others) = lines_phase (line_came s line) others
-
 pub came_phase : (heard : Bool) (piece : List ℕ) (s : Standing) → (came heard piece s).progress.phase ≡ s.progress.phase
-came_phase true piece s = lines_phase (with_rest (rest_behind s.rest piece) s) (lines_behind s.rest piece)
-came_phase false piece s = refl
-
-read_decides : {Other : Type 0} (plan : Plan) (until : Until) (s : Standing) (act : Act) (c : Cause) → IsReading act → end_of (after_read plan until s act).progress.phase ≡ Some c
-    → Decides Other s.progress.phase (after_read plan until s act).progress.phase c act
-read_decides plan until s Untold c o e = failed s cause.Clock c Untold refl e
-read_decides plan until s (Gave bytes m) c o e = inr (inr (came_phase (is_heard s.progress.phase) bytes (with_moment m (with_progress (told m) s))))
-read_decides plan until s (Silent m) c o e = inr (inr (quiet_same plan s.progress.phase (time_passed until m s.progress) c e))
-read_decides plan until s Ended c o e = failed s cause.End c Ended refl e
-read_decides plan until s Broke c o e = failed s cause.Read c Broke refl e
-read_decides plan until s act c o e = absurd o
+came_phase heard piece s = came_along (λ (t : Standing). t.progress.phase ≡ s.progress.phase) (λ t line e. e) heard piece s refl refl
 
 none_left : (a b n : ℕ) → nat_eq a 0 && nat_eq b 0 && nat_eq n 0 ≡ true → (a ≡ 0) × (b ≡ 0) × (n ≡ 0)
 none_left a b n e = grind (arith, nat_tests, e)
@@ -146,37 +113,48 @@ closed_ends plan w other c p done e = closed_again_ends plan w other c p (begins
 abbrev pub Gone : Plan → Standing → Order → Phase → Cause → Act → Type 0
 Gone plan s next behind c act = (is_up behind ≡ false) × EndsGone plan s.progress (waiting_of s) next c act
 
-open_decides : (plan : Plan) (s : Standing) (act : Act) (c : Cause) → IsOpening act → end_of (after_open plan (with_progress turned s) act).progress.phase ≡ Some c
-    → Decides (Gone plan s order.Open (after_open plan (with_progress turned s) act).progress.phase c act) s.progress.phase (after_open plan (with_progress turned s) act).progress.phase c act
-open_decides plan s Opened c o e = cc
-open_decides plan s Unopened c o e =
-    let n = commands_in s.marks in
-    let p = s.progress in
-    inr (inl (again_down plan n cause.Open p, inr (refl, again_ends plan cause.Open c n p (is_finished n p) (nat_lt 0 p.tries) refl refl e)))
-open_decides plan s act c o e = absurd o
-
-first_phase : (mark : Mark) (left : List Task) (s : Standing) → (asks_first mark left s).progress.phase ≡ s.progress.phase
-first_phase mark [] s = refl
-first_phase mark (command ∷ others) s = refl
+abbrev DecidesSo : Plan → Standing → Order → Cause → Act → Standing → Type 0
+DecidesSo plan s next c act t = end_of t.progress.phase ≡ Some c → Decides (Gone plan s next t.progress.phase c act) s.progress.phase t.progress.phase c act
 
 moved_decides : (plan : Plan) (commands : List Task) (next : Order) (s : Standing) (act : Act) (c : Cause) → Obeys commands s next act → (next ≡ order.Close cause.Done → NoneLeft s.progress (commands_in s.marks))
     → end_of (moved plan commands next (with_progress turned s) act).progress.phase ≡ Some c
     → Decides (Gone plan s next (moved plan commands next (with_progress turned s) act).progress.phase c act) s.progress.phase (moved plan commands next (with_progress turned s) act).progress.phase c act
-moved_decides plan commands order.ReadClock s act c o done e = clock_decides (λ (m : Moment) (p : Progress). reckoned_early plan (commands_in s.marks) (told m p)) (with_progress turned s) act c o (λ m. refl) e
-moved_decides plan commands order.Begin s act c o done e = clock_decides (begun plan (length commands)) (with_progress turned s) act c o (λ m. refl) e
-moved_decides plan commands order.Open s act c o done e = open_decides plan s act c o e
-moved_decides plan commands order.Clear s act c o done e = put_decides _ (10 ∷ []) (with_progress cleared) (with_progress turned s) act c o (λ g. cc) (λ d. cc) e
-moved_decides plan commands order.Probe s act c o done e = put_decides _ _ (λ (x : Standing). with_progress probed (asks_null plan x)) (with_progress turned s) act c o (λ g. cc) (λ d. cc) e
+moved_decides plan commands order.Open s act c o done e =
+    let n = commands_in s.marks in
+    let p = s.progress in
+    walk plan commands (DecidesSo plan s order.Open c) order.Open (with_progress turned s) act o
+    (λ m g. cc, λ k g. inr (inl (again_down plan n cause.Open p, inr (refl, again_ends plan cause.Open c n p (is_finished n p) (nat_lt 0 p.tries) refl refl g)))) e
+moved_decides plan commands order.Clear s act c o done e =
+    walk plan commands (DecidesSo plan s order.Clear c) order.Clear (with_progress turned s) act o
+    (λ m g. cc, λ n g. fail_decides s.progress.phase Draining true (cause.Write (requests_out plan commands (turned s.progress)) n) c (Cut (10 ∷ []) n) refl (10 ∷ [], refl) (λ d. cc) g) e
+moved_decides plan commands order.Probe s act c o done e =
+    let text = request_text s.client NullProc in
+    walk plan commands (DecidesSo plan s order.Probe c) order.Probe (with_progress turned s) act o
+    (λ m g. cc, λ n g. fail_decides s.progress.phase Ready true (cause.Write (requests_out plan commands (turned s.progress)) n) c (Cut text n) refl (text, refl) (λ d. cc) g) e
 moved_decides plan commands order.Send s act c o done e =
-    let same = first_phase (mark_next plan commands s.progress) (drop (place_next commands s.progress) commands) (with_progress turned s) in
-    put_decides _ _ (λ (x : Standing). with_progress (sent (bound_next commands x.progress)) (asks_next plan commands x)) (with_progress turned s) act c o (λ g. same) (λ d. sym (ap is_up same) ∙ d) e
-moved_decides plan commands order.Skip s act c o done e =
-    clock_decides (λ (m : Moment) (p : Progress). reckoned_early plan (commands_in s.marks) (skipped (bound_next commands s.progress) m p)) (with_records (skips plan commands (turned s.progress) act) (with_progress turned s)) act c o (λ m. refl) e
-moved_decides plan commands order.Flush s act c o done e = put_decides _ _ (λ (x : Standing). with_progress asking (asks_null plan x)) (with_progress turned s) act c o (λ g. refl) (λ d. d) e
-moved_decides plan commands (order.Read until) s act c o done e = read_decides plan until (with_progress turned s) act c o e
+    let text = first_text s.client (drop (place_next commands s.progress) commands) in
+    let at = s.progress.phase in
+    walk plan commands (DecidesSo plan s order.Send c) order.Send (with_progress turned s) act o
+    (λ m g. inr (inr refl), λ n g. fail_decides at at (is_up at) (cause.Write (requests_out plan commands (turned s.progress)) n) c (Cut text n) refl (text, refl) (λ d. d) g) e
+moved_decides plan commands order.Flush s act c o done e =
+    let text = request_text s.client NullProc in
+    let at = s.progress.phase in
+    walk plan commands (DecidesSo plan s order.Flush c) order.Flush (with_progress turned s) act o
+    (λ m g. inr (inr refl), λ n g. fail_decides at at (is_up at) (cause.Write (requests_out plan commands (turned s.progress)) n) c (Cut text n) refl (text, refl) (λ d. d) g) e
+moved_decides plan commands (order.Read until) s act c o done e =
+    let t = with_progress turned s in
+    walk plan commands (DecidesSo plan s (order.Read until) c) (order.Read until) t act o (
+      λ bytes m g. inr (inr (came_phase (is_heard s.progress.phase) bytes (with_moment m (with_progress (told m) t)))),
+      λ m g. inr (inr (quiet_same plan s.progress.phase (time_passed until m t.progress) c g)),
+      λ g. failed t cause.End c Ended refl g,
+      λ g. failed t cause.Read c Broke refl g,
+      λ g. failed t cause.Clock c Untold refl g,
+    ) e
 moved_decides plan commands (order.Close why) s act c o done e =
     inr (inl (closed_down plan (waiting_of s) why (turned s.progress), inl (why, o, refl, closed_ends plan (waiting_of s) why c s.progress (λ is. done (ap order.Close is)) e)))
 moved_decides plan commands (order.Stop why) s act c o done e = absurd o
+moved_decides plan commands next s act c o done e =
+    walk plan commands (DecidesSo plan s next c) next (with_progress turned s) act o (λ m g. inr (inr refl), λ n g. failed (with_progress turned s) cause.Clock c Untold refl g) e
 
 -- where the end is decided, no act leaves the phase: a connection is closed, and without one no act is made
 not_twice : (plan : Plan) (commands : List Task) (s : Standing) (act : Act) (c : Cause) (phase : Phase) → s.progress.phase ≡ phase → end_of phase ≡ Some c → Obeys commands s (order_in phase plan s.progress (waiting_of s)) act

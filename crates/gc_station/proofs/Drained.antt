@@ -1,16 +1,14 @@
 -- Where a station begins anew, a connection is drained for as many quiet times as requests waited.
-use Rattle.std.proofs.Common.{◌≡◌, ℕ, ◌*◌, ◌-◌, ◌≤◌, inl, inr, ◌&&◌, Bool, true, false, not, List, [], ◌∷◌, ◌++◌, length, drop, Some, if◌then◌else◌, nat_le, min, refl, sym, ap, ◌∙◌, subst, arith, append_assoc, append-nil}
+use Rattle.std.proofs.Common.{◌≡◌, ℕ, ◌*◌, ◌-◌, ◌≤◌, inl, inr, ◌&&◌, Bool, true, false, not, List, [], ◌∷◌, ◌++◌, length, Some, if◌then◌else◌, nat_le, min, refl, sym, ap, ◌∙◌, subst, arith, append_assoc, append-nil}
 use Rattle.std.specs.List.{AllByRecursion}
 use Rattle.std.proofs.lemmas.Bool.{leb-true}
 use Rattle.std.proofs.lemmas.List.{length-append}
-use Rattle.gc_lines.specs.Frames.{rest_behind}
 use Rattle.gc_lines.specs.Lines.{with_end}
 use Rattle.gc_catalogue.specs.declared.call.Call.TheVariants.{NullProc}
 use Rattle.gc_catalogue.specs.Texts.{request_line}
 use Rattle.gc_client.specs.Rule.{expiring}
 use Rattle.gc_texts.specs.declared.tasks.Task.{Task}
 use Rattle.gc_links.specs.declared.link.Moment.{Moment}
-use Rattle.gc_station.specs.declared.mark.Mark.{Mark}
 use Rattle.gc_station.specs.declared.plan.Plan.{Plan}
 use Rattle.gc_station.specs.declared.cause.Cause.{Cause}
 use Rattle.gc_station.specs.declared.cause.Cause.TheVariants as cause
@@ -21,24 +19,25 @@ use Rattle.gc_station.specs.declared.progress.Order.TheVariants as orders
 use Rattle.gc_station.specs.declared.progress.Progress.{Progress}
 use Rattle.gc_station.specs.declared.progress.Until.{Until}
 use Rattle.gc_station.specs.declared.progress.Waiting.{Waiting}
-use Rattle.gc_links.specs.Acts.{Act, Told, Untold, Put, Cut, Gave, Silent, Ended, Broke, Closed, Opened, Unopened}
+use Rattle.gc_links.specs.Acts.{Act, Told, Put, Cut, Gave, Silent, Closed}
 use Rattle.gc_station.specs.Beginnings.{IsUnasked, IsFirst, BeginsWith, quiet_times}
 use Rattle.gc_station.specs.Deciding.{is_up, is_past, drain_of}
 use Rattle.gc_station.specs.Marks.{commands_in}
-use Rattle.gc_station.specs.Progressing.{turned, told, begun, skipped, reckoned_early, cleared, probed, sent, asking, time_passed, quiet_renewed, quieted, is_idle, drained, begins_anew, closed_again, closed}
+use Rattle.gc_station.specs.Progressing.{turned, told, time_passed, quiet_renewed, quieted, is_idle, drained, closed}
 use Rattle.gc_station.specs.Quiet.{IsRequest, AsksNothing}
 use Rattle.gc_station.specs.Reasons.{IsFor}
 use Rattle.gc_station.specs.Runs.{stood}
-use Rattle.gc_station.specs.Standing.{Standing, opening, order_at, waiting_of, with_progress, with_moment, with_rest, line_came, lines_came, lines_behind, came, is_heard, is_nil, asks_null, asks_first, asks_next, with_records, skips, mark_next, place_next, bound_next, after_clock, after_put, after_open, after_read, ReadsClock, IsOpening, IsReading, Puts, Obeys, moved, after, Runs}
-use Rattle.gc_station.proofs.Beginnings.{anew_clock, anew_put, anew_open, anew_read, anew_close, first_act, runs_behind}
+use Rattle.gc_station.specs.Standing.{Standing, requests_out, opening, order_at, waiting_of, with_progress, with_moment, is_heard, is_nil, Puts, Obeys, moved, after, Runs}
+use Rattle.gc_station.proofs.Beginnings.{anew_close, first_act}
 use Rattle.gc_station.proofs.Closings.{runs_split, closes_only}
 use Rattle.gc_station.proofs.Drains.{along, progress_behind, moved_drain}
 use Rattle.gc_station.proofs.EachRun.{fine_stood}
-use Rattle.gc_station.proofs.Facts.{order_for}
+use Rattle.gc_station.proofs.Facts.{order_for, order_timely, Timely}
 use Rattle.gc_station.proofs.Fine.{Fine}
-use Rattle.gc_station.proofs.Going.{after_all-append}
+use Rattle.gc_station.proofs.Going.{after_all-append, runs_behind}
 use Rattle.gc_station.proofs.Midway.{clash}
-use Rattle.gc_station.proofs.Quiets.{Timely, in_timely, IsDrained, StageAt, stage_in, stage_stood, quiet_now, more_unasked, not_longer, draining_read}
+use Rattle.gc_station.proofs.Quiets.{IsDrained, StageAt, stage_in, stage_stood, quiet_now, more_unasked, not_longer, draining_read}
+use Rattle.gc_station.proofs.Walk.{came_along, closed_along, moved_changed, walk}
 use Rattle.gc_station.proofs.Turns.{again_down, closed_down}
 use Rattle.gc_station.specs.Scopes.{Scope}
 
@@ -57,14 +56,6 @@ down_elsewhere at down e = let up : true ≡ false = sym (ap is_up e) ∙ down i
 paused_elsewhere : (b : Bool) (at : Phase) → at ≡ phase.Pausing → (if b then phase.Down else at) ≡ phase.Probing → ⊥
 paused_elsewhere true at is e = cc
 paused_elsewhere false at is e = let both : phase.Pausing ≡ phase.Probing = sym is ∙ e in cc
-
-lines_unasked : (plan : Plan) (s : Standing) (lines : List (List ℕ)) (acts : List Act) → Unasked plan s.progress acts → Unasked plan (lines_came s lines).progress acts
-lines_unasked plan s [] acts u = u
-lines_unasked plan s (line ∷ others) acts u = lines_unasked plan (line_came s line) others acts u
-
-came_unasked : (plan : Plan) (heard : Bool) (piece : List ℕ) (s : Standing) (acts : List Act) → Unasked plan s.progress acts → Unasked plan (came heard piece s).progress acts
-came_unasked plan true piece s acts u = lines_unasked plan (with_rest (rest_behind s.rest piece) s) (lines_behind s.rest piece) acts u
-came_unasked plan false piece s acts u = u
 
 -- how long it was drained
 long_enough : (plan : Plan) (anew : Bool) (drain past now since : ℕ) → anew ≡ true → (if anew then min (drain * plan.quiet) 18446744073709551615 else plan.quiet) ≤ past → past ≡ now - since → quiet_times plan drain ≤ now - since
@@ -91,62 +82,45 @@ silent_unasked plan until gave_up m p phase.Pausing acts is fresh st u =
     λ e. absurd (paused_elsewhere (is_past p.pause (time_passed until m p) && not (is_idle plan (time_passed until m p))) p.phase is e)
 silent_unasked plan until gave_up m p at acts is fresh st u = λ e. more_unasked (quiet_times plan p.drain) acts (Silent m) tt (λ x. x) (u e)
 
-read_unasked : (plan : Plan) (until : Until) (s : Standing) (act : Act) (acts : List Act) → IsReading act → s.progress.stale ≡ false → StageAt plan.quiet s.progress acts → Unasked plan s.progress acts
-    → Unasked plan (after_read plan until s act).progress (acts ++ act ∷ [])
-read_unasked plan until s (Gave bytes m) acts o fresh st u =
-    came_unasked plan (is_heard s.progress.phase) bytes (with_moment m (with_progress (told m) s)) (acts ++ Gave bytes m ∷ [])
-    (λ e. more_unasked (quiet_times plan s.progress.drain) acts (Gave bytes m) tt (λ x. x) (u e))
-read_unasked plan until s (Silent m) acts o fresh st u = silent_unasked plan until (not (is_nil (expiring m.elapsed s.client.waiting))) m s.progress s.progress.phase acts refl fresh st u
-read_unasked plan until s Untold acts o fresh st u = λ e. absurd (failed_elsewhere (is_up s.progress.phase) cause.Clock e)
-read_unasked plan until s Ended acts o fresh st u = λ e. absurd (failed_elsewhere (is_up s.progress.phase) cause.End e)
-read_unasked plan until s Broke acts o fresh st u = λ e. absurd (failed_elsewhere (is_up s.progress.phase) cause.Read e)
-read_unasked plan until s act acts o fresh st u = absurd o
-
-clock_unasked : (plan : Plan) (f : Moment → Progress → Progress) (s : Standing) (act : Act) (acts : List Act) → ReadsClock act → ((m : Moment) → Unasked plan (f m s.progress) (acts ++ Told m ∷ [])) → Unasked plan (after_clock f s act).progress (acts ++ act ∷ [])
-clock_unasked plan f s (Told m) acts o step = step m
-clock_unasked plan f s Untold acts o step = λ e. absurd (failed_elsewhere (is_up s.progress.phase) cause.Clock e)
-clock_unasked plan f s act acts o step = absurd o
-
-open_unasked : (plan : Plan) (s : Standing) (act : Act) (acts : List Act) → IsOpening act → Unasked plan (after_open plan s act).progress (acts ++ act ∷ [])
-open_unasked plan s Opened acts o = λ e. cc
-open_unasked plan s Unopened acts o = λ e. absurd (down_elsewhere (after_open plan s Unopened).progress.phase (again_down plan (commands_in s.marks) cause.Open s.progress) e)
-open_unasked plan s act acts o = absurd o
-
-put_unasked : (plan : Plan) (requests : ℕ) (bytes : List ℕ) (f : Standing → Standing) (s : Standing) (act : Act) (acts : List Act) → Puts bytes act → ((f s).progress.phase ≡ phase.Probing → ⊥)
-    → Unasked plan (after_put requests f s act).progress (acts ++ act ∷ [])
-put_unasked plan requests bytes f s (Put out) acts o never = λ e. absurd (never e)
-put_unasked plan requests bytes f s (Cut out n) acts o never = λ e. absurd (failed_elsewhere (is_up (f s).progress.phase) (cause.Write requests n) e)
-put_unasked plan requests bytes f s act acts o never = absurd o
-
-first_phase : (mark : Mark) (left : List Task) (s : Standing) → (asks_first mark left s).progress.phase ≡ s.progress.phase
-first_phase mark [] s = refl
-first_phase mark (command ∷ others) s = refl
-
 ready_elsewhere : (at : Phase) → at ≡ phase.Ready → at ≡ phase.Probing → ⊥
 ready_elsewhere at is e = let both : phase.Ready ≡ phase.Probing = sym is ∙ e in cc
 
 told_unasked : (plan : Plan) (p : Progress) (acts : List Act) (m : Moment) → Unasked plan p acts → Unasked plan (told m p) (acts ++ Told m ∷ [])
 told_unasked plan p acts m u e = more_unasked (quiet_times plan p.drain) acts (Told m) tt (λ x. x) (u e)
 
+gave_unasked : (plan : Plan) (p : Progress) (acts : List Act) (bytes : List ℕ) (m : Moment) → Unasked plan p acts → Unasked plan p (acts ++ Gave bytes m ∷ [])
+gave_unasked plan p acts bytes m u e = more_unasked (quiet_times plan p.drain) acts (Gave bytes m) tt (λ x. x) (u e)
+
+abbrev UnaskedBehind : Plan → List Act → Act → Standing → Type 0
+UnaskedBehind plan acts act t = Unasked plan t.progress (acts ++ act ∷ [])
+
 unasked_moved : (plan : Plan) (commands : List Task) (next : Order) (s : Standing) (act : Act) (acts : List Act) → Obeys commands s next act → IsFor plan s.progress (waiting_of s) next → Timely s.progress next → StageAt plan.quiet s.progress acts
     → Unasked plan s.progress acts → Unasked plan (moved plan commands next (with_progress turned s) act).progress (acts ++ act ∷ [])
-unasked_moved plan commands orders.ReadClock s act acts o needs time st u = clock_unasked plan (λ (m : Moment) (p : Progress). reckoned_early plan (commands_in s.marks) (told m p)) (with_progress turned s) act acts o (λ m. told_unasked plan s.progress acts m u)
-unasked_moved plan commands orders.Begin s act acts o needs time st u = clock_unasked plan (begun plan (length commands)) (with_progress turned s) act acts o (λ m. told_unasked plan s.progress acts m u)
-unasked_moved plan commands orders.Open s act acts o needs time st u = open_unasked plan (with_progress turned s) act acts o
-unasked_moved plan commands orders.Clear s act acts o needs time st u = put_unasked plan _ _ (with_progress cleared) (with_progress turned s) act acts o (λ e. cc)
-unasked_moved plan commands orders.Probe s act acts o needs time st u = put_unasked plan _ _ (λ (x : Standing). with_progress probed (asks_null plan x)) (with_progress turned s) act acts o (λ e. cc)
+unasked_moved plan commands orders.Open s act acts o needs time st u =
+    walk plan commands (UnaskedBehind plan acts) orders.Open (with_progress turned s) act o
+    (λ m e. cc, λ n e. absurd (down_elsewhere _ (again_down plan (commands_in s.marks) cause.Open (turned s.progress)) e))
+unasked_moved plan commands orders.Clear s act acts o needs time st u = walk plan commands (UnaskedBehind plan acts) orders.Clear (with_progress turned s) act o (λ m e. cc, λ n e. cc)
+unasked_moved plan commands orders.Probe s act acts o needs time st u = walk plan commands (UnaskedBehind plan acts) orders.Probe (with_progress turned s) act o (λ m e. cc, λ n e. cc)
 unasked_moved plan commands orders.Send s act acts o needs time st u =
-    put_unasked plan _ _ (λ (x : Standing). with_progress (sent (bound_next commands x.progress)) (asks_next plan commands x)) (with_progress turned s) act acts o
-    (ready_elsewhere _ (first_phase (mark_next plan commands s.progress) (drop (place_next commands s.progress) commands) (with_progress turned s) ∙ needs.0))
-unasked_moved plan commands orders.Skip s act acts o needs time st u =
-    clock_unasked plan (λ (m : Moment) (p : Progress). reckoned_early plan (commands_in s.marks) (skipped (bound_next commands s.progress) m p))
-    (with_records (skips plan commands (turned s.progress) act) (with_progress turned s)) act acts o (λ m. told_unasked plan s.progress acts m u)
+    walk plan commands (UnaskedBehind plan acts) orders.Send (with_progress turned s) act o
+    (λ m e. absurd (ready_elsewhere s.progress.phase needs.0 e), λ n e. absurd (failed_elsewhere (is_up s.progress.phase) (cause.Write (requests_out plan commands (turned s.progress)) n) e))
 unasked_moved plan commands orders.Flush s act acts o needs time st u =
-    put_unasked plan _ _ (λ (x : Standing). with_progress asking (asks_null plan x)) (with_progress turned s) act acts o (ready_elsewhere s.progress.phase needs.0)
-unasked_moved plan commands (orders.Read until) s act acts o needs time st u = read_unasked plan until (with_progress turned s) act acts o time.0 st u
+    walk plan commands (UnaskedBehind plan acts) orders.Flush (with_progress turned s) act o
+    (λ m e. absurd (ready_elsewhere s.progress.phase needs.0 e), λ n e. absurd (failed_elsewhere (is_up s.progress.phase) (cause.Write (requests_out plan commands (turned s.progress)) n) e))
+unasked_moved plan commands (orders.Read until) s act acts o needs time st u =
+    walk plan commands (UnaskedBehind plan acts) (orders.Read until) (with_progress turned s) act o (
+      λ bytes m. came_along (λ (t : Standing). Unasked plan t.progress (acts ++ Gave bytes m ∷ [])) (λ t line un. un) (is_heard s.progress.phase) bytes (with_moment m (with_progress (told m) (with_progress turned s)))
+          (gave_unasked plan s.progress acts bytes m u) (gave_unasked plan s.progress acts bytes m u),
+      λ m. silent_unasked plan until (not (is_nil (expiring m.elapsed s.client.waiting))) m (turned s.progress) s.progress.phase acts refl time.0 st u,
+      λ e. absurd (failed_elsewhere (is_up s.progress.phase) cause.End e),
+      λ e. absurd (failed_elsewhere (is_up s.progress.phase) cause.Read e),
+      λ e. absurd (failed_elsewhere (is_up s.progress.phase) cause.Clock e),
+    )
 unasked_moved plan commands (orders.Close why) s act acts o needs time st u =
     λ e. absurd (down_elsewhere (closed plan (waiting_of s) why (turned s.progress)).phase (closed_down plan (waiting_of s) why (turned s.progress)) e)
 unasked_moved plan commands (orders.Stop why) s act acts o needs time st u = absurd o
+unasked_moved plan commands next s act acts o needs time st u =
+    walk plan commands (UnaskedBehind plan acts) next (with_progress turned s) act o (λ m. told_unasked plan s.progress acts m u, λ n e. absurd (failed_elsewhere (is_up s.progress.phase) cause.Clock e))
 
 unasked_stood : (plan : Plan) (commands : List Task) (scope : Scope) (acts : List Act) → plan.quiet ≤ 18446744073709551615 → Runs plan commands (opening plan scope) acts → Unasked plan (stood plan commands scope acts).progress acts
 unasked_stood plan commands scope acts small runs = along plan commands (opening plan scope) (λ (xs : List Act). Unasked plan (stood plan commands scope xs).progress xs) step [] acts runs (λ e. cc) where
@@ -155,7 +129,7 @@ unasked_stood plan commands scope acts small runs = along plan commands (opening
       let s = stood plan commands scope done in
       let split = runs_split plan commands (opening plan scope) done later act runs in
       subst (λ (p : Progress). Unasked plan p (done ++ act ∷ [])) (sym (progress_behind plan commands scope done act))
-      (unasked_moved plan commands (order_at plan s) s act done split.1 (order_for plan s.progress (waiting_of s)) (in_timely plan s.progress.phase s.progress (waiting_of s)) (stage_stood plan commands scope done small split.0) u)
+      (unasked_moved plan commands (order_at plan s) s act done split.1 (order_for plan s.progress (waiting_of s)) (order_timely plan s.progress (waiting_of s)) (stage_stood plan commands scope done small split.0) u)
 
 -- While no request goes out it begins anew still, with as many.
 
@@ -172,17 +146,14 @@ With n p = (p.anew ≡ true) × (p.drain ≡ n)
 
 anew_stays : (plan : Plan) (commands : List Task) (next : Order) (s : Standing) (act : Act) → Obeys commands s next act → IsFor plan s.progress (waiting_of s) next → Fine plan commands s → AsksNothing act → s.progress.anew ≡ true
     → (moved plan commands next (with_progress turned s) act).progress.anew ≡ true
-anew_stays plan commands orders.ReadClock s act o needs fine none d = anew_clock (λ (m : Moment) (p : Progress). reckoned_early plan (commands_in s.marks) (told m p)) (with_progress turned s) act (λ m. d) d
 anew_stays plan commands orders.Begin s act o needs fine none d = absurd (clash s.progress.anew d (fine.ready needs.0))
-anew_stays plan commands orders.Open s act o needs fine none d = anew_open plan (with_progress turned s) act d
-anew_stays plan commands orders.Clear s act o needs fine none d = anew_put _ (with_progress cleared) (with_progress turned s) act d
 anew_stays plan commands orders.Probe s act o needs fine none d = absurd (puts_asks (request_line (Some s.client.next) NullProc) act o none)
 anew_stays plan commands orders.Send s act o needs fine none d = absurd (clash s.progress.anew d (fine.ready needs.0))
 anew_stays plan commands orders.Skip s act o needs fine none d = absurd (clash s.progress.anew d (fine.ready needs.0))
 anew_stays plan commands orders.Flush s act o needs fine none d = absurd (clash s.progress.anew d (fine.ready needs.0))
-anew_stays plan commands (orders.Read until) s act o needs fine none d = anew_read plan until (with_progress turned s) act d
 anew_stays plan commands (orders.Close why) s act o needs fine none d = anew_close plan (waiting_of s) why (turned s.progress) d
 anew_stays plan commands (orders.Stop why) s act o needs fine none d = absurd o
+anew_stays plan commands next s act o needs fine none d = ap (λ (t : Standing). t.progress.anew) (moved_changed plan commands next (with_progress turned s) act) ∙ d
 
 with_moved : (plan : Plan) (commands : List Task) (n : ℕ) (next : Order) (s : Standing) (act : Act) → Obeys commands s next act → IsFor plan s.progress (waiting_of s) next → Fine plan commands s → AsksNothing act → With n s.progress
     → With n (moved plan commands next (with_progress turned s) act).progress
@@ -202,15 +173,9 @@ with_along plan commands scope n done (act ∷ left) runs none w =
 
 -- It begins with as many as waited.
 
-again_with : (plan : Plan) (w : Waiting) (why : Cause) (b : Bool) (p : Progress) → p.anew ≡ false → (closed_again plan w why b p).anew ≡ true → (closed_again plan w why b p).drain ≡ w.all
-again_with plan w why true p old new = ap (λ (b : Bool). if b then p.drain else w.all) old
-again_with plan w why false p old new = absurd (clash p.anew new old)
-
 close_with : (plan : Plan) (w : Waiting) (why : Cause) (p : Progress) → p.anew ≡ false → (closed plan w why p).anew ≡ true → (closed plan w why p).drain ≡ w.all
-close_with plan w cause.Done p old new = absurd (clash p.anew new old)
-close_with plan w cause.Clock p old new = absurd (clash p.anew new old)
-close_with plan w cause.Turns p old new = absurd (clash p.anew new old)
-close_with plan w why p old new = again_with plan w why (begins_anew why p) p old new
+close_with plan w why p old =
+    closed_along (λ (q : Progress). q.anew ≡ true → q.drain ≡ w.all) plan w why p (λ new. absurd (clash p.anew new old)) (λ anew new. ap (λ (b : Bool). if b then p.drain else w.all) old) (λ on new. absurd (clash p.anew new old))
 
 moved_with : (plan : Plan) (commands : List Task) (s : Standing) (next : Order) (why : Cause) → next ≡ orders.Close why → s.progress.anew ≡ false → (moved plan commands next (with_progress turned s) Closed).progress.anew ≡ true
     → (moved plan commands next (with_progress turned s) Closed).progress.drain ≡ length s.client.waiting

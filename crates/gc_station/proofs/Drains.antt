@@ -1,34 +1,27 @@
 -- A connection is drained for one quiet time at least: where it begins anew, some requests waited before.
-use Rattle.std.proofs.Common.{◌≡◌, ℕ, ◌≤◌, ◌⊎◌, inl, inr, ◌||◌, Bool, true, false, List, [], ◌∷◌, ◌++◌, length, drop, if◌then◌else◌, refl, sym, ap, ◌∙◌, subst, arith, append_assoc, append-nil}
+use Rattle.std.proofs.Common.{◌≡◌, ℕ, ◌≤◌, ◌⊎◌, inl, inr, Bool, true, false, List, [], ◌∷◌, ◌++◌, length, if◌then◌else◌, refl, sym, ap, ◌∙◌, subst, arith, append_assoc, append-nil}
 use Rattle.std.proofs.Math.Nat.{le-min, le-max_right}
-use Rattle.gc_lines.specs.Frames.{rest_behind}
 use Rattle.gc_texts.specs.declared.tasks.Task.{Task}
-use Rattle.gc_links.specs.declared.link.Moment.{Moment}
-use Rattle.gc_station.specs.declared.mark.Mark.{Mark}
 use Rattle.gc_station.specs.declared.plan.Plan.{Plan}
 use Rattle.gc_station.specs.declared.cause.Cause.{Cause}
 use Rattle.gc_station.specs.declared.cause.Cause.TheVariants as cause
-use Rattle.gc_station.specs.declared.progress.Phase.{Phase}
-use Rattle.gc_station.specs.declared.progress.Phase.TheVariants as phase
 use Rattle.gc_station.specs.declared.progress.Order.{Order}
 use Rattle.gc_station.specs.declared.progress.Order.TheVariants as orders
 use Rattle.gc_station.specs.declared.progress.Progress.{Progress}
-use Rattle.gc_station.specs.declared.progress.Until.{Until}
-use Rattle.gc_station.specs.declared.progress.Waiting.{Waiting}
-use Rattle.gc_links.specs.Acts.{Act, Told, Cut, Gave, Silent, Closed, Opened}
+use Rattle.gc_links.specs.Acts.{Act, Closed}
 use Rattle.gc_station.specs.Closing.{Shows}
-use Rattle.gc_station.specs.Deciding.{width_of, is_up, is_past, drain_of}
-use Rattle.gc_station.specs.Marks.{commands_in}
-use Rattle.gc_station.specs.Progressing.{turned, told, begun, skipped, reckoned_early, cleared, probed, sent, asking, time_passed, quieted, drained, begins_anew, closed_again, closed}
+use Rattle.gc_station.specs.Deciding.{width_of, is_up}
+use Rattle.gc_station.specs.Progressing.{turned, begins_anew}
 use Rattle.gc_station.specs.Reasons.{IsFor, IsAtItsEnd, NothingMayGo}
 use Rattle.gc_station.specs.Runs.{stood}
-use Rattle.gc_station.specs.Standing.{Standing, opening, order_at, waiting_of, with_progress, with_moment, with_rest, line_came, lines_came, lines_behind, came, is_heard, asks_null, asks_first, asks_next, with_records, skips, mark_next, place_next, bound_next, after_clock, after_put, after_open, after_read, Obeys, moved, Runs}
+use Rattle.gc_station.specs.Standing.{Standing, opening, order_at, waiting_of, with_progress, Obeys, moved, Runs}
 use Rattle.gc_station.proofs.Closings.{runs_split, closed_for}
 use Rattle.gc_station.proofs.Counts.{ended_progress}
 use Rattle.gc_station.proofs.EachRun.{fine_stood}
-use Rattle.gc_station.proofs.Facts.{order_for}
+use Rattle.gc_station.proofs.Facts.{either_true, order_for}
 use Rattle.gc_station.proofs.Fine.{Fine}
 use Rattle.gc_station.proofs.Going.{after_all-append}
+use Rattle.gc_station.proofs.Walk.{closed_along, moved_changed}
 use Rattle.gc_station.specs.Scopes.{Scope}
 
 -- what holds at the start, and behind each act of a run, holds behind a whole run
@@ -53,81 +46,19 @@ anew_turned cause.Silence p = refl
 anew_turned why p = refl
 
 module _ (P : ℕ → Type 0) where
-  clock_drain : (f : Moment → Progress → Progress) (s : Standing) (act : Act) → ((m : Moment) → P (f m s.progress).drain) → P s.progress.drain → P (after_clock f s act).progress.drain
-  clock_drain f s (Told m) step d = step m
-  clock_drain f s act step d = d
-
-  put_drain : (requests : ℕ) (f : Standing → Standing) (s : Standing) (act : Act) → P (f s).progress.drain → P (after_put requests f s act).progress.drain
-  put_drain requests f s (Cut out n) d = d
-  put_drain requests f s act d = d
-
-  open_drain : (plan : Plan) (s : Standing) (act : Act) → P s.progress.drain → P (after_open plan s act).progress.drain
-  open_drain plan s Opened d = d
-  open_drain plan s act d = d
-
-  first_drain : (mark : Mark) (left : List Task) (s : Standing) → P s.progress.drain → P (asks_first mark left s).progress.drain
-  first_drain mark [] s d = d
-  first_drain mark (command ∷ others) s d = d
-
-  lines_drain : (s : Standing) (lines : List (List ℕ)) → P s.progress.drain → P (lines_came s lines).progress.drain
-  lines_drain s [] d = d
-  lines_drain s (line ∷ others) d = lines_drain (line_came s line) others d
-
-  came_drain : (heard : Bool) (piece : List ℕ) (s : Standing) → P s.progress.drain → P (came heard piece s).progress.drain
-  came_drain true piece s d = lines_drain (with_rest (rest_behind s.rest piece) s) (lines_behind s.rest piece) d
-  came_drain false piece s d = d
-
-  test_drain : (p : Progress) (b : Bool) → P p.drain → P (if b then drained p else p).drain
-  test_drain p true d = d
-  test_drain p false d = d
-
-  quiet_drain : (plan : Plan) (at : Phase) (p : Progress) → P p.drain → P (quieted plan at p).drain
-  quiet_drain plan phase.Draining p d = test_drain p (is_past (drain_of plan p) p) d
-  quiet_drain plan phase.Pausing p d = d
-  quiet_drain plan at p d = d
-
-  read_drain : (plan : Plan) (until : Until) (s : Standing) (act : Act) → P s.progress.drain → P (after_read plan until s act).progress.drain
-  read_drain plan until s (Gave bytes m) d = came_drain (is_heard s.progress.phase) bytes (with_moment m (with_progress (told m) s)) d
-  read_drain plan until s (Silent m) d = quiet_drain plan s.progress.phase (time_passed until m s.progress) d
-  read_drain plan until s act d = d
-
   anew_drain : (anew : Bool) (drain waiting : ℕ) → P drain → (anew ≡ false → P waiting) → P (if anew then drain else waiting)
   anew_drain true drain waiting d some = d
   anew_drain false drain waiting d some = some refl
 
-  again_drain : (plan : Plan) (w : Waiting) (why : Cause) (b : Bool) (p : Progress) → P p.drain → (b ≡ true → p.anew ≡ false → P w.all) → P (closed_again plan w why b p).drain
-  again_drain plan w why true p d some = anew_drain p.anew p.drain w.all d (some refl)
-  again_drain plan w why false p d some = d
-
-  close_drain : (plan : Plan) (w : Waiting) (why : Cause) (p : Progress) → P p.drain → (begins_anew why p ≡ true → p.anew ≡ false → P w.all) → P (closed plan w why p).drain
-  close_drain plan w cause.Done p d some = d
-  close_drain plan w cause.Clock p d some = d
-  close_drain plan w cause.Turns p d some = d
-  close_drain plan w why p d some = again_drain plan w why (begins_anew why p) p d some
-
   pub moved_drain : (plan : Plan) (commands : List Task) (next : Order) (s : Standing) (act : Act) → P s.progress.drain
       → ((why : Cause) → next ≡ orders.Close why → begins_anew why s.progress ≡ true → s.progress.anew ≡ false → P (length s.client.waiting))
       → Obeys commands s next act → P (moved plan commands next (with_progress turned s) act).progress.drain
-  moved_drain plan commands orders.ReadClock s act d some o = clock_drain (λ (m : Moment) (p : Progress). reckoned_early plan (commands_in s.marks) (told m p)) (with_progress turned s) act (λ m. d) d
-  moved_drain plan commands orders.Begin s act d some o = clock_drain (begun plan (length commands)) (with_progress turned s) act (λ m. d) d
-  moved_drain plan commands orders.Open s act d some o = open_drain plan (with_progress turned s) act d
-  moved_drain plan commands orders.Clear s act d some o = put_drain _ (with_progress cleared) (with_progress turned s) act d
-  moved_drain plan commands orders.Probe s act d some o = put_drain _ (λ (x : Standing). with_progress probed (asks_null plan x)) (with_progress turned s) act d
-  moved_drain plan commands orders.Send s act d some o =
-      put_drain _ (λ (x : Standing). with_progress (sent (bound_next commands x.progress)) (asks_next plan commands x)) (with_progress turned s) act
-      (first_drain (mark_next plan commands s.progress) (drop (place_next commands s.progress) commands) (with_progress turned s) d)
-  moved_drain plan commands orders.Skip s act d some o =
-      clock_drain (λ (m : Moment) (p : Progress). reckoned_early plan (commands_in s.marks) (skipped (bound_next commands s.progress) m p)) (with_records (skips plan commands (turned s.progress) act) (with_progress turned s)) act (λ m. d) d
-  moved_drain plan commands orders.Flush s act d some o = put_drain _ (λ (x : Standing). with_progress asking (asks_null plan x)) (with_progress turned s) act d
-  moved_drain plan commands (orders.Read until) s act d some o = read_drain plan until (with_progress turned s) act d
-  moved_drain plan commands (orders.Close why) s act d some o = close_drain plan (waiting_of s) why (turned s.progress) d (λ e old. some why refl (sym (anew_turned why s.progress) ∙ e) old)
-  moved_drain plan commands (orders.Stop why) s act d some o = d
+  moved_drain plan commands (orders.Close why) s act d some o =
+      closed_along (λ (q : Progress). P q.drain) plan (waiting_of s) why (turned s.progress) d
+      (λ anew. anew_drain s.progress.anew s.progress.drain (length s.client.waiting) d (some why refl (sym (anew_turned why s.progress) ∙ anew))) (λ on. d)
+  moved_drain plan commands next s act d some o = subst (λ (t : Standing). P t.progress.drain) (sym (moved_changed plan commands next (with_progress turned s) act)) d
 
 -- Something waits where the next connection begins anew and this one doesn't.
-
-either_true : (a b : Bool) → (a || b) ≡ true → b ≡ false → a ≡ true
-either_true true b e none = refl
-either_true false b e none = cc
 
 wide : (plan : Plan) → 1 ≤ width_of plan
 wide plan = le-min (le-max_right plan.width 1) (omega arith)

@@ -1,9 +1,10 @@
--- What has to hold where an order is next.
-use Rattle.std.proofs.Common.{◌≡◌, ℕ, ◌<◌, ◌⊎◌, ◌&&◌, Bool, true, false, not, if◌then◌else◌, nat_lt, nat_eq, refl, ap, inl, inr, arith}
+-- What holds where an order is next: its reasons, whether the moment was told, and that a request has room. One walk over the decision.
+use Rattle.std.proofs.Common.{◌≡◌, ℕ, ◌<◌, ◌⊎◌, ◌&&◌, ◌||◌, Bool, true, false, not, if◌then◌else◌, nat_lt, nat_eq, refl, sym, ap, ◌∙◌, inl, inr, arith}
 use Rattle.std.proofs.lemmas.Bool.{ltb-true, ltb-false, eqb-true}
 use Rattle.std.proofs.lemmas.Bool.Decides.{nat_tests}
 use Rattle.gc_client.specs.declared.window.TheConstants.{WINDOW}
 use Rattle.gc_station.specs.declared.plan.Plan.{Plan}
+use Rattle.gc_station.specs.declared.cause.Cause.{Cause}
 use Rattle.gc_station.specs.declared.cause.Cause.TheVariants as cause
 use Rattle.gc_station.specs.declared.progress.Phase.{Phase}
 use Rattle.gc_station.specs.declared.progress.Phase.TheVariants.{Down, Pausing, Clearing, Draining, Probing, Ready, Closing, Over}
@@ -14,6 +15,7 @@ use Rattle.gc_station.specs.declared.progress.Until.TheVariants.{Limit, Due}
 use Rattle.gc_station.specs.declared.progress.Waiting.{Waiting}
 use Rattle.gc_station.specs.Reasons.{IsFor, IsHeld, HasRoom, NothingMayGo}
 use Rattle.gc_station.specs.Deciding.{width_of, is_up, is_quiet, is_dead, is_due, has_room, order_of, order_in, order_on, order_told, may_go, order_ready, order_sent, order_settled, order_done, order_room, order_waiting, order_up}
+use Rattle.gc_station.specs.Stations.{IsFitting}
 
 -- what holds of both holds of the one that a test takes
 pub either : {A : Type 0} (P : A → Type 0) (x y : A) (t : Bool) → (t ≡ true → P x) → (t ≡ false → P y) → P (if t then x else y)
@@ -24,6 +26,14 @@ pub both_true : (a b : Bool) → (a && b) ≡ true → (a ≡ true) × (b ≡ tr
 both_true true true e = (refl, refl)
 both_true true false e = cc
 both_true false b e = cc
+
+pub either_true : (a b : Bool) → (a || b) ≡ true → b ≡ false → a ≡ true
+either_true true b e none = refl
+either_true false b e none = cc
+
+pub or_true : (a : Bool) → (a || true) ≡ true
+or_true true = refl
+or_true false = refl
 
 pub none_left : (n : ℕ) → nat_lt 0 n ≡ false → n ≡ 0
 none_left n e = grind (arith, nat_tests, e)
@@ -44,46 +54,81 @@ no_room : (plan : Plan) (p : Progress) (w : Waiting) → (nat_lt w.current (widt
 no_room plan p w (inl e) = inr (inl (ltb-false w.current (width_of plan) e))
 no_room plan p w (inr e) = inr (inr (inl (ltb-false w.all WINDOW e)))
 
-waits : (plan : Plan) (p : Progress) (w : Waiting) → is_up p.phase ≡ true → NothingMayGo plan p w → IsFor plan p w (order_waiting plan p w)
-waits plan p w up nothing =
-    let P = IsFor plan p w in
+-- A moment is told behind each act that makes it out of date; nothing is read before a new connection was cleared.
+
+abbrev pub Reads : Progress → Type 0
+Reads p = (p.stale ≡ false) × (p.phase ≡ Clearing → ⊥)
+
+abbrev pub Timely : Progress → Order → Type 0
+Timely p order.ReadClock = p.stale ≡ true
+Timely p order.Open = p.stale ≡ false
+Timely p (order.Read until) = Reads p
+Timely p _ = Unit {0}
+
+-- Requests go out, and a connection is closed for silence or for a dead line, only where requests may go, behind a moment that was told.
+
+abbrev pub Awake : Progress → Type 0
+Awake p = (p.stale ≡ false) × ((p.phase ≡ Probing) ⊎ (p.phase ≡ Ready))
+
+abbrev pub Wakes : Progress → Order → Type 0
+Wakes p order.Probe = Awake p
+Wakes p order.Send = Awake p
+Wakes p order.Flush = Awake p
+Wakes p (order.Close cause.Silence) = (p.phase ≡ Closing cause.Silence) ⊎ Awake p
+Wakes p (order.Close cause.Dead) = (p.phase ≡ Closing cause.Dead) ⊎ Awake p
+Wakes p _ = Unit {0}
+
+-- all of it
+abbrev Holds : Plan → Progress → Waiting → Order → Type 0
+Holds plan p w next = IsFor plan p w next × Timely p next × Wakes p next
+
+awake_up : (p : Progress) → Awake p → is_up p.phase ≡ true
+awake_up p (now, inl is) = ap is_up is
+awake_up p (now, inr is) = ap is_up is
+
+awake_reads : (p : Progress) → Awake p → Reads p
+awake_reads p (now, inl is) = (now, λ c. let other : Probing ≡ Clearing = sym is ∙ c in cc)
+awake_reads p (now, inr is) = (now, λ c. let other : Ready ≡ Clearing = sym is ∙ c in cc)
+
+waits : (plan : Plan) (p : Progress) (w : Waiting) → Awake p → NothingMayGo plan p w → Holds plan p w (order_waiting plan p w)
+waits plan p w awake nothing =
+    let P = Holds plan p w in
+    let up = awake_up p awake in
     either P (order.Close cause.Silence) _ (nat_eq w.current 0 && is_quiet plan p)
-    (λ e. let it = both_true (nat_eq w.current 0) (is_quiet plan p) e in (up, inr (eqb-true w.current 0 it.0, nothing, it.1)))
-    (λ e. either P (order.Close cause.Dead) (order.Read Limit) (is_dead plan p w) (λ d. (up, inr (nothing, d))) (λ d. tt))
+    (λ e. let it = both_true (nat_eq w.current 0) (is_quiet plan p) e in ((up, inr (eqb-true w.current 0 it.0, nothing, it.1)), tt, inr awake))
+    (λ e. either P (order.Close cause.Dead) (order.Read Limit) (is_dead plan p w) (λ d. ((up, inr (nothing, d)), tt, inr awake)) (λ d. (tt, awake_reads p awake, tt)))
 
-room_for : (plan : Plan) (p : Progress) (w : Waiting) (o : Order) → is_up p.phase ≡ true → (HasRoom plan w → IsFor plan p w o) → IsFor plan p w (order_room plan p w o)
-room_for plan p w o up step =
-    either (IsFor plan p w) o _ (has_room plan w) (λ e. step (room_there plan w e))
-    (λ e. waits plan p w up (no_room plan p w (one_false (nat_lt w.current (width_of plan)) (nat_lt w.all WINDOW) e)))
+room_for : (plan : Plan) (p : Progress) (w : Waiting) (o : Order) → Awake p → (HasRoom plan w → Holds plan p w o) → Holds plan p w (order_room plan p w o)
+room_for plan p w o awake step =
+    either (Holds plan p w) o _ (has_room plan w) (λ e. step (room_there plan w e))
+    (λ e. waits plan p w awake (no_room plan p w (one_false (nat_lt w.current (width_of plan)) (nat_lt w.all WINDOW) e)))
 
-done_for : (plan : Plan) (p : Progress) (w : Waiting) → p.phase ≡ Ready → p.alone ≡ false → p.unsent ≡ 0 → w.commands ≡ 0 → IsFor plan p w (order_done plan p)
-done_for plan p w is alone sent settled =
-    let P = IsFor plan p w in
-    either P (order.Close cause.Done) _ (nat_eq p.left 0) (λ e. (ap is_up is, inr (eqb-true p.left 0 e, sent, settled)))
-    (λ e. either P order.Begin (order.Read Due) (is_due plan p) (λ d. (is, alone, sent, settled, some_left p.left e)) (λ d. tt))
+done_for : (plan : Plan) (p : Progress) (w : Waiting) → Awake p → p.phase ≡ Ready → p.alone ≡ false → p.unsent ≡ 0 → w.commands ≡ 0 → Holds plan p w (order_done plan p)
+done_for plan p w awake is alone sent settled =
+    let P = Holds plan p w in
+    either P (order.Close cause.Done) _ (nat_eq p.left 0) (λ e. ((ap is_up is, inr (eqb-true p.left 0 e, sent, settled)), tt, tt))
+    (λ e. either P order.Begin (order.Read Due) (is_due plan p) (λ d. ((is, alone, sent, settled, some_left p.left e), tt, tt)) (λ d. (tt, awake_reads p awake, tt)))
 
 -- of what is held, what isn't the end of the cycle is of a chain
 chained : (p : Progress) → IsHeld p → nat_eq p.unsent 0 ≡ false → p.bound ≡ true
 chained p (inl none) e = let some : 0 < p.unsent = some_left p.unsent e in absurd (omega (arith, none, some))
 chained p (inr bound) e = bound
 
-settled_for : (plan : Plan) (p : Progress) (w : Waiting) → p.phase ≡ Ready → p.alone ≡ false → IsHeld p → w.commands ≡ 0 → IsFor plan p w (order_settled plan p w)
-settled_for plan p w is alone held settled =
-    let P = IsFor plan p w in
-    let up : is_up p.phase ≡ true = ap is_up is in
-    either P _ _ (nat_eq p.unsent 0) (λ e. done_for plan p w is alone (eqb-true p.unsent 0 e) settled)
+settled_for : (plan : Plan) (p : Progress) (w : Waiting) → Awake p → p.phase ≡ Ready → p.alone ≡ false → IsHeld p → w.commands ≡ 0 → Holds plan p w (order_settled plan p w)
+settled_for plan p w awake is alone held settled =
+    let P = Holds plan p w in
+    either P _ _ (nat_eq p.unsent 0) (λ e. done_for plan p w awake is alone (eqb-true p.unsent 0 e) settled)
     (λ e. either P _ order.Skip (may_go p w)
-    (λ well. let it = both_true w.well p.whole well in room_for plan p w order.Send up (λ room. (is, alone, some_left p.unsent e, room, inr (settled, it.0, it.1))))
-    (λ broken. (is, alone, some_left p.unsent e, settled, chained p held e, broken)))
+    (λ well. let it = both_true w.well p.whole well in room_for plan p w order.Send awake (λ room. ((is, alone, some_left p.unsent e, room, inr (settled, it.0, it.1)), tt, awake)))
+    (λ broken. ((is, alone, some_left p.unsent e, settled, chained p held e, broken), tt, tt)))
 
-sent_for : (plan : Plan) (p : Progress) (w : Waiting) → p.phase ≡ Ready → p.alone ≡ false → IsHeld p → IsFor plan p w (order_sent plan p w)
-sent_for plan p w is alone held =
-    let P = IsFor plan p w in
-    let up : is_up p.phase ≡ true = ap is_up is in
-    either P _ _ (nat_eq w.commands 0) (λ e. settled_for plan p w is alone held (eqb-true w.commands 0 e))
+sent_for : (plan : Plan) (p : Progress) (w : Waiting) → Awake p → p.phase ≡ Ready → p.alone ≡ false → IsHeld p → Holds plan p w (order_sent plan p w)
+sent_for plan p w awake is alone held =
+    let P = Holds plan p w in
+    either P _ _ (nat_eq w.commands 0) (λ e. settled_for plan p w awake is alone held (eqb-true w.commands 0 e))
     (λ e. either P _ _ (nat_eq w.current 0)
-    (λ given. room_for plan p w order.Flush up (λ room. (is, alone, held, some_left w.commands e, eqb-true w.current 0 given, room)))
-    (λ some. waits plan p w up (inr (inr (inr (held, some_left w.commands e, some_left w.current some))))))
+    (λ given. room_for plan p w order.Flush awake (λ room. ((is, alone, held, some_left w.commands e, eqb-true w.current 0 given, room), tt, awake)))
+    (λ some. waits plan p w awake (inr (inr (inr (held, some_left w.commands e, some_left w.current some))))))
 
 -- what may not go at once is held
 held_so : (p : Progress) → (nat_lt 0 p.unsent && not p.bound) ≡ false → IsHeld p
@@ -100,44 +145,60 @@ free_so : (b : Bool) → not b ≡ true → b ≡ false
 free_so true e = cc
 free_so false e = refl
 
-ready : (plan : Plan) (p : Progress) (w : Waiting) → p.phase ≡ Ready → IsFor plan p w (order_ready plan p w)
-ready plan p w is =
-    let P = IsFor plan p w in
-    let up : is_up p.phase ≡ true = ap is_up is in
-    either P _ _ p.alone (λ alone. waits plan p w up (inl alone))
+ready : (plan : Plan) (p : Progress) (w : Waiting) → Awake p → p.phase ≡ Ready → Holds plan p w (order_ready plan p w)
+ready plan p w awake is =
+    let P = Holds plan p w in
+    either P _ _ p.alone (λ alone. waits plan p w awake (inl alone))
     (λ alone. either P _ _ (nat_lt 0 p.unsent && not p.bound)
-    (λ some. let it = both_true (nat_lt 0 p.unsent) (not p.bound) some in room_for plan p w order.Send up (λ room. (is, alone, ltb-true 0 p.unsent it.0, room, inl (free_so p.bound it.1))))
-    (λ none. sent_for plan p w is alone (held_so p none)))
+    (λ some. let it = both_true (nat_lt 0 p.unsent) (not p.bound) some in room_for plan p w order.Send awake (λ room. ((is, alone, ltb-true 0 p.unsent it.0, room, inl (free_so p.bound it.1)), tt, awake)))
+    (λ none. sent_for plan p w awake is alone (held_so p none)))
 
-told_for : (plan : Plan) (phase : Phase) (p : Progress) (w : Waiting) → p.phase ≡ phase → IsFor plan p w (order_told plan phase p w)
-told_for plan Down p w is = is
-told_for plan Pausing p w is = tt
-told_for plan Clearing p w is = is
-told_for plan Draining p w is = tt
-told_for plan Probing p w is = room_for plan p w order.Probe (ap is_up is) (λ room. (is, room))
-told_for plan Ready p w is = ready plan p w is
-told_for plan (Closing cause) p w is = (ap is_up is, inl is)
-told_for plan (Over cause) p w is = (ap is_up is, inl is)
+closing_wakes : (p : Progress) (why : Cause) → p.phase ≡ Closing why → Wakes p (order.Close why)
+closing_wakes p cause.Silence is = inl is
+closing_wakes p cause.Dead is = inl is
+closing_wakes p why is = tt
 
-up_for : (plan : Plan) (p : Progress) (w : Waiting) (up : Bool) → is_up p.phase ≡ up → p.turns ≡ 0 → IsFor plan p w (order_up up)
-up_for plan p w true is none = (is, inr none)
-up_for plan p w false is none = (is, inr (refl, none))
+told_for : (plan : Plan) (phase : Phase) (p : Progress) (w : Waiting) → p.phase ≡ phase → p.stale ≡ false → Holds plan p w (order_told plan phase p w)
+told_for plan Down p w is now = (is, now, tt)
+told_for plan Pausing p w is now = (tt, (now, λ c. let other : Pausing ≡ Clearing = sym is ∙ c in cc), tt)
+told_for plan Clearing p w is now = (is, tt, tt)
+told_for plan Draining p w is now = (tt, (now, λ c. let other : Draining ≡ Clearing = sym is ∙ c in cc), tt)
+told_for plan Probing p w is now = room_for plan p w order.Probe (now, inl is) (λ room. ((is, room), tt, (now, inl is)))
+told_for plan Ready p w is now = ready plan p w (now, inr is) is
+told_for plan (Closing why) p w is now = ((ap is_up is, inl is), tt, closing_wakes p why is)
+told_for plan (Over why) p w is now = ((ap is_up is, inl is), tt, tt)
 
-on_for : (plan : Plan) (p : Progress) (w : Waiting) → IsFor plan p w (order_on plan p w)
+up_for : (plan : Plan) (p : Progress) (w : Waiting) (up : Bool) → is_up p.phase ≡ up → p.turns ≡ 0 → Holds plan p w (order_up up)
+up_for plan p w true is none = ((is, inr none), tt, tt)
+up_for plan p w false is none = ((is, inr (refl, none)), tt, tt)
+
+on_for : (plan : Plan) (p : Progress) (w : Waiting) → Holds plan p w (order_on plan p w)
 on_for plan p w =
-    let P = IsFor plan p w in
-    either P _ _ (nat_eq p.turns 0) (λ e. up_for plan p w (is_up p.phase) refl (eqb-true p.turns 0 e)) (λ e. either P order.ReadClock _ p.stale (λ e. tt) (λ e. told_for plan p.phase p w refl))
+    let P = Holds plan p w in
+    either P _ _ (nat_eq p.turns 0) (λ e. up_for plan p w (is_up p.phase) refl (eqb-true p.turns 0 e)) (λ e. either P order.ReadClock _ p.stale (λ old. (tt, old, tt)) (λ now. told_for plan p.phase p w refl now))
 
-in_for : (plan : Plan) (phase : Phase) (p : Progress) (w : Waiting) → p.phase ≡ phase → IsFor plan p w (order_in phase plan p w)
-in_for plan Down p w is = on_for plan p w
-in_for plan Pausing p w is = on_for plan p w
-in_for plan Clearing p w is = on_for plan p w
-in_for plan Draining p w is = on_for plan p w
-in_for plan Probing p w is = on_for plan p w
-in_for plan Ready p w is = on_for plan p w
-in_for plan (Closing cause) p w is = (ap is_up is, inl is)
-in_for plan (Over cause) p w is = (ap is_up is, inl is)
+in_for : (plan : Plan) (phase : Phase) (p : Progress) (w : Waiting) → p.phase ≡ phase → Holds plan p w (order_in phase plan p w)
+in_for plan (Closing why) p w is = ((ap is_up is, inl is), tt, closing_wakes p why is)
+in_for plan (Over why) p w is = ((ap is_up is, inl is), tt, tt)
+in_for plan phase p w is = on_for plan p w
 
 -- where an order is next
 pub order_for : (plan : Plan) (p : Progress) (w : Waiting) → IsFor plan p w (order_of plan p w)
-order_for plan p w = in_for plan p.phase p w refl
+order_for plan p w = (in_for plan p.phase p w refl).0
+
+pub order_timely : (plan : Plan) (p : Progress) (w : Waiting) → Timely p (order_of plan p w)
+order_timely plan p w = (in_for plan p.phase p w refl).1
+
+pub order_wakes : (plan : Plan) (p : Progress) (w : Waiting) → Wakes p (order_of plan p w)
+order_wakes plan p w = (in_for plan p.phase p w refl).2
+
+-- where a request is to be sent, the window has room, and where it is a command's, one is left
+fits : (plan : Plan) (p : Progress) (w : Waiting) (next : Order) → IsFor plan p w next → IsFitting p w.all next
+fits plan p w order.Probe is = is.1.1
+fits plan p w order.Send is = (is.2, is.3.1)
+fits plan p w order.Skip is = is.2
+fits plan p w order.Flush is = is.5.1
+fits plan p w next is = tt
+
+pub order_fits : (plan : Plan) (p : Progress) (w : Waiting) → IsFitting p w.all (order_of plan p w)
+order_fits plan p w = fits plan p w (order_of plan p w) (order_for plan p w)

@@ -9,7 +9,7 @@ use Rattle.gc_station.specs.declared.cause.Cause.{Cause}
 use Rattle.gc_station.specs.declared.cause.Cause.TheVariants as causes
 use Rattle.gc_station.specs.Causes.{fault_of}
 use Rattle.gc_station.specs.declared.progress.Order.{Order}
-use Rattle.gc_station.specs.declared.progress.Order.TheVariants.{ReadClock, Begin, Open, Clear, Probe, Send, Skip, Flush, Read, Close, Stop}
+use Rattle.gc_station.specs.declared.progress.Order.TheVariants.{Stop}
 use Rattle.gc_station.specs.declared.progress.Progress.{Progress}
 use Rattle.gc_station.specs.declared.station.Station.{Station}
 use Rattle.gc_links.specs.Acts.{Act, Closed, Tells}
@@ -31,45 +31,18 @@ use Rattle.gc_station.specs.Scopes.{Scope, AreReadings}
 
 -- an order is obeyed by the same acts, whatever the turn
 pub turn_obeys : (commands : List Task) (order : Order) (s : Standing) (act : Act) → Obeys commands (with_progress turned s) order act → Obeys commands s order act
-turn_obeys commands ReadClock s act o = o
-turn_obeys commands Begin s act o = o
-turn_obeys commands Open s act o = o
-turn_obeys commands Clear s act o = o
-turn_obeys commands Probe s act o = o
-turn_obeys commands Send s act o = o
-turn_obeys commands Skip s act o = o
-turn_obeys commands Flush s act o = o
-turn_obeys commands (Read until) s act o = o
-turn_obeys commands (Close cause) s act o = o
 turn_obeys commands (Stop cause) s act o = o
+turn_obeys commands order s act o = o
 
 -- a claim on each order but the last holds of one that isn't the last
 pub on_call : (order : Order) (claim : Type 0) → ((cause : Cause) → order ≡ Stop cause → ⊥) → OnCall order claim → claim
-on_call ReadClock claim never on = on
-on_call Begin claim never on = on
-on_call Open claim never on = on
-on_call Clear claim never on = on
-on_call Probe claim never on = on
-on_call Send claim never on = on
-on_call Skip claim never on = on
-on_call Flush claim never on = on
-on_call (Read until) claim never on = on
-on_call (Close cause) claim never on = on
 on_call (Stop cause) claim never on = absurd (never cause refl)
+on_call order claim never on = on
 
 -- what follows of a claim on each order but the last
 pub on_then : (order : Order) (claim other : Type 0) → (claim → other) → OnCall order claim → OnCall order other
-on_then ReadClock claim other step on = step on
-on_then Begin claim other step on = step on
-on_then Open claim other step on = step on
-on_then Clear claim other step on = step on
-on_then Probe claim other step on = step on
-on_then Send claim other step on = step on
-on_then Skip claim other step on = step on
-on_then Flush claim other step on = step on
-on_then (Read until) claim other step on = step on
-on_then (Close cause) claim other step on = step on
 on_then (Stop cause) claim other step on = tt
+on_then order claim other step on = step on
 
 -- a turn was made
 pub stands_turned : (station : Station) (p : Progress) (s : Standing) → p ≡ turned station.progress → Stands station s → Stands (record station { progress = p }) (with_progress turned s)
@@ -182,6 +155,10 @@ pub after_all-append : (plan : Plan) (commands : List Task) (s : Standing) (xs y
 after_all-append plan commands s [] ys = refl
 after_all-append plan commands s (x ∷ xs) ys = after_all-append plan commands (after plan commands s x) xs ys
 
+pub runs_behind : (plan : Plan) (commands : List Task) (s : Standing) (xs ys : List Act) → Runs plan commands s (xs ++ ys) → Runs plan commands (after_all plan commands s xs) ys
+runs_behind plan commands s [] ys runs = runs
+runs_behind plan commands s (x ∷ xs) ys runs = runs_behind plan commands (after plan commands s x) xs ys runs.1
+
 pub runs-append : (plan : Plan) (commands : List Task) (s : Standing) (xs ys : List Act) → Runs plan commands s xs → Runs plan commands (after_all plan commands s xs) ys → Runs plan commands s (xs ++ ys)
 runs-append plan commands s [] ys p q = q
 runs-append plan commands s (x ∷ xs) ys p q = (p.0, runs-append plan commands (after plan commands s x) xs ys p.1 q)
@@ -267,11 +244,4 @@ went_nearer plan commands text told told' taken taken' station new order is some
 -- a run that ends with no fault is done
 pub none_done : (why : Cause) → fault_of why ≡ None → why ≡ causes.Done
 none_done causes.Done e = refl
-none_done causes.Silence e = cc
-none_done causes.Dead e = cc
-none_done causes.Read e = cc
-none_done causes.End e = cc
-none_done (causes.Write n m) e = cc
-none_done causes.Clock e = cc
-none_done causes.Open e = cc
-none_done causes.Turns e = cc
+none_done why e = cc

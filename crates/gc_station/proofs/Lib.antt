@@ -27,7 +27,6 @@ pub mod Meets
 pub mod Midway
 mod Mute
 mod Opens
-mod Orders
 pub mod Parting
 mod Pieces
 pub mod Probing
@@ -39,4 +38,5 @@ mod Tries
 mod Turns
 mod Used
 mod Waiting
-mod LogLines
+mod Walk
+pub mod Linking

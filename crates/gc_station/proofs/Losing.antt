@@ -1,8 +1,7 @@
 -- All that wait are lost for a cause: behind the act the station begins anew, or no act follows.
-use Rattle.std.proofs.Common.{◌≡◌, ◌⊎◌, inl, inr, ℕ, zero, suc, ◌&&◌, ◌||◌, Bool, true, false, not, List, [], ◌∷◌, ◌++◌, length, drop, map, Option, Some, None, if◌then◌else◌, nat_eq, nat_lt, refl, sym, ap, ◌∙◌, subst, append_assoc}
+use Rattle.std.proofs.Common.{◌≡◌, ◌⊎◌, inl, inr, ℕ, ◌&&◌, ◌||◌, Bool, true, false, not, List, [], ◌∷◌, ◌++◌, length, map, Option, Some, None, if◌then◌else◌, nat_eq, nat_lt, refl, sym, ap, ◌∙◌, subst, append_assoc}
 use Rattle.std.specs.List.{AllByRecursion}
 use Rattle.std.proofs.lemmas.List.{nil_from_length}
-use Rattle.gc_lines.specs.Frames.{rest_behind}
 use Rattle.gc_catalogue.specs.declared.answer.Reading.{Reading}
 use Rattle.gc_catalogue.specs.declared.call.Call.{Call}
 use Rattle.gc_client.specs.declared.pending.Pending.{Pending}
@@ -12,90 +11,43 @@ use Rattle.gc_texts.specs.declared.commands.Command.{Command}
 use Rattle.gc_texts.specs.declared.tasks.Task.{Task}
 use Rattle.gc_station.specs.declared.cause.Cause.{Cause}
 use Rattle.gc_station.specs.declared.cause.Cause.TheVariants as cause
-use Rattle.gc_links.specs.declared.link.Moment.{Moment}
 use Rattle.gc_station.specs.declared.mark.Mark.{Mark}
 use Rattle.gc_station.specs.declared.plan.Plan.{Plan}
 use Rattle.gc_station.specs.declared.progress.Phase.{Phase}
-use Rattle.gc_station.specs.declared.progress.Phase.TheVariants.{Down, Pausing, Clearing, Draining, Probing, Ready, Closing, Over}
+use Rattle.gc_station.specs.declared.progress.Phase.TheVariants.{Down, Pausing, Ready, Closing, Over}
 use Rattle.gc_station.specs.declared.progress.Order.{Order}
 use Rattle.gc_station.specs.declared.progress.Order.TheVariants as orders
 use Rattle.gc_station.specs.declared.progress.Progress.{Progress}
 use Rattle.gc_station.specs.declared.progress.Until.{Until}
 use Rattle.gc_station.specs.declared.progress.Waiting.{Waiting}
-use Rattle.gc_links.specs.Acts.{Act, Told, Cut, Gave, Silent, Ended, Broke, Closed, Opened}
-use Rattle.gc_station.specs.Deciding.{is_up, is_past, drain_of, order_of, order_in, order_up}
+use Rattle.gc_links.specs.Acts.{Act, Cut, Closed}
+use Rattle.gc_station.specs.Deciding.{is_up, order_of, order_in, order_up}
 use Rattle.gc_station.specs.Ends.{IsWrittenAt, BeginsAnew, IsLast, IsLostIn}
-use Rattle.gc_station.specs.Marks.{commands_in, records_of}
-use Rattle.gc_station.specs.Progressing.{turned, told, begun, skipped, cleared, asking, probed, sent, failing, reckoned_early, closed_again, closed, quieted, drained, time_passed, is_over, is_over_in, loses_all, beginning_anew, is_finished, is_spared}
+use Rattle.gc_station.specs.Marks.{records_of}
+use Rattle.gc_station.specs.Progressing.{turned, told, sent, failing, closed_again, closed, is_over, is_over_in, loses_all, beginning_anew, is_finished, is_spared}
 use Rattle.gc_station.specs.Reasons.{IsFor}
 use Rattle.gc_station.specs.Records.{Record}
 use Rattle.gc_station.specs.Runs.{stood}
-use Rattle.gc_station.specs.Standing.{Standing, opening, order_at, waiting_of, place_next, mark_next, request_text, Puts, Obeys, is_heard, with_progress, with_moment, with_rest, line_came, lines_came, lines_behind, came, asks_null, asks_first, asks_next, bound_next, skips, with_records, after_clock, after_put, after_open, after_read, moved, losing, ended, after}
+use Rattle.gc_station.specs.Standing.{Standing, opening, order_at, waiting_of, request_text, Puts, Obeys, is_heard, with_progress, with_moment, with_rest, asks_next, bound_next, after_put, moved, losing, ended, after}
 use Rattle.gc_station.proofs.Counts.{ended_progress}
 use Rattle.gc_station.proofs.Facts.{order_for}
 use Rattle.gc_station.proofs.Fine.{Fine}
 use Rattle.gc_station.proofs.Going.{after_all-append}
 use Rattle.gc_station.proofs.Growing.{moved_grew}
-use Rattle.gc_station.proofs.Lists.{all_append, all_split, Cut as CutOf, AtEnd, Before, cut_at, rows_all}
+use Rattle.gc_station.proofs.Lists.{none_dropped, all_append, all_split, Cut as CutOf, AtEnd, Before, cut_at, rows_all}
 use Rattle.gc_station.proofs.Meets.{IsRecordOf, records_all, was_answered, was_late}
 use Rattle.gc_station.proofs.Midway.{clash}
 use Rattle.gc_station.proofs.Waiting.{Asked, Stayed, Waits, IsTrue, IsHonest}
+use Rattle.gc_station.proofs.Walk.{came_along, is_sent, moved_changed, walk}
 use Rattle.gc_station.specs.Scopes.{Scope}
 
 -- A station begins anew behind a close for silence, or no command waits.
 
--- what an act leaves: whether the next connection begins anew, and that none waits
-abbrev pub Leaves : Standing → Standing → Type 0
-Leaves s t = (t.progress.anew ≡ s.progress.anew) × (s.marks ≡ [] → t.marks ≡ [])
-
-none_dropped : (n : ℕ) (marks : List (Option Mark)) → marks ≡ [] → drop n marks ≡ []
-none_dropped zero marks e = e
-none_dropped (suc n) [] e = refl
-none_dropped (suc n) (m ∷ marks) e = cc
-
-lines_leave : (s : Standing) (lines : List (List ℕ)) → Leaves s (lines_came s lines)
-lines_leave s [] = (refl, λ e. e)
-lines_leave s (line ∷ others) = let l = lines_leave (line_came s line) others in (l.0, λ e. l.1 (none_dropped _ s.marks e))
-
-pub came_leaves : (heard : Bool) (piece : List ℕ) (s : Standing) → Leaves s (came heard piece s)
-came_leaves true piece s = lines_leave (with_rest (rest_behind s.rest piece) s) (lines_behind s.rest piece)
-came_leaves false piece s = (refl, λ e. e)
-
-drained_anew : (b : Bool) (p : Progress) → (if b then drained p else p).anew ≡ p.anew
-drained_anew true p = refl
-drained_anew false p = refl
-
-pub quieted_anew : (plan : Plan) (phase : Phase) (p : Progress) → (quieted plan phase p).anew ≡ p.anew
-quieted_anew plan Pausing p = refl
-quieted_anew plan Draining p = drained_anew (is_past (drain_of plan p) p) p
-quieted_anew plan phase p = refl
-
-read_leaves : (plan : Plan) (until : Until) (s : Standing) (act : Act) → Leaves s (after_read plan until s act)
-read_leaves plan until s (Gave bytes m) = let l = came_leaves (is_heard s.progress.phase) bytes (with_moment m (with_progress (told m) s)) in (l.0, l.1)
-read_leaves plan until s (Silent m) = (quieted_anew plan s.progress.phase (time_passed until m s.progress), λ e. e)
-read_leaves plan until s Ended = (refl, λ e. e)
-read_leaves plan until s Broke = (refl, λ e. e)
-read_leaves plan until s act = (refl, λ e. e)
-
-clock_leaves : (f : Moment → Progress → Progress) (s : Standing) (act : Act) → ((m : Moment) → (f m s.progress).anew ≡ s.progress.anew) → Leaves s (after_clock f s act)
-clock_leaves f s (Told m) same = (same m, λ e. e)
-clock_leaves f s act same = (refl, λ e. e)
-
-open_leaves : (plan : Plan) (s : Standing) (act : Act) → Leaves s (after_open plan s act)
-open_leaves plan s Opened = (refl, λ e. e)
-open_leaves plan s act = (refl, λ e. e)
-
-put_anew : (requests : ℕ) (f : Standing → Standing) (s : Standing) (act : Act) → (after_put requests f s act).progress.anew ≡ (f s).progress.anew
-put_anew requests f s (Cut bytes n) = refl
-put_anew requests f s act = refl
-
-put_marks : (requests : ℕ) (f : Standing → Standing) (s : Standing) (act : Act) → (after_put requests f s act).marks ≡ (f s).marks
-put_marks requests f s (Cut bytes n) = refl
-put_marks requests f s act = refl
-
-sent_anew : (bound : Bool) (mark : Mark) (left : List Task) (s : Standing) → (with_progress (sent bound) (asks_first mark left s)).progress.anew ≡ s.progress.anew
-sent_anew bound mark [] s = refl
-sent_anew bound mark (task ∷ others) s = refl
+-- where none waits, none waits behind a read
+read_marks : (plan : Plan) (commands : List Task) (until : Until) (s : Standing) (act : Act) → Obeys commands s (orders.Read until) act → s.marks ≡ [] → (moved plan commands (orders.Read until) s act).marks ≡ []
+read_marks plan commands until s act o none =
+    walk plan commands (λ a (t : Standing). t.marks ≡ []) (orders.Read until) s act o
+    (λ bytes m. came_along (λ (t : Standing). t.marks ≡ []) (λ t line e. none_dropped _ t.marks e) (is_heard s.progress.phase) bytes (with_moment m (with_progress (told m) s)) none none, λ m. none, none, none, none)
 
 -- no record is written of those with these marks
 abbrev Unwritten : List (Option Mark) → Type 0
@@ -136,35 +88,21 @@ close_why plan commands s w cause.Done act fine up is e = inl (unwritten_none s.
 close_why plan commands s w cause.Clock act fine up is e = inl (unwritten_none s.marks (none_waits plan commands s fine e))
 close_why plan commands s w cause.Turns act fine up is e = inl (unwritten_none s.marks (none_waits plan commands s fine e))
 close_why plan commands s w cause.Silence act fine up is e = inr (refl, is)
-close_why plan commands s w cause.Dead act fine up is e = inl (again_unwritten plan commands s w cause.Dead (s.progress.alone || s.progress.anew) fine up refl e)
-close_why plan commands s w cause.Read act fine up is e = inl (again_unwritten plan commands s w cause.Read (s.progress.alone || s.progress.anew) fine up refl e)
-close_why plan commands s w cause.End act fine up is e = inl (again_unwritten plan commands s w cause.End (s.progress.alone || s.progress.anew) fine up refl e)
-close_why plan commands s w (cause.Write n m) act fine up is e = inl (again_unwritten plan commands s w (cause.Write n m) (s.progress.alone || s.progress.anew) fine up refl e)
-close_why plan commands s w cause.Open act fine up is e = inl (again_unwritten plan commands s w cause.Open (s.progress.alone || s.progress.anew) fine up refl e)
+close_why plan commands s w why act fine up is e = inl (again_unwritten plan commands s w why (s.progress.alone || s.progress.anew) fine up refl e)
 
 anew_why : (plan : Plan) (commands : List Task) (s : Standing) (order : Order) (act : Act) → Fine plan commands s → IsFor plan s.progress (waiting_of s) order → Obeys commands s order act
     → (moved plan commands order (with_progress turned s) act).progress.anew ≡ true → SilenceOr order act (moved plan commands order (with_progress turned s) act).marks
-anew_why plan commands s orders.ReadClock act fine needs o e =
-    let l = clock_leaves (λ m p. reckoned_early plan (commands_in s.marks) (told m p)) (with_progress turned s) act (λ m. refl) in inl (unwritten_left plan commands s _ _ fine l.0 l.1 e)
-anew_why plan commands s orders.Begin act fine needs o e = let l = clock_leaves (begun plan (length commands)) (with_progress turned s) act (λ m. refl) in inl (unwritten_left plan commands s _ _ fine l.0 l.1 e)
-anew_why plan commands s orders.Open act fine needs o e = let l = open_leaves plan (with_progress turned s) act in inl (unwritten_left plan commands s _ _ fine l.0 l.1 e)
-anew_why plan commands s orders.Clear act fine needs o e =
-    let t = with_progress turned s in
-    let f = with_progress cleared in
-    inl (unwritten_left plan commands s _ _ fine (put_anew _ f t act) (λ none. put_marks _ f t act ∙ none) e)
-anew_why plan commands s orders.Probe act fine needs o e = absurd (clash _ e (put_anew _ (λ (x : Standing). with_progress probed (asks_null plan x)) (with_progress turned s) act))
-anew_why plan commands s orders.Send act fine needs o e =
-    let t = with_progress turned s in
-    absurd (clash _ e (put_anew _ (λ (x : Standing). with_progress (sent (bound_next commands x.progress)) (asks_next plan commands x)) t act
-    ∙ sent_anew (bound_next commands t.progress) (mark_next plan commands s.progress) (drop (place_next commands s.progress) commands) t ∙ fine.ready needs.0))
-anew_why plan commands s orders.Skip act fine needs o e =
-    let t = with_progress turned s in
-    let u = with_records (skips plan commands t.progress act) t in
-    let l = clock_leaves (λ m p. reckoned_early plan (commands_in t.marks) (skipped (bound_next commands t.progress) m p)) u act (λ m. refl) in inl (unwritten_left plan commands s _ _ fine l.0 l.1 e)
-anew_why plan commands s orders.Flush act fine needs o e = absurd (clash _ e (put_anew _ (λ (x : Standing). with_progress asking (asks_null plan x)) (with_progress turned s) act ∙ fine.ready needs.0))
-anew_why plan commands s (orders.Read until) act fine needs o e = let l = read_leaves plan until (with_progress turned s) act in inl (unwritten_left plan commands s _ _ fine l.0 l.1 e)
+anew_why plan commands s orders.Probe act fine needs o e = absurd (clash _ e (walk plan commands (λ a (t : Standing). t.progress.anew ≡ false) orders.Probe (with_progress turned s) act o (λ m. refl, λ n. refl)))
+anew_why plan commands s orders.Send act fine needs o e = absurd (clash _ e (ap (λ (t : Standing). t.progress.anew) (moved_changed plan commands orders.Send (with_progress turned s) act) ∙ fine.ready needs.0))
+anew_why plan commands s orders.Flush act fine needs o e = absurd (clash _ e (ap (λ (t : Standing). t.progress.anew) (moved_changed plan commands orders.Flush (with_progress turned s) act) ∙ fine.ready needs.0))
+anew_why plan commands s (orders.Read until) act fine needs o e =
+    let is = moved_changed plan commands (orders.Read until) (with_progress turned s) act in
+    inl (unwritten_left plan commands s _ _ fine (ap (λ (t : Standing). t.progress.anew) is) (read_marks plan commands until (with_progress turned s) act o) e)
 anew_why plan commands s (orders.Close why) act fine needs o e = close_why plan commands s (waiting_of (with_rest [] (with_progress turned s))) why act fine needs.0 o e
 anew_why plan commands s (orders.Stop why) act fine needs o e = absurd o
+anew_why plan commands s order act fine needs o e =
+    let is = moved_changed plan commands order (with_progress turned s) act in
+    inl (unwritten_left plan commands s _ _ fine (ap (λ (t : Standing). t.progress.anew) is) (λ none. ap (λ (t : Standing). t.marks) is ∙ none) e)
 
 -- where no act follows, the run stops
 over_stops : (plan : Plan) (p : Progress) (w : Waiting) → is_over p ≡ true → (why : Cause) × (order_of plan p w ≡ orders.Stop why)
@@ -175,12 +113,8 @@ over_stops plan p w over = by_phase p.phase refl over where
   by_phase : (phase : Phase) → p.phase ≡ phase → (is_over_in phase || (not (is_up phase) && nat_eq p.turns 0)) ≡ true → (why : Cause) × (order_in phase plan p w ≡ orders.Stop why)
   by_phase Down is e = (cause.Turns, no_turn Down _ is refl e)
   by_phase Pausing is e = (cause.Turns, no_turn Pausing _ is refl e)
-  by_phase Clearing is e = cc
-  by_phase Draining is e = cc
-  by_phase Probing is e = cc
-  by_phase Ready is e = cc
-  by_phase (Closing why) is e = cc
   by_phase (Over why) is e = (why, refl)
+  by_phase phase is e = cc
 
 -- behind a close for silence it pauses, unless no act follows
 pauses_behind : (done some : Bool) (n : ℕ)
@@ -245,10 +179,6 @@ put_goes : (requests : ℕ) (f : Standing → Standing) (s : Standing) (act : Ac
 put_goes requests f s (Cut bytes n) is = failing_goes (cause.Write requests n) (f s).progress is
 put_goes requests f s act is = going_on (f s).progress is
 
-sent_phase : (bound : Bool) (mark : Mark) (left : List Task) (s : Standing) → (with_progress (sent bound) (asks_first mark left s)).progress.phase ≡ s.progress.phase
-sent_phase bound mark [] s = refl
-sent_phase bound mark (task ∷ others) s = refl
-
 neither : (a b : Bool) → a ≡ false → b ≡ false → (a || b) ≡ false
 neither true b x y = cc
 neither false b x y = y
@@ -257,10 +187,8 @@ send_loses_none : (plan : Plan) (commands : List Task) (s : Standing) (act : Act
 send_loses_none plan commands s act fine needs =
     let t = with_progress turned s in
     let f = λ (x : Standing). with_progress (sent (bound_next commands x.progress)) (asks_next plan commands x) in
-    let bound = bound_next commands t.progress in
-    let mark = mark_next plan commands s.progress in
-    let left = drop (place_next commands s.progress) commands in
-    neither (moved plan commands orders.Send t act).progress.anew _ (put_anew _ f t act ∙ sent_anew bound mark left t ∙ fine.ready needs.0) (put_goes _ f t act (sent_phase bound mark left t ∙ needs.0))
+    neither (moved plan commands orders.Send t act).progress.anew _ (ap (λ (x : Standing). x.progress.anew) (moved_changed plan commands orders.Send t act) ∙ fine.ready needs.0)
+    (put_goes _ f t act (sym (ap (λ (x : Standing). x.progress.phase) (is_sent plan commands t)) ∙ needs.0))
 
 -- The records of those that are lost.
 

@@ -16,7 +16,7 @@ use Rattle.gc_texts.specs.Endings.{End}
 use Rattle.gc_station.specs.declared.mark.Mark.{Mark}
 use Rattle.gc_station.specs.declared.plan.Plan.{Plan}
 use Rattle.gc_station.specs.declared.progress.Phase.{Phase}
-use Rattle.gc_station.specs.declared.progress.Phase.TheVariants.{Down, Pausing, Clearing, Draining, Probing, Ready, Closing, Over}
+use Rattle.gc_station.specs.declared.progress.Phase.TheVariants.{Probing, Ready, Over}
 use Rattle.gc_station.specs.declared.progress.Progress.{Progress}
 use Rattle.gc_station.specs.Deciding.{is_up}
 use Rattle.gc_station.specs.EachOnce.{sent_by}
@@ -214,14 +214,8 @@ sound_begun plan commands left unsent client marks records none settled some sou
 over_down : (p : Progress) (o : Bool) → is_over_in p.phase ≡ o → is_over p ≡ true → is_up p.phase ≡ false
 over_down p true is e = phase_down p.phase is where
   phase_down : (phase : Phase) → is_over_in phase ≡ true → is_up phase ≡ false
-  phase_down Down e = cc
-  phase_down Pausing e = cc
-  phase_down Clearing e = cc
-  phase_down Draining e = cc
-  phase_down Probing e = cc
-  phase_down Ready e = cc
-  phase_down (Closing why) e = cc
   phase_down (Over why) e = refl
+  phase_down phase e = cc
 over_down p false is e = not_up (is_up p.phase) (nat_eq p.turns 0) (sym (ap (λ b. b || (not (is_up p.phase) && nat_eq p.turns 0)) is) ∙ e) where
   not_up : (up none : Bool) → (false || (not up && none)) ≡ true → up ≡ false
   not_up true none e = cc

@@ -5,9 +5,9 @@ use Rattle.std.proofs.Math.Nat.{min-eq_left, min-eq_right}
 use Rattle.std.proofs.lemmas.Bool.{leb-true, leb-false, ltb-true}
 use Rattle.gc_lines.specs.Frames.{rest_behind}
 use Rattle.gc_client.specs.Rule.{ById, expiring}
+use Rattle.gc_catalogue.specs.declared.call.Call.TheVariants.{NullProc}
 use Rattle.gc_texts.specs.declared.tasks.Task.{Task}
 use Rattle.gc_links.specs.declared.link.Moment.{Moment}
-use Rattle.gc_station.specs.declared.mark.Mark.{Mark}
 use Rattle.gc_station.specs.declared.plan.Plan.{Plan}
 use Rattle.gc_station.specs.declared.cause.Cause.{Cause}
 use Rattle.gc_station.specs.declared.cause.Cause.TheVariants as cause
@@ -17,22 +17,23 @@ use Rattle.gc_station.specs.declared.progress.Order.{Order}
 use Rattle.gc_station.specs.declared.progress.Order.TheVariants as orders
 use Rattle.gc_station.specs.declared.progress.Progress.{Progress}
 use Rattle.gc_station.specs.declared.progress.Until.{Until}
-use Rattle.gc_links.specs.Acts.{Act, Told, Untold, Put, Cut, Gave, Silent, Ended, Broke, Opened, Unopened}
+use Rattle.gc_links.specs.Acts.{Act, Told, Untold, Put, Cut, Gave, Silent, Ended, Broke, Unopened}
 use Rattle.gc_station.specs.Deciding.{is_up, is_past, drain_of, patience_of}
 use Rattle.gc_station.specs.Marks.{commands_in}
-use Rattle.gc_station.specs.Progressing.{turned, told, begun, skipped, reckoned_early, cleared, probed, sent, asking, time_passed, quiet_renewed, quieted, is_idle, drained}
+use Rattle.gc_station.specs.Progressing.{failing, again, turned, told, asking, time_passed, quiet_renewed, quieted, is_idle, drained}
 use Rattle.gc_station.specs.Quiet.{TellsMoment, IsListening, IsSilent, StaysConnected}
 use Rattle.gc_station.specs.Reasons.{IsFor}
 use Rattle.gc_station.specs.Runs.{stood}
 use Rattle.gc_station.specs.Silences.{latest, IsNoReply, BringsNoReply, IsMute, WentBack, IsMuteFor}
-use Rattle.gc_station.specs.Standing.{Standing, opening, order_at, waiting_of, with_progress, with_moment, with_rest, line_came, lines_came, lines_behind, came, is_heard, is_nil, is_reply, asks_null, asks_first, asks_next, with_records, skips, mark_next, place_next, bound_next, after_clock, after_put, after_open, after_read, ReadsClock, IsOpening, IsReading, Puts, Obeys, moved, after, after_all, Runs}
+use Rattle.gc_station.specs.Standing.{Standing, requests_out, request_text, first_text, opening, order_at, waiting_of, with_progress, with_moment, with_rest, line_came, lines_came, lines_behind, came, is_heard, is_nil, is_reply, place_next, Obeys, moved, after, after_all, Runs}
 use Rattle.gc_station.proofs.Closings.{runs_split}
 use Rattle.gc_station.proofs.Drains.{along, progress_behind}
 use Rattle.gc_station.proofs.EachRun.{fine_stood}
-use Rattle.gc_station.proofs.Facts.{both_true, order_for}
+use Rattle.gc_station.proofs.Facts.{both_true, order_for, order_wakes, Awake, Wakes}
 use Rattle.gc_station.proofs.Going.{after_all-append}
 use Rattle.gc_station.proofs.Lists.{all_append}
-use Rattle.gc_station.proofs.Silences.{Awake, Wakes, in_wakes, IsHushed, latest_more, hush_stood, awake_hushed, not_closing, end_here, awake_here}
+use Rattle.gc_station.proofs.Silences.{IsHushed, latest_more, hush_stood, awake_hushed, not_closing, end_here, awake_here}
+use Rattle.gc_station.proofs.Walk.{lines_along, walk}
 use Rattle.gc_station.proofs.Turns.{again_down, closed_down}
 use Rattle.gc_station.specs.Scopes.{Scope}
 
@@ -54,8 +55,7 @@ hushed_last plan commands scope since now acts h = subst (LastTells now) (sym h.
 -- The lines of a piece: none reads as a reply, or the line was alive at that moment.
 
 lines_moment : (s : Standing) (lines : List (List ℕ)) → (lines_came s lines).progress.moment ≡ s.progress.moment
-lines_moment s [] = refl
-lines_moment s (line ∷ others) = lines_moment (line_came s line) others
+lines_moment s lines = lines_along (λ (t : Standing). t.progress.moment ≡ s.progress.moment) (λ t line e. e) s lines refl
 
 abbrev Alive : Standing → List (List ℕ) → Progress → Type 0
 Alive s lines p = (AllByRecursion IsNoReply lines × (p.alive ≡ s.progress.alive) × (p.asked ≡ s.progress.asked)) ⊎ ((p.alive ≡ s.progress.moment.elapsed) × (p.asked ≡ false))
@@ -263,8 +263,7 @@ module _ (plan : Plan) (commands : List Task) (scope : Scope) where
     by_alive (inr reply) = carried false m.elapsed m.elapsed reply.1 (reply.0 ∙ ap (λ (x : Moment). x.elapsed) moment) now (muted_now m.elapsed acts (Gave bytes m) refl)
 
   lines_phase : (s : Standing) (lines : List (List ℕ)) → (lines_came s lines).progress.phase ≡ s.progress.phase
-  lines_phase s [] = refl
-  lines_phase s (line ∷ others) = lines_phase (line_came s line) others
+  lines_phase s lines = lines_along (λ (t : Standing). t.progress.phase ≡ s.progress.phase) (λ t line e. e) s lines refl
 
   gave_mute : (s : Standing) (bytes : List ℕ) (m : Moment) (at : Phase) (acts : List Act) → s.progress.phase ≡ at → (stood plan commands scope acts).rest ≡ s.rest → Mute s.progress.asked s.progress.alive s.progress.moment.elapsed at acts
       → MuteAt (came (is_heard at) bytes (with_moment m (with_progress (told m) s))).progress (acts ++ Gave bytes m ∷ [])
@@ -276,38 +275,17 @@ module _ (plan : Plan) (commands : List Task) (scope : Scope) where
   gave_mute s bytes m phase.Probing acts is rest q = subst (λ (x : Phase). Mute s.progress.asked (min s.progress.alive m.elapsed) m.elapsed x (acts ++ Gave bytes m ∷ [])) (sym is) q
   gave_mute s bytes m at acts is rest q = subst (λ (x : Phase). Mute s.progress.asked (min s.progress.alive m.elapsed) m.elapsed x (acts ++ Gave bytes m ∷ [])) (sym is) tt
 
-  read_mute : (until : Until) (s : Standing) (act : Act) (acts : List Act) → IsReading act → (stood plan commands scope acts).rest ≡ s.rest → MuteAt s.progress acts → MuteAt (after_read plan until s act).progress (acts ++ act ∷ [])
-  read_mute until s (Gave bytes m) acts o rest q = gave_mute s bytes m s.progress.phase acts refl rest q
-  read_mute until s (Silent m) acts o rest q = silent_mute until (not (is_nil (expiring m.elapsed s.client.waiting))) m s.progress s.progress.phase acts refl q
-  read_mute until s Untold acts o rest q = let p = s.progress in mute_failed p.asked p.alive p.moment.elapsed (is_up p.phase) cause.Clock (acts ++ Untold ∷ [])
-  read_mute until s Ended acts o rest q = let p = s.progress in mute_failed p.asked p.alive p.moment.elapsed (is_up p.phase) cause.End (acts ++ Ended ∷ [])
-  read_mute until s Broke acts o rest q = let p = s.progress in mute_failed p.asked p.alive p.moment.elapsed (is_up p.phase) cause.Read (acts ++ Broke ∷ [])
-  read_mute until s act acts o rest q = absurd o
+  -- behind an act
+  abbrev MuteBehind : List Act → Act → Standing → Type 0
+  MuteBehind acts act t = MuteAt t.progress (acts ++ act ∷ [])
 
-  clock_mute : (f : Moment → Progress → Progress) (s : Standing) (act : Act) (acts : List Act) → ReadsClock act → ((m : Moment) → MuteAt (f m s.progress) (acts ++ Told m ∷ [])) → MuteAt (after_clock f s act).progress (acts ++ act ∷ [])
-  clock_mute f s (Told m) acts o step = step m
-  clock_mute f s Untold acts o step = let p = s.progress in mute_failed p.asked p.alive p.moment.elapsed (is_up p.phase) cause.Clock (acts ++ Untold ∷ [])
-  clock_mute f s act acts o step = absurd o
-
-  open_mute : (s : Standing) (act : Act) (acts : List Act) → IsOpening act → MuteAt (after_open plan s act).progress (acts ++ act ∷ [])
-  open_mute s Opened acts o = tt
-  open_mute s Unopened acts o =
-      let p = s.progress in mute_down p.asked p.alive p.moment.elapsed (after_open plan s Unopened).progress.phase (acts ++ Unopened ∷ []) (again_down plan (commands_in s.marks) cause.Open p)
-  open_mute s act acts o = absurd o
-
-  put_mute : (requests : ℕ) (bytes : List ℕ) (f : Standing → Standing) (s : Standing) (act : Act) (acts : List Act) → Puts bytes act → ((out : List ℕ) → MuteAt (f s).progress (acts ++ Put out ∷ [])) → MuteAt (after_put requests f s act).progress (acts ++ act ∷ [])
-  put_mute requests bytes f s (Put out) acts o step = step out
-  put_mute requests bytes f s (Cut out n) acts o step = let p = (f s).progress in mute_failed p.asked p.alive p.moment.elapsed (is_up p.phase) (cause.Write requests n) (acts ++ Cut out n ∷ [])
-  put_mute requests bytes f s act acts o step = absurd o
+  fails_mute : (p : Progress) (why : Cause) (acts : List Act) → MuteAt (failing why p) acts
+  fails_mute p why acts = mute_failed p.asked p.alive p.moment.elapsed (is_up p.phase) why acts
 
   -- a request goes out
   muted_asks : (asked : Bool) (alive now : ℕ) (acts : List Act) (out : List ℕ) → LastTells now acts → (asked ≡ true → IsMuted true alive now acts) → IsMuted true (if asked then alive else now) now (acts ++ Put out ∷ [])
   muted_asks true alive now acts out tells q = let it = q refl in muted_on true alive now acts (Put out) tt tt it (since_asked alive it.before it.behind (Put out) it.since) it.least
   muted_asks false alive now acts out tells q = muted_asking now acts out tells
-
-  first_progress : (mark : Mark) (left : List Task) (s : Standing) → (asks_first mark left s).progress ≡ s.progress
-  first_progress mark [] s = refl
-  first_progress mark (command ∷ others) s = refl
 
   -- where requests go out, the moment was told last
   abbrev Tells : Progress → List Act → Order → Type 0
@@ -329,27 +307,38 @@ module _ (plan : Plan) (commands : List Task) (scope : Scope) where
 
   mute_moved : (next : Order) (s : Standing) (act : Act) (acts : List Act) → Obeys commands s next act → IsFor plan s.progress (waiting_of s) next → Tells s.progress acts next → (stood plan commands scope acts).rest ≡ s.rest
       → MuteAt s.progress acts → MuteAt (moved plan commands next (with_progress turned s) act).progress (acts ++ act ∷ [])
-  mute_moved orders.ReadClock s act acts o needs tells rest q = clock_mute (λ (m : Moment) (p : Progress). reckoned_early plan (commands_in s.marks) (told m p)) (with_progress turned s) act acts o (λ m. told_mute s.progress m acts q)
-  mute_moved orders.Begin s act acts o needs tells rest q = clock_mute (begun plan (length commands)) (with_progress turned s) act acts o (λ m. told_mute s.progress m acts q)
-  mute_moved orders.Open s act acts o needs tells rest q = open_mute (with_progress turned s) act acts o
-  mute_moved orders.Clear s act acts o needs tells rest q = put_mute _ _ (with_progress cleared) (with_progress turned s) act acts o (λ out. tt)
+  mute_moved orders.Open s act acts o needs tells rest q =
+      let p = again plan (commands_in s.marks) cause.Open (turned s.progress) in
+      walk plan commands (MuteBehind acts) orders.Open (with_progress turned s) act o
+      (λ m. tt, λ n. mute_down p.asked p.alive p.moment.elapsed p.phase (acts ++ Unopened ∷ []) (again_down plan (commands_in s.marks) cause.Open (turned s.progress)))
+  mute_moved orders.Clear s act acts o needs tells rest q = walk plan commands (MuteBehind acts) orders.Clear (with_progress turned s) act o (λ m. tt, λ n. tt)
   mute_moved orders.Probe s act acts o needs tells rest q =
-      put_mute _ _ (λ (x : Standing). with_progress probed (asks_null plan x)) (with_progress turned s) act acts o
-      (λ out. muted_asks s.progress.asked s.progress.alive s.progress.moment.elapsed acts out tells
-      (λ e. let none = in_phase s.progress phase.Probing acts needs.0 q in let both : true ≡ false = sym e ∙ none in cc))
+      walk plan commands (MuteBehind acts) orders.Probe (with_progress turned s) act o (
+        λ m. muted_asks s.progress.asked s.progress.alive s.progress.moment.elapsed acts (request_text s.client NullProc) tells
+            (λ e. let none = in_phase s.progress phase.Probing acts needs.0 q in let both : true ≡ false = sym e ∙ none in cc),
+        λ n. tt,
+      )
   mute_moved orders.Send s act acts o needs tells rest q =
-      put_mute _ _ (λ (x : Standing). with_progress (sent (bound_next commands x.progress)) (asks_next plan commands x)) (with_progress turned s) act acts o
-      (λ out. subst (λ (p : Progress). MuteAt (sent (bound_next commands s.progress) p) (acts ++ Put out ∷ [])) (sym (first_progress (mark_next plan commands s.progress) (drop (place_next commands s.progress) commands) (with_progress turned s)))
-      (asks_mute s.progress acts out needs.0 tells q))
-  mute_moved orders.Skip s act acts o needs tells rest q =
-      clock_mute (λ (m : Moment) (p : Progress). reckoned_early plan (commands_in s.marks) (skipped (bound_next commands s.progress) m p))
-      (with_records (skips plan commands (turned s.progress) act) (with_progress turned s)) act acts o (λ m. told_mute s.progress m acts q)
+      let text = first_text s.client (drop (place_next commands s.progress) commands) in
+      walk plan commands (MuteBehind acts) orders.Send (with_progress turned s) act o
+      (λ m. asks_mute s.progress acts text needs.0 tells q, λ n. fails_mute (asking s.progress) (cause.Write (requests_out plan commands (turned s.progress)) n) (acts ++ Cut text n ∷ []))
   mute_moved orders.Flush s act acts o needs tells rest q =
-      put_mute _ _ (λ (x : Standing). with_progress asking (asks_null plan x)) (with_progress turned s) act acts o (λ out. asks_mute s.progress acts out needs.0 tells q)
-  mute_moved (orders.Read until) s act acts o needs tells rest q = read_mute until (with_progress turned s) act acts o rest q
+      let text = request_text s.client NullProc in
+      walk plan commands (MuteBehind acts) orders.Flush (with_progress turned s) act o
+      (λ m. asks_mute s.progress acts text needs.0 tells q, λ n. fails_mute (asking s.progress) (cause.Write (requests_out plan commands (turned s.progress)) n) (acts ++ Cut text n ∷ []))
+  mute_moved (orders.Read until) s act acts o needs tells rest q =
+      walk plan commands (MuteBehind acts) (orders.Read until) (with_progress turned s) act o (
+        λ bytes m. gave_mute (with_progress turned s) bytes m s.progress.phase acts refl rest q,
+        λ m. silent_mute until (not (is_nil (expiring m.elapsed s.client.waiting))) m (turned s.progress) s.progress.phase acts refl q,
+        fails_mute s.progress cause.End (acts ++ Ended ∷ []),
+        fails_mute s.progress cause.Read (acts ++ Broke ∷ []),
+        fails_mute s.progress cause.Clock (acts ++ Untold ∷ []),
+      )
   mute_moved (orders.Close why) s act acts o needs tells rest q =
       let p = (moved plan commands (orders.Close why) (with_progress turned s) act).progress in mute_down p.asked p.alive p.moment.elapsed p.phase (acts ++ act ∷ []) (closed_down plan (waiting_of s) why (turned s.progress))
   mute_moved (orders.Stop why) s act acts o needs tells rest q = absurd o
+  mute_moved next s act acts o needs tells rest q =
+      walk plan commands (MuteBehind acts) next (with_progress turned s) act o (λ m. told_mute s.progress m acts q, λ n. fails_mute s.progress cause.Clock (acts ++ Untold ∷ []))
 
   -- Whole runs.
 
@@ -366,7 +355,7 @@ module _ (plan : Plan) (commands : List Task) (scope : Scope) where
         let s = stood plan commands scope done in
         let split = runs_split plan commands (opening plan scope) done later act runs in
         let hush = hush_stood plan commands scope done split.0 in
-        let tells = tells_in s.progress done (order_at plan s) (in_wakes plan s.progress.phase s.progress (waiting_of s) refl) (λ awake. hushed_last plan commands scope s.progress.since s.progress.moment.elapsed done (awake_hushed plan commands scope s.progress done awake hush)) in
+        let tells = tells_in s.progress done (order_at plan s) (order_wakes plan s.progress (waiting_of s)) (λ awake. hushed_last plan commands scope s.progress.since s.progress.moment.elapsed done (awake_hushed plan commands scope s.progress done awake hush)) in
         subst (λ (p : Progress). MuteAt p (done ++ act ∷ [])) (sym (progress_behind plan commands scope done act))
         (mute_moved (order_at plan s) s act done split.1 (order_for plan s.progress (waiting_of s)) tells refl q)
 
@@ -379,7 +368,7 @@ module _ (plan : Plan) (commands : List Task) (scope : Scope) where
     never = not_closing plan commands scope acts cause.Dead runs (λ act shows. shows)
 
     awake : Awake s.progress
-    awake = awake_here s.progress cause.Dead (subst (λ (next : Order). Wakes s.progress next) is (in_wakes plan s.progress.phase s.progress (waiting_of s) refl)) never
+    awake = awake_here s.progress cause.Dead (subst (λ (next : Order). Wakes s.progress next) is (order_wakes plan s.progress (waiting_of s))) never
 
     dead : (nat_lt 0 (length s.client.waiting) ≡ true) × (nat_le (patience_of plan) (s.progress.moment.elapsed - s.progress.alive) ≡ true)
     dead = both_true (nat_lt 0 (length s.client.waiting)) (nat_le (patience_of plan) (s.progress.moment.elapsed - s.progress.alive)) (end_here plan s cause.Dead is never).1

@@ -1,5 +1,5 @@
 -- Where the null procedure of a beginning went out, no other request follows on its connection before a line came with its id.
-use Rattle.std.proofs.Common.{◌≡◌, ℕ, ◌<◌, ◌&&◌, ◌⊎◌, inl, inr, Bool, true, false, not, List, [], ◌∷◌, ◌++◌, length, drop, Option, Some, None, if◌then◌else◌, nat_lt, nat_eq, refl, sym, ap, ◌∙◌, subst, arith, append_assoc, append-nil}
+use Rattle.std.proofs.Common.{◌≡◌, ℕ, ◌<◌, ◌&&◌, ◌⊎◌, inl, inr, Bool, true, false, not, List, [], ◌∷◌, ◌++◌, length, Option, Some, None, nat_lt, nat_eq, refl, sym, ap, ◌∙◌, subst, arith, append_assoc, append-nil}
 use Rattle.std.specs.List.{AllByRecursion}
 use Rattle.std.proofs.lemmas.Bool.{ltb-true}
 use Rattle.std.proofs.lemmas.List.{length-map}
@@ -15,19 +15,19 @@ use Rattle.gc_station.specs.declared.progress.Order.{Order}
 use Rattle.gc_station.specs.declared.progress.Order.TheVariants as orders
 use Rattle.gc_station.specs.declared.progress.Progress.{Progress}
 use Rattle.gc_station.specs.declared.progress.Until.{Until}
-use Rattle.gc_links.specs.Acts.{Act, Told, Untold, Put, Cut, Gave, Silent, Ended, Broke, Closed, Opened, Unopened}
-use Rattle.gc_station.specs.Deciding.{is_up, drain_of, is_past, order_in}
-use Rattle.gc_station.specs.Marks.{commands_in}
+use Rattle.gc_links.specs.Acts.{Act, Cut, Gave, Closed}
+use Rattle.gc_station.specs.Deciding.{is_up, order_in}
 use Rattle.gc_station.specs.Probing.{KeepsOpen, IsAsking, IsAnsweredWithin}
-use Rattle.gc_station.specs.Progressing.{turned, told, begun, skipped, reckoned_early, cleared, probed, sent, asking, time_passed, quieted, loses_all}
+use Rattle.gc_station.specs.Progressing.{turned, time_passed, loses_all}
 use Rattle.gc_station.specs.Reasons.{IsFor}
 use Rattle.gc_station.specs.Runs.{stood}
-use Rattle.gc_station.specs.Standing.{Standing, opening, order_at, waiting_of, with_progress, with_rest, line_came, lines_came, lines_behind, came, is_heard, asks_null, asks_first, asks_next, with_records, skips, mark_next, place_next, bound_next, after_clock, after_put, after_open, after_read, Obeys, moved, losing, after, after_all, Runs}
-use Rattle.gc_station.proofs.Going.{after_all-append}
+use Rattle.gc_station.specs.Standing.{Standing, opening, order_at, waiting_of, with_progress, with_rest, line_came, lines_came, lines_behind, came, is_heard, after_read, Obeys, moved, losing, after, Runs}
+use Rattle.gc_station.proofs.Going.{after_all-append, runs_behind}
 use Rattle.gc_station.proofs.Pieces.{id_digit, piece_before}
 use Rattle.gc_station.proofs.EachRun.{fine_stood}
 use Rattle.gc_station.proofs.Facts.{order_for}
 use Rattle.gc_station.proofs.Fine.{Fine, is_bare}
+use Rattle.gc_station.proofs.Walk.{moved_changed, quieted_along, walk}
 use Rattle.gc_station.specs.Scopes.{Scope}
 
 -- one request waits, with id 0
@@ -92,98 +92,29 @@ some_wait alone n is one = rw (is, one) refl
 abbrev pub Goes : Standing → Act → Standing → Type 0
 Goes s act t = ((piece : List ℕ) × (m : Moment) × (act ≡ Gave piece m) × Comes (lines_behind s.rest piece)) ⊎ (t.progress.alone ≡ true)
 
-alone_clock : (f : Moment → Progress → Progress) (s : Standing) (act : Act) → ((m : Moment) → (f m s.progress).alone ≡ s.progress.alone) → s.progress.alone ≡ true → (after_clock f s act).progress.alone ≡ true
-alone_clock f s (Told m) same w = same m ∙ w
-alone_clock f s Untold same w = w
-alone_clock f s (Put out) same w = w
-alone_clock f s (Cut out n) same w = w
-alone_clock f s (Gave bytes m) same w = w
-alone_clock f s (Silent m) same w = w
-alone_clock f s Ended same w = w
-alone_clock f s Broke same w = w
-alone_clock f s Closed same w = w
-alone_clock f s Opened same w = w
-alone_clock f s Unopened same w = w
-
-alone_open : (plan : Plan) (s : Standing) (act : Act) → s.progress.alone ≡ true → (after_open plan s act).progress.alone ≡ true
-alone_open plan s (Told m) w = w
-alone_open plan s Untold w = w
-alone_open plan s (Put out) w = w
-alone_open plan s (Cut out n) w = w
-alone_open plan s (Gave bytes m) w = w
-alone_open plan s (Silent m) w = w
-alone_open plan s Ended w = w
-alone_open plan s Broke w = w
-alone_open plan s Closed w = w
-alone_open plan s Opened w = w
-alone_open plan s Unopened w = w
-
--- where it was put
-pub alone_put : (requests : ℕ) (f : Standing → Standing) (s : Standing) (act : Act) → (f s).progress.alone ≡ true → (after_put requests f s act).progress.alone ≡ true
-alone_put requests f s (Told m) w = w
-alone_put requests f s Untold w = w
-alone_put requests f s (Put out) w = w
-alone_put requests f s (Cut out n) w = w
-alone_put requests f s (Gave bytes m) w = w
-alone_put requests f s (Silent m) w = w
-alone_put requests f s Ended w = w
-alone_put requests f s Broke w = w
-alone_put requests f s Closed w = w
-alone_put requests f s Opened w = w
-alone_put requests f s Unopened w = w
-
-alone_sent : (plan : Plan) (commands left : List Task) (s t : Standing) → t.progress.alone ≡ true → (asks_first (mark_next plan commands s.progress) left t).progress.alone ≡ true
-alone_sent plan commands [] s t w = w
-alone_sent plan commands (command ∷ others) s t w = w
-
-drained_or_not : (plan : Plan) (p q : Progress) (b : Bool) → p.alone ≡ true → q.alone ≡ true → (if b then p else q).alone ≡ true
-drained_or_not plan p q true a b = a
-drained_or_not plan p q false a b = b
-
-alone_quieted : (plan : Plan) (at : Phase) (p : Progress) → p.alone ≡ true → (quieted plan at p).alone ≡ true
-alone_quieted plan phase.Down p w = w
-alone_quieted plan phase.Pausing p w = w
-alone_quieted plan phase.Clearing p w = w
-alone_quieted plan phase.Draining p w = drained_or_not plan _ p (is_past (drain_of plan p) p) w w
-alone_quieted plan phase.Probing p w = w
-alone_quieted plan phase.Ready p w = w
-alone_quieted plan (phase.Closing why) p w = w
-alone_quieted plan (phase.Over why) p w = w
-
-alone_read : (plan : Plan) (until : Until) (s : Standing) (act : Act) → Alone s → Goes s act (after_read plan until (with_progress turned s) act)
-alone_read plan until s (Told m) w = inr w.0
-alone_read plan until s Untold w = inr w.0
-alone_read plan until s (Put out) w = inr w.0
-alone_read plan until s (Cut out n) w = inr w.0
-alone_read plan until s (Gave bytes m) w = on (alone_came (is_heard s.progress.phase) bytes (piece_before m s) (w.0, alone_told s.client m.elapsed w.1)) where
+gave_goes : (plan : Plan) (until : Until) (s : Standing) (bytes : List ℕ) (m : Moment) → Alone s → Goes s (Gave bytes m) (after_read plan until (with_progress turned s) (Gave bytes m))
+gave_goes plan until s bytes m w = on (alone_came (is_heard s.progress.phase) bytes (piece_before m s) (w.0, alone_told s.client m.elapsed w.1)) where
   on : Comes (lines_behind s.rest bytes) ⊎ Alone (came (is_heard s.progress.phase) bytes (piece_before m s))
       → Goes s (Gave bytes m) (after_read plan until (with_progress turned s) (Gave bytes m))
   on (inl c) = inl (bytes, m, refl, c)
   on (inr x) = let t = came (is_heard s.progress.phase) bytes (piece_before m s) in inr (some_wait t.progress.alone (length t.client.waiting) x.0 x.1.1)
-alone_read plan until s (Silent m) w = inr (alone_quieted plan s.progress.phase (time_passed until m (turned s.progress)) w.0)
-alone_read plan until s Ended w = inr w.0
-alone_read plan until s Broke w = inr w.0
-alone_read plan until s Closed w = inr w.0
-alone_read plan until s Opened w = inr w.0
-alone_read plan until s Unopened w = inr w.0
 
 not_closed : (act : Act) → act ≡ Closed → KeepsOpen act → ⊥
 not_closed act is open_ = subst KeepsOpen is open_
 
 pub alone_moved : (plan : Plan) (commands : List Task) (s : Standing) (order : Order) (act : Act) → Obeys commands s order act → KeepsOpen act → Alone s → Goes s act (moved plan commands order (with_progress turned s) act)
-alone_moved plan commands s orders.ReadClock act o open_ w = inr (alone_clock (λ m p. reckoned_early plan (commands_in s.marks) (told m p)) (with_progress turned s) act (λ m. refl) w.0)
-alone_moved plan commands s orders.Begin act o open_ w = inr (alone_clock (begun plan (length commands)) (with_progress turned s) act (λ m. refl) w.0)
-alone_moved plan commands s orders.Open act o open_ w = inr (alone_open plan (with_progress turned s) act w.0)
-alone_moved plan commands s orders.Clear act o open_ w = inr (alone_put _ (with_progress cleared) (with_progress turned s) act w.0)
-alone_moved plan commands s orders.Probe act o open_ w = inr (alone_put _ (λ (x : Standing). with_progress probed (asks_null plan x)) (with_progress turned s) act refl)
-alone_moved plan commands s orders.Send act o open_ w =
-    inr (alone_put _ (λ (x : Standing). with_progress (sent (bound_next commands x.progress)) (asks_next plan commands x)) (with_progress turned s) act (alone_sent plan commands (drop (place_next commands s.progress) commands) (with_progress turned s) (with_progress turned s) w.0))
-alone_moved plan commands s orders.Skip act o open_ w =
-    inr (alone_clock (λ (m : Moment) (p : Progress). reckoned_early plan (commands_in s.marks) (skipped (bound_next commands s.progress) m p)) (with_records (skips plan commands (turned s.progress) act) (with_progress turned s)) act (λ m. refl) w.0)
-alone_moved plan commands s orders.Flush act o open_ w = inr (alone_put _ (λ (x : Standing). with_progress asking (asks_null plan x)) (with_progress turned s) act w.0)
-alone_moved plan commands s (orders.Read until) act o open_ w = alone_read plan until s act w
+alone_moved plan commands s orders.Probe act o open_ w = walk plan commands (Goes s) orders.Probe (with_progress turned s) act o (λ m. inr refl, λ n. inr refl)
+alone_moved plan commands s (orders.Read until) act o open_ w =
+    walk plan commands (Goes s) (orders.Read until) (with_progress turned s) act o (
+      λ bytes m. gave_goes plan until s bytes m w,
+      λ m. inr (quieted_along (λ (q : Progress). q.alone ≡ true) plan s.progress.phase (time_passed until m (turned s.progress)) w.0 w.0 w.0),
+      inr w.0,
+      inr w.0,
+      inr w.0,
+    )
 alone_moved plan commands s (orders.Close why) act o open_ w = absurd (not_closed act o open_)
 alone_moved plan commands s (orders.Stop why) act o open_ w = absurd o
+alone_moved plan commands s order act o open_ w = inr (ap (λ (t : Standing). t.progress.alone) (moved_changed plan commands order (with_progress turned s) act) ∙ w.0)
 
 -- also where all that wait are lost
 pub alone_ended : (b : Bool) (s t : Standing) (act : Act) → Goes s act t → Goes s act (losing b t)
@@ -194,26 +125,14 @@ alone_ended false s t act g = g
 no_asking : (plan : Plan) (s : Standing) (order : Order) → IsFor plan s.progress (waiting_of s) order → s.progress.alone ≡ true → IsAsking order → ⊥
 no_asking plan s orders.Send needs w asks = clash s.progress.alone w needs.1
 no_asking plan s orders.Flush needs w asks = clash s.progress.alone w needs.1
-no_asking plan s orders.Skip needs w asks = asks
-no_asking plan s orders.ReadClock needs w asks = asks
-no_asking plan s orders.Begin needs w asks = asks
-no_asking plan s orders.Open needs w asks = asks
-no_asking plan s orders.Clear needs w asks = asks
-no_asking plan s orders.Probe needs w asks = asks
-no_asking plan s (orders.Read until) needs w asks = asks
-no_asking plan s (orders.Close why) needs w asks = asks
-no_asking plan s (orders.Stop why) needs w asks = asks
+no_asking plan s order needs w asks = asks
 
 -- it isn't answered, and something is to be done: so there is a connection
 still_up : (at : Phase) (alone : Bool) → (is_bare at ≡ true → alone ≡ false) → alone ≡ true → ((why : Cause) → at ≡ phase.Over why → ⊥) → is_up at ≡ true
 still_up phase.Down alone bare is on = absurd (clash alone is (bare refl))
 still_up phase.Pausing alone bare is on = absurd (clash alone is (bare refl))
-still_up phase.Clearing alone bare is on = refl
-still_up phase.Draining alone bare is on = refl
-still_up phase.Probing alone bare is on = refl
-still_up phase.Ready alone bare is on = refl
-still_up (phase.Closing why) alone bare is on = refl
 still_up (phase.Over why) alone bare is on = absurd (on why refl)
+still_up at alone bare is on = refl
 
 pub over_stops : (plan : Plan) (commands : List Task) (s : Standing) (act : Act) → Obeys commands s (order_at plan s) act → (why : Cause) → s.progress.phase ≡ phase.Over why → ⊥
 over_stops plan commands s act o why is = subst (λ (at : Phase). Obeys commands s (order_in at plan s.progress (waiting_of s)) act) is o
@@ -224,6 +143,11 @@ alone_fine plan commands s act fine o is =
     let up = still_up s.progress.phase s.progress.alone fine.bare is (over_stops plan commands s act o) in
     let it = fine.alone is up in
     (is, (it.1, sym fine.paired ∙ ap length it.0))
+
+-- behind the null procedure
+probed_alone : (plan : Plan) (commands : List Task) (s : Standing) (act : Act) → (moved plan commands orders.Probe s act).progress.alone ≡ true
+probed_alone plan commands s (Cut bytes n) = refl
+probed_alone plan commands s act = refl
 
 -- along the acts behind it
 alone_along : (plan : Plan) (commands : List Task) (scope : Scope) (before done left : List Act)
@@ -273,10 +197,6 @@ alone_along plan commands scope before done (act ∷ left) w runs keeps asks =
           (subst (λ (x : Standing). Runs plan commands x left) (sym there) runs.1)
           (subst (λ (xs : List Act). IsAsking (order_at plan (stood plan commands scope xs))) whole asks))
 
-runs_behind : (plan : Plan) (commands : List Task) (s : Standing) (xs ys : List Act) → Runs plan commands s (xs ++ ys) → Runs plan commands (after_all plan commands s xs) ys
-runs_behind plan commands s [] ys runs = runs
-runs_behind plan commands s (x ∷ xs) ys runs = runs_behind plan commands (after plan commands s x) xs ys runs.1
-
 pub losing_progress : (b : Bool) (s : Standing) → (losing b s).progress ≡ s.progress
 losing_progress true s = refl
 losing_progress false s = refl
@@ -288,7 +208,7 @@ answered_first plan commands scope earlier between act runs is keeps asks =
     let s = stood plan commands scope earlier in
     let before = earlier ++ act ∷ [] in
     let f = λ (o : Order). moved plan commands o (with_progress turned s) act in
-    let put : (f orders.Probe).progress.alone ≡ true = alone_put _ (λ (x : Standing). with_progress probed (asks_null plan x)) (with_progress turned s) act refl in
+    let put : (f orders.Probe).progress.alone ≡ true = probed_alone plan commands (with_progress turned s) act in
     let next = after_all-append plan commands (opening plan scope) earlier (act ∷ []) in
     let t = f (order_at plan s) in
     let here : (stood plan commands scope before).progress.alone ≡ true =

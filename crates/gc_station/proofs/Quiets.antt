@@ -1,13 +1,12 @@
 -- Before a request goes out its connection was cleared and quiet: what was done on it, by the phase.
-use Rattle.std.proofs.Common.{◌≡◌, ℕ, ◌*◌, ◌-◌, ◌≤◌, ◌⊎◌, inl, inr, ◌&&◌, Bool, true, false, not, List, [], ◌∷◌, ◌++◌, length, drop, if◌then◌else◌, nat_eq, nat_lt, nat_le, min, refl, sym, ap, ◌∙◌, subst, arith, append_assoc}
+use Rattle.std.proofs.Common.{◌≡◌, ℕ, ◌*◌, ◌-◌, ◌≤◌, ◌⊎◌, inl, inr, ◌&&◌, Bool, true, false, not, List, [], ◌∷◌, ◌++◌, drop, if◌then◌else◌, nat_le, min, refl, sym, ap, ◌∙◌, subst, arith, append_assoc}
 use Rattle.std.specs.List.{AllByRecursion}
 use Rattle.std.proofs.Math.Nat.{le-min, mul-le-mul_right, min-eq_left, min-eq_right}
 use Rattle.std.proofs.lemmas.Bool.{leb-true, leb-false}
-use Rattle.gc_lines.specs.Frames.{rest_behind}
 use Rattle.gc_client.specs.Rule.{expiring}
+use Rattle.gc_catalogue.specs.declared.call.Call.TheVariants.{NullProc}
 use Rattle.gc_texts.specs.declared.tasks.Task.{Task}
 use Rattle.gc_links.specs.declared.link.Moment.{Moment}
-use Rattle.gc_station.specs.declared.mark.Mark.{Mark}
 use Rattle.gc_station.specs.declared.plan.Plan.{Plan}
 use Rattle.gc_station.specs.declared.cause.Cause.{Cause}
 use Rattle.gc_station.specs.declared.cause.Cause.TheVariants as cause
@@ -17,85 +16,23 @@ use Rattle.gc_station.specs.declared.progress.Order.{Order}
 use Rattle.gc_station.specs.declared.progress.Order.TheVariants as orders
 use Rattle.gc_station.specs.declared.progress.Progress.{Progress}
 use Rattle.gc_station.specs.declared.progress.Until.{Until}
-use Rattle.gc_station.specs.declared.progress.Until.TheVariants.{Limit, Due}
-use Rattle.gc_station.specs.declared.progress.Waiting.{Waiting}
 use Rattle.gc_links.specs.Acts.{Act, Told, Untold, Put, Cut, Gave, Silent, Ended, Broke, Closed, Opened, Unopened}
-use Rattle.gc_station.specs.Deciding.{is_up, is_past, is_quiet, is_dead, is_due, drain_of, has_room, order_in, order_on, order_told, may_go, order_ready, order_sent, order_settled, order_done, order_room, order_waiting, order_up}
+use Rattle.gc_station.specs.Deciding.{is_up, is_past, drain_of}
 use Rattle.gc_station.specs.Marks.{commands_in}
-use Rattle.gc_station.specs.Progressing.{turned, told, begun, skipped, reckoned_early, cleared, probed, sent, asking, time_passed, quiet_renewed, quieted, is_idle, drained}
+use Rattle.gc_station.specs.Progressing.{failing, again, turned, told, probed, asking, time_passed, quiet_renewed, quieted, is_idle, drained}
 use Rattle.gc_station.specs.Beginnings.{IsUnasked}
 use Rattle.gc_station.specs.Quiet.{IsRequest, AsksNothing, TellsMoment, IsListening, IsSilent, StaysConnected, IsClearedAndQuiet}
 use Rattle.gc_station.specs.Reasons.{IsFor}
 use Rattle.gc_station.specs.Runs.{stood}
-use Rattle.gc_station.specs.Standing.{Standing, opening, order_at, waiting_of, with_progress, with_moment, with_rest, line_came, lines_came, lines_behind, came, is_heard, is_nil, asks_null, asks_first, asks_next, with_records, skips, mark_next, place_next, bound_next, after_clock, after_put, after_open, after_read, ReadsClock, IsOpening, IsReading, Puts, Obeys, moved, Runs}
+use Rattle.gc_station.specs.Standing.{Standing, requests_out, request_text, first_text, place_next, opening, order_at, waiting_of, with_progress, with_moment, is_heard, is_nil, asks_null, Obeys, moved, Runs}
 use Rattle.gc_station.proofs.Closings.{runs_split}
 use Rattle.gc_station.proofs.Drains.{along, progress_behind, drains_once}
-use Rattle.gc_station.proofs.Facts.{either, order_for}
+use Rattle.gc_station.proofs.Facts.{order_for, order_timely, Reads, Timely}
 use Rattle.gc_station.proofs.Lists.{all_append, all_on}
 use Rattle.gc_station.proofs.Midway.{clash}
+use Rattle.gc_station.proofs.Walk.{Putting, came_along, sending, walk}
 use Rattle.gc_station.proofs.Turns.{again_down, closed_down}
 use Rattle.gc_station.specs.Scopes.{Scope}
-
--- A moment is told behind each act that makes it out of date; nothing is read before a new connection was cleared.
-
-abbrev pub Reads : Progress → Type 0
-Reads p = (p.stale ≡ false) × (p.phase ≡ phase.Clearing → ⊥)
-
-abbrev pub Timely : Progress → Order → Type 0
-Timely p orders.ReadClock = p.stale ≡ true
-Timely p orders.Open = p.stale ≡ false
-Timely p (orders.Read until) = Reads p
-Timely p _ = Unit {0}
-
-waiting_timely : (plan : Plan) (p : Progress) (w : Waiting) → Reads p → Timely p (order_waiting plan p w)
-waiting_timely plan p w r =
-    either (Timely p) (orders.Close cause.Silence) _ (nat_eq w.current 0 && is_quiet plan p) (λ e. tt)
-    (λ e. either (Timely p) (orders.Close cause.Dead) (orders.Read Limit) (is_dead plan p w) (λ d. tt) (λ d. r))
-
-room_timely : (plan : Plan) (p : Progress) (w : Waiting) (o : Order) → Reads p → Timely p o → Timely p (order_room plan p w o)
-room_timely plan p w o r x = either (Timely p) o _ (has_room plan w) (λ e. x) (λ e. waiting_timely plan p w r)
-
-done_timely : (plan : Plan) (p : Progress) → Reads p → Timely p (order_done plan p)
-done_timely plan p r = either (Timely p) (orders.Close cause.Done) _ (nat_eq p.left 0) (λ e. tt) (λ e. either (Timely p) orders.Begin (orders.Read Due) (is_due plan p) (λ d. tt) (λ d. r))
-
-settled_timely : (plan : Plan) (p : Progress) (w : Waiting) → Reads p → Timely p (order_settled plan p w)
-settled_timely plan p w r =
-    either (Timely p) _ _ (nat_eq p.unsent 0) (λ e. done_timely plan p r)
-    (λ e. either (Timely p) _ orders.Skip (may_go p w) (λ well. room_timely plan p w orders.Send r tt) (λ broken. tt))
-
-sent_timely : (plan : Plan) (p : Progress) (w : Waiting) → Reads p → Timely p (order_sent plan p w)
-sent_timely plan p w r =
-    either (Timely p) _ _ (nat_eq w.commands 0) (λ e. settled_timely plan p w r)
-    (λ e. either (Timely p) _ _ (nat_eq w.current 0) (λ g. room_timely plan p w orders.Flush r tt) (λ g. waiting_timely plan p w r))
-
-ready_timely : (plan : Plan) (p : Progress) (w : Waiting) → Reads p → Timely p (order_ready plan p w)
-ready_timely plan p w r =
-    either (Timely p) _ _ p.alone (λ e. waiting_timely plan p w r)
-    (λ e. either (Timely p) _ _ (nat_lt 0 p.unsent && not p.bound) (λ some. room_timely plan p w orders.Send r tt) (λ none. sent_timely plan p w r))
-
-told_timely : (plan : Plan) (at : Phase) (p : Progress) (w : Waiting) → p.phase ≡ at → p.stale ≡ false → Timely p (order_told plan at p w)
-told_timely plan phase.Down p w is now = now
-told_timely plan phase.Pausing p w is now = (now, λ c. let other : phase.Pausing ≡ phase.Clearing = sym is ∙ c in cc)
-told_timely plan phase.Clearing p w is now = tt
-told_timely plan phase.Draining p w is now = (now, λ c. let other : phase.Draining ≡ phase.Clearing = sym is ∙ c in cc)
-told_timely plan phase.Probing p w is now = room_timely plan p w orders.Probe (now, λ c. let other : phase.Probing ≡ phase.Clearing = sym is ∙ c in cc) tt
-told_timely plan phase.Ready p w is now = ready_timely plan p w (now, λ c. let other : phase.Ready ≡ phase.Clearing = sym is ∙ c in cc)
-told_timely plan (phase.Closing why) p w is now = tt
-told_timely plan (phase.Over why) p w is now = tt
-
-up_timely : (p : Progress) (up : Bool) → Timely p (order_up up)
-up_timely p true = tt
-up_timely p false = tt
-
-on_timely : (plan : Plan) (p : Progress) (w : Waiting) → Timely p (order_on plan p w)
-on_timely plan p w =
-    either (Timely p) _ _ (nat_eq p.turns 0) (λ e. up_timely p (is_up p.phase))
-    (λ e. either (Timely p) orders.ReadClock _ p.stale (λ old. old) (λ now. told_timely plan p.phase p w refl now))
-
-pub in_timely : (plan : Plan) (at : Phase) (p : Progress) (w : Waiting) → Timely p (order_in at plan p w)
-in_timely plan (phase.Closing why) p w = tt
-in_timely plan (phase.Over why) p w = tt
-in_timely plan at p w = on_timely plan p w
 
 -- What was done on a connection.
 
@@ -335,51 +272,17 @@ stage_silent plan until gave_up m p phase.Ready acts is small once r st =
 stage_silent plan until gave_up m p at acts is small once r st =
     subst (λ (x : Phase). Stage plan.quiet false (if gave_up then m.elapsed else min p.since m.elapsed) x (acts ++ Silent m ∷ [])) (sym is) tt
 
-lines_stage : (quiet : ℕ) (s : Standing) (lines : List (List ℕ)) (acts : List Act) → StageAt quiet s.progress acts → StageAt quiet (lines_came s lines).progress acts
-lines_stage quiet s [] acts st = st
-lines_stage quiet s (line ∷ others) acts st = lines_stage quiet (line_came s line) others acts st
+-- behind an act
+abbrev StageBehind : Plan → List Act → Act → Standing → Type 0
+StageBehind plan acts act t = StageAt plan.quiet t.progress (acts ++ act ∷ [])
 
-came_stage : (quiet : ℕ) (heard : Bool) (piece : List ℕ) (s : Standing) (acts : List Act) → StageAt quiet s.progress acts → StageAt quiet (came heard piece s).progress acts
-came_stage quiet true piece s acts st = lines_stage quiet (with_rest (rest_behind s.rest piece) s) (lines_behind s.rest piece) acts st
-came_stage quiet false piece s acts st = st
+stage_fails : (plan : Plan) (p : Progress) (why : Cause) (acts : List Act) → StageAt plan.quiet (failing why p) acts
+stage_fails plan p why acts = stage_failed plan.quiet p.stale p.since (is_up p.phase) why acts
 
-read_stage : (plan : Plan) (until : Until) (s : Standing) (act : Act) (acts : List Act) → IsReading act → plan.quiet ≤ 18446744073709551615 → 1 ≤ s.progress.drain → Reads s.progress → StageAt plan.quiet s.progress acts
-    → StageAt plan.quiet (after_read plan until s act).progress (acts ++ act ∷ [])
-read_stage plan until s (Gave bytes m) acts o small once r st =
-    came_stage plan.quiet (is_heard s.progress.phase) bytes (with_moment m (with_progress (told m) s)) (acts ++ Gave bytes m ∷ []) (stage_gave plan.quiet s.progress.stale s.progress.since s.progress.phase bytes m acts r.0 r.1 st)
-read_stage plan until s (Silent m) acts o small once r st = stage_silent plan until (not (is_nil (expiring m.elapsed s.client.waiting))) m s.progress s.progress.phase acts refl small once r st
-read_stage plan until s Untold acts o small once r st = stage_failed plan.quiet s.progress.stale s.progress.since (is_up s.progress.phase) cause.Clock (acts ++ Untold ∷ [])
-read_stage plan until s Ended acts o small once r st = stage_failed plan.quiet s.progress.stale s.progress.since (is_up s.progress.phase) cause.End (acts ++ Ended ∷ [])
-read_stage plan until s Broke acts o small once r st = stage_failed plan.quiet s.progress.stale s.progress.since (is_up s.progress.phase) cause.Read (acts ++ Broke ∷ [])
-read_stage plan until s act acts o small once r st = absurd o
-
-clock_stage : (plan : Plan) (f : Moment → Progress → Progress) (s : Standing) (act : Act) (acts : List Act) → ReadsClock act → ((m : Moment) → StageAt plan.quiet (f m s.progress) (acts ++ Told m ∷ []))
-    → StageAt plan.quiet (after_clock f s act).progress (acts ++ act ∷ [])
-clock_stage plan f s (Told m) acts o step = step m
-clock_stage plan f s Untold acts o step = stage_failed plan.quiet s.progress.stale s.progress.since (is_up s.progress.phase) cause.Clock (acts ++ Untold ∷ [])
-clock_stage plan f s act acts o step = absurd o
-
-open_stage : (plan : Plan) (s : Standing) (act : Act) (acts : List Act) → IsOpening act → s.progress.stale ≡ false → StageAt plan.quiet (after_open plan s act).progress (acts ++ act ∷ [])
-open_stage plan s Opened acts o now = (now, record { before = acts; order = refl })
-open_stage plan s Unopened acts o now =
-    stage_down plan.quiet true s.progress.since (after_open plan s Unopened).progress.phase (acts ++ Unopened ∷ []) (again_down plan (commands_in s.marks) cause.Open s.progress)
-open_stage plan s act acts o now = absurd o
-
-clear_stage : (plan : Plan) (requests : ℕ) (s : Standing) (act : Act) (acts : List Act) → Puts (10 ∷ []) act → IsOpened acts → StageAt plan.quiet (after_put requests (with_progress cleared) s act).progress (acts ++ act ∷ [])
-clear_stage plan requests s (Put out) acts o opened = cleared_now acts out o opened
-clear_stage plan requests s (Cut out n) acts o opened = tt
-clear_stage plan requests s act acts o opened = absurd o
-
-put_stage : (plan : Plan) (requests : ℕ) (bytes : List ℕ) (f : Standing → Standing) (s : Standing) (act : Act) (acts : List Act) → Puts bytes act → (f s).progress.phase ≡ phase.Ready → IsClearedAndQuiet plan.quiet acts
-    → StageAt plan.quiet (after_put requests f s act).progress (acts ++ act ∷ [])
-put_stage plan requests bytes f s (Put out) acts o is c =
-    subst (λ (at : Phase). Stage plan.quiet (f s).progress.stale (f s).progress.since at (acts ++ Put out ∷ [])) (sym is) (more plan.quiet acts (Put out) tt c)
-put_stage plan requests bytes f s (Cut out n) acts o is c = stage_failed plan.quiet (f s).progress.stale (f s).progress.since (is_up (f s).progress.phase) (cause.Write requests n) (acts ++ Cut out n ∷ [])
-put_stage plan requests bytes f s act acts o is c = absurd o
-
-first_phase : (mark : Mark) (left : List Task) (s : Standing) → (asks_first mark left s).progress.phase ≡ s.progress.phase
-first_phase mark [] s = refl
-first_phase mark (command ∷ others) s = refl
+put_stage : (plan : Plan) (requests : ℕ) (text : List ℕ) (t : Standing) (acts : List Act) → t.progress.phase ≡ phase.Ready → IsClearedAndQuiet plan.quiet acts → Putting (StageBehind plan acts) requests text t
+put_stage plan requests text t acts is c =
+    let p = t.progress in
+    (λ m. subst (λ (at : Phase). Stage plan.quiet p.stale p.since at (acts ++ Put text ∷ [])) (sym is) (more plan.quiet acts (Put text) tt c), λ n. stage_fails plan p (cause.Write requests n) (acts ++ Cut text n ∷ []))
 
 -- what is said where it is in this phase
 pub stage_in : (quiet : ℕ) (p : Progress) (at : Phase) (acts : List Act) → p.phase ≡ at → StageAt quiet p acts → Stage quiet p.stale p.since at acts
@@ -389,29 +292,41 @@ stage_moved : (plan : Plan) (commands : List Task) (next : Order) (s : Standing)
     → Obeys commands s next act → IsFor plan s.progress (waiting_of s) next → Timely s.progress next → StageAt plan.quiet s.progress acts
     → StageAt plan.quiet (moved plan commands next (with_progress turned s) act).progress (acts ++ act ∷ [])
 stage_moved plan commands orders.ReadClock s act acts small once o needs time st =
-    clock_stage plan (λ (m : Moment) (p : Progress). reckoned_early plan (commands_in s.marks) (told m p)) (with_progress turned s) act acts o
-    (λ m. stage_told plan.quiet s.progress.stale s.progress.since s.progress.phase m acts time st)
-stage_moved plan commands orders.Begin s act acts small once o needs time st =
-    clock_stage plan (begun plan (length commands)) (with_progress turned s) act acts o
-    (λ m. subst (λ (at : Phase). Stage plan.quiet false m.elapsed at (acts ++ Told m ∷ [])) (sym needs.0) (more plan.quiet acts (Told m) tt (stage_in plan.quiet s.progress phase.Ready acts needs.0 st)))
-stage_moved plan commands orders.Open s act acts small once o needs time st = open_stage plan (with_progress turned s) act acts o time
-stage_moved plan commands orders.Clear s act acts small once o needs time st = clear_stage plan _ (with_progress turned s) act acts o (stage_in plan.quiet s.progress phase.Clearing acts needs st).1
+    walk plan commands (StageBehind plan acts) orders.ReadClock (with_progress turned s) act o
+    (λ m. stage_told plan.quiet s.progress.stale s.progress.since s.progress.phase m acts time st, λ n. stage_fails plan s.progress cause.Clock (acts ++ Untold ∷ []))
+stage_moved plan commands orders.Open s act acts small once o needs time st =
+    let p = again plan (commands_in s.marks) cause.Open (turned s.progress) in
+    walk plan commands (StageBehind plan acts) orders.Open (with_progress turned s) act o
+    (λ m. (time, record { before = acts; order = refl }), λ n. stage_down plan.quiet true p.since p.phase (acts ++ Unopened ∷ []) (again_down plan (commands_in s.marks) cause.Open (turned s.progress)))
+stage_moved plan commands orders.Clear s act acts small once o needs time st =
+    walk plan commands (StageBehind plan acts) orders.Clear (with_progress turned s) act o (λ m. cleared_now acts (10 ∷ []) refl (stage_in plan.quiet s.progress phase.Clearing acts needs st).1, λ n. tt)
 stage_moved plan commands orders.Probe s act acts small once o needs time st =
-    put_stage plan _ _ (λ (x : Standing). with_progress probed (asks_null plan x)) (with_progress turned s) act acts o refl (stage_in plan.quiet s.progress phase.Probing acts needs.0 st).0
+    walk plan commands (StageBehind plan acts) orders.Probe (with_progress turned s) act o
+    (put_stage plan (requests_out plan commands (turned s.progress)) (request_text s.client NullProc) (with_progress probed (asks_null plan (with_progress turned s))) acts refl (stage_in plan.quiet s.progress phase.Probing acts needs.0 st).0)
 stage_moved plan commands orders.Send s act acts small once o needs time st =
-    put_stage plan _ _ (λ (x : Standing). with_progress (sent (bound_next commands x.progress)) (asks_next plan commands x)) (with_progress turned s) act acts o
-    (first_phase (mark_next plan commands s.progress) (drop (place_next commands s.progress) commands) (with_progress turned s) ∙ needs.0) (stage_in plan.quiet s.progress phase.Ready acts needs.0 st)
-stage_moved plan commands orders.Skip s act acts small once o needs time st =
-    clock_stage plan (λ (m : Moment) (p : Progress). reckoned_early plan (commands_in s.marks) (skipped (bound_next commands s.progress) m p))
-    (with_records (skips plan commands (turned s.progress) act) (with_progress turned s)) act acts o
-    (λ m. subst (λ (at : Phase). Stage plan.quiet false m.elapsed at (acts ++ Told m ∷ [])) (sym needs.0) (more plan.quiet acts (Told m) tt (stage_in plan.quiet s.progress phase.Ready acts needs.0 st)))
+    walk plan commands (StageBehind plan acts) orders.Send (with_progress turned s) act o
+    (put_stage plan (requests_out plan commands (turned s.progress)) (first_text s.client (drop (place_next commands s.progress) commands)) (sending plan commands (with_progress turned s)) acts needs.0 (stage_in plan.quiet s.progress phase.Ready acts needs.0 st))
 stage_moved plan commands orders.Flush s act acts small once o needs time st =
-    put_stage plan _ _ (λ (x : Standing). with_progress asking (asks_null plan x)) (with_progress turned s) act acts o needs.0 (stage_in plan.quiet s.progress phase.Ready acts needs.0 st)
-stage_moved plan commands (orders.Read until) s act acts small once o needs time st = read_stage plan until (with_progress turned s) act acts o small once time st
+    walk plan commands (StageBehind plan acts) orders.Flush (with_progress turned s) act o
+    (put_stage plan (requests_out plan commands (turned s.progress)) (request_text s.client NullProc) (with_progress asking (asks_null plan (with_progress turned s))) acts needs.0 (stage_in plan.quiet s.progress phase.Ready acts needs.0 st))
+stage_moved plan commands (orders.Read until) s act acts small once o needs time st =
+    let here = λ (bytes : List ℕ) (m : Moment). stage_gave plan.quiet s.progress.stale s.progress.since s.progress.phase bytes m acts time.0 time.1 st in
+    walk plan commands (StageBehind plan acts) (orders.Read until) (with_progress turned s) act o (
+      λ bytes m. came_along (λ (t : Standing). StageAt plan.quiet t.progress (acts ++ Gave bytes m ∷ [])) (λ t line on. on) (is_heard s.progress.phase) bytes (with_moment m (with_progress (told m) (with_progress turned s))) (here bytes m) (here bytes m),
+      λ m. stage_silent plan until (not (is_nil (expiring m.elapsed s.client.waiting))) m (turned s.progress) s.progress.phase acts refl small once time st,
+      stage_fails plan s.progress cause.End (acts ++ Ended ∷ []),
+      stage_fails plan s.progress cause.Read (acts ++ Broke ∷ []),
+      stage_fails plan s.progress cause.Clock (acts ++ Untold ∷ []),
+    )
 stage_moved plan commands (orders.Close why) s act acts small once o needs time st =
     let t = moved plan commands (orders.Close why) (with_progress turned s) act in
     stage_down plan.quiet t.progress.stale t.progress.since t.progress.phase (acts ++ act ∷ []) (closed_down plan (waiting_of s) why (turned s.progress))
 stage_moved plan commands (orders.Stop why) s act acts small once o needs time st = absurd o
+stage_moved plan commands next s act acts small once o needs time st =
+    walk plan commands (StageBehind plan acts) next (with_progress turned s) act o (
+      λ m. subst (λ (at : Phase). Stage plan.quiet false m.elapsed at (acts ++ Told m ∷ [])) (sym needs.0) (more plan.quiet acts (Told m) tt (stage_in plan.quiet s.progress phase.Ready acts needs.0 st)),
+      λ n. stage_fails plan s.progress cause.Clock (acts ++ Untold ∷ []),
+    )
 
 -- Whole runs.
 
@@ -422,7 +337,7 @@ stage_stood plan commands scope acts small runs = along plan commands (opening p
       let s = stood plan commands scope done in
       let split = runs_split plan commands (opening plan scope) done later act runs in
       subst (λ (p : Progress). StageAt plan.quiet p (done ++ act ∷ [])) (sym (progress_behind plan commands scope done act))
-      (stage_moved plan commands (order_at plan s) s act done small (drains_once plan commands scope done split.0) split.1 (order_for plan s.progress (waiting_of s)) (in_timely plan s.progress.phase s.progress (waiting_of s)) st)
+      (stage_moved plan commands (order_at plan s) s act done small (drains_once plan commands scope done split.0) split.1 (order_for plan s.progress (waiting_of s)) (order_timely plan s.progress (waiting_of s)) st)
 
 -- A request goes out where requests may.
 
@@ -433,41 +348,26 @@ asks_in : (quiet : ℕ) (p : Progress) (acts : List Act) → Asks p.phase → St
 asks_in quiet p acts (inl is) st = (stage_in quiet p phase.Probing acts is st).0
 asks_in quiet p acts (inr is) st = stage_in quiet p phase.Ready acts is st
 
-pub not_clock : (act : Act) → ReadsClock act → IsRequest act → ⊥
-not_clock (Put out) o asks = o
-not_clock (Cut out n) o asks = o
-not_clock act o asks = asks
-
-pub not_opening : (act : Act) → IsOpening act → IsRequest act → ⊥
-not_opening (Put out) o asks = o
-not_opening (Cut out n) o asks = o
-not_opening act o asks = asks
-
-pub not_reading : (act : Act) → IsReading act → IsRequest act → ⊥
-not_reading (Put out) o asks = o
-not_reading (Cut out n) o asks = o
-not_reading act o asks = asks
-
-pub not_clearing : (act : Act) → Puts (10 ∷ []) act → IsRequest act → ⊥
-not_clearing (Put out) o asks = asks o
-not_clearing (Cut out n) o asks = asks o.0
-not_clearing act o asks = o
-
 pub not_closing : (act : Act) → act ≡ Closed → IsRequest act → ⊥
 not_closing act o asks = subst IsRequest o asks
 
+-- no request goes out by any other order
+pub asks_not : (plan : Plan) (commands : List Task) (next : Order) (s : Standing) (act : Act) → Obeys commands s next act → (next ≡ orders.Probe → ⊥) × (next ≡ orders.Send → ⊥) × (next ≡ orders.Flush → ⊥) → IsRequest act → ⊥
+asks_not plan commands orders.Probe s act o other = absurd (other.0 refl)
+asks_not plan commands orders.Send s act o other = absurd (other.1 refl)
+asks_not plan commands orders.Flush s act o other = absurd (other.2 refl)
+asks_not plan commands orders.Clear s act o other = walk plan commands (λ a (t : Standing). IsRequest a → ⊥) orders.Clear s act o (λ m asks. asks refl, λ n asks. asks refl)
+asks_not plan commands (orders.Read until) s act o other =
+    walk plan commands (λ a (t : Standing). IsRequest a → ⊥) (orders.Read until) s act o (λ bytes m asks. asks, λ m asks. asks, λ asks. asks, λ asks. asks, λ asks. asks)
+asks_not plan commands (orders.Close why) s act o other = not_closing act o
+asks_not plan commands (orders.Stop why) s act o other = absurd o
+asks_not plan commands next s act o other = walk plan commands (λ a (t : Standing). IsRequest a → ⊥) next s act o (λ m asks. asks, λ n asks. asks)
+
 pub asks_there : (plan : Plan) (commands : List Task) (next : Order) (s : Standing) (act : Act) → Obeys commands s next act → IsRequest act → IsFor plan s.progress (waiting_of s) next → Asks s.progress.phase
-asks_there plan commands orders.ReadClock s act o asks needs = absurd (not_clock act o asks)
-asks_there plan commands orders.Begin s act o asks needs = absurd (not_clock act o asks)
-asks_there plan commands orders.Open s act o asks needs = absurd (not_opening act o asks)
-asks_there plan commands orders.Clear s act o asks needs = absurd (not_clearing act o asks)
 asks_there plan commands orders.Probe s act o asks needs = inl needs.0
 asks_there plan commands orders.Send s act o asks needs = inr needs.0
-asks_there plan commands orders.Skip s act o asks needs = absurd (not_clock act o asks)
 asks_there plan commands orders.Flush s act o asks needs = inr needs.0
-asks_there plan commands (orders.Read until) s act o asks needs = absurd (not_reading act o asks)
-asks_there plan commands (orders.Close why) s act o asks needs = absurd (not_closing act o asks)
-asks_there plan commands (orders.Stop why) s act o asks needs = absurd o
+asks_there plan commands next s act o asks needs = absurd (asks_not plan commands next s act o (λ is. cc, λ is. cc, λ is. cc) asks)
 
 pub cleared_and_quiet : (plan : Plan) (commands : List Task) (scope : Scope) (earlier later : List Act) (act : Act) → plan.quiet ≤ 18446744073709551615 → Runs plan commands (opening plan scope) (earlier ++ act ∷ later) → IsRequest act
     → IsClearedAndQuiet plan.quiet earlier

@@ -1,12 +1,12 @@
 -- A connection is closed for silence only where reads gave nothing for so long.
-use Rattle.std.proofs.Common.{◌≡◌, ℕ, ◌-◌, ◌≤◌, ◌⊎◌, inl, inr, ◌&&◌, ◌||◌, Bool, true, false, not, List, [], ◌∷◌, ◌++◌, length, map, if◌then◌else◌, nat_eq, nat_lt, nat_le, min, refl, sym, ap, ◌∙◌, subst, arith, append_assoc}
+use Rattle.std.proofs.Common.{◌≡◌, ℕ, ◌-◌, ◌≤◌, ◌⊎◌, inl, inr, ◌&&◌, ◌||◌, Bool, true, false, not, List, [], ◌∷◌, ◌++◌, drop, map, if◌then◌else◌, nat_eq, nat_le, min, refl, sym, ap, ◌∙◌, subst, arith, append_assoc}
 use Rattle.std.specs.List.{AllByRecursion}
 use Rattle.std.proofs.Math.Nat.{min-eq_left, min-eq_right}
 use Rattle.std.proofs.lemmas.Bool.{leb-true, leb-false}
 use Rattle.std.proofs.lemmas.List.{nil_from_length}
-use Rattle.gc_lines.specs.Frames.{rest_behind}
 use Rattle.gc_client.specs.declared.pending.Pending.{Pending}
 use Rattle.gc_client.specs.Rule.{ById, expired, is_expiring, expiring, deadlines}
+use Rattle.gc_catalogue.specs.declared.call.Call.TheVariants.{NullProc}
 use Rattle.gc_texts.specs.declared.tasks.Task.{Task}
 use Rattle.gc_links.specs.declared.link.Moment.{Moment}
 use Rattle.gc_station.specs.declared.plan.Plan.{Plan}
@@ -18,97 +18,26 @@ use Rattle.gc_station.specs.declared.progress.Order.{Order}
 use Rattle.gc_station.specs.declared.progress.Order.TheVariants as orders
 use Rattle.gc_station.specs.declared.progress.Progress.{Progress}
 use Rattle.gc_station.specs.declared.progress.Until.{Until}
-use Rattle.gc_station.specs.declared.progress.Until.TheVariants.{Limit, Due}
-use Rattle.gc_station.specs.declared.progress.Waiting.{Waiting}
-use Rattle.gc_links.specs.Acts.{Act, Told, Untold, Put, Cut, Gave, Silent, Ended, Broke, Opened, Unopened}
+use Rattle.gc_links.specs.Acts.{Act, Told, Untold, Put, Cut, Gave, Silent, Ended, Broke, Unopened}
 use Rattle.gc_station.specs.Closing.{Shows}
-use Rattle.gc_station.specs.Deciding.{is_up, is_past, is_quiet, is_dead, is_due, drain_of, has_room, order_in, order_on, order_told, may_go, order_ready, order_sent, order_settled, order_done, order_room, order_waiting, order_up}
+use Rattle.gc_station.specs.Deciding.{is_up, is_past, drain_of}
 use Rattle.gc_station.specs.Marks.{commands_in}
-use Rattle.gc_station.specs.Progressing.{turned, told, begun, skipped, reckoned_early, cleared, probed, sent, asking, time_passed, quiet_renewed, quieted, is_idle, drained, is_over, is_over_in, loses_all}
+use Rattle.gc_station.specs.Progressing.{failing, again, turned, told, cleared, probed, asking, time_passed, quiet_renewed, quieted, is_idle, drained, is_over, is_over_in, loses_all}
 use Rattle.gc_station.specs.Quiet.{TellsMoment, IsSilent}
 use Rattle.gc_station.specs.Reasons.{IsAtItsEnd}
 use Rattle.gc_station.specs.Runs.{stood}
 use Rattle.gc_station.specs.Silences.{latest, IsSilentFor}
-use Rattle.gc_station.specs.Standing.{Standing, opening, order_at, waiting_of, with_progress, with_moment, with_rest, line_came, lines_came, lines_behind, came, is_heard, is_nil, asks_null, asks_next, with_records, skips, after_clock, after_put, after_open, after_read, ReadsClock, IsOpening, IsReading, Puts, Obeys, moved, losing, ended, after, Runs, bound_next}
+use Rattle.gc_station.specs.Standing.{Standing, requests_out, request_text, first_text, place_next, opening, order_at, waiting_of, with_progress, with_moment, is_heard, is_nil, asks_null, after_read, Obeys, moved, losing, ended, after, Runs}
 use Rattle.gc_station.proofs.Closings.{runs_split, closing_shown, needs_of}
 use Rattle.gc_station.proofs.Drains.{along, progress_behind}
 use Rattle.gc_station.proofs.EachRun.{fine_stood}
-use Rattle.gc_station.proofs.Facts.{either}
+use Rattle.gc_station.proofs.Facts.{either_true, order_timely, order_wakes, Timely, Awake, Wakes}
 use Rattle.gc_station.proofs.Fine.{Fine}
 use Rattle.gc_station.proofs.Going.{after_all-append}
 use Rattle.gc_station.proofs.Lists.{all_append}
-use Rattle.gc_station.proofs.Losing.{quieted_anew}
-use Rattle.gc_station.proofs.Quiets.{Timely, in_timely}
+use Rattle.gc_station.proofs.Walk.{Putting, came_along, quieted_along, sending, walk}
 use Rattle.gc_station.proofs.Turns.{again_down, closed_down}
 use Rattle.gc_station.specs.Scopes.{Scope}
-
--- Requests go out, and a connection is closed for silence or for a dead line, only where requests may go, behind a moment that was told.
-
-abbrev pub Awake : Progress → Type 0
-Awake p = (p.stale ≡ false) × ((p.phase ≡ phase.Probing) ⊎ (p.phase ≡ phase.Ready))
-
-abbrev pub Wakes : Progress → Order → Type 0
-Wakes p orders.Probe = Awake p
-Wakes p orders.Send = Awake p
-Wakes p orders.Flush = Awake p
-Wakes p (orders.Close cause.Silence) = (p.phase ≡ phase.Closing cause.Silence) ⊎ Awake p
-Wakes p (orders.Close cause.Dead) = (p.phase ≡ phase.Closing cause.Dead) ⊎ Awake p
-Wakes p _ = Unit {0}
-
-waiting_wakes : (plan : Plan) (p : Progress) (w : Waiting) → Awake p → Wakes p (order_waiting plan p w)
-waiting_wakes plan p w a =
-    either (Wakes p) (orders.Close cause.Silence) _ (nat_eq w.current 0 && is_quiet plan p) (λ e. inr a)
-    (λ e. either (Wakes p) (orders.Close cause.Dead) (orders.Read Limit) (is_dead plan p w) (λ d. inr a) (λ d. tt))
-
-room_wakes : (plan : Plan) (p : Progress) (w : Waiting) (o : Order) → Awake p → Wakes p o → Wakes p (order_room plan p w o)
-room_wakes plan p w o a x = either (Wakes p) o _ (has_room plan w) (λ e. x) (λ e. waiting_wakes plan p w a)
-
-done_wakes : (plan : Plan) (p : Progress) → Wakes p (order_done plan p)
-done_wakes plan p = either (Wakes p) (orders.Close cause.Done) _ (nat_eq p.left 0) (λ e. tt) (λ e. either (Wakes p) orders.Begin (orders.Read Due) (is_due plan p) (λ d. tt) (λ d. tt))
-
-settled_wakes : (plan : Plan) (p : Progress) (w : Waiting) → Awake p → Wakes p (order_settled plan p w)
-settled_wakes plan p w a =
-    either (Wakes p) _ _ (nat_eq p.unsent 0) (λ e. done_wakes plan p)
-    (λ e. either (Wakes p) _ orders.Skip (may_go p w) (λ well. room_wakes plan p w orders.Send a a) (λ broken. tt))
-
-sent_wakes : (plan : Plan) (p : Progress) (w : Waiting) → Awake p → Wakes p (order_sent plan p w)
-sent_wakes plan p w a =
-    either (Wakes p) _ _ (nat_eq w.commands 0) (λ e. settled_wakes plan p w a)
-    (λ e. either (Wakes p) _ _ (nat_eq w.current 0) (λ g. room_wakes plan p w orders.Flush a a) (λ g. waiting_wakes plan p w a))
-
-ready_wakes : (plan : Plan) (p : Progress) (w : Waiting) → Awake p → Wakes p (order_ready plan p w)
-ready_wakes plan p w a =
-    either (Wakes p) _ _ p.alone (λ e. waiting_wakes plan p w a)
-    (λ e. either (Wakes p) _ _ (nat_lt 0 p.unsent && not p.bound) (λ some. room_wakes plan p w orders.Send a a) (λ none. sent_wakes plan p w a))
-
-closing_wakes : (p : Progress) (why : Cause) → p.phase ≡ phase.Closing why → Wakes p (orders.Close why)
-closing_wakes p cause.Silence is = inl is
-closing_wakes p cause.Dead is = inl is
-closing_wakes p why is = tt
-
-told_wakes : (plan : Plan) (at : Phase) (p : Progress) (w : Waiting) → p.phase ≡ at → p.stale ≡ false → Wakes p (order_told plan at p w)
-told_wakes plan phase.Down p w is now = tt
-told_wakes plan phase.Pausing p w is now = tt
-told_wakes plan phase.Clearing p w is now = tt
-told_wakes plan phase.Draining p w is now = tt
-told_wakes plan phase.Probing p w is now = room_wakes plan p w orders.Probe (now, inl is) (now, inl is)
-told_wakes plan phase.Ready p w is now = ready_wakes plan p w (now, inr is)
-told_wakes plan (phase.Closing why) p w is now = closing_wakes p why is
-told_wakes plan (phase.Over why) p w is now = tt
-
-up_wakes : (p : Progress) (up : Bool) → Wakes p (order_up up)
-up_wakes p true = tt
-up_wakes p false = tt
-
-on_wakes : (plan : Plan) (p : Progress) (w : Waiting) → Wakes p (order_on plan p w)
-on_wakes plan p w =
-    either (Wakes p) _ _ (nat_eq p.turns 0) (λ e. up_wakes p (is_up p.phase))
-    (λ e. either (Wakes p) orders.ReadClock _ p.stale (λ old. tt) (λ now. told_wakes plan p.phase p w refl now))
-
-pub in_wakes : (plan : Plan) (at : Phase) (p : Progress) (w : Waiting) → p.phase ≡ at → Wakes p (order_in at plan p w)
-in_wakes plan (phase.Closing why) p w is = closing_wakes p why is
-in_wakes plan (phase.Over why) p w is = tt
-in_wakes plan at p w is = on_wakes plan p w
 
 -- What was told, and came, behind the moment at which the quiet time began.
 
@@ -182,16 +111,12 @@ silent_keeps plan commands until s m fine up none = lost_deadlines t (loses_all 
   nil_is true e = refl
   nil_is false e = cc
 
-  left_true : (a b : Bool) → (a || b) ≡ true → b ≡ false → a ≡ true
-  left_true true b e goes = refl
-  left_true false b e goes = cc
-
   fresh : loses_all t.progress ≡ true → deadlines s.client.waiting ≡ []
   fresh all =
       let still : is_up t.progress.phase ≡ true = quieted_up plan s.progress.phase (time_passed until m (turned s.progress)) refl ∙ up in
       let goes : is_over t.progress ≡ false = up_goes_on t.progress.phase (nat_eq t.progress.turns 0) still in
-      let anew = left_true t.progress.anew (is_over t.progress) all goes in
-      ap (λ (c : ById). deadlines c.waiting) (fine.anew (sym (quieted_anew plan s.progress.phase (time_passed until m (turned s.progress))) ∙ anew)).0
+      let anew = either_true t.progress.anew (is_over t.progress) all goes in
+      ap (λ (c : ById). deadlines c.waiting) (fine.anew ((quieted_along (λ (q : Progress). s.progress.anew ≡ q.anew) plan s.progress.phase (time_passed until m (turned s.progress)) refl refl refl) ∙ anew)).0
 
 module _ (plan : Plan) (commands : List Task) (scope : Scope) where
   -- behind an act that told a moment all reads gave nothing, and no request was given up; this moment was told last
@@ -313,50 +238,22 @@ module _ (plan : Plan) (commands : List Task) (scope : Scope) where
   hush_silent until gave_up m p at acts is fresh keeps h =
       subst (λ (x : Phase). Hush false (if gave_up then m.elapsed else min p.since m.elapsed) m.elapsed x (acts ++ Silent m ∷ [])) (sym is) tt
 
-  lines_hush : (s : Standing) (lines : List (List ℕ)) (acts : List Act) → HushAt s.progress acts → HushAt (lines_came s lines).progress acts
-  lines_hush s [] acts h = h
-  lines_hush s (line ∷ others) acts h = lines_hush (line_came s line) others acts h
-
-  came_hush : (heard : Bool) (piece : List ℕ) (s : Standing) (acts : List Act) → HushAt s.progress acts → HushAt (came heard piece s).progress acts
-  came_hush true piece s acts h = lines_hush (with_rest (rest_behind s.rest piece) s) (lines_behind s.rest piece) acts h
-  came_hush false piece s acts h = h
-
   -- where there is a connection, and nothing is given up
   abbrev KeepsAt : Standing → Act → List Act → Type 0
   KeepsAt s (Silent m) acts = is_up s.progress.phase ≡ true → not (is_nil (expiring m.elapsed s.client.waiting)) ≡ false → Keeps acts m
   KeepsAt s act acts = Unit {0}
 
-  read_hush : (until : Until) (s : Standing) (act : Act) (acts : List Act) → IsReading act → s.progress.stale ≡ false → KeepsAt s act acts → HushAt s.progress acts → HushAt (after_read plan until s act).progress (acts ++ act ∷ [])
-  read_hush until s (Gave bytes m) acts o fresh keeps h =
-      came_hush (is_heard s.progress.phase) bytes (with_moment m (with_progress (told m) s)) (acts ++ Gave bytes m ∷ [])
-      (hush_there m.elapsed m.elapsed s.progress.phase (acts ++ Gave bytes m ∷ []) (hushed_now m.elapsed acts (Gave bytes m) refl))
-  read_hush until s (Silent m) acts o fresh keeps h = hush_silent until (not (is_nil (expiring m.elapsed s.client.waiting))) m s.progress s.progress.phase acts refl fresh keeps h
-  read_hush until s Untold acts o fresh keeps h = hush_failed s.progress.stale s.progress.since s.progress.moment.elapsed (is_up s.progress.phase) cause.Clock (acts ++ Untold ∷ [])
-  read_hush until s Ended acts o fresh keeps h = hush_failed s.progress.stale s.progress.since s.progress.moment.elapsed (is_up s.progress.phase) cause.End (acts ++ Ended ∷ [])
-  read_hush until s Broke acts o fresh keeps h = hush_failed s.progress.stale s.progress.since s.progress.moment.elapsed (is_up s.progress.phase) cause.Read (acts ++ Broke ∷ [])
-  read_hush until s act acts o fresh keeps h = absurd o
+  -- behind an act
+  abbrev HushBehind : List Act → Act → Standing → Type 0
+  HushBehind acts act t = HushAt t.progress (acts ++ act ∷ [])
 
-  clock_hush : (f : Moment → Progress → Progress) (s : Standing) (act : Act) (acts : List Act) → ReadsClock act → ((m : Moment) → IsHushed m.elapsed m.elapsed (acts ++ Told m ∷ []) → HushAt (f m s.progress) (acts ++ Told m ∷ []))
-      → HushAt (after_clock f s act).progress (acts ++ act ∷ [])
-  clock_hush f s (Told m) acts o step = step m (hushed_now m.elapsed acts (Told m) refl)
-  clock_hush f s Untold acts o step = hush_failed s.progress.stale s.progress.since s.progress.moment.elapsed (is_up s.progress.phase) cause.Clock (acts ++ Untold ∷ [])
-  clock_hush f s act acts o step = absurd o
+  hush_fails : (p : Progress) (why : Cause) (acts : List Act) → HushAt (failing why p) acts
+  hush_fails p why acts = hush_failed p.stale p.since p.moment.elapsed (is_up p.phase) why acts
 
-  open_hush : (s : Standing) (act : Act) (acts : List Act) → IsOpening act → HushAt (after_open plan s act).progress (acts ++ act ∷ [])
-  open_hush s Opened acts o = tt
-  open_hush s Unopened acts o =
-      hush_down true s.progress.since s.progress.moment.elapsed (after_open plan s Unopened).progress.phase (acts ++ Unopened ∷ []) (again_down plan (commands_in s.marks) cause.Open s.progress)
-  open_hush s act acts o = absurd o
-
-  put_hush : (requests : ℕ) (bytes : List ℕ) (f : Standing → Standing) (s : Standing) (act : Act) (acts : List Act) → Puts bytes act → (f s).progress.stale ≡ true → HushAt (after_put requests f s act).progress (acts ++ act ∷ [])
-  put_hush requests bytes f s (Put out) acts o old =
-      let p = (f s).progress in subst (λ (b : Bool). Hush b p.since p.moment.elapsed p.phase (acts ++ Put out ∷ [])) (sym old) (hush_stale p.since p.moment.elapsed p.phase (acts ++ Put out ∷ []))
-  put_hush requests bytes f s (Cut out n) acts o old = let p = (f s).progress in hush_failed p.stale p.since p.moment.elapsed (is_up p.phase) (cause.Write requests n) (acts ++ Cut out n ∷ [])
-  put_hush requests bytes f s act acts o old = absurd o
-
-  keeps_turned : (s : Standing) (act : Act) (acts : List Act) → KeepsAt s act acts → KeepsAt (with_progress turned s) act acts
-  keeps_turned s (Silent m) acts keeps = keeps
-  keeps_turned s act acts keeps = tt
+  put_hush : (requests : ℕ) (text : List ℕ) (t : Standing) (acts : List Act) → t.progress.stale ≡ true → Putting (HushBehind acts) requests text t
+  put_hush requests text t acts old =
+      let p = t.progress in
+      (λ m. subst (λ (b : Bool). Hush b p.since p.moment.elapsed p.phase (acts ++ Put text ∷ [])) (sym old) (hush_stale p.since p.moment.elapsed p.phase (acts ++ Put text ∷ [])), λ n. hush_fails p (cause.Write requests n) (acts ++ Cut text n ∷ []))
 
   keeps_stood : (done : List Act) (act : Act) → Obeys commands (stood plan commands scope done) (order_at plan (stood plan commands scope done)) act → KeepsAt (stood plan commands scope done) act done
   keeps_stood done (Silent m) o = keeps where
@@ -379,22 +276,30 @@ module _ (plan : Plan) (commands : List Task) (scope : Scope) where
 
   hush_moved : (next : Order) (s : Standing) (act : Act) (acts : List Act) → Obeys commands s next act → Timely s.progress next → KeepsAt s act acts
       → HushAt s.progress acts → HushAt (moved plan commands next (with_progress turned s) act).progress (acts ++ act ∷ [])
-  hush_moved orders.ReadClock s act acts o time keeps h =
-      clock_hush (λ (m : Moment) (p : Progress). reckoned_early plan (commands_in s.marks) (told m p)) (with_progress turned s) act acts o (λ m now. hush_there m.elapsed m.elapsed s.progress.phase (acts ++ Told m ∷ []) now)
-  hush_moved orders.Begin s act acts o time keeps h =
-      clock_hush (begun plan (length commands)) (with_progress turned s) act acts o (λ m now. hush_there m.elapsed m.elapsed s.progress.phase (acts ++ Told m ∷ []) now)
-  hush_moved orders.Open s act acts o time keeps h = open_hush (with_progress turned s) act acts o
-  hush_moved orders.Clear s act acts o time keeps h = put_hush _ _ (with_progress cleared) (with_progress turned s) act acts o refl
-  hush_moved orders.Probe s act acts o time keeps h = put_hush _ _ (λ (x : Standing). with_progress probed (asks_null plan x)) (with_progress turned s) act acts o refl
-  hush_moved orders.Send s act acts o time keeps h = put_hush _ _ (λ (x : Standing). with_progress (sent (bound_next commands x.progress)) (asks_next plan commands x)) (with_progress turned s) act acts o refl
-  hush_moved orders.Skip s act acts o time keeps h =
-      clock_hush (λ (m : Moment) (p : Progress). reckoned_early plan (commands_in s.marks) (skipped (bound_next commands s.progress) m p))
-      (with_records (skips plan commands (turned s.progress) act) (with_progress turned s)) act acts o (λ m now. hush_there m.elapsed m.elapsed s.progress.phase (acts ++ Told m ∷ []) now)
-  hush_moved orders.Flush s act acts o time keeps h = put_hush _ _ (λ (x : Standing). with_progress asking (asks_null plan x)) (with_progress turned s) act acts o refl
-  hush_moved (orders.Read until) s act acts o time keeps h = read_hush until (with_progress turned s) act acts o time.0 (keeps_turned s act acts keeps) h
+  hush_moved orders.Open s act acts o time keeps h =
+      let p = again plan (commands_in s.marks) cause.Open (turned s.progress) in
+      walk plan commands (HushBehind acts) orders.Open (with_progress turned s) act o
+      (λ m. tt, λ n. hush_down true p.since p.moment.elapsed p.phase (acts ++ Unopened ∷ []) (again_down plan (commands_in s.marks) cause.Open (turned s.progress)))
+  hush_moved orders.Clear s act acts o time keeps h = walk plan commands (HushBehind acts) orders.Clear (with_progress turned s) act o (put_hush (requests_out plan commands (turned s.progress)) (10 ∷ []) (with_progress cleared (with_progress turned s)) acts refl)
+  hush_moved orders.Probe s act acts o time keeps h = walk plan commands (HushBehind acts) orders.Probe (with_progress turned s) act o (put_hush (requests_out plan commands (turned s.progress)) (request_text s.client NullProc) (with_progress probed (asks_null plan (with_progress turned s))) acts refl)
+  hush_moved orders.Send s act acts o time keeps h = walk plan commands (HushBehind acts) orders.Send (with_progress turned s) act o (put_hush (requests_out plan commands (turned s.progress)) (first_text s.client (drop (place_next commands s.progress) commands)) (sending plan commands (with_progress turned s)) acts refl)
+  hush_moved orders.Flush s act acts o time keeps h = walk plan commands (HushBehind acts) orders.Flush (with_progress turned s) act o (put_hush (requests_out plan commands (turned s.progress)) (request_text s.client NullProc) (with_progress asking (asks_null plan (with_progress turned s))) acts refl)
+  hush_moved (orders.Read until) s act acts o time keeps h =
+      let heard = is_heard s.progress.phase in
+      let here = λ (bytes : List ℕ) (m : Moment). hush_there m.elapsed m.elapsed s.progress.phase (acts ++ Gave bytes m ∷ []) (hushed_now m.elapsed acts (Gave bytes m) refl) in
+      walk plan commands (λ a (t : Standing). KeepsAt s a acts → HushAt t.progress (acts ++ a ∷ [])) (orders.Read until) (with_progress turned s) act o (
+        λ bytes m none. came_along (λ (t : Standing). HushAt t.progress (acts ++ Gave bytes m ∷ [])) (λ t line hushed. hushed) heard bytes (with_moment m (with_progress (told m) (with_progress turned s))) (here bytes m) (here bytes m),
+        λ m kept. hush_silent until (not (is_nil (expiring m.elapsed s.client.waiting))) m (turned s.progress) s.progress.phase acts refl time.0 kept h,
+        λ none. hush_fails s.progress cause.End (acts ++ Ended ∷ []),
+        λ none. hush_fails s.progress cause.Read (acts ++ Broke ∷ []),
+        λ none. hush_fails s.progress cause.Clock (acts ++ Untold ∷ []),
+      ) keeps
   hush_moved (orders.Close why) s act acts o time keeps h =
       let p = (moved plan commands (orders.Close why) (with_progress turned s) act).progress in hush_down p.stale p.since p.moment.elapsed p.phase (acts ++ act ∷ []) (closed_down plan (waiting_of s) why (turned s.progress))
   hush_moved (orders.Stop why) s act acts o time keeps h = absurd o
+  hush_moved next s act acts o time keeps h =
+      walk plan commands (HushBehind acts) next (with_progress turned s) act o
+      (λ m. hush_there m.elapsed m.elapsed s.progress.phase (acts ++ Told m ∷ []) (hushed_now m.elapsed acts (Told m) refl), λ n. hush_fails s.progress cause.Clock (acts ++ Untold ∷ []))
 
   -- Whole runs.
 
@@ -405,7 +310,7 @@ module _ (plan : Plan) (commands : List Task) (scope : Scope) where
         let s = stood plan commands scope done in
         let split = runs_split plan commands (opening plan scope) done later act runs in
         subst (λ (p : Progress). HushAt p (done ++ act ∷ [])) (sym (progress_behind plan commands scope done act))
-        (hush_moved (order_at plan s) s act done split.1 (in_timely plan s.progress.phase s.progress (waiting_of s)) (keeps_stood done act split.1) h)
+        (hush_moved (order_at plan s) s act done split.1 (order_timely plan s.progress (waiting_of s)) (keeps_stood done act split.1) h)
 
   -- where requests may go out, behind a moment that was told
   pub awake_hushed : (p : Progress) (acts : List Act) → Awake p → HushAt p acts → IsHushed p.since p.moment.elapsed acts
@@ -433,7 +338,7 @@ silent_close plan commands scope acts runs is =
     let p = s.progress in
     let never = not_closing plan commands scope acts cause.Silence runs (λ act shows. shows) in
     let end = end_here plan s cause.Silence is never in
-    let wakes = subst (λ (next : Order). Wakes p next) is (in_wakes plan p.phase p (waiting_of s) refl) in
+    let wakes = subst (λ (next : Order). Wakes p next) is (order_wakes plan p (waiting_of s)) in
     let h = awake_hushed plan commands scope p acts (awake_here p cause.Silence wakes never) (hush_stood plan commands scope acts runs) in
     let long : plan.quiet ≤ p.moment.elapsed - p.since = leb-true plan.quiet (p.moment.elapsed - p.since) end.2 in
     record {

@@ -1,8 +1,7 @@
 -- A run stops for want of tries only where as many connections ended since a read settled a command.
-use Rattle.std.proofs.Common.{◌≡◌, ◌≢◌, ◌⊎◌, inl, inr, ℕ, suc, ◌+◌, ◌-◌, ◌<◌, ◌≤◌, ◌||◌, Bool, true, false, List, [], ◌∷◌, ◌++◌, length, drop, map, Option, Some, None, if◌then◌else◌, nat_lt, refl, sym, ap, ◌∙◌, subst, arith, append_assoc, append-nil}
+use Rattle.std.proofs.Common.{◌≡◌, ◌≢◌, ◌⊎◌, inl, inr, ℕ, suc, ◌+◌, ◌-◌, ◌<◌, ◌≤◌, Bool, true, false, List, [], ◌∷◌, ◌++◌, length, map, Option, Some, None, if◌then◌else◌, nat_lt, refl, sym, ap, ◌∙◌, subst, arith, append_assoc, append-nil}
 use Rattle.std.proofs.lemmas.Bool.{ltb-true, ltb-false}
 use Rattle.std.proofs.lemmas.List.{length-map, length-append, nil_from_length}
-use Rattle.gc_lines.specs.Frames.{rest_behind}
 use Rattle.gc_client.specs.declared.pending.Pending.{Pending}
 use Rattle.gc_client.specs.Rule.{ById}
 use Rattle.gc_texts.specs.declared.tasks.Task.{Task}
@@ -18,29 +17,29 @@ use Rattle.gc_station.specs.declared.progress.Order.TheVariants as orders
 use Rattle.gc_station.specs.declared.progress.Progress.{Progress}
 use Rattle.gc_station.specs.declared.progress.Until.{Until}
 use Rattle.gc_station.specs.declared.progress.Waiting.{Waiting}
-use Rattle.gc_links.specs.Acts.{Act, Told, Untold, Put, Cut, Gave, Silent, Ended, Broke, Closed, Opened, Unopened}
+use Rattle.gc_links.specs.Acts.{Act, Gave, Closed, Opened, Unopened}
 use Rattle.gc_station.specs.Closing.{Shows, EndsDone, EndsBehind, commands_behind}
-use Rattle.gc_station.specs.Deciding.{is_up, is_past, drain_of}
+use Rattle.gc_station.specs.Deciding.{is_up}
 use Rattle.gc_station.specs.EachOnce.{still_waiting, of_record, sent_by}
 use Rattle.gc_station.specs.Marks.{commands_in}
-use Rattle.gc_station.specs.Progressing.{turned, told, begun, skipped, reckoned_early, cleared, probed, sent, asking, time_passed, quieted, drained, is_idle, begins_anew, closed_again, closed, is_over, loses_all}
+use Rattle.gc_station.specs.Progressing.{is_spared, beginning_anew, turned, told, time_passed, quieted, closed, is_over, loses_all}
 use Rattle.gc_station.specs.Records.{Record}
 use Rattle.gc_station.specs.Runs.{stood}
-use Rattle.gc_station.specs.Standing.{Standing, opening, order_at, waiting_of, place_next, bound_next, mark_next, with_progress, with_moment, with_rest, line_came, lines_came, lines_behind, came, is_heard, asks_null, asks_first, asks_next, with_records, skips, after_clock, after_put, after_open, after_read, piece_at, ReadsClock, IsOpening, IsReading, Puts, Obeys, moved, losing, after, after_all, Runs}
+use Rattle.gc_station.specs.Standing.{Standing, opening, order_at, waiting_of, place_next, with_progress, with_moment, came, is_heard, piece_at, Obeys, moved, losing, after, after_all, Runs}
 use Rattle.gc_station.specs.Tries.{IsTried, IsEnding, ends_in, opens_in, SettlesNone, NoneSettled, EndsSettled, AllTried}
 use Rattle.gc_station.proofs.Beginning.{over_stays}
 use Rattle.gc_station.proofs.Closings.{runs_split, needs_of, end_of, Decided, after_decided, done_sent}
-use Rattle.gc_station.proofs.Counts.{came_kept, ended_progress}
+use Rattle.gc_station.proofs.Counts.{ended_progress}
 use Rattle.gc_station.proofs.Drains.{along, progress_behind}
 use Rattle.gc_station.proofs.EachRun.{fine_stood}
-use Rattle.gc_station.proofs.Facts.{order_for}
+use Rattle.gc_station.proofs.Facts.{either_true, order_for}
 use Rattle.gc_station.proofs.Fine.{Fine}
 use Rattle.gc_station.proofs.Going.{after_all-append}
 use Rattle.gc_station.proofs.Growing.{losing_records, moved_grew}
-use Rattle.gc_station.proofs.Losing.{came_leaves}
 use Rattle.gc_station.proofs.Opens.{Counted, counted_moved}
 use Rattle.gc_station.proofs.Records.{Grew}
 use Rattle.gc_station.proofs.Turns.{up_count}
+use Rattle.gc_station.proofs.Walk.{came_along, closed_along, moved_changed, quieted_along, walk}
 use Rattle.gc_station.specs.Scopes.{Scope}
 
 -- Each end of a connection takes a try at most, and only a read gives tries back.
@@ -56,40 +55,6 @@ abbrev Took : Plan → Standing → Act → Standing → Type 0
 Took plan s (Gave bytes m) t = Hears plan s t
 Took plan s act t = s.progress.tries ≤ t.progress.tries + ends_in (act ∷ [])
 
-clock_took : (plan : Plan) (f : Moment → Progress → Progress) (s : Standing) (act : Act) → ReadsClock act → ((m : Moment) → (f m s.progress).tries ≡ s.progress.tries) → Took plan s act (after_clock f s act)
-clock_took plan f s (Told m) o same = let e = same m in omega (arith, e)
-clock_took plan f s Untold o same = omega arith
-clock_took plan f s act o same = absurd o
-
--- what is written down takes none, either
-skip_took : (plan : Plan) (f : Moment → Progress → Progress) (records : List Record) (s : Standing) (act : Act) → ReadsClock act → ((m : Moment) → (f m s.progress).tries ≡ s.progress.tries)
-    → Took plan s act (after_clock f (with_records records s) act)
-skip_took plan f records s (Told m) o same = let e = same m in omega (arith, e)
-skip_took plan f records s Untold o same = omega arith
-skip_took plan f records s act o same = absurd o
-
-open_took : (plan : Plan) (s : Standing) (act : Act) → IsOpening act → Took plan s act (after_open plan s act)
-open_took plan s Opened o = omega arith
-open_took plan s Unopened o = omega arith
-open_took plan s act o = absurd o
-
-put_took : (plan : Plan) (requests : ℕ) (bytes : List ℕ) (f : Standing → Standing) (s : Standing) (act : Act) → Puts bytes act → (f s).progress.tries ≡ s.progress.tries → Took plan s act (after_put requests f s act)
-put_took plan requests bytes f s (Put out) o same = omega (arith, same)
-put_took plan requests bytes f s (Cut out n) o same = omega (arith, same)
-put_took plan requests bytes f s act o same = absurd o
-
-first_tries : (mark : Mark) (left : List Task) (s : Standing) → (asks_first mark left s).progress.tries ≡ s.progress.tries
-first_tries mark [] s = refl
-first_tries mark (command ∷ others) s = refl
-
-lines_tries : (s : Standing) (lines : List (List ℕ)) → (lines_came s lines).progress.tries ≡ s.progress.tries
-lines_tries s [] = refl
-lines_tries s (line ∷ others) = lines_tries (line_came s line) others
-
-came_tries : (heard : Bool) (piece : List ℕ) (s : Standing) → (came heard piece s).progress.tries ≡ s.progress.tries
-came_tries true piece s = lines_tries (with_rest (rest_behind s.rest piece) s) (lines_behind s.rest piece)
-came_tries false piece s = refl
-
 given_back : (b : Bool) (after before retries new old : ℕ) → nat_lt after before ≡ b → new ≡ old → ((after < before) × ((if b then retries else new) ≡ retries)) ⊎ ((before ≤ after) × ((if b then retries else new) ≡ old))
 given_back true after before retries new old e same = inl (ltb-true after before e, refl)
 given_back false after before retries new old e same = inr (ltb-false after before e, same)
@@ -98,65 +63,34 @@ gave_took : (plan : Plan) (until : Until) (s : Standing) (bytes : List ℕ) (m :
 gave_took plan until s bytes m =
     let heard = is_heard s.progress.phase in
     let mid = with_moment m (with_progress (told m) s) in
-    let kept = came_kept heard bytes mid in
+    let is = moved_changed plan [] (orders.Read until) s (Gave bytes m) in
     let t = came heard bytes mid in
     record {
-      left = kept.left;
-      unsent = kept.unsent;
-      anew = (came_leaves heard bytes mid).0;
-      tries = given_back (nat_lt (commands_in t.marks) (commands_in s.marks)) (commands_in t.marks) (commands_in s.marks) plan.retries t.progress.tries s.progress.tries refl (came_tries heard bytes mid);
+      left = ap (λ (x : Standing). x.progress.left) is;
+      unsent = ap (λ (x : Standing). x.progress.unsent) is;
+      anew = ap (λ (x : Standing). x.progress.anew) is;
+      tries = given_back (nat_lt (commands_in t.marks) (commands_in s.marks)) (commands_in t.marks) (commands_in s.marks) plan.retries t.progress.tries s.progress.tries refl
+          (came_along (λ (x : Standing). x.progress.tries ≡ s.progress.tries) (λ x line e. e) heard bytes mid refl refl);
     }
 
-drained_tries : (b : Bool) (p : Progress) → (if b then drained p else p).tries ≡ p.tries
-drained_tries true p = refl
-drained_tries false p = refl
-
-quieted_tries : (plan : Plan) (at : Phase) (p : Progress) → (quieted plan at p).tries ≡ p.tries
-quieted_tries plan phase.Pausing p = refl
-quieted_tries plan phase.Draining p = drained_tries (is_past (drain_of plan p) p) p
-quieted_tries plan at p = refl
-
-read_took : (plan : Plan) (until : Until) (s : Standing) (act : Act) → IsReading act → Took plan s act (after_read plan until s act)
-read_took plan until s (Gave bytes m) o = gave_took plan until s bytes m
-read_took plan until s (Silent m) o = let same = quieted_tries plan s.progress.phase (time_passed until m s.progress) in omega (arith, same)
-read_took plan until s Untold o = omega arith
-read_took plan until s Ended o = omega arith
-read_took plan until s Broke o = omega arith
-read_took plan until s act o = absurd o
+silent_took : (plan : Plan) (at : Phase) (p : Progress) → (quieted plan at p).tries ≡ p.tries
+silent_took plan at p = quieted_along (λ (q : Progress). q.tries ≡ p.tries) plan at p refl refl refl
 
 one_less : (b : Bool) (n : ℕ) → n ≤ (if b then n else n - 1) + 1
 one_less true n = omega arith
 one_less false n = omega arith
 
-again_took : (plan : Plan) (w : Waiting) (why : Cause) (b : Bool) (p : Progress) → p.tries ≤ (closed_again plan w why b p).tries + 1
-again_took plan w cause.Open true p = omega arith
-again_took plan w cause.Open false p = omega arith
-again_took plan w why true p = one_less (is_idle plan p) p.tries
-again_took plan w why false p = one_less (is_idle plan p) p.tries
-
 close_took : (plan : Plan) (w : Waiting) (why : Cause) (p : Progress) → p.tries ≤ (closed plan w why p).tries + 1
-close_took plan w cause.Done p = omega arith
-close_took plan w cause.Clock p = omega arith
-close_took plan w cause.Turns p = omega arith
-close_took plan w why p = again_took plan w why (begins_anew why p) p
+close_took plan w why p =
+    closed_along (λ (q : Progress). p.tries ≤ q.tries + 1) plan w why p (omega arith) (λ anew. one_less (is_spared plan why (beginning_anew w.all p)) p.tries) (λ on. one_less (is_spared plan why p) p.tries)
 
 took_moved : (plan : Plan) (commands : List Task) (next : Order) (s : Standing) (act : Act) → Obeys commands s next act → Took plan (with_progress turned s) act (moved plan commands next (with_progress turned s) act)
-took_moved plan commands orders.ReadClock s act o = clock_took plan (λ (m : Moment) (p : Progress). reckoned_early plan (commands_in s.marks) (told m p)) (with_progress turned s) act o (λ m. refl)
-took_moved plan commands orders.Begin s act o = clock_took plan (begun plan (length commands)) (with_progress turned s) act o (λ m. refl)
-took_moved plan commands orders.Open s act o = open_took plan (with_progress turned s) act o
-took_moved plan commands orders.Clear s act o = put_took plan _ _ (with_progress cleared) (with_progress turned s) act o refl
-took_moved plan commands orders.Probe s act o = put_took plan _ _ (λ (x : Standing). with_progress probed (asks_null plan x)) (with_progress turned s) act o refl
-took_moved plan commands orders.Send s act o =
-    put_took plan _ _ (λ (x : Standing). with_progress (sent (bound_next commands x.progress)) (asks_next plan commands x)) (with_progress turned s) act o
-    (first_tries (mark_next plan commands s.progress) (drop (place_next commands s.progress) commands) (with_progress turned s))
-took_moved plan commands orders.Skip s act o =
-    skip_took plan (λ (m : Moment) (p : Progress). reckoned_early plan (commands_in s.marks) (skipped (bound_next commands s.progress) m p)) (skips plan commands (turned s.progress) act)
-    (with_progress turned s) act o (λ m. refl)
-took_moved plan commands orders.Flush s act o = put_took plan _ _ (λ (x : Standing). with_progress asking (asks_null plan x)) (with_progress turned s) act o refl
-took_moved plan commands (orders.Read until) s act o = read_took plan until (with_progress turned s) act o
-took_moved plan commands (orders.Close why) s act o =
-    subst (λ (x : Act). Took plan (with_progress turned s) x (moved plan commands (orders.Close why) (with_progress turned s) act)) (sym o) (close_took plan (waiting_of s) why (turned s.progress))
+took_moved plan commands (orders.Read until) s act o =
+    walk plan commands (Took plan (with_progress turned s)) (orders.Read until) (with_progress turned s) act o
+    (λ bytes m. gave_took plan until (with_progress turned s) bytes m, λ m. let same = silent_took plan s.progress.phase (time_passed until m (turned s.progress)) in omega (arith, same), omega arith, omega arith, omega arith)
+took_moved plan commands (orders.Close why) s act o = walk plan commands (Took plan (with_progress turned s)) (orders.Close why) (with_progress turned s) act o (close_took plan (waiting_of s) why (turned s.progress))
 took_moved plan commands (orders.Stop why) s act o = absurd o
+took_moved plan commands next s act o = walk plan commands (Took plan (with_progress turned s)) next (with_progress turned s) act o (λ m. omega arith, λ n. omega arith)
 
 -- a turn takes no try
 untook : (plan : Plan) (s t : Standing) (act : Act) → Took plan (with_progress turned s) act t → Took plan s act t
@@ -217,12 +151,9 @@ kept_marks : (plan : Plan) (commands : List Task) (s t : Standing) (b : Bool) �
     → (commands_in (losing b t).marks ≡ commands_in t.marks) ⊎ (commands_in s.marks ≡ 0)
 kept_marks plan commands s t false e goes anew fine = inl refl
 kept_marks plan commands s t true e goes anew fine =
-    let begins : s.progress.anew ≡ true = sym anew ∙ left_true t.progress.anew (is_over t.progress) e goes in
+    let begins : s.progress.anew ≡ true = sym anew ∙ either_true t.progress.anew (is_over t.progress) e goes in
     let none : length s.marks ≡ 0 = fine.paired ∙ ap (λ (c : ById). length c.waiting) (fine.anew begins).0 in
-    inr (ap commands_in (nil_from_length s.marks none)) where
-      left_true : (a b : Bool) → (a || b) ≡ true → b ≡ false → a ≡ true
-      left_true true b e no_ = refl
-      left_true false b e no_ = cc
+    inr (ap commands_in (nil_from_length s.marks none))
 
 gave_settles : (plan : Plan) (commands : List Task) (s t u : Standing) → Fine plan commands s → Fine plan commands u → Hears plan s t → Grew s.records u.records → u.progress ≡ t.progress
     → (commands_in u.marks ≡ commands_in t.marks) ⊎ (commands_in s.marks ≡ 0) → Settling plan s u

@@ -11,10 +11,11 @@ use Rattle.gc_station.specs.declared.progress.Progress.{Progress}
 use Rattle.gc_station.specs.declared.progress.Waiting.{Waiting}
 use Rattle.gc_links.specs.Acts.{Act}
 use Rattle.gc_station.specs.Deciding.{is_up, order_in, order_of, order_up}
-use Rattle.gc_station.specs.Progressing.{turned, is_finished, is_spared, again, begins_anew, beginning_anew, closed_again, closed}
+use Rattle.gc_station.specs.Progressing.{turned, is_finished, is_spared, again, beginning_anew, closed}
 use Rattle.gc_station.specs.Standing.{Standing, waiting_of, order_at, Obeys, moved, after, with_progress}
 use Rattle.gc_station.specs.Stations.{stepped}
 use Rattle.gc_station.proofs.Counts.{turns_kept, ended_progress}
+use Rattle.gc_station.proofs.Walk.{closed_along}
 
 -- what is left to be done: the turns, and a connection that is to be closed
 abbrev pub up_count : Bool → ℕ
@@ -37,20 +38,8 @@ phase_down false false why = refl
 pub again_down : (plan : Plan) (commands : ℕ) (why : Cause) (p : Progress) → is_up (again plan commands why p).phase ≡ false
 again_down plan commands why p = phase_down (is_finished commands p) (is_spared plan why p || nat_lt 0 p.tries) why
 
-closed_again_down : (plan : Plan) (w : Waiting) (why : Cause) (anew : Bool) (p : Progress) → is_up (closed_again plan w why anew p).phase ≡ false
-closed_again_down plan w why true p = again_down plan 0 why (beginning_anew w.all p)
-closed_again_down plan w why false p = again_down plan w.commands why p
-
 pub closed_down : (plan : Plan) (w : Waiting) (why : Cause) (p : Progress) → is_up (closed plan w why p).phase ≡ false
-closed_down plan w cause.Done p = refl
-closed_down plan w cause.Clock p = refl
-closed_down plan w cause.Turns p = refl
-closed_down plan w cause.Silence p = closed_again_down plan w cause.Silence (begins_anew cause.Silence p) p
-closed_down plan w cause.Dead p = closed_again_down plan w cause.Dead (begins_anew cause.Dead p) p
-closed_down plan w cause.Read p = closed_again_down plan w cause.Read (begins_anew cause.Read p) p
-closed_down plan w cause.End p = closed_again_down plan w cause.End (begins_anew cause.End p) p
-closed_down plan w (cause.Write n m) p = closed_again_down plan w (cause.Write n m) (begins_anew (cause.Write n m) p) p
-closed_down plan w cause.Open p = closed_again_down plan w cause.Open (begins_anew cause.Open p) p
+closed_down plan w why p = closed_along (λ (q : Progress). is_up q.phase ≡ false) plan w why p refl (λ anew. again_down plan 0 why (beginning_anew w.all p)) (λ on. again_down plan w.commands why p)
 
 -- once all turns are used up, an act closes the connection
 up_closes : (plan : Plan) (commands : List Task) (s t : Standing) (up : Bool) (act : Act) → Obeys commands t (order_up up) act
@@ -66,14 +55,9 @@ on_closes plan commands s t p false act other e obeys = cc
 
 phase_closes : (plan : Plan) (commands : List Task) (s t : Standing) (p : Progress) (phase : Phase) (w : Waiting) (act : Act) → nat_eq p.turns 0 ≡ true → p.phase ≡ phase
     → Obeys commands t (order_in phase plan p w) act → (is_up phase ≡ true) × (is_up (moved plan commands (order_in phase plan p w) s act).progress.phase ≡ false)
-phase_closes plan commands s t p phase.Down w act none is obeys = let c = on_closes plan commands s t p (nat_eq p.turns 0) act _ none obeys in (ap is_up (sym is) ∙ c.0, c.1)
-phase_closes plan commands s t p phase.Pausing w act none is obeys = let c = on_closes plan commands s t p (nat_eq p.turns 0) act _ none obeys in (ap is_up (sym is) ∙ c.0, c.1)
-phase_closes plan commands s t p phase.Clearing w act none is obeys = let c = on_closes plan commands s t p (nat_eq p.turns 0) act _ none obeys in (ap is_up (sym is) ∙ c.0, c.1)
-phase_closes plan commands s t p phase.Draining w act none is obeys = let c = on_closes plan commands s t p (nat_eq p.turns 0) act _ none obeys in (ap is_up (sym is) ∙ c.0, c.1)
-phase_closes plan commands s t p phase.Probing w act none is obeys = let c = on_closes plan commands s t p (nat_eq p.turns 0) act _ none obeys in (ap is_up (sym is) ∙ c.0, c.1)
-phase_closes plan commands s t p phase.Ready w act none is obeys = let c = on_closes plan commands s t p (nat_eq p.turns 0) act _ none obeys in (ap is_up (sym is) ∙ c.0, c.1)
 phase_closes plan commands s t p (phase.Closing cause) w act none is obeys = (refl, closed_down plan (waiting_of s) cause s.progress)
 phase_closes plan commands s t p (phase.Over cause) w act none is obeys = absurd obeys
+phase_closes plan commands s t p phase w act none is obeys = let c = on_closes plan commands s t p (nat_eq p.turns 0) act _ none obeys in (ap is_up (sym is) ∙ c.0, c.1)
 
 less : (t t' : ℕ) (u u' : Bool) → t' ≡ t - 1 → (nat_eq t 0 ≡ true → (u ≡ true) × (u' ≡ false)) → 2 * t' + up_count u' < 2 * t + up_count u
 less zero t' u u' e closes =

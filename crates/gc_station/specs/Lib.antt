@@ -22,4 +22,4 @@ pub mod Beginnings
 pub mod Stations
 pub mod Pace
 pub mod Parts
-pub mod Logging
+pub mod Links

@@ -15,6 +15,7 @@ ghost use Rattle.gc_station.specs.Closing.{IsReasoned, ClosesForACause, StopsFor
 ghost use Rattle.gc_station.specs.Deciding.{patience_of};
 ghost use Rattle.gc_station.specs.Chains.{IsChained, IsLinked};
 ghost use Rattle.gc_station.specs.EachOnce.{EachOnce, IsFurther};
+ghost use Rattle.gc_station.specs.Links.{ChainsStay, MarksGoOn, RecordsStay};
 ghost use Rattle.gc_station.specs.Ends.{IsTrulyLate, IsTrulyLost};
 ghost use Rattle.gc_station.specs.Given.{given};
 ghost use Rattle.gc_station.specs.Probing.{KeepsOpen, IsAsking, IsAnsweredWithin};
@@ -174,4 +175,19 @@ pub fn each_beginning_is_drained_for_all_that_waited()
     ensures { (plan : Plan) (commands : List Task) (scope : Scope) (earlier between later : List Act) (act : Act) (waiting : ℕ) → plan.quiet ≤ 18446744073709551615
         → Runs plan commands (opening plan scope) ((earlier ++ between) ++ act ∷ later) → BeginsWith plan commands scope earlier waiting → AllByRecursion AsksNothing between
         → IsRequest act → IsFirst (quiet_times plan waiting) (earlier ++ between) act }
+{}
+
+/// What is written down stays so.
+pub fn records_stay()
+    ensures { RecordsStay }
+{}
+
+/// The commands that go out go on, from part to part of a run and in each: to a later place of the cycle, or to a later cycle.
+pub fn marks_go_on()
+    ensures { MarksGoOn }
+{}
+
+/// A command of a chain goes out in the part of the run in which each one before it went out and was answered well.
+pub fn chains_stay()
+    ensures { ChainsStay }
 {}

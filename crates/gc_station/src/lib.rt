@@ -4,8 +4,6 @@
 mod book;
 mod cause;
 pub mod laws;
-mod logged;
-mod logging;
 mod mark;
 mod pace;
 mod plan;
@@ -18,7 +16,6 @@ mod writing;
 
 pub use book::{Book, Sight, Stamp};
 pub use cause::Cause;
-pub use logged::{Logged, log_keeps_all};
 pub use plan::Plan;
 pub use run::run_station;
 pub use tally::Tally;

@@ -3,7 +3,6 @@ use Rattle.std.specs.Prelude.{◌≡◌, ℕ, List, [], ◌++◌, Option, Result
 use Rattle.std.specs.Fmt.{decimal}
 use Rattle.std.specs.Io.KnownBytes.{Appends}
 use Rattle.gc_lines.specs.Answering.{numbered, how_far}
-use Rattle.gc_lines.specs.declared.served.TheConstants.{READ_FAILED, WRITE_FAILED, READS_SPENT}
 use Rattle.gc_lines.specs.declared.served.Served.{Served}
 use Rattle.gc_lines.specs.declared.served.ServeFault.{ServeFault}
 use Rattle.gc_lines.specs.declared.served.ServeFault.TheVariants as serving
@@ -13,9 +12,9 @@ use Rattle.gc_texts.specs.declared.fault.RunFault.TheVariants.{SceneFull, Read, 
 -- the number of a fault
 abbrev pub run_fault_number : RunFault → ℕ
 run_fault_number SceneFull = 41
-run_fault_number Read = READ_FAILED
-run_fault_number (Write _ _) = WRITE_FAILED
-run_fault_number TooManyReads = READS_SPENT
+run_fault_number Read = 42
+run_fault_number (Write _ _) = 43
+run_fault_number TooManyReads = 44
 run_fault_number LinkClosed = 45
 run_fault_number Mute = 46
 run_fault_number Clock = 47

@@ -9,6 +9,7 @@ pub mod Texts
 pub mod WholeTexts
 pub mod Settlements
 pub mod Faults
+pub mod FaultNumbers
 pub mod Stamps
 pub mod Endings
 pub mod Quantities

@@ -1,5 +1,6 @@
 //! What is proved of the definitions themselves. The functions have no effect: their contracts are the laws.
 
+ghost use Rattle.gc_texts.specs.FaultNumbers.{FaultsHaveTheirNumbers};
 ghost use Rattle.gc_texts.specs.Laws.{OneCommandList, OneTaskList, CommandsAreTasks, CommandsArePlain, ChainsAreRows, ColumnsAreFields, WantedIsTheCatalogues, LogLinesReadBack, LogLinesArePrintable, RowsReadBack, RowsArePrintable, JsonLinesReadBack, RecordsAreMembers};
 
 /// A text gives one list of commands at most.
@@ -62,4 +63,10 @@ pub fn json_lines_read_back()
 /// The members of a record's line are such that it reads back: plain names, texts of bytes, and numbers of JSON.
 pub fn records_are_members()
     ensures { RecordsAreMembers }
+{}
+
+/// Each fault has its number of the table of faults. The two that have a type of their own, a full window and a full scene, have
+/// theirs, 31 and 41, in the clause of their call.
+pub fn faults_have_their_numbers()
+    ensures { FaultsHaveTheirNumbers }
 {}

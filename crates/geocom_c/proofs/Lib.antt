@@ -9,3 +9,4 @@ mod Hearings
 mod Courses
 mod Lines
 mod Owning
+mod FieldWitness

@@ -8,3 +8,4 @@ pub mod Feeding
 pub mod Following
 pub mod Steps
 pub mod Laws
+pub mod FieldWitness

@@ -1,7 +1,7 @@
 //! A port of this machine whose connections are made before they are served, in one thread: how many are served, and what a
 //! fault of one does.
 
-use gc_ask::{ask_at, loop_tcp, serve_on, serve_tcp};
+use gc_ask::{ask_at, ask_tcp, loop_tcp, serve_on, serve_tcp};
 use gc_instrument::Instrument;
 use gc_links::Place;
 use gc_probes::{PieceSink, PieceSource};
@@ -128,7 +128,7 @@ fn what_is_sent_over_a_connection(rt: HostRuntime) -> Result<(), Fail> {
     if port > 0 {
         let mut commands = PieceSource::new(b"7 5003\n8 0\n", &[], u64::MAX);
         let mut sink = PieceSink::new(alloc, 1000, u64::MAX);
-        let result = ask_at(&rt, alloc, Place::Port(port), &mut commands, &mut sink, 0);
+        let result = ask_tcp(&rt, alloc, port, &mut commands, &mut sink, 0);
         assert_eq!(rt; result, Err(RunFault::TooManyReads));
         assert_eq!(rt; sink.taken(), b"0 7 lost\n".as_slice());
         let (mut stream, _) = listener.accept()?;
@@ -171,8 +171,14 @@ fn a_low_port_stays_that_port(rt: HostRuntime) {
     let _other = TcpListener::bind(&rt, SocketAddr::from(([127, 0, 0, 1], 1024)));
     let mut none = PieceSource::new(b"", &[], u64::MAX);
     let mut sink = PieceSink::new(alloc, 1000, u64::MAX);
-    let result = ask_at(&rt, alloc, Place::Port(7), &mut none, &mut sink, 9);
+    let result = ask_tcp(&rt, alloc, 7, &mut none, &mut sink, 9);
     assert_eq!(rt; result, Err(RunFault::Socket), "nobody listens at 7");
+    let result = ask_at(&rt, alloc, Place::Port(7), &mut none, &mut sink, 9);
+    assert_eq!(rt;
+        result,
+        Err(RunFault::Socket),
+        "nobody listens at this place"
+    );
     let _taken = TcpListener::bind(&rt, SocketAddr::from(([127, 0, 0, 1], 7)));
     let result = serve_tcp(&rt, 7, 1, &mut Instrument::simulator(), 9);
     assert_eq!(rt; result, Err(RunFault::Socket), "7 is in use, or not for us");

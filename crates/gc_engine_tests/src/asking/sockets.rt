@@ -1,8 +1,7 @@
 //! What of real connections a test can show: one connection looped, and the faults of opening one.
 
-use gc_ask::{ask_at, loop_tcp, serve_tcp};
+use gc_ask::{ask_tcp, loop_tcp, serve_tcp};
 use gc_instrument::Instrument;
-use gc_links::Place;
 use gc_probes::{PieceSink, PieceSource};
 use gc_texts::RunFault;
 use std::net::{SocketAddr, TcpListener};
@@ -33,13 +32,13 @@ fn nobody_listens_or_somebody_does(rt: HostRuntime) -> Result<(), Fail> {
     if port > 0 {
         let mut none = PieceSource::new(b"", &[], u64::MAX);
         let mut sink = PieceSink::new(alloc, 1000, u64::MAX);
-        let result = ask_at(&rt, alloc, Place::Port(port), &mut none, &mut sink, 9);
+        let result = ask_tcp(&rt, alloc, port, &mut none, &mut sink, 9);
         assert_eq!(rt; result, Ok(()), "it is connected to, and nothing is asked");
         let in_use = serve_tcp(&rt, port, 1, &mut Instrument::simulator(), 9);
         assert_eq!(rt; in_use, Err(RunFault::Socket), "the port is in use");
         drop(listener);
         let mut one = PieceSource::new(b"7 5003", &[], u64::MAX);
-        let result = ask_at(&rt, alloc, Place::Port(port), &mut one, &mut sink, 9);
+        let result = ask_tcp(&rt, alloc, port, &mut one, &mut sink, 9);
         assert_eq!(rt; result, Err(RunFault::Socket), "nobody listens any more");
         assert!(rt; sink.taken().is_empty());
     }

@@ -82,6 +82,16 @@ fn expect_output(rt: &impl Abort, alloc: Global, schedule: &[u8], output: &[u8])
 }
 
 #[test]
+fn empty_input(rt: HostRuntime) {
+    expect_output(
+        &rt,
+        rt.alloc(),
+        b"",
+        b"sent 0 executed 0 made 0 settled 0 refused 0 idle 0\n",
+    );
+}
+
+#[test]
 fn bytes_of_two_lines(rt: HostRuntime) {
     expect_output(
         &rt,

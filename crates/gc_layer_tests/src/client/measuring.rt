@@ -1,4 +1,4 @@
-//! A station of one page, as `docs/CLIENT.md` shows it: it asks targets for a measurement, and tells how each request ended.
+//! A station of one page, as `docs/CLIENT.md` shows it: it sends calls to targets, and tells how each request ended.
 
 use gc_catalogue::{Answer, Call, Reading};
 use gc_client::{Client, Heard, Outcome, Settlement, Slots};
@@ -22,17 +22,14 @@ impl Station {
         }
     }
 
-    /// Asks a target for a measurement, to be answered before the deadline. `false`: seven wait, so nothing was sent.
+    /// Sends a call to a target, to be answered before the deadline. `false`: seven wait, so nothing was sent.
     fn ask<W: Write>(
         &mut self,
         connection: &mut W,
         target: u32,
+        call: Call,
         deadline: u64,
     ) -> io::Result<bool> {
-        let call = Call::SimpleMea {
-            wait: 5000,
-            mode: 1,
-        };
         let Ok(line) = self.client.send(target, call, deadline) else {
             return Ok(false);
         };
@@ -101,10 +98,14 @@ fn measuring_over_a_slow_line(rt: HostRuntime) -> Result<(), Fail> {
     let mut station = Station::new();
     let mut connection = Vec::new(rt.alloc());
     let mut told = String::new(rt.alloc());
+    let read = Call::SimpleMea {
+        wait: 5000,
+        mode: 1,
+    };
 
     // Target 1 is given up at the moment 10, and its reply comes at 12, before that for target 2.
-    assert!(rt; station.ask(&mut connection, 1, 10)?);
-    assert!(rt; station.ask(&mut connection, 2, 20)?);
+    assert!(rt; station.ask(&mut connection, 1, read, 10)?);
+    assert!(rt; station.ask(&mut connection, 2, read, 20)?);
     assert_eq!(rt; station.client.next_deadline(), Some(10));
     station.hear(b"%R1P,0,0:0,0.5,1.5,2", 12, &mut told)?;
     assert_eq!(rt; station.client.next_deadline(), Some(20));
@@ -115,14 +116,14 @@ fn measuring_over_a_slow_line(rt: HostRuntime) -> Result<(), Fail> {
     )?;
 
     // The connection fails with two requests under way, and half a reply. That to the second one comes on the next.
-    assert!(rt; station.ask(&mut connection, 3, 30)?);
-    assert!(rt; station.ask(&mut connection, 4, 30)?);
+    assert!(rt; station.ask(&mut connection, 3, read, 30)?);
+    assert!(rt; station.ask(&mut connection, 4, read, 30)?);
     station.hear(b"%R1P,0,2:0,", 16, &mut told)?;
     station.go_on();
     station.hear(b"%R1P,0,3:1285\r\n", 18, &mut told)?;
 
     // It begins anew with one under way.
-    assert!(rt; station.ask(&mut connection, 5, 40)?);
+    assert!(rt; station.ask(&mut connection, 5, read, 40)?);
     station.begin_anew(&mut told)?;
     assert_eq!(rt;
         told.as_str(),

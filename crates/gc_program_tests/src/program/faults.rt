@@ -85,7 +85,7 @@ fn a_station_refuses_its_text(rt: HostRuntime) -> Result<(), Fail> {
 
 // What the help says of each option of `station` with a default.
 const DEFAULTS: [&str; 6] = [
-    "1 to 7 [default: 1]",
+    "for plain readings alone [default: 1]",
     "says otherwise [default: 10000]",
     "once the last is done [default: 0]",
     "so many times, or 0: without end [default: 1]",

@@ -1,5 +1,6 @@
 use Rattle.std.proofs.Common.{inl, inr, refl, sym, subst}
-use Rattle.std.proofs.lemmas.Result.{IfOk-weaker}
+use Rattle.std.proofs.KnownBytes.{Appends-trans}
+use Rattle.std.proofs.lemmas.Result.{IfOk-at_ok, IfOk-weaker}
 use Rattle.std.specs.Io.KnownBytes.{Appends}
 use Rattle.gc_texts.specs.Faults.{fault_line, run_fault_text}
 use Rattle.gc_console.proofs.recording.append_at.Goals as goal
@@ -31,11 +32,15 @@ returns-in-Ok-clause-done g c =
 
 pub returns-in-Err-clause-told : goal.returns-in-Err-clause-told
 returns-in-Err-clause-told g c =
-    IfOk-weaker c.tell_counts-ended.result _ _
-    (λ status t. inl (
+    IfOk-weaker c.tell_rotation-ended.result _ _
+    (λ status told.
+    let t = IfOk-at_ok _ told.0 c.tell_counts-ended.ensures.told in
+    inl (
       c.in-Err.why,
       t.0,
-      subst (λ fault. Appends (g.E.Write.contents c.args.streams.messages) (g.E.Write.contents c.tell_counts-ended.new.messages) (fault_line (run_fault_text fault))) c.fault_of_unfit.ensures t.1,
+      Appends-trans _ _ _ _ _
+          (subst (λ fault. Appends (g.E.Write.contents c.args.streams.messages) (g.E.Write.contents c.tell_counts-ended.new.messages) (fault_line (run_fault_text fault))) c.fault_of_unfit.ensures t.1)
+          told.1,
       refl,
     ))
-    c.tell_counts-ended.ensures.told
+    c.tell_rotation-ended.ensures.told

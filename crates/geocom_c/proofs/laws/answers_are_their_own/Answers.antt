@@ -1,7 +1,4 @@
-use Rattle.std.proofs.Common.{refl}
-use Rattle.gc_instrument.specs.State.{IsFittingState}
-use Rattle.gc_world.specs.Clients.{ends}
-use Rattle.gc_world.proofs.Handing.{exchange, kept_of, keeper}
+use Rattle.gc_field.specs.Instrument.{AnyState}
 use Rattle.gc_field.specs.Stretches.{steps_over}
 use Rattle.gc_field.proofs.Faithful.{faithful}
 use Rattle.gc_field.proofs.Stretches.{stretches}
@@ -10,7 +7,7 @@ use Rattle.geocom_c.proofs.Owning.{owned}
 use Rattle.geocom_c.proofs.laws.answers_are_their_own.Goals as goal
 
 pub returns : goal.returns
-returns c = λ width iw calls x rest follows ss are possible. owned width x ss (reached_by width calls x rest (steps_over ss) follows are)
-    (stretches width ends IsFittingState (λ line. refl)
-    (λ state good ms field. faithful ends (λ line. refl) IsFittingState exchange kept_of keeper width iw.1 state good ms field.possible field.alone)
+returns g c = λ ends kept is width iw calls x rest follows ss are possible. owned ends AnyState kept width x ss (reached_by width calls x rest (steps_over ss) follows are)
+    (stretches width ends AnyState kept is.hears
+    (λ state good ms field. faithful ends is.hears AnyState kept is width iw.1 state good ms field.possible field.alone)
     ss possible)

@@ -1,7 +1,7 @@
 use Rattle.std.proofs.Common.{sym, ap, ◌∙◌, subst}
 use Rattle.gc_station.specs.Deciding.{order_of}
 use Rattle.gc_station.specs.Stations.{waiting_in, IsFitting}
-use Rattle.gc_station.proofs.Orders.{order_fits}
+use Rattle.gc_station.proofs.Facts.{order_fits}
 use Rattle.gc_station.proofs.station.Station.order.Goals as goal
 
 pub returns-clause-room : goal.returns-clause-room

@@ -1,0 +1,283 @@
+-- What is executed between two moves of a stretch, and what it makes of the instrument.
+use Rattle.std.proofs.Common.{◌≡◌, ℕ, ◌+◌, ◌≤◌, Bool, true, false, cond, List, [], ◌∷◌, ◌++◌, length, Option, Some, None, refl, sym, ◌∙◌, ap, subst, arith, append_assoc, append-nil, ltb}
+use Rattle.std.specs.Prelude.{slice_get}
+use Rattle.std.proofs.lemmas.List.{length-append}
+use Rattle.gc_catalogue.specs.declared.call.Call.{Call}
+use Rattle.gc_catalogue.specs.Texts.{request_line}
+use Rattle.gc_client.specs.Rule.{ById, Sending, sends}
+use Rattle.gc_instrument.specs.Replying.{Handed}
+use Rattle.gc_instrument.specs.State.{KeptReply}
+use Rattle.gc_world.specs.Clients.{by_ids, ids_open}
+use Rattle.gc_world.specs.Order.{Each}
+use Rattle.gc_world.specs.World.{Ends, Request, Sent, Numbered, Step, Send, Up_deliver, Up_lose, Up_repeat, Down_deliver, Down_lose, Down_repeat, Expire, Restart_client, Restart_instrument, Nothing, World, Wire, without, doubled, replied, up_delivered, with_up, with_down, started, requested, down_delivered, happens}
+use Rattle.gc_world.proofs.Places.{get_more, get_push}
+use Rattle.gc_world.proofs.Rows.{each_append, each_more, each_without, each_doubled}
+use Rattle.gc_field.specs.Field.{Move, Sends, Tells, Comes, Foreign, OnLine, Anew, Changes, Joins, IsOfLine, moves, moved, ArePossible}
+use Rattle.gc_field.specs.Chains.{HasNoStartBetween, IsUndisturbed, HasEffect, AreCalls, executing}
+
+-- What the instrument becomes.
+
+executing_append : {State : Type 0} (effect : State → Call → State) (xs ys : List Call) (s : State) → executing effect s (xs ++ ys) ≡ executing effect (executing effect s xs) ys
+executing_append effect [] ys s = refl
+executing_append effect (call ∷ xs) ys s = executing_append effect xs ys (effect s call)
+
+module _ {State : Type 0} (ends : Ends State) where
+  -- two states that are alike apart from what is kept go on to two that are
+  executing_alike : (apart : State → State) (effect : State → Call → State) → HasEffect ends apart effect → (calls : List Call) (s t : State) → apart s ≡ apart t → apart (executing effect s calls) ≡ apart (executing effect t calls)
+  executing_alike apart effect has [] s t e = e
+  executing_alike apart effect has (call ∷ calls) s t e = executing_alike apart effect has calls (effect s call) (effect t call) (has.alike s t call e)
+
+  -- what these calls make of one state is the other, for each effect that executing has
+  abbrev pub IsMadeBy : State → List Call → State → Type 0
+  IsMadeBy s calls t = (apart : State → State) (effect : State → Call → State) → HasEffect ends apart effect → apart t ≡ apart (executing effect s calls)
+
+  pub made_both : (r s t : State) (xs ys : List Call) → IsMadeBy r xs s → IsMadeBy s ys t → IsMadeBy r (xs ++ ys) t
+  made_both r s t xs ys h g apart effect has =
+      g apart effect has ∙ executing_alike apart effect has ys s (executing effect r xs) (h apart effect has) ∙ ap apart (sym (executing_append effect xs ys r))
+
+  made_none : (s t : State) → t ≡ s → IsMadeBy s [] t
+  made_none s t e apart effect has = ap apart e
+
+  made_one : (s : State) (id : ℕ) (call : Call) → (ends.handed s id call).executed ≡ true → IsMadeBy s (call ∷ []) (ends.handed s id call).state
+  made_one s id call e apart effect has = has.executes s id call e
+
+  made_again : (s : State) (id : ℕ) (call : Call) → (ends.handed s id call).executed ≡ false → IsMadeBy s [] (ends.handed s id call).state
+  made_again s id call e apart effect has = has.repeats s id call e
+
+-- What happens from one wire to another.
+
+pub calls_more : (sent more : List Sent) (ns : List ℕ) (calls : List Call) → AreCalls sent ns calls → AreCalls (sent ++ more) ns calls
+calls_more sent more [] [] h = tt
+calls_more sent more [] (call ∷ calls) h = absurd h
+calls_more sent more (n ∷ ns) [] h = absurd h
+calls_more sent more (n ∷ ns) (call ∷ calls) h = ((h.0.0, get_more sent more n h.0.0 h.0.1, h.0.2), calls_more sent more ns calls h.1)
+
+calls_append : (sent : List Sent) (ns ks : List ℕ) (xs ys : List Call) → AreCalls sent ns xs → AreCalls sent ks ys → AreCalls sent (ns ++ ks) (xs ++ ys)
+calls_append sent [] ks [] ys h g = g
+calls_append sent [] ks (x ∷ xs) ys h g = absurd h
+calls_append sent (n ∷ ns) ks [] ys h g = absurd h
+calls_append sent (n ∷ ns) ks (x ∷ xs) ys h g = (h.0, calls_append sent ns ks xs ys h.1 g)
+
+abbrev IsKnown : List Sent → Numbered Request → Type 0
+IsKnown sent x = (r : Sent) × (slice_get sent x.number ≡ Some r) × (r.call ≡ x.line.call)
+
+known_more : (sent more : List Sent) (x : Numbered Request) → IsKnown sent x → IsKnown (sent ++ more) x
+known_more sent more x h = (h.0, get_more sent more x.number h.0 h.1, h.2)
+
+begun_more : (xs ys starts : List ℕ) → Each (λ s. s ≤ length xs) starts → Each (λ s. s ≤ length (xs ++ ys)) starts
+begun_more xs ys starts h = let size : length (xs ++ ys) ≡ length xs + length ys = length-append xs ys in each_more (λ s. s ≤ length xs) (λ s. s ≤ length (xs ++ ys)) (λ s l. omega (arith, l, size)) starts h
+
+module _ {State : Type 0} (ends : Ends State) where
+  -- these were executed; it didn't start where it is quiet; and where it is undisturbed, it is what they made of it
+  pub record Did (v w : Wire State) (quiet still : Type 0) : Type 0 where
+    pub numbers : List ℕ
+    pub calls : List Call
+    pub executed : w.executed ≡ v.executed ++ numbers
+    pub more : List Sent
+    pub sent : w.sent ≡ v.sent ++ more
+    pub asked : AreCalls w.sent numbers calls
+    pub starts : quiet → w.starts ≡ v.starts
+    pub state : still → IsMadeBy ends v.state calls w.state
+
+  did_both : (u v w : Wire State) (q p s r : Type 0) → (q → p) → (s → r) → Did u v p r → Did v w q s → Did u w q s
+  did_both u v w q p s r f g h i = record {
+    numbers = h.numbers ++ i.numbers;
+    calls = h.calls ++ i.calls;
+    executed = i.executed ∙ ap (λ l. l ++ i.numbers) h.executed ∙ append_assoc u.executed h.numbers i.numbers;
+    more = h.more ++ i.more;
+    sent = i.sent ∙ ap (λ l. l ++ i.more) h.sent ∙ append_assoc u.sent h.more i.more;
+    asked = calls_append w.sent h.numbers i.numbers h.calls i.calls (subst (λ l. AreCalls l h.numbers h.calls) (sym i.sent) (calls_more v.sent i.more h.numbers h.calls h.asked)) i.asked;
+    starts = λ quiet. i.starts quiet ∙ h.starts (f quiet);
+    state = λ still. made_both ends u.state v.state w.state h.calls i.calls (h.state (g still)) (i.state still);
+  }
+
+  -- nothing was executed
+  did_none : (v w : Wire State) (quiet still : Type 0) (more : List Sent) → w.executed ≡ v.executed → w.sent ≡ v.sent ++ more → (quiet → w.starts ≡ v.starts) → (still → IsMadeBy ends v.state [] w.state) → Did v w quiet still
+  did_none v w quiet still more executed sent starts state = record {
+    numbers = [];
+    calls = [];
+    executed = executed ∙ sym (append-nil v.executed);
+    more = more;
+    sent = sent;
+    asked = tt;
+    starts = starts;
+    state = state;
+  }
+
+  -- no part of it that counts changed
+  did_same : (v w : Wire State) (quiet still : Type 0) → w.executed ≡ v.executed → w.sent ≡ v.sent → w.starts ≡ v.starts → w.state ≡ v.state → Did v w quiet still
+  did_same v w quiet still executed sent starts state =
+      did_none v w quiet still [] executed (sent ∙ sym (append-nil v.sent)) (λ q. starts) (λ s. made_none ends v.state w.state state)
+
+  -- of every wire: each request under way is one that was sent, with its call; and no start came behind more executions than there are
+  pub record Stands (w : Wire State) : Type 0 where
+    pub known : Each (IsKnown w.sent) w.up
+    pub begun : Each (λ s. s ≤ length w.executed) w.starts
+
+  record Goes (v w : Wire State) (quiet still : Type 0) : Type 0 where
+    did : Did v w quiet still
+    stands : Stands w
+
+  goes_same : (v w : Wire State) (quiet still : Type 0) → w.executed ≡ v.executed → w.sent ≡ v.sent → w.starts ≡ v.starts → w.state ≡ v.state → Each (IsKnown v.sent) w.up → Stands v → Goes v w quiet still
+  goes_same v w quiet still executed sent starts state known k = record {
+    did = did_same v w quiet still executed sent starts state;
+    stands = record {
+      known = subst (λ l. Each (IsKnown l) w.up) (sym sent) known;
+      begun = subst (λ l. Each (λ s. s ≤ length l) w.starts) (sym executed) (subst (λ l. Each (λ s. s ≤ length v.executed) l) (sym starts) k.begun);
+    };
+  }
+
+  -- the request in front reaches the instrument
+  module _ (v : Wire State) (x : Numbered Request) (rest : List (Numbered Request)) (quiet still : Type 0) (q : v.up ≡ x ∷ rest) (k : Stands v) where
+    known_here : IsKnown v.sent x × Each (IsKnown v.sent) rest
+    known_here = subst (λ l. Each (IsKnown v.sent) l) q k.known
+
+    reached_by : (hd : Handed State) (b : Bool) → hd.executed ≡ b → (hd.executed ≡ true → IsMadeBy ends v.state (x.line.call ∷ []) hd.state) → (hd.executed ≡ false → IsMadeBy ends v.state [] hd.state) → Goes v (replied v x.number rest hd) quiet still
+    reached_by hd true e new same =
+        let w = replied v x.number rest hd in
+        let acted : w.executed ≡ v.executed ++ x.number ∷ [] = ap (λ b. cond b (v.executed ++ x.number ∷ []) v.executed) e in
+        record {
+          did = record {
+            numbers = x.number ∷ [];
+            calls = x.line.call ∷ [];
+            executed = acted;
+            more = [];
+            sent = sym (append-nil v.sent);
+            asked = (known_here.0, tt);
+            starts = λ q. refl;
+            state = λ s. new e;
+          };
+          stands = record { known = known_here.1; begun = subst (λ l. Each (λ s. s ≤ length l) v.starts) (sym acted) (begun_more v.executed (x.number ∷ []) v.starts k.begun) };
+        }
+    reached_by hd false e new same =
+        let w = replied v x.number rest hd in
+        let acted : w.executed ≡ v.executed = ap (λ b. cond b (v.executed ++ x.number ∷ []) v.executed) e in
+        record {
+          did = did_none v w quiet still [] acted (sym (append-nil v.sent)) (λ q. refl) (λ s. same e);
+          stands = record { known = known_here.1; begun = subst (λ l. Each (λ s. s ≤ length l) v.starts) (sym acted) k.begun };
+        }
+
+    reached : Goes v (replied v x.number rest (ends.handed v.state x.line.id x.line.call)) quiet still
+    reached =
+        let hd = ends.handed v.state x.line.id x.line.call in
+        reached_by hd hd.executed refl (λ e. made_one ends v.state x.line.id x.line.call e) (λ e. made_again ends v.state x.line.id x.line.call e)
+
+  goes_up : (v : Wire State) (quiet still : Type 0) (q : List (Numbered Request)) → v.up ≡ q → Stands v → Goes v (up_delivered ends v q) quiet still
+  goes_up v quiet still [] e k = goes_same v _ quiet still refl refl refl refl k.known k
+  goes_up v quiet still (x ∷ rest) e k = reached v x rest quiet still e k
+
+  goes_with_up : (v : Wire State) (quiet still : Type 0) (up : List (Numbered Request)) (b : Bool) → Each (IsKnown v.sent) up → Stands v → Goes v (with_up v up b) quiet still
+  goes_with_up v quiet still up true known k = goes_same v _ quiet still refl refl refl refl known k
+  goes_with_up v quiet still up false known k = goes_same v _ quiet still refl refl refl refl k.known k
+
+  goes_with_down : (v : Wire State) (quiet still : Type 0) (down : List (Numbered (List ℕ))) (b : Bool) → Stands v → Goes v (with_down v down b) quiet still
+  goes_with_down v quiet still down true k = goes_same v _ quiet still refl refl refl refl k.known k
+  goes_with_down v quiet still down false k = goes_same v _ quiet still refl refl refl refl k.known k
+
+  goes_down : (w : World ById State) (quiet still : Type 0) (q : List (Numbered (List ℕ))) → Stands w.wire → Goes w.wire (down_delivered (by_ids 7 ends) w q).wire quiet still
+  goes_down w quiet still [] k = goes_same w.wire _ quiet still refl refl refl refl k.known k
+  goes_down w quiet still (x ∷ rest) k = goes_same w.wire _ quiet still refl refl refl refl k.known k
+
+  goes_sent : (w : World ById State) (quiet still : Type 0) (target : ℕ) (call : Call) (o : Option (Sending ById)) → Stands w.wire → Goes w.wire (requested w target call o).wire quiet still
+  goes_sent w quiet still target call None k = goes_same w.wire _ quiet still refl refl refl refl k.known k
+  goes_sent w quiet still target call (Some x) k =
+      let v = w.wire in
+      let r : Sent = record { target = target; call = call; line = request_line (Some x.id) call } in
+      record {
+        did = did_none v _ quiet still (r ∷ []) refl refl (λ q. refl) (λ s. made_none ends v.state v.state refl);
+        stands = record {
+          known = each_append (IsKnown (v.sent ++ r ∷ [])) v.up _ (each_more _ _ (known_more v.sent (r ∷ [])) v.up k.known) ((r, get_push v.sent r, refl), tt);
+          begun = k.begun;
+        };
+      }
+
+  goes_line : (w : World ById State) (quiet still : Type 0) (step : Step) → IsOfLine step → Stands w.wire → Goes w.wire (happens ends (by_ids 7 ends) w step).wire quiet still
+  goes_line w quiet still (Send target call deadline) p k = absurd p
+  goes_line w quiet still Up_deliver p k = goes_up w.wire quiet still w.wire.up refl k
+  goes_line w quiet still (Up_lose i) p k = goes_with_up w.wire quiet still (without i w.wire.up) (ltb i (length w.wire.up)) (each_without _ i w.wire.up k.known) k
+  goes_line w quiet still (Up_repeat i) p k = goes_with_up w.wire quiet still (doubled i w.wire.up) (ltb i (length w.wire.up)) (each_doubled _ i w.wire.up k.known) k
+  goes_line w quiet still Down_deliver p k = absurd p
+  goes_line w quiet still (Down_lose i) p k = goes_with_down w.wire quiet still (without i w.wire.down) (ltb i (length w.wire.down)) k
+  goes_line w quiet still (Down_repeat i) p k = goes_with_down w.wire quiet still (doubled i w.wire.down) (ltb i (length w.wire.down)) k
+  goes_line w quiet still (Expire now) p k = absurd p
+  goes_line w quiet still Restart_client p k = absurd p
+  goes_line w quiet still Restart_instrument p k = absurd p
+  goes_line w quiet still Nothing p k = goes_same w.wire _ quiet still refl refl refl refl k.known k
+
+  -- one move, and those behind it
+  goes_then : (u v w : Wire State) (p q r s : Type 0) → (q → p) → (s → r) → Goes u v p r → Goes v w q s → Goes u w q s
+  goes_then u v w p q r s f g h i = record { did = did_both u v w q p s r f g h.did i.did; stands = i.stands }
+
+  goes_alike : (u v w : Wire State) (q s : Type 0) → Goes u v q s → Goes v w q s → Goes u w q s
+  goes_alike u v w q s h i = goes_then u v w q q s s (λ x. x) (λ x. x) h i
+
+  -- what came of it holds where less is known
+  goes_less : (v w : Wire State) (p q r s : Type 0) → (q → p) → (s → r) → Goes v w p r → Goes v w q s
+  goes_less v w p q r s f g h = record {
+    did = record {
+      numbers = h.did.numbers;
+      calls = h.did.calls;
+      executed = h.did.executed;
+      more = h.did.more;
+      sent = h.did.sent;
+      asked = h.did.asked;
+      starts = λ x. h.did.starts (f x);
+      state = λ x. h.did.state (g x);
+    };
+    stands = h.stands;
+  }
+
+  goes_anew : (v : Wire State) → Stands v → Goes v (started ends v true) ⊥ ⊥
+  goes_anew v k = record {
+    did = did_none v (started ends v true) ⊥ ⊥ [] refl (sym (append-nil v.sent)) (λ e. absurd e) (λ e. absurd e);
+    stands = record { known = k.known; begun = each_append (λ s. s ≤ length v.executed) v.starts (length v.executed ∷ []) k.begun (omega arith, tt) };
+  }
+
+  goes_changed : (v : Wire State) (quiet : Type 0) (state : State) → Stands v → Goes v (record v { state = state }) quiet ⊥
+  goes_changed v quiet state k = record {
+    did = did_none v (record v { state = state }) quiet ⊥ [] refl (sym (append-nil v.sent)) (λ q. refl) (λ e. absurd e);
+    stands = record { known = k.known; begun = k.begun };
+  }
+
+  module _ (Good : State → Type 0) (kept : State → Option KeptReply) where
+    goes_all : (ms : List (Move State)) (w : World ById State) → ArePossible ends Good kept (by_ids 7 ends) ms w → Stands w.wire → Goes w.wire (moved ends (by_ids 7 ends) ms w).wire (HasNoStartBetween ms) (IsUndisturbed ms)
+    goes_all [] w p k = goes_same w.wire w.wire (Unit {0}) (Unit {0}) refl refl refl refl k.known k
+    goes_all (Sends target call deadline ∷ ms) w p k =
+        let one = goes_sent w (HasNoStartBetween ms) (IsUndisturbed ms) target call (sends 7 w.client target call deadline) k in goes_alike w.wire _ _ (HasNoStartBetween ms) (IsUndisturbed ms) one (goes_all ms _ p.1 one.stands)
+    goes_all (Tells now ∷ ms) w p k = goes_all ms _ p.1 k
+    goes_all (Comes line ∷ ms) w p k =
+        let one = goes_down w (HasNoStartBetween ms) (IsUndisturbed ms) w.wire.down k in goes_alike w.wire _ _ (HasNoStartBetween ms) (IsUndisturbed ms) one (goes_all ms _ p.1 one.stands)
+    goes_all (Foreign line ∷ ms) w p k = goes_all ms w p.1 k
+    goes_all (OnLine step ∷ ms) w p k =
+        let one = goes_line w (HasNoStartBetween ms) (IsUndisturbed ms) step p.0 k in goes_alike w.wire _ _ (HasNoStartBetween ms) (IsUndisturbed ms) one (goes_all ms _ p.1 one.stands)
+    goes_all (Anew ∷ ms) w p k =
+        let one = goes_anew w.wire k in
+        goes_then w.wire (started ends w.wire true) _ ⊥ ⊥ ⊥ ⊥ (λ e. e) (λ e. e) one
+        (goes_less (started ends w.wire true) _ (HasNoStartBetween ms) ⊥ (IsUndisturbed ms) ⊥ (λ e. absurd e) (λ e. absurd e) (goes_all ms _ p.1 one.stands))
+    goes_all (Changes state ∷ ms) w p k =
+        let one = goes_changed w.wire (HasNoStartBetween ms) state k in
+        goes_then w.wire (record w.wire { state = state }) _ (HasNoStartBetween ms) (HasNoStartBetween ms) ⊥ ⊥ (λ q. q) (λ e. e) one
+        (goes_less (record w.wire { state = state }) _ (HasNoStartBetween ms) (HasNoStartBetween ms) (IsUndisturbed ms) ⊥ (λ q. q) (λ e. absurd e) (goes_all ms _ p.1 one.stands))
+    goes_all (Joins line ∷ ms) w p k = absurd p.0
+
+    stands_open : (state : State) → Stands (ids_open state).wire
+    stands_open state = record { known = tt; begun = tt }
+
+    -- so each wire stands, from the beginning on
+    pub stands_all : (ms : List (Move State)) (state : State) → ArePossible ends Good kept (by_ids 7 ends) ms (ids_open state) → Stands (moved ends (by_ids 7 ends) ms (ids_open state)).wire
+    stands_all ms state p = (goes_all ms (ids_open state) p (stands_open state)).stands
+
+    pub did_all : (ms : List (Move State)) (w : World ById State) → ArePossible ends Good kept (by_ids 7 ends) ms w → Stands w.wire → Did w.wire (moved ends (by_ids 7 ends) ms w).wire (HasNoStartBetween ms) (IsUndisturbed ms)
+    did_all ms w p k = (goes_all ms w p k).did
+
+  -- the request in front is executed
+  pub acted : (w : World ById State) (x : Numbered Request) (rest : List (Numbered Request)) → w.wire.up ≡ x ∷ rest → (ends.handed w.wire.state x.line.id x.line.call).executed ≡ true
+      → ((moves ends (by_ids 7 ends) w (OnLine Up_deliver)).wire.executed ≡ w.wire.executed ++ x.number ∷ []) × IsMadeBy ends w.wire.state (x.line.call ∷ []) (moves ends (by_ids 7 ends) w (OnLine Up_deliver)).wire.state
+      × ((moves ends (by_ids 7 ends) w (OnLine Up_deliver)).wire.starts ≡ w.wire.starts)
+  acted w x rest q e =
+      let v = w.wire in
+      subst (λ (l : List (Numbered Request)). ((up_delivered ends v l).executed ≡ v.executed ++ x.number ∷ []) × IsMadeBy ends v.state (x.line.call ∷ []) (up_delivered ends v l).state × ((up_delivered ends v l).starts ≡ v.starts)) (sym q) (
+        ap (λ b. cond b (v.executed ++ x.number ∷ []) v.executed) e,
+        made_one ends v.state x.line.id x.line.call e,
+        refl,
+      )

@@ -1,0 +1,44 @@
+-- The front of a request and the next one, as one line.
+use Rattle.std.proofs.Common.{◌≡◌, ℕ, zero, suc, ◌<◌, List, [], ◌∷◌, ◌++◌, take, drop, Some, refl, sym, ◌∙◌, ap, arith, append_assoc, lit<}
+use Rattle.gc_lines.specs.Headers.{id_text}
+use Rattle.gc_lines.specs.Requests.{RequestFields, IsRequest}
+use Rattle.gc_catalogue.specs.Texts.{request_line}
+use Rattle.gc_instrument.proofs.Answering.{read_of}
+use Rattle.gc_field.specs.Fronts.{JoinedRequestsHaveTheFrontsId}
+use Rattle.gc_field.proofs.Fronts.{AreAbove, joined, taken, above_decimal_digits, above_id, body, above_body}
+
+head : (x y : ℕ) (xs ys : List ℕ) → x ∷ xs ≡ y ∷ ys → x ≡ y
+head x y xs ys e = cc
+
+tail : (x y : ℕ) (xs ys : List ℕ) → x ∷ xs ≡ y ∷ ys → xs ≡ ys
+tail x y xs ys e = cc
+
+take_drop : (k : ℕ) (xs : List ℕ) → take k xs ++ drop k xs ≡ xs
+take_drop zero xs = refl
+take_drop (suc k) [] = refl
+take_drop (suc k) (x ∷ xs) = ap (λ l. x ∷ l) (take_drop k xs)
+
+-- what stands before the first such sign
+split : (xs ys more p : List ℕ) → AreAbove xs → AreAbove ys → xs ++ 37 ∷ more ≡ ys ++ p → (rest : List ℕ) × (xs ≡ ys ++ rest)
+split xs [] more p h g e = (xs, refl)
+split [] (y ∷ ys) more p h g e = absurd (omega (arith, head 37 y more (ys ++ p) e, g.0))
+split (x ∷ xs) (y ∷ ys) more p h g e =
+    let s = split xs ys more p h.1 g.1 (tail x y (xs ++ 37 ∷ more) (ys ++ p) e) in
+    (s.0, ap (λ z. z ∷ xs) (head x y (xs ++ 37 ∷ more) (ys ++ p) e) ∙ ap (λ l. y ∷ l) s.1)
+
+pub joined_requests : JoinedRequestsHaveTheFrontsId
+joined_requests id call next behind zero small fits some q is = absurd (omega (arith, some))
+joined_requests id call next behind (suc k) small fits some q is =
+    let number = is.number in
+    let h = 82 ∷ 49 ∷ 81 ∷ 44 ∷ (number ++ (id_text q.id ++ 58 ∷ [])) in
+    let above : AreAbove h = (lit< tt, (lit< tt, (lit< tt, (lit< tt, joined (λ b. 37 < b) number (id_text q.id ++ 58 ∷ []) (above_decimal_digits number is.is_number.digits) (joined (λ b. 37 < b) (id_text q.id) (58 ∷ []) (above_id q.id) (lit< tt, tt)))))) in
+    let whole : (params : List ℕ) → h ++ params ≡ 82 ∷ 49 ∷ 81 ∷ 44 ∷ (number ++ (id_text q.id ++ 58 ∷ params)) =
+    λ params. ap (λ l. 82 ∷ 49 ∷ 81 ∷ 44 ∷ l) (append_assoc number (id_text q.id ++ 58 ∷ []) params ∙ ap (λ l. number ++ l) (append_assoc (id_text q.id) (58 ∷ []) params)) in
+    let e : take k (body id call) ++ 37 ∷ body next behind ≡ h ++ q.params = tail 37 37 (take k (body id call) ++ 37 ∷ body next behind) (82 ∷ 49 ∷ 81 ∷ 44 ∷ (number ++ (id_text q.id ++ 58 ∷ q.params))) is.whole ∙ sym (whole q.params) in
+    let s = split (take k (body id call)) h (body next behind) q.params (taken (λ b. 37 < b) k (body id call) (above_body id call fits)) above e in
+    let params = s.0 ++ drop k (body id call) in
+    let own : body id call ≡ h ++ params = sym (take_drop k (body id call)) ∙ ap (λ l. l ++ drop k (body id call)) s.1 ∙ append_assoc h s.0 (drop k (body id call)) in
+    let p : RequestFields = record { rpc = q.rpc; id = q.id; params = params } in
+    let reads : IsRequest (request_line (Some id) call) p = record { number = number; is_number = is.is_number; is_id = is.is_id; whole = ap (λ l. 37 ∷ l) (own ∙ whole params) } in
+    let same = read_of (request_line (Some id) call) p id call small fits refl reads in
+    (ap (λ (r : RequestFields). r.id) same, ap (λ (r : RequestFields). r.rpc) same)

@@ -1,0 +1,60 @@
+-- A line feed that is lost, computed.
+use Rattle.std.proofs.Common.{ℕ, List, [], ◌∷◌, Some, refl, arith, lit<}
+use Rattle.std.specs.Prelude.{codes}
+use Rattle.std.specs.Fmt.{digits}
+use Rattle.gc_lines.specs.Readers.{header_at, request_at, reply_at}
+use Rattle.gc_lines.specs.Requests.{RequestFields, IsRequest}
+use Rattle.gc_values.specs.Lists.{IsListFault, faulty_items, wrong_count}
+use Rattle.gc_values.specs.declared.fault.ValueFault.TheVariants.{Count}
+use Rattle.gc_values.proofs.ParamLists.{joined_params}
+use Rattle.gc_values.proofs.TextShape.{IsBare, bare_above, bare_param}
+use Rattle.gc_catalogue.specs.declared.call.Call.TheVariants.{InstrumentNo}
+use Rattle.gc_catalogue.specs.declared.fault.CallFault.TheVariants.{Parameters}
+use Rattle.gc_instrument.specs.Execution.{exec}
+use Rattle.gc_instrument.specs.Replying.{IsReplied, answers, refuses, handed}
+use Rattle.gc_instrument.specs.State.{State}
+use Rattle.gc_field.specs.LostLineFeed.{IsBookedJoined, joint, refusal}
+
+-- as a request, it has three parameters, and its procedure none
+abbrev fields : RequestFields
+fields = record { rpc = 5003; id = Some 1; params = codes "%R1Q,0,2:" }
+
+is_request : IsRequest joint fields
+is_request =
+    record {
+      number = codes "5003";
+      is_number = record { some = lit< tt; few = omega arith; digits = (lit< tt, (lit< tt, (lit< tt, (lit< tt, tt)))); value = refl; bound = lit< tt };
+      is_id = lit< tt;
+      whole = refl;
+    }
+
+sign : IsBare 37
+sign = record { space = λ e. omega (arith, e); quote = λ e. omega (arith, e); comma = λ e. omega (arith, e); cr = λ e. omega (arith, e); lf = λ e. omega (arith, e) }
+
+abbrev items : List (List ℕ)
+items = codes "%R1Q" ∷ codes "0" ∷ codes "2:" ∷ []
+
+too_many : IsListFault [] (codes "%R1Q,0,2:") Count
+too_many =
+    faulty_items items
+    (joined_params items
+    (bare_param (codes "%R1Q") (sign, (bare_above 82 (lit< tt), (bare_above 49 (lit< tt), (bare_above 81 (lit< tt), tt)))), (bare_param (codes "0") (bare_above 48 (lit< tt), tt), (bare_param (codes "2:") (bare_above 50 (lit< tt), (bare_above 58 (lit< tt), tt)), tt)))
+    (lit< tt, (lit< tt, (lit< tt, tt))))
+    (wrong_count refl (omega arith) (λ e. omega (arith, e)))
+
+-- so it is refused, in any state
+refused : (s : State) → IsReplied s joint s (Some refusal)
+unfolding digits
+refused s = answers fields is_request refusal (refuses (Parameters Count) (InstrumentNo, refl, too_many) refl refl) refl
+
+pub joined : IsBookedJoined
+unfolding header_at request_at reply_at handed exec digits
+joined =
+    record {
+      line = refl;
+      reads = refl;
+      possible = (tt, (tt, ((0, [], refl), (tt, (tt, tt)))));
+      replied = refused _;
+      settled = refl;
+      executed = refl;
+    }

@@ -1,0 +1,254 @@
+-- Instruments that lack something, by computing.
+use Rattle.std.proofs.Common.{◌≡◌, ℕ, ◌<◌, inl, inr, Bool, true, false, cond, List, [], ◌∷◌, Option, Some, None, refl, ◌∙◌, ap, arith, lit<}
+use Rattle.std.proofs.lemmas.Bool.{eqb-true}
+use Rattle.std.specs.Prelude.{nat_eq}
+use Rattle.std.specs.Fmt.{decimal, digits}
+use Rattle.gc_lines.specs.Readers.{header_at, reply_at}
+use Rattle.gc_lines.proofs.Written.{reply_back}
+use Rattle.gc_catalogue.specs.Calls.{call_fields}
+use Rattle.gc_client.specs.Rule.{id_in, heard}
+use Rattle.gc_world.specs.Order.{Each}
+use Rattle.gc_world.proofs.Options.{some_is}
+use Rattle.gc_world.proofs.Places.{each_get}
+use Rattle.gc_field.specs.Instrument.{IsAnInstrument, AnyState, nothing}
+use Rattle.gc_field.specs.Laws.{WasExecuted}
+use Rattle.gc_field.specs.Needed.{Keeper, IsAllNeeded, InOrder, value, refusal, kept, keeper, held, again_or, refuses_or, answers_in, deals_anew, sound, forgets}
+use Rattle.gc_field.specs.Once.{ActsOnce}
+
+-- what is kept for an id is its own
+pub kept_own : (k : Keeper) (id n : ℕ) → held k id ≡ Some n → kept k ≡ Some (record { id = id; line = value id n })
+kept_own None id n e = let never : ⊥ = cc in absurd never
+kept_own (Some x) id n e = chosen (nat_eq x.0 id) refl e where
+  chosen : (b : Bool) → nat_eq x.0 id ≡ b → cond b (Some x.1) None ≡ Some n → kept (Some x) ≡ Some (record { id = id; line = value id n })
+  chosen true t e = ap (λ i. Some (record { id = i; line = value i x.1 })) (eqb-true x.0 id t) ∙ ap (λ m. Some (record { id = id; line = value id m })) (some_is x.1 n e)
+  chosen false t e = let never : ⊥ = cc in absurd never
+
+pub reads_value : (id n : ℕ) → id < 8 → heard (value id n) ≡ Some id
+reads_value id n small = ap id_in (reply_back (record { rc_com = 0; id = Some id; rc = 0; params = decimal n }) (record { rc_com = lit< tt; id = small; rc = lit< tt }))
+
+reads_refusal : (id : ℕ) → id < 8 → heard (refusal id) ≡ Some id
+reads_refusal id small = ap id_in (reply_back (record { rc_com = 3081; id = Some id; rc = 0; params = [] }) (record { rc_com = lit< tt; id = small; rc = lit< tt }))
+
+true_is_not : true ≡ false → ⊥
+true_is_not e = cc
+
+again_reads : (k : Keeper) (id : ℕ) (o : Option ℕ) → id < 8 → heard (again_or id k o).reply ≡ Some id
+again_reads k id (Some n) small = reads_value id n small
+again_reads k id None small = reads_value id 0 small
+
+again_repeats : (k : Keeper) (id : ℕ) (o : Option ℕ) → held k id ≡ o → (again_or id k o).executed ≡ false → kept k ≡ Some (record { id = id; line = (again_or id k o).reply })
+again_repeats k id (Some n) e not = kept_own k id n e
+again_repeats k id None e not = absurd (true_is_not not)
+
+again_keeps : (k : Keeper) (id : ℕ) (o : Option ℕ) → held k id ≡ o → kept (again_or id k o).state ≡ Some (record { id = id; line = (again_or id k o).reply })
+again_keeps k id (Some n) e = kept_own k id n e
+again_keeps k id None e = refl
+
+refuses_reads : (b : Bool) (k : Keeper) (id : ℕ) → id < 8 → heard (refuses_or b k id).reply ≡ Some id
+refuses_reads true k id small = again_reads k id (held k id) small
+refuses_reads false k id small = reads_refusal id small
+
+refuses_repeats : (b : Bool) (k : Keeper) (id : ℕ) → (refuses_or b k id).executed ≡ false → kept k ≡ Some (record { id = id; line = (refuses_or b k id).reply })
+refuses_repeats true k id not = again_repeats k id (held k id) refl not
+refuses_repeats false k id not = absurd (true_is_not not)
+
+-- all that were executed are below it
+above : (n : ℕ) (xs : List ℕ) → Each (λ m. m < n) xs → WasExecuted xs n → ⊥
+above n xs low h = omega (arith, each_get (λ m. m < n) xs h.0 n low h.1)
+
+eighth : WasExecuted (0 ∷ 1 ∷ 2 ∷ 3 ∷ 4 ∷ 5 ∷ 6 ∷ 7 ∷ []) 8 → ⊥
+eighth h = above 8 (0 ∷ 1 ∷ 2 ∷ 3 ∷ 4 ∷ 5 ∷ 6 ∷ 7 ∷ []) (lit< tt, (lit< tt, (lit< tt, (lit< tt, (lit< tt, (lit< tt, (lit< tt, (lit< tt, tt)))))))) h
+
+none : WasExecuted [] 1 → ⊥
+none h = above 1 [] tt h
+
+first : WasExecuted (0 ∷ []) 1 → ⊥
+first h = above 1 (0 ∷ []) (lit< tt, tt) h
+
+second : WasExecuted (0 ∷ 1 ∷ []) 2 → ⊥
+second h = above 2 (0 ∷ 1 ∷ []) (lit< tt, (lit< tt, tt)) h
+
+-- 0 ∷ 1 ∷ 1, with no start
+not_once : ActsOnce (0 ∷ 1 ∷ 1 ∷ []) [] → ⊥
+not_once h = omega (arith, h 1 2 1 1 (lit< tt) tt refl refl)
+
+keeper_is : IsAnInstrument keeper AnyState kept
+keeper_is =
+    record {
+      hears = λ line. refl;
+      replies = λ k id call good small. again_reads k id (held k id) small;
+      repeats = λ k id call good small not. again_repeats k id (held k id) refl not;
+      keeps = λ k id call good small. inr (again_keeps k id (held k id) refl);
+      starts = λ k good. inl refl;
+      stays_good = λ k id call good small. tt;
+      starts_good = λ k good. tt;
+    }
+
+anew_is : IsAnInstrument deals_anew AnyState kept
+anew_is =
+    record {
+      hears = λ line. refl;
+      replies = λ k id call good small. reads_value id 0 small;
+      repeats = λ k id call good small not. absurd (true_is_not not);
+      keeps = λ k id call good small. inr refl;
+      starts = λ k good. inl refl;
+      stays_good = λ k id call good small. tt;
+      starts_good = λ k good. tt;
+    }
+
+forgets_is : IsAnInstrument forgets AnyState nothing
+forgets_is =
+    record {
+      hears = λ line. refl;
+      replies = λ b id call good small. reads_value id 0 small;
+      repeats = λ b id call good small not. absurd (true_is_not not);
+      keeps = λ b id call good small. inl refl;
+      starts = λ b good. inl refl;
+      stays_good = λ b id call good small. tt;
+      starts_good = λ b good. tt;
+    }
+
+in_order : (b : Bool) (id : ℕ) → InOrder b → id < 8 → heard (answers_in b id b).reply ≡ Some id
+in_order false id good small = reads_value id 0 small
+in_order true id good small = absurd (true_is_not good)
+
+sound_is : IsAnInstrument sound InOrder nothing
+sound_is =
+    record {
+      hears = λ line. refl;
+      replies = λ b id call good small. in_order b id good small;
+      repeats = λ b id call good small not. absurd (true_is_not not);
+      keeps = λ b id call good small. inl refl;
+      starts = λ b good. inl refl;
+      stays_good = λ b id call good small. good;
+      starts_good = λ b good. good;
+    }
+
+pub all_needed : IsAllNeeded
+unfolding header_at reply_at digits
+all_needed =
+    record {
+      hears =
+          record {
+            all_but =
+                record {
+                  hears = inl refl;
+                  replies = inr (λ b id call good small. reads_value id 0 small);
+                  repeats = inr (λ b id call good small not. absurd (true_is_not not));
+                  keeps = inr (λ b id call good small. inl refl);
+                  starts = inr (λ b good. inl refl);
+                  stays_good = inr (λ b id call good small. tt);
+                  starts_good = inr (λ b good. tt);
+                };
+            good = tt;
+            booked = record { beyond = lit< tt; field = record { possible = (tt, (tt, ((0, [], refl), (tt, (tt, (tt, ((1, [], refl), tt))))))); alone = tt }; settled = refl; executed = second };
+          };
+      replies =
+          record {
+            all_but =
+                record {
+                  hears = inr (λ line. refl);
+                  replies = inl refl;
+                  repeats = inr (λ b id call good small not. absurd (true_is_not not));
+                  keeps = inr (λ b id call good small. inl refl);
+                  starts = inr (λ b good. inl refl);
+                  stays_good = inr (λ b id call good small. tt);
+                  starts_good = inr (λ b good. tt);
+                };
+            good = tt;
+            booked = record { beyond = lit< tt; field = record { possible = (tt, (tt, ((0, [], refl), (tt, (tt, (tt, ((1, [], refl), tt))))))); alone = tt }; settled = refl; executed = second };
+          };
+      repeats =
+          record {
+            all_but =
+                record {
+                  hears = inr (λ line. refl);
+                  replies = inr (λ b id call good small. reads_value id 0 small);
+                  repeats = inl refl;
+                  keeps = inr (λ b id call good small. inl refl);
+                  starts = inr (λ b good. inl refl);
+                  stays_good = inr (λ b id call good small. tt);
+                  starts_good = inr (λ b good. tt);
+                };
+            good = tt;
+            booked = record { beyond = lit< tt; field = record { possible = (tt, (tt, ((0, [], refl), (tt, (tt, ((1, [], refl), tt)))))); alone = tt }; settled = refl; executed = none };
+          };
+      keeps =
+          record {
+            all_but =
+                record {
+                  hears = inr (λ line. refl);
+                  replies = inr (λ k id call good small. refuses_reads (nat_eq (call_fields call).number 0) k id small);
+                  repeats = inr (λ k id call good small not. refuses_repeats (nat_eq (call_fields call).number 0) k id not);
+                  keeps = inl refl;
+                  starts = inr (λ k good. inl refl);
+                  stays_good = inr (λ k id call good small. tt);
+                  starts_good = inr (λ k good. tt);
+                };
+            good = tt;
+            booked =
+                record {
+                  beyond = lit< tt;
+                  field =
+                      record {
+                        possible = (tt, (tt, ((0, [], refl), (tt, (tt, ((1, [], refl), (tt, (tt, ((2, [], refl), (tt, (tt, ((3, [], refl), (tt, (tt, ((4, [], refl), (tt, (tt, ((5, [], refl), (tt, (tt, ((6, [], refl), (tt, (tt, ((7, [], refl), (tt, (tt, ((8, [], refl), tt)))))))))))))))))))))))))));
+                        alone = tt;
+                      };
+                  settled = refl;
+                  executed = eighth;
+                };
+          };
+      starts =
+          record {
+            all_but =
+                record {
+                  hears = inr (λ line. refl);
+                  replies = inr (λ k id call good small. again_reads k id (held k id) small);
+                  repeats = inr (λ k id call good small not. again_repeats k id (held k id) refl not);
+                  keeps = inr (λ k id call good small. inr (again_keeps k id (held k id) refl));
+                  starts = inl refl;
+                  stays_good = inr (λ k id call good small. tt);
+                  starts_good = inr (λ k good. tt);
+                };
+            good = tt;
+            booked = record { beyond = lit< tt; field = record { possible = (tt, (tt, ((0, [], refl), (tt, (tt, (tt, ((1, [], refl), tt))))))); alone = tt }; settled = refl; executed = first };
+          };
+      stays_good =
+          record {
+            all_but =
+                record {
+                  hears = inr (λ line. refl);
+                  replies = inr (λ b id call good small. in_order b id good small);
+                  repeats = inr (λ b id call good small not. absurd (true_is_not not));
+                  keeps = inr (λ b id call good small. inl refl);
+                  starts = inr (λ b good. inl refl);
+                  stays_good = inl refl;
+                  starts_good = inr (λ b good. refl);
+                };
+            good = refl;
+            booked = record { beyond = lit< tt; field = record { possible = (tt, (tt, ((0, [], refl), (tt, (tt, (tt, ((1, [], refl), tt))))))); alone = tt }; settled = refl; executed = second };
+          };
+      starts_good =
+          record {
+            all_but =
+                record {
+                  hears = inr (λ line. refl);
+                  replies = inr (λ b id call good small. in_order b id good small);
+                  repeats = inr (λ b id call good small not. absurd (true_is_not not));
+                  keeps = inr (λ b id call good small. inl refl);
+                  starts = inr (λ b good. inl refl);
+                  stays_good = inr (λ b id call good small. good);
+                  starts_good = inl refl;
+                };
+            good = refl;
+            booked = record { beyond = lit< tt; field = record { possible = (tt, (tt, ((0, [], refl), (tt, (tt, (tt, (tt, ((1, [], refl), tt)))))))); alone = tt }; settled = refl; executed = second };
+          };
+      shared_is = keeper_is;
+      changes_kept = record { beyond = lit< tt; field = record { possible = (tt, (tt, ((0, [], refl), ((tt, refl), (tt, (tt, ((1, [], refl), tt))))))); alone = tt }; settled = refl; executed = first };
+      sound_is = sound_is;
+      changes_good = record { beyond = lit< tt; field = record { possible = (tt, (tt, ((0, [], refl), ((tt, refl), (tt, (tt, (tt, ((1, [], refl), tt)))))))); alone = tt }; settled = refl; executed = second };
+      again = record { is = anew_is; good = tt; field = record { possible = (tt, (tt, ((0, [], refl), (tt, (tt, (tt, (tt, tt))))))); alone = tt }; twice = not_once };
+      again_keeps = λ k id call. refl;
+      always_again = λ b id call line e. let never : ⊥ = cc in absurd never;
+      always = record { is = forgets_is; good = tt; field = record { possible = (tt, (tt, ((0, [], refl), (tt, (tt, (tt, (tt, tt))))))); alone = tt }; twice = not_once };
+    }

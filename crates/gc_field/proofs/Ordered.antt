@@ -1,0 +1,204 @@
+-- What goes out behind an answer is executed behind the request that was answered.
+use Rattle.std.proofs.Common.{◌≡◌, ◌⊎◌, inl, inr, ℕ, zero, suc, ◌+◌, ◌<◌, ◌≤◌, List, [], ◌∷◌, ◌++◌, length, Option, Some, refl, sym, ◌∙◌, ap, subst, arith, append_assoc}
+use Rattle.std.specs.Prelude.{slice_get}
+use Rattle.std.proofs.lemmas.List.{length-append}
+use Rattle.gc_catalogue.specs.declared.call.Call.{Call}
+use Rattle.gc_client.specs.Rule.{ById, Settlement, Answered}
+use Rattle.gc_instrument.specs.State.{KeptReply}
+use Rattle.gc_world.specs.Clients.{by_ids, ids_open}
+use Rattle.gc_world.specs.Order.{Each}
+use Rattle.gc_world.specs.World.{Ends, Numbered, Request, Up_deliver, World}
+use Rattle.gc_world.proofs.Places.{below}
+use Rattle.gc_world.proofs.Rows.{each_more}
+use Rattle.gc_field.specs.Chains.{AreCalls, IsExecutedAfter}
+use Rattle.gc_field.specs.Field.{Move, OnLine, moves, moved, ArePossible, IsField}
+use Rattle.gc_field.specs.Instrument.{IsAnInstrument}
+use Rattle.gc_field.specs.Laws.{left}
+use Rattle.gc_field.specs.Made.{WasMadeOn}
+use Rattle.gc_field.specs.Once.{ActsOnce, HasNoStart, IsInOrder}
+use Rattle.gc_field.specs.Stretches.{Stretch}
+use Rattle.gc_field.proofs.Between.{Stands, acted, calls_more, did_all, made_both, stands_all}
+use Rattle.gc_field.proofs.InTime.{Law, field_front}
+use Rattle.gc_field.proofs.Possible.{moved_append, possible_behind, possible_front}
+
+-- Lists.
+
+cons_head : {State : Type 0} (x y : Move State) (xs ys : List (Move State)) → x ∷ xs ≡ y ∷ ys → x ≡ y
+cons_head x y xs ys e = cc
+
+cons_tail : {State : Type 0} (x y : Move State) (xs ys : List (Move State)) → x ∷ xs ≡ y ∷ ys → xs ≡ ys
+cons_tail x y xs ys e = cc
+
+-- of two fronts of the same moves one is a front of the other
+fronts : {State : Type 0} (xs ys fs gs : List (Move State)) → xs ++ ys ≡ fs ++ gs → ((more : List (Move State)) × (fs ≡ xs ++ more)) ⊎ ((more : List (Move State)) × (xs ≡ fs ++ more))
+fronts [] ys fs gs e = inl (fs, refl)
+fronts (x ∷ xs) ys [] gs e = inr (x ∷ xs, refl)
+fronts (x ∷ xs) ys (f ∷ fs) gs e =
+    let head : x ≡ f = cons_head x f (xs ++ ys) (fs ++ gs) e in
+    elim (fronts xs ys fs gs (cons_tail x f (xs ++ ys) (fs ++ gs) e)) [
+      | inl h ↦ inl (h.0, ap (λ y. y ∷ fs) (sym head) ∙ ap (λ l. x ∷ l) h.1)
+      | inr h ↦ inr (h.0, ap (λ y. y ∷ xs) head ∙ ap (λ l. f ∷ l) h.1)
+    ]
+
+get_behind : (xs ys : List ℕ) (i j x : ℕ) → j ≡ length xs + i → slice_get ys i ≡ Some x → slice_get (xs ++ ys) j ≡ Some x
+get_behind [] ys i j x e got = let same : i ≡ j = omega (arith, e) in subst (λ k. slice_get ys k ≡ Some x) same got
+get_behind (y ∷ xs) ys i zero x e got = absurd (omega (arith, e))
+get_behind (y ∷ xs) ys i (suc j) x e got = get_behind xs ys i j x (omega (arith, e)) got
+
+get_front : (xs ys : List ℕ) (i x : ℕ) → slice_get xs i ≡ Some x → slice_get (xs ++ ys) i ≡ Some x
+get_front [] ys i x got = cc
+get_front (y ∷ xs) ys zero x got = got
+get_front (y ∷ xs) ys (suc i) x got = get_front xs ys i x got
+
+each_at : (P : ℕ → Type 0) (xs : List ℕ) → ((i x : ℕ) → slice_get xs i ≡ Some x → P x) → Each P xs
+each_at P [] f = tt
+each_at P (x ∷ xs) f = (f 0 x refl, each_at P xs (λ i y got. f (suc i) y got))
+
+-- Among numbers that were executed, those between one and a later one.
+
+module _ (e : List ℕ) (m n : ℕ) (numbers : List ℕ) where
+  abbrev all : List ℕ
+  all = (e ++ m ∷ numbers) ++ n ∷ []
+
+  at_m : slice_get all (length e) ≡ Some m
+  at_m = get_front (e ++ m ∷ numbers) (n ∷ []) (length e) m (get_behind e (m ∷ numbers) 0 (length e) m (omega arith) refl)
+
+  at_x : (i x : ℕ) → slice_get numbers i ≡ Some x → slice_get all (length e + (1 + i)) ≡ Some x
+  at_x i x got = get_front (e ++ m ∷ numbers) (n ∷ []) (length e + (1 + i)) x (get_behind e (m ∷ numbers) (suc i) (length e + (1 + i)) x (omega arith) got)
+
+  at_n : slice_get all (length e + (1 + length numbers)) ≡ Some n
+  at_n =
+      let size : length (e ++ m ∷ numbers) ≡ length e + length (m ∷ numbers) = length-append e (m ∷ numbers) in
+      get_behind (e ++ m ∷ numbers) (n ∷ []) 0 (length e + (1 + length numbers)) n (omega (arith, size)) refl
+
+  pub in_turn : IsInOrder all → IsInOrder numbers
+  in_turn rises j k x y lt a b = rises (length e + (1 + j)) (length e + (1 + k)) x y (omega (arith, lt)) (at_x j x a) (at_x k y b)
+
+  pub upto : IsInOrder all → Each (λ x. (m ≤ x) × (x ≤ n)) numbers
+  upto rises =
+      each_at (λ x. (m ≤ x) × (x ≤ n)) numbers
+      (λ i x got.
+      let small : i < length numbers = below numbers i x got in (
+        rises (length e) (length e + (1 + i)) m x (omega arith) at_m (at_x i x got),
+        rises (length e + (1 + i)) (length e + (1 + length numbers)) x n (omega (arith, small)) (at_x i x got) at_n,
+      ))
+
+  pub inside : (starts : List ℕ) → Each (λ s. s ≤ length e) starts → ActsOnce all starts → Each (λ x. (m < x) × (x < n)) numbers
+  inside starts early once =
+      each_at (λ x. (m < x) × (x < n)) numbers
+      (λ i x got.
+      let small : i < length numbers = below numbers i x got in (
+        once (length e) (length e + (1 + i)) m x (omega arith) (none (length e) (length e + (1 + i)) (omega arith)) at_m (at_x i x got),
+        once (length e + (1 + i)) (length e + (1 + length numbers)) x n (omega (arith, small)) (none (length e + (1 + i)) (length e + (1 + length numbers)) (omega arith)) (at_x i x got) at_n,
+      ))
+    where
+      none : (j k : ℕ) → length e ≤ j → HasNoStart starts j k
+      none j k le = each_more (λ s. s ≤ length e) (λ s. (s ≤ j) ⊎ (k < s)) (λ s l. inl (omega (arith, l, le))) starts early
+
+-- The law.
+
+module _ {State : Type 0} (ends : Ends State) (Good : State → Type 0) (kept : State → Option KeptReply) (is : IsAnInstrument ends Good kept) (law : Law ends Good kept) (s : Stretch State) (good : Good s.state) (field : IsField 7 ends Good kept s.state s.moves) where
+  abbrev at : List (Move State) → World ById State
+  at ms = left 7 ends s.state ms
+
+  possible_to : (front later : List (Move State)) → s.moves ≡ front ++ later → ArePossible ends Good kept (by_ids 7 ends) front (ids_open s.state)
+  possible_to front later e = (field_front ends Good kept is s.state s.moves front later e field).possible
+
+  possible_from : (front later : List (Move State)) → s.moves ≡ front ++ later → ArePossible ends Good kept (by_ids 7 ends) later (at front)
+  possible_from front later e = possible_behind 7 ends Good kept front later (ids_open s.state) (subst (λ xs. ArePossible ends Good kept (by_ids 7 ends) xs (ids_open s.state)) e field.possible)
+
+  -- a request that reaches the instrument was sent by then
+  was_sent : (n : ℕ) (call : Call) (line : List ℕ) (h : WasMadeOn 7 ends s.state s.moves n call line) → n < length (at h.front).wire.sent
+  was_sent n call line h =
+      let stands = stands_all ends Good kept h.front s.state (possible_to h.front (OnLine Up_deliver ∷ h.later) h.split) in
+      let known = (subst (λ l. Each (λ (x : Numbered Request). (r : _) × (slice_get (at h.front).wire.sent x.number ≡ Some r) × (r.call ≡ x.line.call)) l) h.reaches stands.known).0 in
+      below (at h.front).wire.sent n known.0 known.1
+
+  -- behind further moves as much was sent, or more
+  sent_more : (front more later : List (Move State)) → s.moves ≡ (front ++ more) ++ later → (extra : List _) × ((at (front ++ more)).wire.sent ≡ (at front).wire.sent ++ extra)
+  sent_more front more later e =
+      let split : s.moves ≡ front ++ (more ++ later) = e ∙ append_assoc front more later in
+      let possible = possible_front 7 ends Good kept more later (at front) (possible_from front (more ++ later) split) in
+      let did = did_all ends Good kept more (at front) possible (stands_all ends Good kept front s.state (possible_to front (more ++ later) split)) in
+      (did.more, ap (λ (w : World ById State). w.wire.sent) (moved_append 7 ends front more (ids_open s.state)) ∙ did.sent)
+
+  -- m was executed before these moves, and n wasn't sent: so n was executed behind them
+  behind_front : (before later : List (Move State)) → s.moves ≡ before ++ later → (n : ℕ) → length (at before).wire.sent ≤ n → (call : Call) (line : List ℕ) (h : WasMadeOn 7 ends s.state s.moves n call line)
+      → (more : List (Move State)) × (h.front ≡ before ++ more)
+  behind_front before later e n unsent call line h =
+      elim (fronts before later h.front (OnLine Up_deliver ∷ h.later) (sym e ∙ h.split)) [
+        | inl x ↦ x
+        | inr x ↦ (let grown = sent_more h.front x.0 later (e ∙ ap (λ l. l ++ later) x.1) in
+            let size : length (at before).wire.sent ≡ length ((at h.front).wire.sent ++ grown.0) = ap (λ l. length (at l).wire.sent) x.1 ∙ ap length grown.1 in
+            let sum : length ((at h.front).wire.sent ++ grown.0) ≡ length (at h.front).wire.sent + length grown.0 = length-append (at h.front).wire.sent grown.0 in
+            absurd (omega (arith, size, sum, was_sent n call line h, unsent)))
+      ]
+
+  -- two executions, the one behind the other
+  both_made : (m n : ℕ) (call_m call_n : Call) (line_m line_n : List ℕ) (f : WasMadeOn 7 ends s.state s.moves m call_m line_m) (h : WasMadeOn 7 ends s.state s.moves n call_n line_n) (between : List (Move State)) → h.front ≡ f.front ++ OnLine Up_deliver ∷ between
+      → IsExecutedAfter ends Good kept s m n call_m call_n line_m line_n
+  both_made m n call_m call_n line_m line_n f h between order =
+      let split : s.moves ≡ (f.front ++ OnLine Up_deliver ∷ between) ++ OnLine Up_deliver ∷ h.later = h.split ∙ ap (λ l. l ++ OnLine Up_deliver ∷ h.later) order in
+      let split_f : s.moves ≡ f.front ++ (OnLine Up_deliver ∷ (between ++ OnLine Up_deliver ∷ h.later)) = split ∙ append_assoc f.front (OnLine Up_deliver ∷ between) (OnLine Up_deliver ∷ h.later) in
+      let split_h : s.moves ≡ (h.front ++ OnLine Up_deliver ∷ []) ++ h.later = h.split ∙ sym (append_assoc h.front (OnLine Up_deliver ∷ []) h.later) in
+      let v = at f.front in
+      let w = moves ends (by_ids 7 ends) v (OnLine Up_deliver) in
+      let stands = stands_all ends Good kept f.front s.state (possible_to f.front (OnLine Up_deliver ∷ (between ++ OnLine Up_deliver ∷ h.later)) split_f) in
+      let one = acted ends v (record { number = m; line = record { id = f.id; call = call_m } }) f.rest f.reaches f.executed in
+      let last = acted ends (at h.front) (record { number = n; line = record { id = h.id; call = call_n } }) h.rest h.reaches h.executed in
+      let possible : ArePossible ends Good kept (by_ids 7 ends) between w = possible_front 7 ends Good kept between (OnLine Up_deliver ∷ h.later) w (possible_from f.front (OnLine Up_deliver ∷ (between ++ OnLine Up_deliver ∷ h.later)) split_f).1 in
+      let split_w : s.moves ≡ (f.front ++ OnLine Up_deliver ∷ []) ++ (between ++ OnLine Up_deliver ∷ h.later) = split_f ∙ sym (append_assoc f.front (OnLine Up_deliver ∷ []) (between ++ OnLine Up_deliver ∷ h.later)) in
+      let stands_w : Stands ends w.wire = subst (λ (x : World ById State). Stands ends x.wire) (moved_append 7 ends f.front (OnLine Up_deliver ∷ []) (ids_open s.state)) (stands_all ends Good kept (f.front ++ OnLine Up_deliver ∷ []) s.state (possible_to (f.front ++ OnLine Up_deliver ∷ []) (between ++ OnLine Up_deliver ∷ h.later) split_w)) in
+      let did = did_all ends Good kept between w possible stands_w in
+      let there : at h.front ≡ moved ends (by_ids 7 ends) between w = ap (λ l. at l) order ∙ moved_append 7 ends f.front (OnLine Up_deliver ∷ between) (ids_open s.state) in
+      let e = v.wire.executed in
+      let ran : (at h.front).wire.executed ≡ e ++ m ∷ did.numbers =
+      ap (λ (x : World ById State). x.wire.executed) there ∙ did.executed ∙ ap (λ l. l ++ did.numbers) one.0 ∙ append_assoc e (m ∷ []) did.numbers in
+      let behind_last : at (h.front ++ OnLine Up_deliver ∷ []) ≡ moves ends (by_ids 7 ends) (at h.front) (OnLine Up_deliver) = moved_append 7 ends h.front (OnLine Up_deliver ∷ []) (ids_open s.state) in
+      let whole : (at (h.front ++ OnLine Up_deliver ∷ [])).wire.executed ≡ (e ++ m ∷ did.numbers) ++ n ∷ [] =
+      ap (λ (x : World ById State). x.wire.executed) behind_last ∙ last.0 ∙ ap (λ l. l ++ n ∷ []) ran in
+      let true_there = law s.state good (h.front ++ OnLine Up_deliver ∷ []) (field_front ends Good kept is s.state s.moves (h.front ++ OnLine Up_deliver ∷ []) h.later split_h field) in
+      let grown = sent_more h.front (OnLine Up_deliver ∷ h.later) [] (h.split ∙ sym (nil (h.front ++ OnLine Up_deliver ∷ h.later))) in
+      let grown_all : (at s.moves).wire.sent ≡ (at h.front).wire.sent ++ grown.0 = ap (λ l. (at l).wire.sent) h.split ∙ grown.1 in
+      let asked_there : AreCalls (at h.front).wire.sent did.numbers did.calls = subst (λ (x : World ById State). AreCalls x.wire.sent did.numbers did.calls) (sym there) did.asked in
+      record {
+        first = f;
+        second = h;
+        between = between;
+        order = order;
+        numbers = did.numbers;
+        executed = ran;
+        in_order = in_turn e m n did.numbers (subst IsInOrder whole true_there.in_order);
+        within = upto e m n did.numbers (subst IsInOrder whole true_there.in_order);
+        strictly = λ keeps quiet.
+            let starts : (at (h.front ++ OnLine Up_deliver ∷ [])).wire.starts ≡ v.wire.starts =
+            ap (λ (x : World ById State). x.wire.starts) behind_last ∙ last.2 ∙ ap (λ (x : World ById State). x.wire.starts) there ∙ did.starts quiet ∙ one.2 in
+            inside e m n did.numbers v.wire.starts stands.begun
+            (subst (λ l. ActsOnce l v.wire.starts) whole (subst (λ l. ActsOnce (at (h.front ++ OnLine Up_deliver ∷ [])).wire.executed l) starts (true_there.once keeps)));
+        calls = did.calls;
+        asked = subst (λ l. AreCalls l did.numbers did.calls) (sym grown_all) (calls_more (at h.front).wire.sent grown.0 did.numbers did.calls asked_there);
+        state = λ apart effect has still.
+            ap (λ (x : World ById State). apart x.wire.state) there ∙ made_both ends v.wire.state w.wire.state (moved ends (by_ids 7 ends) between w).wire.state (call_m ∷ []) did.calls one.1 (did.state still) apart effect has;
+      }
+    where
+      nil : (ms : List (Move State)) → ms ++ [] ≡ ms
+      nil [] = refl
+      nil (x ∷ ms) = ap (λ l. x ∷ l) (nil ms)
+
+  -- what goes out behind an answer
+  pub executed_behind : (before later : List (Move State)) → s.moves ≡ before ++ later → (m n : ℕ) (x : Settlement) (line_m : List ℕ) → 0 < m → slice_get (at before).wire.settled m ≡ Some x → x.outcome ≡ Answered line_m
+      → length (at before).wire.sent ≤ n → (call : Call) (line_n : List ℕ) → WasMadeOn 7 ends s.state s.moves n call line_n → IsExecutedAfter ends Good kept s m n x.call call line_m line_n
+  executed_behind before later e m n x line_m beyond settled answered unsent call line_n h =
+      let f = (law s.state good before (field_front ends Good kept is s.state s.moves before later e field)).made_on m x line_m beyond settled answered in
+      let more = behind_front before later e n unsent call line_n h in
+      let first : WasMadeOn 7 ends s.state s.moves m x.call line_m = record {
+        front = f.front;
+        later = f.later ++ later;
+        split = e ∙ ap (λ l. l ++ later) f.split ∙ append_assoc f.front (OnLine Up_deliver ∷ f.later) later;
+        id = f.id;
+        rest = f.rest;
+        reaches = f.reaches;
+        executed = f.executed;
+        reply = f.reply;
+      } in
+      both_made m n x.call call line_m line_n first h (f.later ++ more.0) (more.1 ∙ ap (λ l. l ++ more.0) f.split ∙ append_assoc f.front (OnLine Up_deliver ∷ f.later) more.0)

@@ -1,0 +1,182 @@
+-- Where the telescope pointed when a command of a chain was executed.
+use Rattle.std.proofs.Common.{◌≡◌, ℕ, ℤ, pos, ◌<◌, Bool, true, false, cond, List, [], ◌∷◌, length, map, Option, Some, None, refl, sym, ◌∙◌, ap, subst, arith}
+use Rattle.std.specs.Prelude.{slice_get}
+use Rattle.std.specs.List.{AllByRecursion}
+use Rattle.std.specs.Ordering.{int_eq}
+use Rattle.gc_values.specs.declared.decimal.Decimal.{Decimal}
+use Rattle.gc_catalogue.specs.declared.answer.Answer.{Answer}
+use Rattle.gc_catalogue.specs.declared.answer.Answer.TheVariants.{Nothing}
+use Rattle.gc_catalogue.specs.declared.call.Call.{Call}
+use Rattle.gc_catalogue.specs.declared.call.Call.TheVariants as call
+use Rattle.gc_client.specs.OneForOne.{Asked}
+use Rattle.gc_instrument.specs.Execution.{Executed, exec, done, refused, set_if, told, commanded, measured, unmeasured}
+use Rattle.gc_instrument.specs.Replying.{Handed, handed, kept_line}
+use Rattle.gc_instrument.specs.State.{State, IsFittingState}
+use Rattle.gc_instrument.proofs.Answering.{handed_again, handed_new}
+use Rattle.gc_instrument.proofs.Keeping.{executes_apart}
+use Rattle.gc_links.specs.Acts.{Act}
+use Rattle.gc_texts.specs.declared.tasks.Task.{Task}
+use Rattle.gc_station.specs.Links.{ChainsStay, MarksGoOn, RecordsStay, parts}
+use Rattle.gc_station.specs.Parts.{IsOf}
+use Rattle.gc_station.specs.Records.{Record}
+use Rattle.gc_station.specs.Runs.{stood}
+use Rattle.gc_station.specs.Scopes.{Scope}
+use Rattle.gc_station.specs.declared.plan.Plan.{Plan}
+use Rattle.gc_station.proofs.Booking.{of_at}
+use Rattle.gc_world.specs.Clients.{ends}
+use Rattle.gc_world.specs.Order.{Each}
+use Rattle.gc_world.specs.World.{Sent}
+use Rattle.gc_world.proofs.Handing.{bare_after}
+use Rattle.gc_world.proofs.Options.{some_is}
+use Rattle.gc_world.proofs.Places.{below, get_map, in_range}
+use Rattle.gc_field.specs.Chains.{AreCalls, HasNoStartBetween, IsUndisturbed, IsChainedTo, IsExecutedInChain, behind, executing}
+use Rattle.gc_field.specs.Field.{Move, Sends, Tells, Comes, Foreign, OnLine, Anew, Changes, Joins}
+use Rattle.gc_field.specs.Laws.{asked, kept_of}
+use Rattle.gc_field.specs.Pointing.{AreStill, IsMeasuredWhereItPointed, IsPointedInChain, SimulatorHasItsEffect, bare, behind_call, turns}
+use Rattle.gc_field.specs.Runs.{IsInField, world}
+use Rattle.gc_field.specs.Stretches.{Stretch}
+use Rattle.gc_field.proofs.Chained.{chains_executed, sent_at}
+use Rattle.gc_field.proofs.InTime.{Law}
+use Rattle.gc_field.proofs.Instruments.{simulator}
+use Rattle.gc_field.proofs.Joining.{run_faithful}
+
+-- What executing a call makes of the simulator.
+
+exec_bare : (s : State) (asked : Call) → behind_call (bare s) asked ≡ bare (behind_call s asked)
+exec_bare s asked = ap (λ (x : Executed). x.state) (executes_apart s None asked)
+
+true_is_not : true ≡ false → ⊥
+true_is_not e = cc
+
+-- a line that is sent again leaves it
+handed_same : (s : State) (id : ℕ) (asked : Call) (o : Option (List ℕ)) → kept_line s.kept (Some id) ≡ o → (handed s id asked).executed ≡ false → (handed s id asked).state ≡ s
+handed_same s id asked (Some line) e not = ap (λ (x : Handed State). x.state) (handed_again s id asked line e)
+handed_same s id asked None e not = absurd (true_is_not (sym (ap (λ (x : Handed State). x.executed) (handed_new s id asked e)) ∙ not))
+
+pub has_effect : SimulatorHasItsEffect
+has_effect =
+    record {
+      executes = λ s id asked e. bare_after s id asked e ∙ exec_bare s asked;
+      repeats = λ s id asked not. ap bare (handed_same s id asked (kept_line s.kept (Some id)) refl not);
+      alike = λ s t asked e. sym (exec_bare s asked) ∙ ap (λ x. behind_call x asked) e ∙ exec_bare t asked;
+    }
+
+-- where nothing disturbs the instrument, it doesn't start
+no_start : (ms : List (Move State)) → IsUndisturbed ms → HasNoStartBetween ms
+no_start [] h = tt
+no_start (Sends target asked deadline ∷ ms) h = no_start ms h
+no_start (Tells now ∷ ms) h = no_start ms h
+no_start (Comes line ∷ ms) h = no_start ms h
+no_start (Foreign line ∷ ms) h = no_start ms h
+no_start (OnLine step ∷ ms) h = no_start ms h
+no_start (Anew ∷ ms) h = absurd h
+no_start (Changes state ∷ ms) h = absurd h
+no_start (Joins line ∷ ms) h = absurd h
+
+-- What a call that doesn't turn the telescope leaves.
+
+abbrev IsSame : State → State → Type 0
+IsSame s t = (t.pointing ≡ s.pointing) × (t.face ≡ s.face)
+
+set_same : (b : Bool) (s t : State) → IsSame s t → IsSame s (set_if b s t).state
+set_same true s t h = h
+set_same false s t h = (refl, refl)
+
+told_same : (s : State) (answer_with : Decimal → Answer) (d : Option Decimal) → IsSame s (told s answer_with d).state
+told_same s answer_with None = (refl, refl)
+told_same s answer_with (Some d) = (refl, refl)
+
+abbrev rows : State → Bool → Bool → Bool → Executed
+rows t a b c = cond a (done t Nothing) (cond b (done (measured t) Nothing) (cond c (done (unmeasured t) Nothing) (refused t 2)))
+
+commanded_same : (s : State) (command : ℤ) → IsSame s (commanded s command).state
+commanded_same s command = by_tests (int_eq command (pos 0)) (int_eq command (pos 1)) (int_eq command (pos 3)) where
+  by_tests : (a b c : Bool) → IsSame s (rows s a b c).state
+  by_tests true b c = (refl, refl)
+  by_tests false true c = (refl, refl)
+  by_tests false false true = (refl, refl)
+  by_tests false false false = (refl, refl)
+
+call_same : (s : State) (asked : Call) → turns asked ≡ false → IsSame s (exec s asked).state
+unfolding exec
+call_same s (call.SetPrecision n) e = set_same _ s _ (refl, refl)
+call_same s (call.SetDate d) e = set_same _ s _ (refl, refl)
+call_same s (call.SetPrism n) e = set_same _ s _ (refl, refl)
+call_same s (call.DoMeasure command mode) e = commanded_same s command
+call_same s (call.SimpleMea wait mode) e = told_same s _ s.distance
+call_same s call.QuickDist e = told_same (measured s) _ (measured s).distance
+call_same s (call.MeasDistance mode) e = told_same (measured s) _ (measured s).distance
+call_same s (call.Position hz v pos_mode atr_mode dummy) e = cc
+call_same s (call.ChangeFace pos_mode atr_mode dummy) e = cc
+call_same s (call.FineAdjust area_hz area_v dummy) e = cc
+call_same s asked e = (refl, refl)
+
+position_points : (s : State) (hz v : Decimal) (pos_mode atr_mode dummy : _) → let t = (exec s (call.Position hz v pos_mode atr_mode dummy)).state in (t.pointing ≡ record { hz = hz; v = v }) × (t.face ≡ s.face)
+unfolding exec
+position_points s hz v pos_mode atr_mode dummy = (refl, refl)
+
+executing_same : (calls : List Call) (s : State) → Each (λ x. turns x ≡ false) calls → IsSame s (executing behind_call s calls)
+executing_same [] s h = (refl, refl)
+executing_same (x ∷ calls) s h =
+    let one = call_same s x h.0 in
+    let others = executing_same calls (exec s x).state h.1 in
+    (others.0 ∙ one.0, others.1 ∙ one.1)
+
+-- What was executed between.
+
+all_still : (sent : List Sent) (m n : ℕ) (ns : List ℕ) (calls : List Call) → AreCalls sent ns calls → Each (λ x. (m < x) × (x < n)) ns → ((x : ℕ) (r : Sent) → m < x → x < n → slice_get sent x ≡ Some r → turns r.call ≡ false) → Each (λ x. turns x ≡ false) calls
+all_still sent m n [] [] h g f = tt
+all_still sent m n [] (x ∷ calls) h g f = absurd h
+all_still sent m n (k ∷ ns) [] h g f = absurd h
+all_still sent m n (k ∷ ns) (x ∷ calls) h g f =
+    (ap turns (sym h.0.2) ∙ f k h.0.0 g.0.0 g.0.1 h.0.1, all_still sent m n ns calls h.1 g.1 f)
+
+null_still : (a : Asked) (r : Sent) → asked r ≡ a → a ≡ record { target = 0; call = call.NullProc } → turns r.call ≡ false
+null_still a r e f = ap (λ (o : Asked). turns o.call) (e ∙ f)
+
+module _ (law : Law ends IsFittingState kept_of) (plan : Plan) (commands : List Task) (scope : Scope) (acts : List Act) (ss : List (Stretch State)) (field : IsInField ends IsFittingState kept_of plan commands scope acts ss) where
+  module _ (b : Record) (line : List ℕ) (a : ℕ) (h : IsChainedTo ends IsFittingState kept_of scope.reads (parts plan commands scope acts) ss (stood plan commands scope acts).records a b line) (still : AreStill commands a b.place) where
+    still_by : (x : ℕ) (r : Sent) (o : Option _) (above : h.m < x) (under : x < h.n) → slice_get h.part.marks x ≡ Some o → (y : Asked) → asked r ≡ y → IsOf commands o y → turns r.call ≡ false
+    still_by x r None above under at y e is = null_still y r e is
+    still_by x r (Some mark) above under at y e is =
+        let there = h.between x mark above under at in
+        let quiet = still mark.place is.0 there.1 there.2 is.1 in
+        ap (λ (o : Asked). turns o.call) (e ∙ is.2) ∙ quiet
+
+    still_at : (x : ℕ) (r : Sent) → h.m < x → x < h.n → slice_get (world ends h.stretch).wire.sent x ≡ Some r → turns r.call ≡ false
+    still_at x r above under got =
+        let f = run_faithful ends IsFittingState kept_of simulator.is law plan commands scope acts ss field in
+        let of = sent_at ends commands (parts plan commands scope acts) ss h.i h.part h.stretch f.sent h.of_parts h.of_stretches in
+        let size : h.n < length h.part.marks = below h.part.marks h.n _ h.mark_b in
+        let mark = in_range h.part.marks x (omega (arith, under, size)) in
+        let y = of_at commands h.part.marks (map asked (world ends h.stretch).wire.sent) x mark.0 of mark.1 in
+        let same : asked r ≡ y.0 = some_is (asked r) y.0 (sym (get_map asked (world ends h.stretch).wire.sent x r got) ∙ y.1) in
+        still_by x r mark.0 above under mark.1 y.0 same y.2
+
+    pointed_there : IsUndisturbed h.executed.between → IsMeasuredWhereItPointed scope.reads (parts plan commands scope acts) ss (stood plan commands scope acts).records a b line h
+    pointed_there quiet =
+        let x = h.executed in
+        let s = (behind ends h.stretch x.first.front).state in
+        let calls = all_still (world ends h.stretch).wire.sent h.m h.n x.numbers x.calls x.asked (x.strictly simulator.keeps (no_start x.between quiet)) (λ k r above under got. still_at k r above under got) in
+        let there = x.state bare behind_call has_effect quiet in
+        let t = behind_call s h.record_a.command.call in
+        let same = executing_same x.calls t calls in
+        let pointing = ap (λ (z : State). z.pointing) there ∙ same.0 in
+        let face = ap (λ (z : State). z.face) there ∙ same.1 in
+        record {
+          as_left = record { pointing = pointing; face = face };
+          as_commanded = λ hz v pos_mode atr_mode dummy e.
+              let at = subst (λ c. ((behind_call s c).pointing ≡ record { hz = hz; v = v }) × ((behind_call s c).face ≡ s.face)) (sym e) (position_points s hz v pos_mode atr_mode dummy) in
+              (pointing ∙ at.0, face ∙ at.1);
+        }
+
+  all_so : {A : Type 0} (P Q : A → Type 0) → ((x : A) → P x → Q x) → (xs : List A) → AllByRecursion P xs → AllByRecursion Q xs
+  all_so P Q f [] h = tt
+  all_so P Q f (x ∷ xs) h = (f x h.0, all_so P Q f xs h.1)
+
+  pub pointed : ChainsStay → MarksGoOn → RecordsStay → AllByRecursion (IsPointedInChain plan commands scope acts ss) (stood plan commands scope acts).records
+  pointed stay go_on records_stay =
+      all_so (IsExecutedInChain ends IsFittingState kept_of plan commands scope acts ss) (IsPointedInChain plan commands scope acts ss)
+      (λ b h line a answered less chained. let c = h line a answered less chained in (c, λ still quiet. pointed_there b line a c still quiet))
+      (stood plan commands scope acts).records
+      (chains_executed ends IsFittingState kept_of simulator.is law stay go_on records_stay plan commands scope acts ss field)

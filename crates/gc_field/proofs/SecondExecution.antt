@@ -1,0 +1,16 @@
+-- A request that is executed again behind a start, computed.
+use Rattle.std.proofs.Common.{[], refl}
+use Rattle.std.specs.Fmt.{digits}
+use Rattle.gc_lines.specs.Readers.{header_at, reply_at}
+use Rattle.gc_instrument.specs.Execution.{exec}
+use Rattle.gc_instrument.specs.Replying.{handed}
+use Rattle.gc_field.specs.SecondExecution.{IsExecutedAgain}
+
+pub again : IsExecutedAgain
+unfolding header_at reply_at handed exec digits
+again =
+    record {
+      possible = (tt, (tt, ((0, [], refl), (tt, (tt, ((1, [], refl), (tt, (tt, (tt, (tt, (tt, (tt, ((2, [], refl), tt)))))))))))));
+      executed = refl;
+      settled = refl;
+    }

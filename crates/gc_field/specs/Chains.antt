@@ -1,0 +1,148 @@
+-- Chains in the field, this project's own: what the instrument had executed when it executed a command of a chain. Each one before it was
+-- executed first, with the reply that was booked; between the two nothing but what was sent between them; and the instrument was what
+-- these had made of it.
+use Rattle.std.specs.Prelude.{◌≡◌, ℕ, ◌<◌, ◌≤◌, true, false, List, [], ◌∷◌, ◌++◌, Option, Some, slice_get}
+use Rattle.std.specs.List.{AllByRecursion}
+use Rattle.gc_catalogue.specs.declared.answer.Answer.{Answer}
+use Rattle.gc_catalogue.specs.declared.answer.Reading.{Reading}
+use Rattle.gc_catalogue.specs.declared.call.Call.{Call}
+use Rattle.gc_client.specs.declared.window.TheConstants.{WINDOW}
+use Rattle.gc_instrument.specs.State.{KeptReply}
+use Rattle.gc_links.specs.Acts.{Act}
+use Rattle.gc_texts.specs.Endings.{Answered}
+use Rattle.gc_texts.specs.declared.tasks.Task.{Task}
+use Rattle.gc_station.specs.Answers.{answer_of}
+use Rattle.gc_station.specs.Links.{AreChained}
+use Rattle.gc_station.specs.Marks.{is_value}
+use Rattle.gc_station.specs.Parts.{Part, mark_of, parts_of}
+use Rattle.gc_station.specs.Records.{Record}
+use Rattle.gc_station.specs.Runs.{stood}
+use Rattle.gc_station.specs.Scopes.{Scope}
+use Rattle.gc_station.specs.Standing.{opening}
+use Rattle.gc_station.specs.declared.plan.Plan.{Plan}
+use Rattle.gc_world.specs.Order.{Each}
+use Rattle.gc_world.specs.World.{Ends, Sent, Up_deliver, Wire}
+use Rattle.gc_field.specs.Field.{Move, Sends, Tells, Comes, Foreign, OnLine, Anew, Changes, Joins}
+use Rattle.gc_field.specs.Instrument.{IsAnInstrument, KeepsItsReply, AnyState}
+use Rattle.gc_field.specs.Made.{WasMadeOn, wire_behind}
+use Rattle.gc_field.specs.Once.{IsInOrder}
+use Rattle.gc_field.specs.Runs.{IsInField}
+use Rattle.gc_field.specs.Stretches.{Stretch}
+
+-- What happens between two executions.
+
+-- the instrument doesn't start anew at any of these moves
+abbrev pub HasNoStartBetween : {State : Type 0} → List (Move State) → Type 0
+HasNoStartBetween [] = Unit {0}
+HasNoStartBetween (Sends target call deadline ∷ ms) = HasNoStartBetween ms
+HasNoStartBetween (Tells now ∷ ms) = HasNoStartBetween ms
+HasNoStartBetween (Comes line ∷ ms) = HasNoStartBetween ms
+HasNoStartBetween (Foreign line ∷ ms) = HasNoStartBetween ms
+HasNoStartBetween (OnLine step ∷ ms) = HasNoStartBetween ms
+HasNoStartBetween (Anew ∷ ms) = ⊥
+HasNoStartBetween (Changes state ∷ ms) = HasNoStartBetween ms
+HasNoStartBetween (Joins line ∷ ms) = HasNoStartBetween ms
+
+-- it neither starts anew nor changes by itself
+abbrev pub IsUndisturbed : {State : Type 0} → List (Move State) → Type 0
+IsUndisturbed [] = Unit {0}
+IsUndisturbed (Sends target call deadline ∷ ms) = IsUndisturbed ms
+IsUndisturbed (Tells now ∷ ms) = IsUndisturbed ms
+IsUndisturbed (Comes line ∷ ms) = IsUndisturbed ms
+IsUndisturbed (Foreign line ∷ ms) = IsUndisturbed ms
+IsUndisturbed (OnLine step ∷ ms) = IsUndisturbed ms
+IsUndisturbed (Anew ∷ ms) = ⊥
+IsUndisturbed (Changes state ∷ ms) = ⊥
+IsUndisturbed (Joins line ∷ ms) = ⊥
+
+-- these are the calls of the requests with these numbers
+abbrev pub AreCalls : List Sent → List ℕ → List Call → Type 0
+AreCalls sent [] [] = Unit {0}
+AreCalls sent (n ∷ ns) (call ∷ calls) = ((r : Sent) × (slice_get sent n ≡ Some r) × (r.call ≡ call)) × AreCalls sent ns calls
+AreCalls sent _ _ = ⊥
+
+-- what these calls make of an instrument, one behind the other, where this is what one makes of it
+abbrev pub executing : {State : Type 0} → (State → Call → State) → State → List Call → State
+executing effect s [] = s
+executing effect s (call ∷ calls) = executing effect (effect s call) calls
+
+-- executing a call has this effect on an instrument, whatever id its request has; a line that is sent again has none. Both are said of the
+-- state apart from what is kept
+pub record HasEffect {State : Type 0} (ends : Ends State) (apart : State → State) (effect : State → Call → State) : Type 0 where
+  pub executes : (state : State) (id : ℕ) (call : Call) → (ends.handed state id call).executed ≡ true → apart (ends.handed state id call).state ≡ apart (effect state call)
+  pub repeats : (state : State) (id : ℕ) (call : Call) → (ends.handed state id call).executed ≡ false → apart (ends.handed state id call).state ≡ apart state
+  pub alike : (s t : State) (call : Call) → apart s ≡ apart t → apart (effect s call) ≡ apart (effect t call)
+
+-- the wire behind these moves of a stretch
+abbrev pub behind : {State : Type 0} → Ends State → Stretch State → List (Move State) → Wire State
+behind ends s ms = wire_behind WINDOW ends s.state ms
+
+module _ {State : Type 0} (ends : Ends State) (Good : State → Type 0) (kept : State → Option KeptReply) where
+  -- Two executions of a stretch.
+
+  -- in a stretch request m was executed, and this line was its reply; and behind that request n was, and that line was its
+  pub record IsExecutedAfter (s : Stretch State) (m n : ℕ) (call_m call_n : Call) (line_m line_n : List ℕ) : Type 0 where
+    pub first : WasMadeOn WINDOW ends s.state s.moves m call_m line_m
+    pub second : WasMadeOn WINDOW ends s.state s.moves n call_n line_n
+    pub between : List (Move State)
+    pub order : second.front ≡ first.front ++ OnLine Up_deliver ∷ between
+    -- the requests that were executed between them, by their numbers: in the order of sending, none sent before m, and none behind n
+    pub numbers : List ℕ
+    pub executed : (behind ends s second.front).executed ≡ (behind ends s first.front).executed ++ m ∷ numbers
+    pub in_order : IsInOrder numbers
+    pub within : Each (λ x. (m ≤ x) × (x ≤ n)) numbers
+    -- where the instrument keeps its reply and didn't start between, each was sent behind m and before n
+    pub strictly : KeepsItsReply ends Good kept → HasNoStartBetween between → Each (λ x. (m < x) × (x < n)) numbers
+    -- and where it didn't change by itself either, it was, when n reached it, what m and these made of what it was when m did
+    pub calls : List Call
+    pub asked : AreCalls (behind ends s s.moves).sent numbers calls
+    pub state :
+        (apart : State → State) (effect : State → Call → State) → HasEffect ends apart effect → IsUndisturbed between →
+        apart (behind ends s second.front).state ≡ apart (executing effect (behind ends s first.front).state (call_m ∷ calls))
+
+  -- A chain of a run.
+
+  -- where the command of record b was executed in a run: behind that at place a of its cycle
+  pub record IsChainedTo (reads : Call → List ℕ → Reading) (ps : List Part) (ss : List (Stretch State)) (records : List Record) (a : ℕ) (b : Record) (line_b : List ℕ) : Type 0 where
+    -- that has a record, too, which is an answer, with both codes 0 and values that read
+    pub k : ℕ
+    pub record_a : Record
+    pub among : slice_get records k ≡ Some record_a
+    pub cycle : record_a.cycle ≡ b.cycle
+    pub place : record_a.place ≡ a
+    pub line_a : List ℕ
+    pub said : Option Answer
+    pub answered : record_a.end ≡ Answered said line_a
+    pub well : is_value (reads record_a.command.call line_a) ≡ true
+    -- both are requests of one part of the run, and so of one stretch, that of a before that of b
+    pub i : ℕ
+    pub part : Part
+    pub stretch : Stretch State
+    pub of_parts : slice_get ps i ≡ Some part
+    pub of_stretches : slice_get ss i ≡ Some stretch
+    pub m : ℕ
+    pub n : ℕ
+    pub goes_on : m < n
+    pub mark_a : slice_get part.marks m ≡ Some (Some (mark_of record_a))
+    pub mark_b : slice_get part.marks n ≡ Some (Some (mark_of b))
+    -- the commands that went out between them are those of the places between them, of the same cycle
+    pub between : (x : ℕ) (mark : _) → m < x → x < n → slice_get part.marks x ≡ Some (Some mark) → (mark.cycle ≡ b.cycle) × (a < mark.place) × (mark.place < b.place)
+    -- and they were executed in this order, with these replies
+    pub executed : IsExecutedAfter stretch m n record_a.command.call b.command.call line_a line_b
+
+  -- each record of a command that was answered, from each place on from which it is chained
+  abbrev pub IsExecutedInChain : Plan → List Task → Scope → List Act → List (Stretch State) → Record → Type 0
+  IsExecutedInChain plan commands scope acts stretches b =
+      (line : List ℕ) (a : ℕ) → answer_of b.end ≡ Some line → a < b.place → AreChained commands a b.place
+      → IsChainedTo scope.reads (parts_of plan commands (opening plan scope) acts) stretches (stood plan commands scope acts).records a b line
+
+  -- of a run, each
+  abbrev pub AreExecutedInChain : Plan → List Task → Scope → List Act → List (Stretch State) → Type 0
+  AreExecutedInChain plan commands scope acts stretches = AllByRecursion (IsExecutedInChain plan commands scope acts stretches) (stood plan commands scope acts).records
+
+-- for any instrument, every plan, all commands, every run of the station, and all that the line and the instrument may do meanwhile
+abbrev pub ChainsAreExecuted : Type 0 → Type 0
+ChainsAreExecuted State =
+    (ends : Ends State) (kept : State → Option KeptReply) → IsAnInstrument ends AnyState kept →
+    (plan : Plan) (commands : List Task) (scope : Scope) (acts : List Act) (stretches : List (Stretch State)) → IsInField ends AnyState kept plan commands scope acts stretches →
+    AreExecutedInChain ends AnyState kept plan commands scope acts stretches

@@ -1,0 +1,89 @@
+-- A run of a chain over an instrument that isn't the simulator, this project's own: it counts what it executes, answers to each request with
+-- the count, and keeps its reply. Each of its states is a good one, as the law of chains asks.
+use Rattle.std.specs.Prelude.{◌≡◌, ℕ, suc, true, false, List, [], ◌∷◌, take, codes, Option, Some, None}
+use Rattle.gc_catalogue.specs.declared.call.Call.{Call}
+use Rattle.gc_client.specs.declared.window.TheConstants.{WINDOW}
+use Rattle.gc_client.specs.Rule.{heard}
+use Rattle.gc_instrument.specs.Replying.{Handed}
+use Rattle.gc_instrument.specs.State.{KeptReply}
+use Rattle.gc_links.specs.Acts.{Act}
+use Rattle.gc_station.specs.Links.{AreChained}
+use Rattle.gc_station.specs.Runs.{stood}
+use Rattle.gc_world.specs.World.{Ends}
+use Rattle.gc_field.specs.ChainWitness.{points, reads_all, commands, scope, acts_with, moves_with, records_with}
+use Rattle.gc_field.specs.Chains.{HasEffect, IsUndisturbed, behind}
+use Rattle.gc_field.specs.Field.{Move}
+use Rattle.gc_field.specs.Instrument.{IsAnInstrument, KeepsItsReply, AnyState}
+use Rattle.gc_field.specs.Made.{WasMadeOn}
+use Rattle.gc_field.specs.Needed.{Keeper, held, kept, value}
+use Rattle.gc_field.specs.Runs.{IsInField}
+use Rattle.gc_field.specs.Stretches.{Stretch}
+use Rattle.gc_field.specs.Witness.{plan}
+
+-- its state: how many requests it has executed since it started, and what it keeps, the last one's id and the count by then
+pub record Counter : Type 0 where
+  pub count : ℕ
+  pub keeps : Keeper
+
+-- what is kept for this id comes again; or the request is executed, and counted
+abbrev pub counted_or : Counter → ℕ → Option ℕ → Handed Counter
+counted_or s id (Some n) = record { state = s; reply = value id n; executed = false }
+counted_or s id None = record { state = record { count = suc s.count; keeps = Some (id, suc s.count) }; reply = value id (suc s.count); executed = true }
+
+abbrev pub counting : Ends Counter
+counting = record { handed = λ s id call. counted_or s id (held s.keeps id); restarted = λ s. record { count = 0; keeps = None }; heard = heard; joint = false }
+
+-- the line that it keeps
+abbrev pub kept_by : Counter → Option KeptReply
+kept_by s = kept s.keeps
+
+-- its state apart from that, and what executing a call makes of it
+abbrev pub bare : Counter → Counter
+bare s = record { count = s.count; keeps = None }
+
+abbrev pub counts : Counter → Call → Counter
+counts s call = record { count = suc s.count; keeps = s.keeps }
+
+-- its replies to the null procedure and to the three commands: it had executed 27 requests before
+abbrev pub begun : List ℕ
+begun = codes "%R1P,0,0:0,28"
+
+abbrev pub first : List ℕ
+first = codes "%R1P,0,1:0,29"
+
+abbrev pub second : List ℕ
+second = codes "%R1P,0,2:0,30"
+
+abbrev pub third : List ℕ
+third = codes "%R1P,0,3:0,31"
+
+abbrev pub acts : List Act
+acts = acts_with begun first second third
+
+abbrev pub moves : List (Move Counter)
+moves = moves_with begun first second third
+
+-- one stretch, and nothing behind the end
+abbrev pub stretch : Stretch Counter
+stretch = record { state = record { count = 27; keeps = None }; moves = moves }
+
+abbrev pub stretches : List (Stretch Counter)
+stretches = stretch ∷ record { state = record { count = 31; keeps = None }; moves = [] } ∷ []
+
+-- all that the law of chains asks is so of it: it is an instrument in each of its states, one that keeps its reply, and that is what a call
+-- makes of it. This is a run in the field, whose third command is of the first one's chain, and nothing disturbs the instrument. So the
+-- answers were made on executing these two, and what it was at the third is what the first and the second made of it
+pub record IsCountedInField : Type 0 where
+  pub is : IsAnInstrument counting AnyState kept_by
+  pub keeps : KeepsItsReply counting AnyState kept_by
+  pub effect : HasEffect counting bare counts
+  pub field : IsInField counting AnyState kept_by plan commands scope acts stretches
+  pub records : (stood plan commands scope acts).records ≡ records_with first second third
+  pub chained : AreChained commands 0 2
+  pub undisturbed : IsUndisturbed moves
+  pub first_made_on : WasMadeOn WINDOW counting stretch.state moves 1 points first
+  pub third_made_on : WasMadeOn WINDOW counting stretch.state moves 3 reads_all third
+  pub before_first : (behind counting stretch (take 10 moves)).executed ≡ 0 ∷ []
+  pub before_third : (behind counting stretch (take 20 moves)).executed ≡ 0 ∷ 1 ∷ 2 ∷ []
+  pub count_at_first : (behind counting stretch (take 10 moves)).state.count ≡ 28
+  pub count_at_third : (behind counting stretch (take 20 moves)).state.count ≡ 30

@@ -1,0 +1,43 @@
+-- Why the line feed that clears half a request has to arrive, this project's own: where it is lost, that half and the next request are one
+-- line, whose reply has the id of the request that was cut.
+use Rattle.std.specs.Prelude.{◌≡◌, ℕ, List, [], ◌∷◌, ◌++◌, take, codes, Some, Ok, slice_get}
+use Rattle.gc_lines.specs.Frames.{lines}
+use Rattle.gc_lines.specs.Lines.{with_end}
+use Rattle.gc_lines.specs.Readers.{request_at}
+use Rattle.gc_catalogue.specs.declared.call.Call.TheVariants.{NullProc, InstrumentNo}
+use Rattle.gc_client.specs.declared.window.TheConstants.{WINDOW}
+use Rattle.gc_client.specs.Rule.{Answered}
+use Rattle.gc_instrument.specs.Replying.{IsReplied}
+use Rattle.gc_instrument.specs.State.{State, IsFittingState, simulator_opening}
+use Rattle.gc_world.specs.Clients.{ends, by_ids, ids_open}
+use Rattle.gc_world.specs.World.{Up_deliver}
+use Rattle.gc_field.specs.Field.{Move, Sends, Comes, OnLine, Joins, ArePossible}
+use Rattle.gc_field.specs.Laws.{left, kept_of}
+
+-- the reply to what doesn't read, with the id of the request that was cut
+abbrev pub refusal : List ℕ
+refusal = codes "%R1P,3080,1:0"
+
+-- the front of that one and the whole of the next, as one line
+abbrev pub joint : List ℕ
+joint = codes "%R1Q,5003,1:%R1Q,0,2:"
+
+-- two requests are under way, of which the first was cut
+abbrev pub before : List (Move State)
+before = Sends 0 NullProc 9 ∷ OnLine Up_deliver ∷ Comes (codes "%R1P,0,0:0") ∷ Sends 7 InstrumentNo 9 ∷ Sends 8 NullProc 9 ∷ []
+
+-- its front and the second one come as one line, and are answered
+abbrev pub behind : List (Move State)
+behind = Joins refusal ∷ Comes refusal ∷ []
+
+-- all before that is possible, and the reply to that line is booked for the request that was cut
+pub record IsBookedJoined : Type 0 where
+  -- twelve bytes of the one and the whole of the other are one line, and a request with the id of the first
+  pub line : lines (take 12 (with_end (codes "%R1Q,5003,1:")) ++ with_end (codes "%R1Q,0,2:")) ≡ joint ∷ []
+  pub reads : request_at joint ≡ Ok (record { rpc = 5003; id = Some 1; params = codes "%R1Q,0,2:" })
+  pub possible : ArePossible ends IsFittingState kept_of (by_ids WINDOW ends) before (ids_open simulator_opening)
+  -- the simulator, as it is by then, answers that line with this refusal, and nothing changes
+  pub replied : IsReplied (left WINDOW ends simulator_opening before).wire.state joint (left WINDOW ends simulator_opening before).wire.state (Some refusal)
+  -- it wasn't executed
+  pub settled : slice_get (left WINDOW ends simulator_opening (before ++ behind)).wire.settled 1 ≡ Some (record { target = 7; call = InstrumentNo; outcome = Answered refusal })
+  pub executed : (left WINDOW ends simulator_opening (before ++ behind)).wire.executed ≡ 0 ∷ []

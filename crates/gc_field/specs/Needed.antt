@@ -1,0 +1,207 @@
+-- What is asked of an instrument is needed, this project's own: for each clause an instrument that lacks that one alone, and a run in which
+-- an answer is booked for a request that it never executed.
+use Rattle.std.specs.Prelude.{◌≡◌, ℕ, zero, suc, ◌+◌, ◌<◌, ◌⊎◌, Bool, true, false, List, [], ◌∷◌, Option, Some, None, slice_get, if◌then◌else◌, nat_eq}
+use Rattle.std.specs.Fmt.{decimal}
+use Rattle.std.specs.Option.{option_map}
+use Rattle.gc_lines.specs.Replies.{reply_text}
+use Rattle.gc_catalogue.specs.Calls.{call_fields}
+use Rattle.gc_catalogue.specs.declared.call.Call.{Call}
+use Rattle.gc_catalogue.specs.declared.call.Call.TheVariants.{NullProc, InstrumentNo}
+use Rattle.gc_client.specs.declared.window.TheConstants.{WINDOW, IDS}
+use Rattle.gc_client.specs.Rule.{Answered, heard}
+use Rattle.gc_instrument.specs.Replying.{Handed}
+use Rattle.gc_instrument.specs.State.{KeptReply}
+use Rattle.gc_world.specs.World.{Ends, Up_deliver, Up_repeat}
+use Rattle.gc_field.specs.Field.{Move, Sends, Comes, OnLine, Anew, Changes, IsField}
+use Rattle.gc_field.specs.Instrument.{IsAnInstrument, AnyState, nothing}
+use Rattle.gc_field.specs.Laws.{WasExecuted, left}
+use Rattle.gc_field.specs.Once.{ActsOnce}
+
+-- the clauses
+pub data Clause : Type 0 where
+  Hears : Clause
+  Replies : Clause
+  Repeats : Clause
+  Keeps : Clause
+  Starts : Clause
+  StaysGood : Clause
+  StartsGood : Clause
+
+-- it is as an instrument has to be, but perhaps for this clause
+pub record IsAllBut {State : Type 0} (x : Clause) (ends : Ends State) (Good : State → Type 0) (kept : State → Option KeptReply) : Type 0 where
+  pub hears : (x ≡ Hears) ⊎ ((line : List ℕ) → ends.heard line ≡ heard line)
+  pub replies : (x ≡ Replies) ⊎ ((state : State) (id : ℕ) (call : Call) → Good state → id < IDS → heard (ends.handed state id call).reply ≡ Some id)
+  pub repeats :
+      (x ≡ Repeats)
+      ⊎ ((state : State) (id : ℕ) (call : Call) → Good state → id < IDS → (ends.handed state id call).executed ≡ false → kept state ≡ Some (record { id = id; line = (ends.handed state id call).reply }))
+  pub keeps :
+      (x ≡ Keeps)
+      ⊎ ((state : State) (id : ℕ) (call : Call) → Good state → id < IDS →
+      (kept (ends.handed state id call).state ≡ None) ⊎ (kept (ends.handed state id call).state ≡ Some (record { id = id; line = (ends.handed state id call).reply })))
+  pub starts : (x ≡ Starts) ⊎ ((state : State) → Good state → (kept (ends.restarted state) ≡ None) ⊎ (kept (ends.restarted state) ≡ kept state))
+  pub stays_good : (x ≡ StaysGood) ⊎ ((state : State) (id : ℕ) (call : Call) → Good state → id < IDS → Good (ends.handed state id call).state)
+  pub starts_good : (x ≡ StartsGood) ⊎ ((state : State) → Good state → Good (ends.restarted state))
+
+-- in a run in the field request m, which isn't the first, is answered with this line, and wasn't executed
+pub record IsBookedUnexecuted {State : Type 0} (ends : Ends State) (Good : State → Type 0) (kept : State → Option KeptReply) (state : State) (ms : List (Move State)) (m : ℕ) (call : Call) (line : List ℕ) : Type 0 where
+  pub beyond : 0 < m
+  pub field : IsField WINDOW ends Good kept state ms
+  pub settled : slice_get (left WINDOW ends state ms).wire.settled m ≡ Some (record { target = 7; call = call; outcome = Answered line })
+  pub executed : WasExecuted (left WINDOW ends state ms).wire.executed m → ⊥
+
+-- so this clause is needed
+pub record IsNeeded {State : Type 0} (x : Clause) (ends : Ends State) (Good : State → Type 0) (kept : State → Option KeptReply) (state : State) (ms : List (Move State)) (m : ℕ) (call : Call) (line : List ℕ) : Type 0 where
+  pub all_but : IsAllBut x ends Good kept
+  pub good : Good state
+  pub booked : IsBookedUnexecuted ends Good kept state ms m call line
+
+-- a reply with a number, and a refusal
+abbrev pub value : ℕ → ℕ → List ℕ
+value id n = reply_text (record { rc_com = 0; id = Some id; rc = 0; params = decimal n })
+
+abbrev pub refusal : ℕ → List ℕ
+refusal id = reply_text (record { rc_com = 3081; id = Some id; rc = 0; params = [] })
+
+-- a request goes out, reaches the instrument, and is answered with this
+abbrev pub asks : {State : Type 0} → Call → List ℕ → List (Move State) → List (Move State)
+asks call line ms = Sends 7 call 9 ∷ OnLine Up_deliver ∷ Comes line ∷ ms
+
+-- two requests go out, the first of them reaches it, and is answered with this
+abbrev pub asks_two : {State : Type 0} → List ℕ → List (Move State)
+asks_two line = Sends 7 NullProc 9 ∷ Sends 7 InstrumentNo 9 ∷ OnLine Up_deliver ∷ Comes line ∷ []
+
+-- Instruments that keep a reply.
+
+-- their state is that, the id of a request and the number in its reply; or nothing
+abbrev pub Keeper : Type 0
+Keeper = Option (ℕ × ℕ)
+
+-- the line that is kept
+abbrev pub kept : Keeper → Option KeptReply
+kept None = None
+kept (Some x) = Some (record { id = x.0; line = value x.0 x.1 })
+
+-- the number that is kept for an id
+abbrev pub held : Keeper → ℕ → Option ℕ
+held None id = None
+held (Some x) id = if nat_eq x.0 id then Some x.1 else None
+
+-- the number that is kept for this id comes again; or the request is dealt with, and its line is kept
+abbrev pub again_or : ℕ → Keeper → Option ℕ → Handed Keeper
+again_or id k (Some n) = record { state = k; reply = value id n; executed = false }
+again_or id k None = record { state = Some (id, 0); reply = value id 0; executed = true }
+
+-- one that is as it has to be
+abbrev pub keeper : Ends Keeper
+keeper = record { handed = λ k id call. again_or id k (held k id); restarted = λ k. None; heard = heard; joint = true }
+
+-- one that refuses what it doesn't know, here all but the null procedure, and still keeps an older line: at the ninth request that comes again
+abbrev pub refuses_or : Bool → Keeper → ℕ → Handed Keeper
+refuses_or true k id = again_or id k (held k id)
+refuses_or false k id = record { state = k; reply = refusal id; executed = true }
+
+abbrev pub keeps_older : Ends Keeper
+keeps_older = record keeper { handed = λ k id call. refuses_or (nat_eq (call_fields call).number 0) k id }
+
+-- nine requests, each answered before the next one
+abbrev pub nine : List (Move Keeper)
+nine =
+    asks NullProc (value 0 0) (asks InstrumentNo (refusal 1) (asks InstrumentNo (refusal 2) (asks InstrumentNo (refusal 3) (asks InstrumentNo (refusal 4)
+    (asks InstrumentNo (refusal 5) (asks InstrumentNo (refusal 6) (asks InstrumentNo (refusal 7) (asks NullProc (value 0 0) []))))))))
+
+-- one that behind a start has a line of long ago
+abbrev pub remembers : Ends Keeper
+remembers = record keeper { restarted = λ k. Some (1, 27) }
+
+-- it starts between two requests
+abbrev pub started : List (Move Keeper)
+started = asks NullProc (value 0 0) (Anew ∷ asks InstrumentNo (value 1 27) [])
+
+-- one to which another client sends, too, so that what it keeps changes by itself
+abbrev pub shared : List (Move Keeper)
+shared = asks NullProc (value 0 0) (Changes (Some (1, 27)) ∷ asks InstrumentNo (value 1 27) [])
+
+-- Instruments that keep none: their state says whether they are in order.
+
+-- another id, but for 0
+abbrev pub turned : ℕ → ℕ
+turned zero = 0
+turned (suc id) = id + 2
+
+-- the id of its reply: another one, where it is out of order
+abbrev pub id_of : Bool → ℕ → ℕ
+id_of false id = id
+id_of true id = turned id
+
+-- each request is executed; out of order it has a reply with another id
+abbrev pub answers_in : Bool → ℕ → Bool → Handed Bool
+answers_in broken id behind = record { state = behind; reply = value (id_of broken id) 0; executed = true }
+
+-- its good states
+abbrev pub InOrder : Bool → Type 0
+InOrder broken = broken ≡ false
+
+-- one that is always out of order
+abbrev pub mistaken : Ends Bool
+mistaken = record { handed = λ b id call. answers_in true id b; restarted = λ b. b; heard = heard; joint = true }
+
+-- one that is read by another grammar
+abbrev pub misheard : Ends Bool
+misheard = record mistaken { handed = λ b id call. answers_in false id b; heard = λ line. option_map turned (heard line) }
+
+-- one that answers without having dealt with the request
+abbrev pub idle : Ends Bool
+idle = record mistaken { handed = λ b id call. record { state = b; reply = value id 0; executed = false } }
+
+-- one that a request puts out of order, one that a start does, and one that is as it has to be in its good states
+abbrev pub wears_out : Ends Bool
+wears_out = record mistaken { handed = λ b id call. answers_in b id true; restarted = λ b. false }
+
+abbrev pub starts_broken : Ends Bool
+starts_broken = record mistaken { handed = λ b id call. answers_in b id b; restarted = λ b. true }
+
+abbrev pub sound : Ends Bool
+sound = record mistaken { handed = λ b id call. answers_in b id b }
+
+-- Acts once.
+
+-- a request that comes twice
+abbrev pub comes_twice : {State : Type 0} → List (Move State)
+comes_twice = asks NullProc (value 0 0) (Sends 7 InstrumentNo 9 ∷ OnLine (Up_repeat 0) ∷ OnLine Up_deliver ∷ OnLine Up_deliver ∷ [])
+
+-- one that keeps its reply, and deals with each request anew
+abbrev pub deals_anew : Ends Keeper
+deals_anew = record keeper { handed = λ k id call. again_or id k None }
+
+-- one that keeps none
+abbrev pub forgets : Ends Bool
+forgets = record mistaken { handed = λ b id call. answers_in false id b }
+
+-- it is an instrument, and executes a request twice with no start between
+pub record IsExecutedTwice {State : Type 0} (ends : Ends State) (Good : State → Type 0) (kept : State → Option KeptReply) (state : State) : Type 0 where
+  pub is : IsAnInstrument ends Good kept
+  pub good : Good state
+  pub field : IsField WINDOW ends Good kept state comes_twice
+  pub twice : ActsOnce (left WINDOW ends state comes_twice).wire.executed (left WINDOW ends state comes_twice).wire.starts → ⊥
+
+-- each clause is needed
+pub record IsAllNeeded : Type 0 where
+  pub hears : IsNeeded Hears misheard AnyState nothing false (asks NullProc (value 0 0) (asks_two (value 1 0))) 2 InstrumentNo (value 1 0)
+  pub replies : IsNeeded Replies mistaken AnyState nothing false (asks NullProc (value 0 0) (asks_two (value 2 0))) 2 InstrumentNo (value 2 0)
+  pub repeats : IsNeeded Repeats idle AnyState nothing false (asks NullProc (value 0 0) (asks InstrumentNo (value 1 0) [])) 1 InstrumentNo (value 1 0)
+  pub keeps : IsNeeded Keeps keeps_older AnyState kept None nine 8 NullProc (value 0 0)
+  pub starts : IsNeeded Starts remembers AnyState kept None started 1 InstrumentNo (value 1 27)
+  pub stays_good : IsNeeded StaysGood wears_out InOrder nothing false (asks NullProc (value 0 0) (asks_two (value 2 0))) 2 InstrumentNo (value 2 0)
+  pub starts_good : IsNeeded StartsGood starts_broken InOrder nothing false (asks NullProc (value 0 0) (Anew ∷ asks_two (value 2 0))) 2 InstrumentNo (value 2 0)
+  -- what may change by itself: not what is kept, which another client changes; and not into a state that isn't a good one
+  pub shared_is : IsAnInstrument keeper AnyState kept
+  pub changes_kept : IsBookedUnexecuted keeper AnyState nothing None shared 1 InstrumentNo (value 1 27)
+  pub sound_is : IsAnInstrument sound InOrder nothing
+  pub changes_good : IsBookedUnexecuted sound AnyState nothing false (asks NullProc (value 0 0) (Changes true ∷ asks_two (value 2 0))) 2 InstrumentNo (value 2 0)
+  -- and for acts once the two clauses of an instrument that keeps its reply: one that lacks the first and has the second, and one that lacks
+  -- the second and has the first
+  pub again : IsExecutedTwice deals_anew AnyState kept None
+  pub again_keeps : (state : Keeper) (id : ℕ) (call : Call) → kept (deals_anew.handed state id call).state ≡ Some (record { id = id; line = (deals_anew.handed state id call).reply })
+  pub always : IsExecutedTwice forgets AnyState nothing false
+  pub always_again :
+      (state : Bool) (id : ℕ) (call : Call) (line : List ℕ) → nothing state ≡ Some (record { id = id; line = line }) → (forgets.handed state id call).executed ≡ false

@@ -1,0 +1,79 @@
+-- Where the telescope pointed when a command of a chain was executed, of the simulated instrument: this project's own.
+use Rattle.std.specs.Prelude.{◌≡◌, ℕ, ◌<◌, Bool, true, false, List, Some, None, slice_get}
+use Rattle.std.specs.List.{AllByRecursion}
+use Rattle.gc_values.specs.declared.decimal.Decimal.{Decimal}
+use Rattle.gc_catalogue.specs.declared.answer.Reading.{Reading}
+use Rattle.gc_catalogue.specs.declared.call.Call.{Call}
+use Rattle.gc_catalogue.specs.declared.call.Call.TheVariants.{Position, ChangeFace, FineAdjust}
+use Rattle.gc_instrument.specs.Execution.{exec}
+use Rattle.gc_instrument.specs.Replying.{with_kept}
+use Rattle.gc_instrument.specs.State.{State, IsFittingState}
+use Rattle.gc_links.specs.Acts.{Act}
+use Rattle.gc_texts.specs.declared.tasks.Task.{Task}
+use Rattle.gc_station.specs.Answers.{answer_of}
+use Rattle.gc_station.specs.Links.{AreChained}
+use Rattle.gc_station.specs.Parts.{Part, parts_of}
+use Rattle.gc_station.specs.Records.{Record}
+use Rattle.gc_station.specs.Runs.{stood}
+use Rattle.gc_station.specs.Scopes.{Scope}
+use Rattle.gc_station.specs.Standing.{opening}
+use Rattle.gc_station.specs.declared.plan.Plan.{Plan}
+use Rattle.gc_world.specs.Clients.{ends}
+use Rattle.gc_field.specs.Chains.{HasEffect, IsChainedTo, IsUndisturbed, behind}
+use Rattle.gc_field.specs.Laws.{kept_of}
+use Rattle.gc_field.specs.Runs.{IsInField}
+use Rattle.gc_field.specs.Stretches.{Stretch}
+
+-- the simulator's state behind a call
+abbrev pub behind_call : State → Call → State
+behind_call s call = (exec s call).state
+
+-- its state apart from what it keeps
+abbrev pub bare : State → State
+bare s = with_kept None s
+
+-- a call that may turn the telescope
+abbrev pub turns : Call → Bool
+turns (Position hz v pos_mode atr_mode dummy) = true
+turns (ChangeFace pos_mode atr_mode dummy) = true
+turns (FineAdjust area_hz area_v dummy) = true
+turns _ = false
+
+-- no command of the places between these turns it
+abbrev pub AreStill : List Task → ℕ → ℕ → Type 0
+AreStill commands a b = (p : ℕ) (task : Task) → a < p → p < b → slice_get commands p ≡ Some task → turns task.command.call ≡ false
+
+-- of two states of an instrument: the telescope points to the same direction, in the same face
+pub record PointsAs (s t : State) : Type 0 where
+  pub pointing : s.pointing ≡ t.pointing
+  pub face : s.face ≡ t.face
+
+-- where the command of this record was executed behind that at place a, the telescope pointed, when it was, where executing that one had
+-- left it; and where that was a positioning, to the direction that it commanded, in the face in which it was
+pub record IsMeasuredWhereItPointed (reads : Call → List ℕ → Reading) (ps : List Part) (ss : List (Stretch State)) (records : List Record) (a : ℕ) (b : Record) (line : List ℕ)
+    (h : IsChainedTo ends IsFittingState kept_of reads ps ss records a b line) : Type 0 where
+  pub as_left : PointsAs (behind ends h.stretch h.executed.second.front).state (behind_call (behind ends h.stretch h.executed.first.front).state h.record_a.command.call)
+  pub as_commanded :
+      (hz v : Decimal) (pos_mode atr_mode dummy : _) → h.record_a.command.call ≡ Position hz v pos_mode atr_mode dummy
+      → ((behind ends h.stretch h.executed.second.front).state.pointing ≡ record { hz = hz; v = v })
+      × ((behind ends h.stretch h.executed.second.front).state.face ≡ (behind ends h.stretch h.executed.first.front).state.face)
+
+-- each record of a command that was answered, from each place on from which it is chained: it was executed behind that one; and where no
+-- command of the places between turns the telescope, and the instrument neither started anew nor changed by itself between the two
+-- executions, it was measured where the telescope pointed
+abbrev pub IsPointedInChain : Plan → List Task → Scope → List Act → List (Stretch State) → Record → Type 0
+IsPointedInChain plan commands scope acts stretches b =
+    (line : List ℕ) (a : ℕ) → answer_of b.end ≡ Some line → a < b.place → AreChained commands a b.place
+    → (h : IsChainedTo ends IsFittingState kept_of scope.reads (parts_of plan commands (opening plan scope) acts) stretches (stood plan commands scope acts).records a b line)
+    × (AreStill commands a b.place → IsUndisturbed h.executed.between
+    → IsMeasuredWhereItPointed scope.reads (parts_of plan commands (opening plan scope) acts) stretches (stood plan commands scope acts).records a b line h)
+
+-- for every plan, all commands, every run of the station over the simulator, and all that the line and it may do meanwhile
+abbrev pub ChainsAreMeasuredWhereTheyPointed : Type 0
+ChainsAreMeasuredWhereTheyPointed =
+    (plan : Plan) (commands : List Task) (scope : Scope) (acts : List Act) (stretches : List (Stretch State)) → IsInField ends IsFittingState kept_of plan commands scope acts stretches →
+    AllByRecursion (IsPointedInChain plan commands scope acts stretches) (stood plan commands scope acts).records
+
+-- what a call of the table makes of the simulator is what carrying it out gives, apart from what is kept
+abbrev pub SimulatorHasItsEffect : Type 0
+SimulatorHasItsEffect = HasEffect ends bare behind_call

@@ -1,0 +1,35 @@
+-- A request whose answer was made on its second execution, behind a start, this project's own. So between two executions of a chain there
+-- may be one of either request, where the instrument starts between them.
+use Rattle.std.specs.Prelude.{◌≡◌, List, [], ◌∷◌, codes, pos, Some, slice_get}
+use Rattle.gc_catalogue.specs.declared.call.Call.TheVariants.{NullProc, SetPrism, GetPrism}
+use Rattle.gc_client.specs.declared.window.TheConstants.{WINDOW}
+use Rattle.gc_client.specs.Rule.{Answered}
+use Rattle.gc_instrument.specs.State.{State, IsFittingState, simulator_opening}
+use Rattle.gc_world.specs.Clients.{ends, by_ids, ids_open}
+use Rattle.gc_world.specs.World.{Up_deliver, Up_repeat, Down_lose}
+use Rattle.gc_field.specs.Field.{Move, Sends, Comes, OnLine, Anew, ArePossible}
+use Rattle.gc_field.specs.Laws.{left, kept_of}
+
+-- request 2 comes twice, its first reply is lost, and the instrument starts before it comes again
+abbrev pub moves : List (Move State)
+moves =
+    Sends 0 NullProc 100
+    ∷ OnLine Up_deliver
+    ∷ Comes (codes "%R1P,0,0:0")
+    ∷ Sends 7 (SetPrism (pos 5)) 100
+    ∷ OnLine Up_deliver
+    ∷ Comes (codes "%R1P,0,1:0")
+    ∷ Sends 7 GetPrism 100
+    ∷ OnLine (Up_repeat 0)
+    ∷ OnLine Up_deliver
+    ∷ OnLine (Down_lose 0)
+    ∷ Anew
+    ∷ OnLine Up_deliver
+    ∷ Comes (codes "%R1P,0,2:0,0")
+    ∷ []
+
+-- it is executed twice, and its answer is the second execution's, in the state behind the start
+pub record IsExecutedAgain : Type 0 where
+  pub possible : ArePossible ends IsFittingState kept_of (by_ids WINDOW ends) moves (ids_open simulator_opening)
+  pub executed : (left WINDOW ends simulator_opening moves).wire.executed ≡ 0 ∷ 1 ∷ 2 ∷ 2 ∷ []
+  pub settled : slice_get (left WINDOW ends simulator_opening moves).wire.settled 2 ≡ Some (record { target = 7; call = GetPrism; outcome = Answered (codes "%R1P,0,2:0,0") })

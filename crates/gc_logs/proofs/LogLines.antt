@@ -1,0 +1,123 @@
+-- A log's lines: those of more bytes, and what they stand for.
+use Rattle.std.proofs.Common.{◌≡◌, ℕ, ◌+◌, ◌-◌, ◌<◌, ◌==◌, ◌&&◌, Bool, true, false, cond, not, List, [], ◌∷◌, ◌++◌, length, take, get_or, Option, refl, sym, ap, subst, ◌∙◌, arith, append_assoc, append-nil}
+use Rattle.std.specs.Prelude.{nat_lt}
+use Rattle.std.proofs.lemmas.Bool.{cond_both, eqb-true, ltb-true}
+use Rattle.std.proofs.lemmas.List.{take_all, take_more}
+use Rattle.std.proofs.lemmas.List.Concat.{flat_map-append}
+use Rattle.gc_lines.proofs.Known.{Appends-append}
+use Rattle.gc_lines.specs.Frames.{ends_in_return}
+use Rattle.gc_texts.specs.Logs.{log_line}
+use Rattle.gc_logs.specs.Logging.{Entry, entry, nothing, pending, line_mark, part_mark, entry_of_line, entries_at, pending_at, entries, pending_behind, log_text_of, Takes, wire_of, wire, LogKeepsAll}
+use Rattle.gc_logs.specs.declared.logging.Pending.{Pending}
+use Rattle.gc_logs.specs.declared.logging.Way.{Way}
+use Rattle.gc_logs.specs.declared.logging.Way.TheVariants.{Went, Came}
+
+-- the lines of one more byte
+entries_more : (way : Way) (p : Pending) (bs : List ℕ) (b : ℕ) → entries way p (bs ++ b ∷ []) ≡ entries way p bs ++ entries_at way (pending_behind p bs) b
+entries_more way p [] b = append-nil (entries_at way p b)
+entries_more way p (c ∷ cs) b = ap (λ es. entries_at way p c ++ es) (entries_more way (pending_at p c) cs b) ∙ sym (append_assoc (entries_at way p c) (entries way (pending_at p c) cs) (entries_at way (pending_behind (pending_at p c) cs) b))
+
+pending_more : (p : Pending) (bs : List ℕ) (b : ℕ) → pending_behind p (bs ++ b ∷ []) ≡ pending_at (pending_behind p bs) b
+pending_more p [] b = refl
+pending_more p (c ∷ cs) b = pending_more (pending_at p c) cs b
+
+text_more : (utc : ℕ) (es fs : List Entry) → log_text_of utc (es ++ fs) ≡ log_text_of utc es ++ log_text_of utc fs
+text_more utc es fs = flat_map-append (λ (e : Entry). log_line utc e.mark e.bytes) es fs
+
+-- one text behind the other
+pub takes_both : (a b c : Option (List ℕ)) (fa fb fc : Bool) (xs ys : List ℕ) → Takes a b fa fb xs → Takes b c fb fc ys → Takes a c fa fc (xs ++ ys)
+takes_both a b c fa fb fc xs ys one next = record {
+  took = λ stands. Appends-append a b c xs ys (one.took (next.stood stands)) (next.took stands);
+  stood = λ stands. one.stood (next.stood stands);
+}
+
+takes_is : (a b : Option (List ℕ)) (fa fb : Bool) (xs ys : List ℕ) → xs ≡ ys → Takes a b fa fb xs → Takes a b fa fb ys
+takes_is a b fa fb xs ys e h = subst (Takes a b fa fb) e h
+
+-- a loop over bytes takes one more
+module _ (a b c : Option (List ℕ)) (fa fb fc : Bool) (utc : ℕ) (way : Way) (p q r : Pending) (bs : List ℕ) (i : ℕ) (within : i < length bs) where
+  more : take (i + 1) bs ≡ take i bs ++ get_or bs i 0 ∷ []
+  more = take_more bs i 0 within
+
+  pub took_more : q ≡ pending_behind p (take i bs) → Takes a b fa fb (log_text_of utc (entries way p (take i bs))) → Takes b c fb fc (log_text_of utc (entries_at way q (get_or bs i 0)))
+      → Takes a c fa fc (log_text_of utc (entries way p (take (i + 1) bs)))
+  took_more behind one next =
+      let es = entries way p (take i bs) in
+      let fs = entries_at way (pending_behind p (take i bs)) (get_or bs i 0) in
+      let whole : es ++ fs ≡ entries way p (take (i + 1) bs) = sym (ap (entries way p) more ∙ entries_more way p (take i bs) (get_or bs i 0)) in
+      let last : Takes b c fb fc (log_text_of utc fs) = subst (λ z. Takes b c fb fc (log_text_of utc (entries_at way z (get_or bs i 0)))) behind next in
+      takes_is a c fa fc _ _ (sym (text_more utc es fs) ∙ ap (log_text_of utc) whole) (takes_both a b c fa fb fc (log_text_of utc es) (log_text_of utc fs) one last)
+
+  pub is_behind : q ≡ pending_behind p (take i bs) → r ≡ pending_at q (get_or bs i 0) → r ≡ pending_behind p (take (i + 1) bs)
+  is_behind behind next = next ∙ ap (λ z. pending_at z (get_or bs i 0)) behind ∙ sym (ap (pending_behind p) more ∙ pending_more p (take i bs) (get_or bs i 0))
+
+-- bytes that end in a CR
+and_right : (a b : Bool) → (a && b) ≡ true → b ≡ true
+and_right true b e = e
+and_right false b e = let bad : false ≡ true = e in cc
+
+and_left : (a b : Bool) → (a && b) ≡ true → a ≡ true
+and_left true b e = refl
+and_left false b e = e
+
+last_return : (bytes : List ℕ) → ends_in_return bytes ≡ true → bytes ≡ take (length bytes - 1) bytes ++ 13 ∷ []
+last_return bytes e =
+    let some : 0 < length bytes = ltb-true 0 (length bytes) (and_left (nat_lt 0 (length bytes)) _ e) in
+    let last : get_or bytes (length bytes - 1) 0 ≡ 13 = eqb-true (get_or bytes (length bytes - 1) 0) 13 (and_right (nat_lt 0 (length bytes)) _ e) in
+    let n : length bytes - 1 + 1 ≡ length bytes = omega (arith, some) in
+    sym (take_all (length bytes) bytes (omega arith)) ∙ ap (λ k. take k bytes) (sym n) ∙ take_more bytes (length bytes - 1) 0 (omega (arith, some)) ∙ ap (λ b. take (length bytes - 1) bytes ++ b ∷ []) last
+
+-- what a line stands for
+whole_wire : (way : Way) (bytes : List ℕ) → wire (entry (line_mark way) bytes ∷ []) ≡ bytes ++ 13 ∷ 10 ∷ []
+whole_wire Went bytes = append-nil (bytes ++ 13 ∷ 10 ∷ [])
+whole_wire Came bytes = append-nil (bytes ++ 13 ∷ 10 ∷ [])
+
+part_wire : (way : Way) (bytes : List ℕ) → wire (entry (part_mark way) bytes ∷ []) ≡ bytes
+part_wire Went bytes = append-nil bytes
+part_wire Came bytes = append-nil bytes
+
+line_wire : (way : Way) (p : Pending) → wire (entry_of_line way p ∷ []) ≡ p.bytes.items ++ 10 ∷ []
+line_wire way p =
+    cond_both (not p.is_long && ends_in_return p.bytes.items) (entry (line_mark way) (take (length p.bytes.items - 1) p.bytes.items)) (entry (part_mark way) (p.bytes.items ++ 10 ∷ []))
+    (λ e. wire (e ∷ []) ≡ p.bytes.items ++ 10 ∷ [])
+    (λ is.
+    let front = take (length p.bytes.items - 1) p.bytes.items in
+    let cut : p.bytes.items ≡ front ++ 13 ∷ [] = last_return p.bytes.items (and_right (not p.is_long) (ends_in_return p.bytes.items) is) in
+    whole_wire way front ∙ sym (append_assoc front (13 ∷ []) (10 ∷ [])) ∙ ap (λ bs. bs ++ 10 ∷ []) (sym cut))
+    (λ _. part_wire way (p.bytes.items ++ 10 ∷ []))
+
+-- one more byte
+in_line : (way : Way) (p : Pending) (b : ℕ) (short : Bool) → wire (cond short [] (entry (part_mark way) p.bytes.items ∷ [])) ++ (cond short (pending (p.bytes.items ++ b ∷ []) p.is_long) (pending (b ∷ []) true)).bytes.items ≡ p.bytes.items ++ b ∷ []
+in_line way p b true = refl
+in_line way p b false = ap (λ w. w ++ b ∷ []) (part_wire way p.bytes.items)
+
+at_end : (way : Way) (p : Pending) (b : ℕ) (feed : Bool) → (b == 10) ≡ feed
+    → wire (cond feed (entry_of_line way p ∷ []) (cond (nat_lt (length p.bytes.items) 513) [] (entry (part_mark way) p.bytes.items ∷ [])))
+    ++ (cond feed nothing (cond (nat_lt (length p.bytes.items) 513) (pending (p.bytes.items ++ b ∷ []) p.is_long) (pending (b ∷ []) true))).bytes.items ≡ p.bytes.items ++ b ∷ []
+at_end way p b true is = append-nil (wire (entry_of_line way p ∷ [])) ∙ line_wire way p ∙ ap (λ c. p.bytes.items ++ c ∷ []) (sym (eqb-true b 10 is))
+at_end way p b false is = in_line way p b (nat_lt (length p.bytes.items) 513)
+
+byte_wire : (way : Way) (p : Pending) (b : ℕ) → wire (entries_at way p b) ++ (pending_at p b).bytes.items ≡ p.bytes.items ++ b ∷ []
+byte_wire way p b = at_end way p b (b == 10) refl
+
+-- nothing of the bytes of one way is lost, and nothing is added
+keeps : (way : Way) (p : Pending) (bytes : List ℕ) → wire (entries way p bytes) ++ (pending_behind p bytes).bytes.items ≡ p.bytes.items ++ bytes
+keeps way p [] = sym (append-nil p.bytes.items)
+keeps way p (b ∷ bs) =
+    let es = entries_at way p b in
+    let q = pending_at p b in
+    let fs = entries way q bs in
+    let held = (pending_behind q bs).bytes.items in
+    ap (λ w. w ++ held) (flat_map-append (λ (e : Entry). wire_of e.mark e.bytes) es fs) ∙ append_assoc (wire es) (wire fs) held ∙ ap (λ w. wire es ++ w) (keeps way q bs)
+    ∙ sym (append_assoc (wire es) q.bytes.items bs) ∙ ap (λ w. w ++ bs) (byte_wire way p b) ∙ append_assoc p.bytes.items (b ∷ []) bs
+
+pub keeps_all : LogKeepsAll
+keeps_all way p bytes = sym (keeps way p bytes)
+
+-- some lines, and others behind them
+pub takes_then : (a b c : Option (List ℕ)) (fa fb fc : Bool) (utc : ℕ) (es fs : List Entry) → Takes a b fa fb (log_text_of utc es) → Takes b c fb fc (log_text_of utc fs) → Takes a c fa fc (log_text_of utc (es ++ fs))
+takes_then a b c fa fb fc utc es fs one next = takes_is a c fa fc _ _ (sym (text_more utc es fs)) (takes_both a b c fa fb fc (log_text_of utc es) (log_text_of utc fs) one next)
+
+-- and at the same moment
+pub takes_last : (a b c : Option (List ℕ)) (fa fb fc : Bool) (utc now : ℕ) (es fs : List Entry) → now ≡ utc → Takes a b fa fb (log_text_of utc es) → Takes b c fb fc (log_text_of now fs) → Takes a c fa fc (log_text_of utc (es ++ fs))
+takes_last a b c fa fb fc utc now es fs same one next = takes_then a b c fa fb fc utc es fs one (subst (λ u. Takes b c fb fc (log_text_of u fs)) same next)

@@ -1,0 +1,143 @@
+-- What a log has of the bytes of one way, as they come and go: this project's own.
+use Rattle.std.specs.Prelude.{◌≡◌, ℕ, ◌-◌, ◌==◌, ◌&&◌, Bool, true, false, not, nat_lt, List, [], ◌∷◌, ◌++◌, length, take, Option, if◌then◌else◌, codes}
+use Rattle.std.specs.Io.KnownBytes.{Appends}
+use Rattle.std.specs.List.{flat_map}
+use Rattle.gc_lines.specs.Frames.{ends_in_return}
+use Rattle.gc_texts.specs.Logs.{log_line}
+use Rattle.gc_texts.specs.declared.log_line.LogMark.{LogMark}
+use Rattle.gc_texts.specs.declared.log_line.LogMark.TheVariants as mark
+use Rattle.gc_links.specs.Acts.{Act, Told, Put, Cut, Gave, Silent, Ended, Broke, Closed, Opened, Unopened}
+use Rattle.gc_logs.specs.declared.logging.Pending.{Pending}
+use Rattle.gc_logs.specs.declared.logging.Way.{Way}
+use Rattle.gc_logs.specs.declared.logging.Way.TheVariants.{Went, Came}
+
+-- one line of a log
+pub record Entry : Type 0 where
+  pub mark : LogMark
+  pub bytes : List ℕ
+
+abbrev pub entry : LogMark → List ℕ → Entry
+entry mark bytes = record { mark = mark; bytes = bytes }
+
+-- the mark of a line that has its CR LF, and of what isn't one
+abbrev pub line_mark : Way → LogMark
+line_mark Went = mark.Went
+line_mark Came = mark.Came
+
+abbrev pub part_mark : Way → LogMark
+part_mark Went = mark.WentPart
+part_mark Came = mark.CamePart
+
+-- nothing is pending
+abbrev pub nothing : Pending
+nothing = record { bytes = record { items = [] }; is_long = false }
+
+abbrev pub pending : List ℕ → Bool → Pending
+pending bytes long = record { bytes = record { items = bytes }; is_long = long }
+
+-- what a line feed makes of what is pending: a line, where a CR stands before it and no front of it was written
+abbrev pub entry_of_line : Way → Pending → Entry
+entry_of_line way p =
+    if not p.is_long && ends_in_return p.bytes.items then entry (line_mark way) (take (length p.bytes.items - 1) p.bytes.items)
+    else entry (part_mark way) (p.bytes.items ++ codes "\n")
+
+-- which lines one more byte gives: a line feed ends one, and behind 513 others a byte begins another
+abbrev pub entries_at : Way → Pending → ℕ → List Entry
+entries_at way p b =
+    if b == 10 then entry_of_line way p ∷ []
+    else (if nat_lt (length p.bytes.items) 513 then [] else entry (part_mark way) p.bytes.items ∷ [])
+
+-- what is pending behind it
+abbrev pub pending_at : Pending → ℕ → Pending
+pending_at p b =
+    if b == 10 then nothing
+    else (if nat_lt (length p.bytes.items) 513 then pending (p.bytes.items ++ b ∷ []) p.is_long else pending (b ∷ []) true)
+
+-- which lines some bytes give, and what is pending behind them
+abbrev pub entries : Way → Pending → List ℕ → List Entry
+entries way p [] = []
+entries way p (b ∷ bs) = entries_at way p b ++ entries way (pending_at p b) bs
+
+abbrev pub pending_behind : Pending → List ℕ → Pending
+pending_behind p [] = p
+pending_behind p (b ∷ bs) = pending_behind (pending_at p b) bs
+
+-- which line is written where no more comes
+abbrev pub entries_of_pending : Way → List ℕ → List Entry
+entries_of_pending way [] = []
+entries_of_pending way (b ∷ bs) = entry (part_mark way) (b ∷ bs) ∷ []
+
+-- the text of lines that are written at a moment
+abbrev pub log_text_of : ℕ → List Entry → List ℕ
+log_text_of utc es = flat_map (λ (e : Entry). log_line utc e.mark e.bytes) es
+
+-- a log that still stands took this text
+pub record Takes (old new : Option (List ℕ)) (old_failed new_failed : Bool) (text : List ℕ) : Type 0 where
+  pub took : new_failed ≡ false → Appends old new text
+  pub stood : new_failed ≡ false → old_failed ≡ false
+
+-- the bytes that a line of a log stands for
+abbrev pub wire_of : LogMark → List ℕ → List ℕ
+wire_of mark.Went bytes = bytes ++ 13 ∷ 10 ∷ []
+wire_of mark.WentPart bytes = bytes
+wire_of mark.Came bytes = bytes ++ 13 ∷ 10 ∷ []
+wire_of mark.CamePart bytes = bytes
+wire_of mark.Link bytes = []
+
+abbrev pub wire : List Entry → List ℕ
+wire es = flat_map (λ (e : Entry). wire_of e.mark e.bytes) es
+
+-- of the bytes of one way nothing is missing, nothing is added and nothing changes places: what was pending and the bytes are
+-- what the lines stand for, and what is pending then
+abbrev pub LogKeepsAll : Type 0
+LogKeepsAll = (way : Way) (p : Pending) (bytes : List ℕ) → p.bytes.items ++ bytes ≡ wire (entries way p bytes) ++ (pending_behind p bytes).bytes.items
+
+-- what is seen of a log: what its sink took, what it still holds, and its moment
+pub record LogSeen : Type 0 where
+  pub taken : Option (List ℕ)
+  pub failed : Bool
+  pub went : Pending
+  pub came : Pending
+  pub utc : ℕ
+
+-- a line of what became of the connection
+abbrev pub link_entry : List ℕ → Entry
+link_entry word = entry mark.Link word
+
+-- the moment of the lines of an act: its own, where it tells one, else the last that was told
+abbrev pub utc_of : ℕ → Act → ℕ
+utc_of utc (Told m) = m.utc
+utc_of utc (Gave bytes m) = m.utc
+utc_of utc (Silent m) = m.utc
+utc_of utc _ = utc
+
+-- the lines of an act
+abbrev pub entries_of_act : Pending → Pending → Act → List Entry
+entries_of_act went came (Put bytes) = entries Went went bytes
+entries_of_act went came (Cut bytes count) = entries Went went (take count bytes) ++ link_entry (codes "failed") ∷ []
+entries_of_act went came (Gave bytes m) = entries Came came bytes
+entries_of_act went came Ended = link_entry (codes "ended") ∷ []
+entries_of_act went came Broke = link_entry (codes "failed") ∷ []
+entries_of_act went came Closed = entries_of_pending Went went.bytes.items ++ entries_of_pending Came came.bytes.items ++ link_entry (codes "closed") ∷ []
+entries_of_act went came Opened = link_entry (codes "open") ∷ []
+entries_of_act went came Unopened = link_entry (codes "not open") ∷ []
+entries_of_act went came _ = []
+
+-- what is pending behind an act: nothing behind a close
+abbrev pub went_behind : Pending → Act → Pending
+went_behind went (Put bytes) = pending_behind went bytes
+went_behind went (Cut bytes count) = pending_behind went (take count bytes)
+went_behind went Closed = nothing
+went_behind went _ = went
+
+abbrev pub came_behind : Pending → Act → Pending
+came_behind came (Gave bytes m) = pending_behind came bytes
+came_behind came Closed = nothing
+came_behind came _ = came
+
+-- what a log did with an act
+pub record Logs (old new : LogSeen) (act : Act) : Type 0 where
+  pub took : Takes old.taken new.taken old.failed new.failed (log_text_of (utc_of old.utc act) (entries_of_act old.went old.came act))
+  pub went : new.went ≡ went_behind old.went act
+  pub came : new.came ≡ came_behind old.came act
+  pub utc : new.utc ≡ utc_of old.utc act

@@ -1,0 +1,136 @@
+//! Any link, with a log of what is on it.
+
+ghost use Rattle.std.specs.Prelude.{◌≡◌, ◌<◌, [], ◌∷◌, length};
+ghost use Rattle.gc_links.specs.Acts.{Tells, Closed, told_as, came_as, put_as, opened_as, IsWithin, IsPart};
+ghost use Rattle.gc_logs.specs.Logging.{Logs};
+
+use crate::logging::Log;
+use gc_lines::{PortFailed, Sink};
+use gc_links::{Came, Link, Moment};
+
+/// A link over another, of which a log is written into a sink: each line that went or came, and what became of the
+/// connection. Its acts are those of the link inside, whatever becomes of the log.
+///
+/// A line of the log has the last moment that the link told before it ended. Where the sink fails the log ends there, and the
+/// link goes on.
+#[derive(Drop)]
+pub struct Logged<L, K> {
+    /// The link inside.
+    pub link: L,
+    log: Log<K>,
+}
+
+impl<L: Link, K: Sink> Logged<L, K> {
+    /// A link of which nothing was logged. What is logged before the link tells a moment has this one, in milliseconds since
+    /// 1970, UTC.
+    pub fn new(link: L, sink: K, utc: u64) -> Logged<L, K>
+        ensures { result.link ≡ link }
+    {
+        Logged {
+            link,
+            log: Log::new(sink, utc),
+        }
+    }
+
+    /// Whether the log couldn't be written.
+    pub fn has_lost_its_log(&self) -> bool
+        ensures { result ≡ K.failed self.now.log.sink }
+    {
+        self.log.sink.has_failed()
+    }
+
+    /// Where the log is written.
+    pub fn sink(&self) -> &K
+        ensures { result.now ≡ self.now.log.sink }
+    {
+        &self.log.sink
+    }
+}
+
+impl<L: Link, K: Sink> Link for Logged<L, K> {
+    ghost acts = { λ l. L.acts l.link };
+
+    fn now(&mut self) -> Result<Moment, PortFailed>
+        ensures tells { Tells (L.acts self.old.link) (L.acts self.new.link) (told_as result ∷ []) }
+        ensures logs { Logs
+            (record { taken = K.taken self.old.log.sink; failed = K.failed self.old.log.sink; went = self.old.log.went; came = self.old.log.came; utc = self.old.log.utc })
+            (record { taken = K.taken self.new.log.sink; failed = K.failed self.new.log.sink; went = self.new.log.went; came = self.new.log.came; utc = self.new.log.utc })
+            (told_as result) }
+    {
+        let told = self.link.now();
+        if let Ok(moment) = &told {
+            self.log.utc = moment.utc;
+        }
+        told
+    }
+
+    fn read(&mut self, buf: &mut [u8], millis: u64) -> Came
+        requires { 0 < length buf.old }
+        ensures tells { Tells (L.acts self.old.link) (L.acts self.new.link) (came_as result buf.new ∷ []) }
+        ensures within { IsWithin result buf.new }
+        ensures logs { Logs
+            (record { taken = K.taken self.old.log.sink; failed = K.failed self.old.log.sink; went = self.old.log.went; came = self.old.log.came; utc = self.old.log.utc })
+            (record { taken = K.taken self.new.log.sink; failed = K.failed self.new.log.sink; went = self.new.log.went; came = self.new.log.came; utc = self.new.log.utc })
+            (came_as result buf.new) }
+    {
+        let came = self.link.read(buf, millis);
+        match came {
+            Came::Bytes(n, moment) => {
+                self.log.utc = moment.utc;
+                self.log.came(&buf[..n]);
+            }
+            Came::Silence(moment) => self.log.utc = moment.utc,
+            Came::End => self.log.says(b"ended"),
+            Came::Failure => self.log.says(b"failed"),
+            Came::NoMoment => {}
+        }
+        came
+    }
+
+    fn put(&mut self, bytes: &[u8]) -> Result<(), usize>
+        requires { 0 < length bytes.now }
+        ensures tells { Tells (L.acts self.old.link) (L.acts self.new.link) (put_as result bytes.now ∷ []) }
+        ensures part { IsPart result bytes.now }
+        ensures logs { Logs
+            (record { taken = K.taken self.old.log.sink; failed = K.failed self.old.log.sink; went = self.old.log.went; came = self.old.log.came; utc = self.old.log.utc })
+            (record { taken = K.taken self.new.log.sink; failed = K.failed self.new.log.sink; went = self.new.log.went; came = self.new.log.came; utc = self.new.log.utc })
+            (put_as result bytes.now) }
+    {
+        let put = self.link.put(bytes);
+        match put {
+            Ok(()) => self.log.went(bytes),
+            Err(n) => {
+                self.log.went(&bytes[..n]);
+                self.log.says(b"failed");
+            }
+        }
+        put
+    }
+
+    fn close(&mut self)
+        ensures tells { Tells (L.acts self.old.link) (L.acts self.new.link) (Closed ∷ []) }
+        ensures logs { Logs
+            (record { taken = K.taken self.old.log.sink; failed = K.failed self.old.log.sink; went = self.old.log.went; came = self.old.log.came; utc = self.old.log.utc })
+            (record { taken = K.taken self.new.log.sink; failed = K.failed self.new.log.sink; went = self.new.log.went; came = self.new.log.came; utc = self.new.log.utc })
+            (Closed) }
+    {
+        self.link.close();
+        self.log.cut();
+        self.log.says(b"closed");
+    }
+
+    fn open(&mut self) -> Result<(), PortFailed>
+        ensures tells { Tells (L.acts self.old.link) (L.acts self.new.link) (opened_as result ∷ []) }
+        ensures logs { Logs
+            (record { taken = K.taken self.old.log.sink; failed = K.failed self.old.log.sink; went = self.old.log.went; came = self.old.log.came; utc = self.old.log.utc })
+            (record { taken = K.taken self.new.log.sink; failed = K.failed self.new.log.sink; went = self.new.log.went; came = self.new.log.came; utc = self.new.log.utc })
+            (opened_as result) }
+    {
+        let opened = self.link.open();
+        match &opened {
+            Ok(()) => self.log.says(b"open"),
+            Err(_) => self.log.says(b"not open"),
+        }
+        opened
+    }
+}

@@ -1,0 +1,201 @@
+//! A log of what is on a link: how the bytes of each way are cut into its lines.
+
+ghost use Rattle.std.specs.Prelude.{◌≡◌, ◌++◌, ◌≤◌, [], ◌∷◌, length, codes};
+ghost use Rattle.gc_logs.specs.Logging.{entry, line_mark, part_mark, nothing, entry_of_line, entries_at, pending_at, entries, pending_behind, entries_of_pending, log_text_of, Takes};
+ghost use Rattle.gc_texts.specs.Logs.{log_line};
+ghost use Rattle.gc_texts.specs.declared.log_line.LogMark.TheVariants as mark;
+ghost use Rattle.gc_logs.specs.declared.logging.Way.TheVariants.{Went, Came};
+
+use arrayvec::ArrayVec;
+use gc_lines::{Sink, append};
+use gc_texts::{LogBytes, LogMark, write_log_line};
+
+// Which way bytes go.
+#[derive(Clone, Copy)]
+enum Way {
+    Went,
+    Came,
+}
+
+impl Way {
+    // The mark of a line that has its CR LF.
+    fn line(self) -> LogMark
+        ensures { result ≡ line_mark self }
+    {
+        match self {
+            Way::Went => LogMark::Went,
+            Way::Came => LogMark::Came,
+        }
+    }
+
+    // The mark of what isn't such a line.
+    fn part(self) -> LogMark
+        ensures { result ≡ part_mark self }
+    {
+        match self {
+            Way::Went => LogMark::WentPart,
+            Way::Came => LogMark::CamePart,
+        }
+    }
+}
+
+// What of one way is not written yet: the bytes of a line that has no end, of at most 512 bytes and a CR, or the last ones of
+// a longer one.
+#[derive(Drop)]
+struct Pending {
+    bytes: ArrayVec<u8, 513>,
+    // Whether a front of this line was written.
+    is_long: bool,
+}
+
+impl Pending {
+    // Nothing.
+    fn nothing() -> Pending
+        ensures { result ≡ nothing }
+    {
+        Pending {
+            bytes: ArrayVec::new(),
+            is_long: false,
+        }
+    }
+}
+
+/// A log over a sink. Where the sink has failed nothing more is written, and what it is a log of goes on.
+#[derive(Drop)]
+pub(crate) struct Log<K> {
+    pub(crate) sink: K,
+    went: Pending,
+    came: Pending,
+    // The last moment that was told, in milliseconds since 1970.
+    pub(crate) utc: u64,
+}
+
+impl<K: Sink> Log<K> {
+    // A log of which nothing was written, at a moment in milliseconds since 1970.
+    pub(crate) fn new(sink: K, utc: u64) -> Log<K>
+        ensures sink { result.sink ≡ sink }
+        ensures went { result.went ≡ nothing }
+        ensures came { result.came ≡ nothing }
+        ensures utc { result.utc ≡ utc }
+    {
+        Log {
+            sink,
+            went: Pending::nothing(),
+            came: Pending::nothing(),
+            utc,
+        }
+    }
+
+    // These bytes went.
+    pub(crate) fn went(&mut self, bytes: &[u8])
+        ensures took { Takes (K.taken self.old.sink) (K.taken self.new.sink) (K.failed self.old.sink) (K.failed self.new.sink) (log_text_of self.old.utc (entries Went self.old.went bytes.now)) }
+        ensures went { self.new.went ≡ pending_behind self.old.went bytes.now }
+        ensures came { self.new.came ≡ self.old.came }
+        ensures utc { self.new.utc ≡ self.old.utc }
+    {
+        log_bytes(&mut self.sink, self.utc, Way::Went, &mut self.went, bytes);
+    }
+
+    // These bytes came.
+    pub(crate) fn came(&mut self, bytes: &[u8])
+        ensures took { Takes (K.taken self.old.sink) (K.taken self.new.sink) (K.failed self.old.sink) (K.failed self.new.sink) (log_text_of self.old.utc (entries Came self.old.came bytes.now)) }
+        ensures went { self.new.went ≡ self.old.went }
+        ensures came { self.new.came ≡ pending_behind self.old.came bytes.now }
+        ensures utc { self.new.utc ≡ self.old.utc }
+    {
+        log_bytes(&mut self.sink, self.utc, Way::Came, &mut self.came, bytes);
+    }
+
+    // No more comes or goes: what is pending is written as it is.
+    pub(crate) fn cut(&mut self)
+        ensures took { Takes (K.taken self.old.sink) (K.taken self.new.sink) (K.failed self.old.sink) (K.failed self.new.sink)
+            (log_text_of self.old.utc (entries_of_pending Went self.old.went.bytes.items ++ entries_of_pending Came self.old.came.bytes.items)) }
+        ensures went { self.new.went ≡ nothing }
+        ensures came { self.new.came ≡ nothing }
+        ensures utc { self.new.utc ≡ self.old.utc }
+    {
+        log_pending(&mut self.sink, self.utc, Way::Went, &mut self.went);
+        log_pending(&mut self.sink, self.utc, Way::Came, &mut self.came);
+    }
+
+    // Something became of the connection.
+    pub(crate) fn says(&mut self, word: &[u8])
+        requires { length word.now ≤ 514 }
+        ensures took { Takes (K.taken self.old.sink) (K.taken self.new.sink) (K.failed self.old.sink) (K.failed self.new.sink) (log_text_of self.old.utc (entry mark.Link word.now ∷ [])) }
+        ensures went { self.new.went ≡ self.old.went }
+        ensures came { self.new.came ≡ self.old.came }
+        ensures utc { self.new.utc ≡ self.old.utc }
+    {
+        write_entry(&mut self.sink, self.utc, LogMark::Link, word);
+    }
+}
+
+// Takes bytes, and writes each line that they end.
+fn log_bytes<K: Sink>(sink: &mut K, utc: u64, way: Way, pending: &mut Pending, bytes: &[u8])
+    ensures took { Takes (K.taken sink.old) (K.taken sink.new) (K.failed sink.old) (K.failed sink.new) (log_text_of utc (entries way pending.old bytes.now)) }
+    ensures pending { pending.new ≡ pending_behind pending.old bytes.now }
+{
+    for b in bytes {
+        log_byte(sink, utc, way, pending, *b);
+    }
+}
+
+// Takes one more byte, and writes the line that it ends.
+fn log_byte<K: Sink>(sink: &mut K, utc: u64, way: Way, pending: &mut Pending, b: u8)
+    ensures took { Takes (K.taken sink.old) (K.taken sink.new) (K.failed sink.old) (K.failed sink.new) (log_text_of utc (entries_at way pending.old b)) }
+    ensures pending { pending.new ≡ pending_at pending.old b }
+{
+    if b == b'\n' {
+        log_line_end(sink, utc, way, pending);
+        return;
+    }
+    if pending.bytes.len() < 513 {
+        pending.bytes.push(b);
+        return;
+    }
+    write_entry(sink, utc, way.part(), &pending.bytes);
+    pending.bytes.clear();
+    pending.bytes.push(b);
+    pending.is_long = true;
+}
+
+// Writes what a line feed ends.
+fn log_line_end<K: Sink>(sink: &mut K, utc: u64, way: Way, pending: &mut Pending)
+    ensures took { Takes (K.taken sink.old) (K.taken sink.new) (K.failed sink.old) (K.failed sink.new) (log_text_of utc (entry_of_line way pending.old ∷ [])) }
+    ensures pending { pending.new ≡ nothing }
+{
+    let is_line = !pending.is_long && pending.bytes.last() == Some(&b'\r');
+    if is_line {
+        let len = pending.bytes.len() - 1;
+        write_entry(sink, utc, way.line(), &pending.bytes[..len]);
+    } else {
+        let mut part = LogBytes::new();
+        append(&mut part, &pending.bytes);
+        append(&mut part, b"\n");
+        write_entry(sink, utc, way.part(), &part);
+    }
+    pending.bytes.clear();
+    pending.is_long = false;
+}
+
+// Writes what has no end.
+fn log_pending<K: Sink>(sink: &mut K, utc: u64, way: Way, pending: &mut Pending)
+    ensures took { Takes (K.taken sink.old) (K.taken sink.new) (K.failed sink.old) (K.failed sink.new) (log_text_of utc (entries_of_pending way pending.old.bytes.items)) }
+    ensures pending { pending.new ≡ nothing }
+{
+    if !pending.bytes.is_empty() {
+        write_entry(sink, utc, way.part(), &pending.bytes);
+    }
+    pending.bytes.clear();
+    pending.is_long = false;
+}
+
+// Writes a line of the log. Where the log can't be written it goes on without it: `failed` of the sink says so.
+fn write_entry<K: Sink>(sink: &mut K, utc: u64, mark: LogMark, bytes: &[u8])
+    requires { length bytes.now ≤ 514 }
+    ensures { Takes (K.taken sink.old) (K.taken sink.new) (K.failed sink.old) (K.failed sink.new) (log_text_of utc (entry mark bytes.now ∷ [])) }
+{
+    let mut line = LogBytes::new();
+    append(&mut line, bytes);
+    let _ = write_log_line(sink, utc, mark, &line);
+}

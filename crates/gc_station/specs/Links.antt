@@ -1,0 +1,72 @@
+-- Chains by the parts of a run, this project's own: the commands of a chain are requests of one part, each behind the answer of the one before it.
+use Rattle.std.specs.Prelude.{◌≡◌, ◌⊎◌, ℕ, suc, ◌<◌, ◌≤◌, true, List, [], ◌∷◌, ◌++◌, drop, length, Option, Some, slice_get}
+use Rattle.gc_catalogue.specs.declared.answer.Answer.{Answer}
+use Rattle.gc_links.specs.Acts.{Act}
+use Rattle.gc_texts.specs.Endings.{Answered}
+use Rattle.gc_texts.specs.declared.tasks.Task.{Task}
+use Rattle.gc_station.specs.Marks.{is_value}
+use Rattle.gc_station.specs.Parts.{Part, joined, mark_of, parts_of}
+use Rattle.gc_station.specs.Records.{Record}
+use Rattle.gc_station.specs.Runs.{stood}
+use Rattle.gc_station.specs.Scopes.{Scope}
+use Rattle.gc_station.specs.Standing.{Runs, is_chained, opening}
+use Rattle.gc_station.specs.declared.mark.Mark.{Mark}
+use Rattle.gc_station.specs.declared.plan.Plan.{Plan}
+
+-- each command behind place a, up to place b, goes out only once the one before it was answered well
+abbrev pub AreChained : List Task → ℕ → ℕ → Type 0
+AreChained commands a b = (p : ℕ) → a < p → p ≤ b → is_chained (drop p commands) ≡ true
+
+-- of two pairs of numbers the first comes first
+abbrev pub IsBefore : ℕ → ℕ → ℕ → ℕ → Type 0
+IsBefore i m j n = (i < j) ⊎ ((i ≡ j) × (m < n))
+
+-- the parts of a whole run
+abbrev pub parts : Plan → List Task → Scope → List Act → List Part
+parts plan commands scope acts = parts_of plan commands (opening plan scope) acts
+
+-- the command at place a of this cycle has a record behind these acts, which is an answer, with both codes 0 and values that read; and this
+-- part has its request
+pub record IsAnsweredBack (plan : Plan) (commands : List Task) (scope : Scope) (acts : List Act) (part : Part) (cycle a : ℕ) : Type 0 where
+  pub k : ℕ
+  pub answer : Record
+  pub among : slice_get (stood plan commands scope acts).records k ≡ Some answer
+  pub own_cycle : answer.cycle ≡ cycle
+  pub own_place : answer.place ≡ a
+  pub line : List ℕ
+  pub said : Option Answer
+  pub answered : answer.end ≡ Answered said line
+  pub well : is_value (scope.reads answer.command.call line) ≡ true
+  pub m : ℕ
+  pub mark : slice_get part.marks m ≡ Some (Some (mark_of answer))
+
+-- the command of this cycle and place went out as request n of part i of a run: behind acts whose last part is the front of that one, with n
+-- requests; and each command before it from which it is chained was answered by then, as a request of that very part
+pub record IsSentBehind (plan : Plan) (commands : List Task) (scope : Scope) (acts : List Act) (i n cycle place : ℕ) : Type 0 where
+  pub before : List Act
+  pub rest : List Act
+  pub order : acts ≡ before ++ rest
+  pub first : Part
+  pub of_parts : slice_get (parts plan commands scope before) i ≡ Some first
+  pub last : length (parts plan commands scope before) ≡ suc i
+  pub count : length first.marks ≡ n
+  pub chain : (a : ℕ) → a < place → AreChained commands a place → IsAnsweredBack plan commands scope before first cycle a
+
+abbrev pub ChainsStay : Type 0
+ChainsStay =
+    (plan : Plan) (commands : List Task) (scope : Scope) (acts : List Act) → Runs plan commands (opening plan scope) acts
+    → (i n : ℕ) (part : Part) (mark : Mark) → slice_get (parts plan commands scope acts) i ≡ Some part → slice_get part.marks n ≡ Some (Some mark)
+    → IsSentBehind plan commands scope acts i n mark.cycle mark.place
+
+-- the commands that go out go on, from part to part and in each
+abbrev pub MarksGoOn : Type 0
+MarksGoOn =
+    (plan : Plan) (commands : List Task) (scope : Scope) (acts : List Act) → Runs plan commands (opening plan scope) acts
+    → (i j m n : ℕ) (p q : Part) (a b : Mark) → slice_get (parts plan commands scope acts) i ≡ Some p → slice_get (parts plan commands scope acts) j ≡ Some q
+    → slice_get p.marks m ≡ Some (Some a) → slice_get q.marks n ≡ Some (Some b) → IsBefore i m j n → IsBefore a.cycle a.place b.cycle b.place
+
+-- what is written down stays so
+abbrev pub RecordsStay : Type 0
+RecordsStay =
+    (plan : Plan) (commands : List Task) (scope : Scope) (before rest : List Act)
+    → (more : List Record) × ((stood plan commands scope (before ++ rest)).records ≡ (stood plan commands scope before).records ++ more)
