@@ -1,5 +1,5 @@
 """Measures what `docs/STATION.md` says of a slow line: how long twenty commands take where lines are lost, and how long sixty
-targets take by the width, from the first command's request to the last row.
+plain readings take by the width, from the first command's request to the last row.
 
     station.py GEOCOM
 

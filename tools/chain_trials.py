@@ -8,7 +8,7 @@ from far_end import CLOSES, LOSES, good, standing
 from measuring import STAMP, expect_ends, finished, measuring
 from operating import expect, expect_same
 
-PRISMS = b"7 9027 0.5,1.5,0,0,0\n7 17017 2\n8 9027 2.25,1.625,0,0,0\n8 17017 2\n"
+PRISMS = b"7 9027 0.5,1.5,0,1,0\n7 17017 2\n8 9027 2.25,1.625,0,1,0\n8 17017 2\n"
 SHORT = "--deadline 300 --quiet 300"
 
 

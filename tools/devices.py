@@ -1,6 +1,7 @@
 """Measures over a device whose line goes away at every tenth cycle and comes back as another, and judges each row: each command
 of a cycle has one, in order; each answer is that of its own request, for it says on which request it was made; and no descriptor is
-left open.
+left open. Before that a far end is mute for a while, so that the station closes its connection and rests: all the time a second
+opener is refused the device's lock.
 
     devices.py GEOCOM [CYCLES]
 
@@ -10,6 +11,7 @@ one, within one, or before one and for a while. It ends with status 1 where anyt
 
 import collections
 import csv
+import fcntl
 import itertools
 import os
 import subprocess
@@ -21,9 +23,9 @@ from pathlib import Path
 
 sys.dont_write_bytecode = True
 
-from far_end import CLOSES, GOOD
+from far_end import CLOSES, GOOD, LOSES, good
 from tagging import tagged
-from terminals import Terminal, lead
+from terminals import Terminal, lead, terminal
 
 PROCEDURES = [5003, 5004, 2011]
 COMMANDS = "".join(f"{target} {rpc}\n" for target, rpc in enumerate(PROCEDURES, 7))
@@ -124,14 +126,66 @@ def measured(program, cycles, folder):
     return list(csv.DictReader(open(Path(folder, "rows"), newline=""))), Path(folder, "told").read_text(), status, device
 
 
+def is_held(path):
+    """Whether a second opener is refused the lock of a device. It gives the lock back at once."""
+    opened = os.open(path, os.O_RDWR | os.O_NOCTTY | os.O_NONBLOCK)
+    try:
+        fcntl.flock(opened, fcntl.LOCK_EX | fcntl.LOCK_NB)
+        return False
+    except BlockingIOError:
+        return True
+    finally:
+        os.close(opened)
+
+
+def faults_of_pauses(program, folder):
+    """What is wrong where a far end is mute from the second cycle on, for so many requests that the line is dead. From the first
+    request on to the end the device is to be held, over each close."""
+    mute = range(6, 16)
+    came, looks = [], []
+    log = Path(folder, "log")
+
+    def answer(request):
+        came.append(request)
+        return LOSES if len(came) in mute else good(request)
+
+    with terminal(answer) as line, open(Path(folder, "told"), "w+") as told:
+        words = "--every 0 --cycles 4 --deadline 200 --quiet 150 --retries 100 --csv --log".split()
+        station = subprocess.Popen([program, "station", line.path, *words, str(log)],
+                                   stdin=subprocess.PIPE, stdout=subprocess.DEVNULL, stderr=told)
+        station.stdin.write(COMMANDS.encode())
+        station.stdin.close()
+        until = time.monotonic() + 60
+        while station.poll() is None and time.monotonic() < until:
+            # A look counts where the station measured before it and goes on behind it.
+            is_up = bool(came)
+            held = is_held(line.path)
+            time.sleep(0.002 if held else 0.1)
+            if is_up and station.poll() is None:
+                looks.append(held)
+        if station.poll() is None:
+            station.kill()
+            yield "a station with a mute far end didn't end"
+        if station.wait() != 0:
+            yield f"a station with a mute far end ended with status {station.returncode}"
+    closes = sum(entry.endswith("- closed") for entry in log.read_text().splitlines())
+    if closes < 3:
+        yield f"only {closes} connections were closed"
+    if not all(looks) or len(looks) < 100:
+        yield f"the device was held at {sum(looks)} of {len(looks)} looks, over {closes} closes"
+    print(f"a device was held at {sum(looks)} of {len(looks)} looks, over {closes} closes")
+
+
 def main():
     program, cycles = sys.argv[1], int(sys.argv[2]) if sys.argv[2:] else 1000
     began = time.monotonic()
     with tempfile.TemporaryDirectory() as folder:
+        unheld = list(faults_of_pauses(program, folder))
+    with tempfile.TemporaryDirectory() as folder:
         rows, told, status, device = measured(program, cycles, folder)
     count = collections.Counter(row["outcome"] for row in rows)
     counts = " ".join(f"{outcome} {count[outcome]}" for outcome in OUTCOMES)
-    faults = list(faults_of(rows, device.came, cycles))
+    faults = unheld + list(faults_of(rows, device.came, cycles))
     if status != 0 or told.splitlines()[-1:] != [counts]:
         faults.append(f"status {status}, told {told.splitlines()[-1:]}, and the counts are {counts}")
     # A pull costs the requests that it meets, and few besides.

@@ -15,8 +15,8 @@ ESCAPE = re.compile(rb"\\x([0-9a-f]{2})")
 TWO = b"7 5003\n8 5004\n"
 SCENE = b"# the east pillar\nserial 71\nname EAST\ntarget 0.25 1.5 12.5\ntarget 4.0 1.5 48.25\n"
 SCENE_REPLIES = b'%R1P,0,1:0,71\r\n%R1P,0,2:0,"EAST"\r\n%R1P,0,3:0\r\n%R1P,0,4:0,0.25,1.5,12.5,2\r\n'
-SCENE_REQUESTS = b"%R1Q,5003,1:\r\n%R1Q,5004,2:\r\n%R1Q,9027,3:0.25,1.5,0,0,0\r\n%R1Q,17017,4:2\r\n"
-SCENE_COMMANDS = b"7 5003\n7 5004\n7 9027 0.25,1.5,0,0,0\n7 17017 2\n"
+SCENE_REQUESTS = b"%R1Q,5003,1:\r\n%R1Q,5004,2:\r\n%R1Q,9027,3:0.25,1.5,0,1,0\r\n%R1Q,17017,4:2\r\n"
+SCENE_COMMANDS = b"7 5003\n7 5004\n7 9027 0.25,1.5,0,1,0\n7 17017 2\n"
 # Scenes that are refused, with what is told.
 FAULTY = [
     (b"target 0.25 1.5\n", "geocom: fault 51 line 1\n"),
@@ -116,7 +116,7 @@ def answers_from_a_scene(program):
     """`exec`, `drill` and `loop` have the scene's instrument, and no other targets."""
     with written_file(SCENE) as scene:
         expect_same(ended(program, ["exec", "--scene", scene], SCENE_REQUESTS), (0, SCENE_REPLIES, ""), "exec")
-        elsewhere = b"%R1Q,9027,1:0.5,1.5,0,0,0\r\n%R1Q,17017,2:2\r\n"
+        elsewhere = b"%R1Q,9027,1:0.5,1.5,0,1,0\r\n%R1Q,17017,2:2\r\n"
         nothing = b"%R1P,0,1:0\r\n%R1P,0,2:1285\r\n"
         expect_same(ended(program, ["exec", "--scene", scene], elsewhere), (0, nothing, ""), "exec elsewhere")
         schedule = b"send 7 10 5003\nup deliver\ndown deliver\nsend 7 10 5004\nup deliver\ndown deliver\n"

@@ -2,25 +2,25 @@
 
 The sink keeps the place that it has come to: how many bytes were taken, how many rows, and the digest of those bytes. It keeps it
 in the transaction of the rows themselves, so it always knows what it has. A start compares the file with that digest. So a file
-that was cut, edited or replaced is told and refused, and nothing is taken from it. Columns are found by their names.
+that was cut, edited or replaced is told and refused, and nothing is taken from it. A file is a table, whose columns are found by
+their names, or has an object of JSON on each line.
 """
 
 import argparse
-import csv
 import glob
 import hashlib
 import os
 import resource
+import stat
 import sys
 import time
 from dataclasses import dataclass
 
-# The columns of a station's rows. Further ones are handed on under their names.
-COLUMNS = ["run", "sent", "time", "cycle", "place", "target", "name", "procedure", "outcome", "fault", "rc_com", "rc", "values"]
-MOMENTS = ["run", "sent", "time"]
-# What every reader of such a file needs. A file of an earlier version has no other columns.
-NEEDED = [column for column in COLUMNS if column not in ("run", "sent")]
-NUMBERS = {"cycle", "place", "target", "procedure", "fault", "rc_com", "rc"}
+import records
+from records import COLUMNS
+
+# How the names of a folder's files of rows end: tables, and objects of JSON.
+ENDINGS = (".csv", ".jsonl")
 # How many rows go into one transaction at most, and how many bytes are read for them.
 BATCH = 1000
 PIECE = 1 << 18
@@ -29,6 +29,10 @@ NOTHING = hashlib.sha256().hexdigest()
 
 class Refused(Exception):
     """What can't go on without a person."""
+
+
+class Unread(Refused):
+    """What can't be read now. In a folder it is tried again."""
 
 
 class Away(Exception):
@@ -69,30 +73,11 @@ class Row:
     def known(self, column):
         """A field of the known columns: nothing where it is empty, and a number where it is one."""
         field = self.fields.get(column, "")
-        return None if field == "" else int(field) if column in NUMBERS else field
+        return None if field == "" else int(field) if column in records.NUMBERS else field
 
     def more(self):
         """The fields of further columns that aren't empty: those of `--columns`, and what a later version may write."""
         return {name: field for name, field in self.fields.items() if name not in COLUMNS and field}
-
-
-def printable(data):
-    """A line as printable ASCII: each other byte is `\\xNN`, so that any sink takes it."""
-    return "".join(chr(byte) if 32 <= byte < 127 else f"\\x{byte:02x}" for byte in data)
-
-
-def fields_of(line):
-    """The fields of a line without its line feed."""
-    return next(csv.reader([printable(line)], strict=True), [])
-
-
-def header_of(line, path, needed=NEEDED):
-    """The names of the columns. That one is missing which is needed is told."""
-    names = fields_of(line)
-    for column in needed:
-        if column not in names:
-            raise Refused(f"{path} has no column {column}")
-    return names
 
 
 class Followed:
@@ -102,10 +87,13 @@ class Followed:
         """Opens it, where it is there, and compares what was taken of it before."""
         self.path = path
         self.place = place
-        self.file = open(path, "rb", buffering=0)
+        # A pipe would be waited for.
+        self.file = open(path, "rb", buffering=0, opener=lambda name, flags: os.open(name, flags | os.O_NONBLOCK))
+        if not stat.S_ISREG(os.fstat(self.file.fileno()).st_mode):
+            raise Refused(f"{path} is no regular file")
         self.digest = hashlib.sha256()
-        self.last = self.head = b""
-        self.names = None
+        self.last = head = b""
+        self.form = None
         behind = place.bytes
         while behind:
             data = self.file.read(min(behind, PIECE))
@@ -113,10 +101,10 @@ class Followed:
                 raise Refused(f"{path} is shorter than the {place.bytes} bytes that were taken of it: it was cut or replaced")
             behind -= len(data)
             self.digest.update(data)
-            if self.names is None:
-                self.head += data
-                if b"\n" in self.head:
-                    self.begin(self.head[: self.head.index(b"\n")])
+            if self.form is None:
+                head += data
+                if b"\n" in head:
+                    self.begin(head[: head.index(b"\n")])
             # The last line stands before the place, and is looked at before each further read.
             self.last = (self.last + data)[-65536:]
         if self.digest.hexdigest() != place.sha256:
@@ -124,8 +112,11 @@ class Followed:
         self.last = self.last[self.last[:-1].rfind(b"\n") + 1 :]
 
     def begin(self, line):
-        self.head = line
-        self.names = header_of(line, self.path)
+        """Takes the form of the file from its first line."""
+        try:
+            self.form = records.form_of(line)
+        except records.NoRow as why:
+            raise Refused(f"{self.path} {why}") from None
 
     def close(self):
         self.file.close()
@@ -135,7 +126,7 @@ class Followed:
         try:
             there, here = os.stat(self.path), os.fstat(self.file.fileno())
         except FileNotFoundError:
-            raise Refused(f"{self.path} was taken away") from None
+            raise Unread(f"{self.path} was taken away") from None
         if (there.st_dev, there.st_ino) != (here.st_dev, here.st_ino):
             raise Refused(f"{self.path} was replaced by another file")
         if here.st_size < self.place.bytes:
@@ -153,34 +144,31 @@ class Followed:
         *lines, rest = data[len(self.last) :].split(b"\n")
         if not lines and len(rest) > 65536:
             raise Refused(f"{self.path} has no line feed in {len(rest)} bytes: its rows are not a station's")
-        rows, count, taken = [], self.place.rows, self.place.bytes
+        rows, taken, last = [], self.place.bytes, self.last
         digest = self.digest.copy()
-        last = self.last
         for line in lines[:BATCH]:
-            taken += len(line) + 1
-            digest.update(line + b"\n")
+            try:
+                row = self.row(line, self.place.rows + len(rows) + 1, taken + len(line) + 1)
+            except Refused:
+                # What stands before it is taken first.
+                if taken == self.place.bytes:
+                    raise
+                break
+            rows += [row] if row else []
             last = line + b"\n"
-            if self.names is None:
-                self.begin(line)
-            elif line != self.head:
-                # The header stands again where the rows of several starts were put one behind the other.
-                rows.append(self.row(line, count := count + 1, taken))
-        return rows, (Place(taken, count, digest.hexdigest()), digest, last)
+            taken += len(last)
+            digest.update(last)
+        return rows, (Place(taken, self.place.rows + len(rows), digest.hexdigest()), digest, last)
 
     def row(self, line, number, end):
+        """The row of a line; nothing of a line with the names of the columns."""
+        if self.form is None:
+            self.begin(line)
         try:
-            fields = fields_of(line)
-        except csv.Error:
-            fields = []
-        if len(fields) != len(self.names):
-            raise Refused(f"{self.path}: the line that ends at byte {end} is no row of {len(self.names)} columns")
-        row = Row(number, dict(zip(self.names, fields)))
-        try:
-            if any(abs(row.known(column) or 0) >= 1 << 63 for column in NUMBERS):
-                raise ValueError
-        except ValueError:
-            raise Refused(f"{self.path}: the line that ends at byte {end} has no number where one is to be") from None
-        return row
+            fields = self.form.row(line)
+        except records.NoRow as why:
+            raise Refused(f"{self.path}: the line that ends at byte {end} is no row: {why}") from None
+        return Row(number, fields) if fields else None
 
     def took(self, come):
         """The sink has them."""
@@ -192,41 +180,39 @@ def tell(text):
 
 
 class Following:
-    """A file, or all files of a folder whose names end in `.csv`, of which new ones are looked for in each round."""
+    """A file, or all files of a folder whose names have one of the endings, of which new ones are looked for in each round."""
 
     def __init__(self, said):
         self.said = said
         self.is_folder = os.path.isdir(said.file)
-        self.files, self.told = {}, set()
+        # What is wrong with a file was told, and may pass; a file that is refused isn't looked at again.
+        self.files, self.known, self.told, self.refused = {}, set(), {}, set()
         self.is_away = False
 
     def paths(self):
-        return sorted(glob.glob(os.path.join(glob.escape(self.said.file), "*.csv"))) if self.is_folder else [self.said.file]
+        """The files; of a folder also those that were there, so that it is told where one was taken away."""
+        if not self.is_folder:
+            return [self.said.file]
+        found = glob.glob(os.path.join(glob.escape(self.said.file), "*"))
+        return sorted({*self.known, *(path for path in found if path.endswith(ENDINGS))} - self.refused)
 
     def source(self, path):
         """What the sink calls a file. A name for a folder stands in front of each of its files' names."""
         name = self.said.source
-        return os.path.abspath(path) if name is None else f"{name}/{os.path.basename(path)}" if self.is_folder else name
-
-    def opened(self, path, sink):
-        """The file, compared with what the sink has of it; nothing where it isn't there yet."""
-        try:
-            return Followed(path, sink.place(self.source(path)))
-        except FileNotFoundError:
-            if self.said.once:
-                raise Refused(f"{path} isn't there") from None
-            if path not in self.told:
-                tell(f"{path} isn't there yet")
-            self.told.add(path)
-            return None
+        name = os.path.abspath(path) if name is None else f"{name}/{os.path.basename(path)}" if self.is_folder else name
+        # No sink takes a name that is no UTF-8.
+        return os.fsencode(name).decode(errors="backslashreplace")
 
     def hand_over(self, path, sink):
-        """Hands a batch of a file over; whether there was one."""
-        file = self.files.get(path) or self.opened(path, sink)
-        if file is None:
-            return False
-        self.files[path] = file
+        """Hands a batch of a file over; whether there was one. A file that wasn't open is compared with what the sink has of it."""
+        if path not in self.files:
+            # Where it isn't there nothing is asked of the sink.
+            os.stat(path)
+            self.files[path] = Followed(path, sink.place(self.source(path)))
+            self.known.add(path)
+        file = self.files[path]
         rows, come = file.next()
+        self.told.pop(path, None)
         if come[0].bytes == file.place.bytes:
             return False
         try:
@@ -238,21 +224,41 @@ class Following:
         file.took(come)
         return True
 
+    def tell(self, path, why):
+        """Tells what is wrong with a file, once."""
+        text = why if path in why else f"{path}: {why}"
+        if self.told.get(path) != text:
+            tell(text)
+        self.told[path] = text
+
+    def leave(self, path, why):
+        """Tells in a folder what is wrong with a file, and leaves it: for good, where it can be read."""
+        if not self.is_folder:
+            raise why
+        self.tell(path, str(why))
+        self.known.discard(path)
+        if not isinstance(why, Unread):
+            self.refused.add(path)
+        if path in self.files:
+            self.files.pop(path).close()
+
     def round(self, sink):
         """A batch of each file; whether there was one. In a folder a file that is refused is told, and the others go on."""
         came = False
         for path in self.paths():
-            if path in self.told and self.is_folder:
-                continue
             try:
                 came |= self.hand_over(path, sink)
             except Refused as why:
-                if not self.is_folder:
-                    raise
-                tell(why)
-                self.told.add(path)
-                if path in self.files:
-                    self.files.pop(path).close()
+                self.leave(path, why)
+            except FileNotFoundError:
+                if path in self.known:
+                    self.leave(path, Unread(f"{path} was taken away"))
+                elif self.said.once:
+                    self.leave(path, Unread(f"{path} isn't there"))
+                else:
+                    self.tell(path, f"{path} isn't there yet")
+            except OSError as why:
+                self.leave(path, Unread(f"{path}: {why.strerror}"))
         return came
 
     def until_away(self, sink):
@@ -301,7 +307,7 @@ def follow(said, connect):
 def words(does, *others):
     """The words that all followers have, and the others as `argparse` has them: names and help."""
     said = argparse.ArgumentParser(description=does)
-    said.add_argument("file", help="the file of rows, or a folder of such files, each NAME.csv")
+    said.add_argument("file", help="the file of rows, or a folder of such files, each NAME.csv or NAME.jsonl")
     for name, help_text in others:
         said.add_argument(name, help=help_text)
     said.add_argument("--as", dest="source", metavar="NAME", help="what the sink calls this file; its full path where nothing is said")

@@ -1,13 +1,24 @@
 """A file of rows that grows as a station's does, for trials: whole rows and rows in pieces, torn ones that are cut off again, and
-every outcome. Rows differ from one another, and some have quotes, commas and bytes that were no ASCII.
+every outcome. Rows differ from one another, and some have quotes, commas and bytes that were no ASCII. They are those of a table,
+without or with `--columns`, or objects of `--json`.
 """
 
+import csv
 import datetime
+import json
 import os
 import random
 import threading
 
-HEAD = b"run,sent,time,cycle,place,target,name,procedure,outcome,fault,rc_com,rc,values\n"
+from records import HEAD, NUMBERS
+
+# What `--columns` adds.
+QUANTITIES = [
+    "hz_rad", "v_rad", "distance_m", "mode", "easting_m", "northing_m", "height_m", "instrument_height_m", "reflector_height_m", "face",
+    "prism_type", "temperature_c", "places", "release", "version", "subversion", "serial", "instrument", "year", "month", "day", "hour",
+    "minute", "second",
+]
+COLUMNS_HEAD = HEAD[:-1] + ",".join(["", *QUANTITIES]).encode() + b"\n"
 TARGETS = [(7, b"pier 4", 2.25, 1.625, 110.0625), (8, b"", 0.5, 1.5, 25.125), (9, b"a/b+c #1", 4.0, 1.5, 48.5)]
 COMMANDS = [b"9027", b"2008", b"2108", b"2107", b"5004"]
 BEGIN = datetime.datetime(2026, 11, 24, 20, 0, tzinfo=datetime.timezone.utc)
@@ -44,6 +55,37 @@ def row(chance, number):
     cycle = number // (len(COMMANDS) * len(TARGETS)) + 1
     fields = [RUN, sent, told(moment), b"%d" % cycle, b"%d" % place, b"%d" % target, name, procedure, outcome, fault, codes or b",", values]
     return b",".join(fields) + b"\n"
+
+
+def parted(line):
+    """The fields of a row by the names of their columns, and the items of its answer by those of their quantities."""
+    fields = dict(zip(HEAD.decode().strip().split(","), next(csv.reader([line.decode("latin-1")[:-1]]))))
+    names = {"2107": QUANTITIES[:2], "2108": QUANTITIES[:3], "5004": ["instrument"]}.get(fields["procedure"], [])
+    is_well = (fields["outcome"], fields["rc"]) == ("answered", "0")
+    return fields, dict(zip(names, fields["values"].split(","))) if is_well else {}
+
+
+def plain(name, item):
+    """A quantity as a station writes it."""
+    return item.strip('"') if name == "instrument" else item.rstrip("0").removesuffix(".")
+
+
+def row_of_columns(chance, number):
+    """The same row as `row` makes, as `--columns` writes it."""
+    line = row(chance, number)
+    items = parted(line)[1]
+    return line[:-1] + "".join("," + plain(name, items[name]) if name in items else "," for name in QUANTITIES).encode() + b"\n"
+
+
+def row_of_json(chance, number):
+    """The same row as `row` makes, as `--json` writes it."""
+    fields, items = parted(row(chance, number))
+    written = [(name, field) for name, field in fields.items() if field or name == "values" and fields["rc_com"]]
+    for name, item in items.items():
+        written += [(name, plain(name, item))] + [(f"{name}_text", item)] * (name != "instrument")
+    return (b"{" + b",".join(
+        b'"%s":%s' % (name.encode(), (field if name in NUMBERS or name in QUANTITIES[:3] else json.dumps(field)).encode())
+        for name, field in written) + b"}\n")
 
 
 class Growing:

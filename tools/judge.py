@@ -18,10 +18,10 @@ again on that connection, a while later.
 
 import collections
 import csv
-import datetime
 import re
 import sys
 
+from records import COLUMNS, MOMENT, OUTCOMES, moment
 from tagging import tagged
 
 written, messages, log, answers, deadline, quiet, every, cycles, commands, values = sys.argv[1:]
@@ -32,17 +32,15 @@ targets, procedures = [int(words[0]) for words in asked], [int(words[1]) for wor
 chained = [place > 0 and targets[place - 1] == target for place, target in enumerate(targets)]
 right = [line.rstrip("\n") for line in open(values)]
 WHILE = 50
-OUTCOMES = ["answered", "late", "lost", "skipped", "unreadable", "missed"]
-COLUMNS = ["run", "sent", "time", "cycle", "place", "target", "name", "procedure", "outcome", "fault", "rc_com", "rc", "values"]
 # What a row has of a reply.
 OF_REPLY = ["fault", "rc_com", "rc", "values"]
 ECHOES = "the line sends back what goes out"
-STAMP = r"\d{4}-\d\d-\d\dT\d\d:\d\d:\d\d\.\d{3}Z"
+STAMP = MOMENT.pattern
 
 
 def milliseconds(row, column="time"):
     """A moment of a row, in milliseconds since 1970."""
-    return round(1000 * datetime.datetime.fromisoformat(row[column].replace("Z", "+00:00")).timestamp())
+    return round(1000 * moment(row[column]).timestamp())
 
 
 faults = []

@@ -2,15 +2,13 @@
 
 import collections
 import csv
-import datetime
 import io
 from contextlib import contextmanager
 
 from operating import PATIENCE, expect, expect_same, started
+from records import HEAD, MOMENT, OUTCOMES, moment
 
-HEAD = b"run,sent,time,cycle,place,target,name,procedure,outcome,fault,rc_com,rc,values\n"
-STAMP = r"\d{4}-\d\d-\d\dT\d\d:\d\d:\d\d\.\d{3}Z"
-OUTCOMES = ["answered", "late", "lost", "skipped", "unreadable", "missed"]
+STAMP = MOMENT.pattern
 
 
 @contextmanager
@@ -56,7 +54,7 @@ def counts_of(rows):
 
 def utc_of(row):
     """The seconds since 1970 of a row."""
-    return datetime.datetime.fromisoformat(row["time"].replace("Z", "+00:00")).timestamp()
+    return moment(row["time"]).timestamp()
 
 
 def expect_ends(rows, ends):

@@ -1,6 +1,5 @@
 """Trials of cycles: when they begin, what is missed, and what a station tells of itself meanwhile."""
 
-import datetime
 import os
 import pty
 import re
@@ -18,6 +17,7 @@ from pathlib import Path
 from far_end import LOSES, good, standing
 from measuring import STAMP, expect_each_once, finished, measuring, utc_of
 from operating import expect, expect_same, until
+from records import moment
 
 TWO = b"7 5003\n8 5004\n"
 
@@ -217,7 +217,7 @@ def connects_on(program):
                 rows, told = finished(run, patience=15)
                 expect_each_once(rows, 2, 1)
                 expect_signs(told[1:], [AWAY, AGAIN])
-                since = datetime.datetime.strptime(told[1][-24:], "%Y-%m-%dT%H:%M:%S.%f%z").timestamp()
+                since = moment(told[1][-24:]).timestamp()
                 expect(began - 0.1 <= since <= began + 0.5, f"{told[1]!r} was told, and it began at {began:.3f}")
                 expect_same({row["outcome"] for row in rows}, {"answered"}, "the outcomes")
 

@@ -1,21 +1,22 @@
-"""Whether a table is that of a station which measures the three targets of packaging/station: station_rows.py FILE CYCLES PERIOD
+"""Whether a file of rows is that of a station which measures the three targets of packaging/station: station_rows.py FILE CYCLES PERIOD
 
-It has one header, so many whole cycles at least, nine rows each, all answered and with what the simulated instrument measures, in
-order; and cycles that follow one another are so many seconds apart. Each command was sent behind the beginning of its run and before
-its end was told, the cycles of a run follow one another from 1, and a run begins behind the one before it.
+It is a table with one header, or has an object of JSON on each line. It has so many whole cycles at least, nine rows each, all
+answered and with what the simulated instrument measures, in order; and cycles that follow one another are so many seconds apart. Each
+command was sent behind the beginning of its run and before its end was told, the cycles of a run follow one another from 1, and a run
+begins behind the one before it.
 """
 
-import csv
-import datetime
 import sys
+from pathlib import Path
 
-HEADER = "run,sent,time,cycle,place,target,name,procedure,outcome,fault,rc_com,rc,values".split(",")
+import records
+
 MEASURED = ["0.5,1.5,25.125", "2.25,1.625,110.0625", "4.0,1.5,48.5"]
 NAMES = ["north prism"] * 3 + ["dam crest"] * 3 + ["south prism"] * 3
 
 
 def moment(row, column="time"):
-    return datetime.datetime.fromisoformat(row[column].replace("Z", "+00:00"))
+    return records.moment(row[column])
 
 
 def runs_of(rows):
@@ -30,11 +31,14 @@ def runs_of(rows):
 
 def main():
     path, cycles, period = sys.argv[1], int(sys.argv[2]), float(sys.argv[3])
-    with open(path, newline="", encoding="ascii") as file:
-        table = csv.DictReader(file)
-        rows = list(table)
-    assert table.fieldnames == HEADER, table.fieldnames
-    assert HEADER not in [list(row.values()) for row in rows], "a second header"
+    *lines, torn = Path(path).read_bytes().split(b"\n")
+    assert not torn, torn
+    form = records.form_of(lines[0], records.COLUMNS)
+    if isinstance(form, records.Table):
+        assert form.names == records.COLUMNS, form.names
+        lines.pop(0)
+    rows = [form.row(line) for line in lines]
+    assert None not in rows, "a second header"
     assert {row["outcome"] for row in rows} == {"answered"} and {row["rc"] for row in rows} == {"0"}, rows
     for row in rows:
         assert moment(row, "run") <= moment(row, "sent") <= moment(row), row

@@ -1,7 +1,7 @@
 """What a unit of systemd starts, as a line for sh, where no systemd runs: unit_line.py UNIT INSTANCE
 
-It reads the unit's ExecStart, EnvironmentFile, StandardInput, User and SupplementaryGroups, and nothing else of it. A word ${NAME} is one word, and
-$NAME as many as the value has, as systemd has it. It wants util-linux's setpriv.
+It reads the unit's ExecStart, Environment (one variable), EnvironmentFile, StandardInput, User and SupplementaryGroups, and nothing
+else of it. A word ${NAME} is one word, and $NAME as many as the value has, as systemd has it. It wants util-linux's setpriv.
 """
 
 import re
@@ -38,7 +38,8 @@ def words(line, variables):
 
 if __name__ == "__main__":
     unit = settings(sys.argv[1], sys.argv[2])
-    line = words(unit["ExecStart"], environment(unit["EnvironmentFile"]))
+    # What the file says holds in place of what the unit does.
+    line = words(unit["ExecStart"], {**dict([unit["Environment"].split("=", 1)]), **environment(unit["EnvironmentFile"])})
     user = ["setpriv", "--reuid", unit["User"], "--regid", unit["User"], "--groups", f"{unit['User']},{unit['SupplementaryGroups']}",
             "--no-new-privs", "--inh-caps=-all", "--bounding-set=-all"]
     print("exec", shlex.join([*user, *line]), "<", shlex.quote(unit["StandardInput"].removeprefix("file:")))

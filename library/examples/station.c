@@ -1,13 +1,18 @@
 /*
- * The core of a monitoring station over a file descriptor: it asks targets for a measurement, and writes a line of CSV for
- * each request that ended.
+ * The core of a monitoring station over a file descriptor: it measures targets, and writes a line of CSV for each request that
+ * ended.
  *
- *     station DEVICE|FD DEADLINE_MS TARGET..
+ *     station DEVICE|FD DEADLINE_MS NUMBER:HZ,V..
  *
  * DEVICE is a serial port that is set up already (stty raw), FD a number, as 0 for standard input and output of a socket.
- * At its start it sends a line feed, drops what comes until the line is quiet, and has a null procedure answered alone. A
- * request that is given up holds up no other, and a null procedure settles what is given up at the end. Where the connection
- * fails, or all that may wait were given up and nothing comes, it tells what was lost and ends.
+ * A target is a number of your own, and its horizontal direction and vertical angle in radians. It is measured by a chain of
+ * three commands: the telescope is pointed, a distance is measured, and both are read. Each goes out only once the one before it
+ * was answered with a value. The positioning has target recognition mode 1, so that the instrument aims at the prism: with mode 0
+ * the angles that are read only repeat the command. So DEADLINE_MS is 20000 to 30000, and the line is drained as long.
+ *
+ * At its start it sends a line feed, discards what comes until the line is quiet, and has a null procedure answered alone. A
+ * request that timed out holds up no other, and a null procedure settles what timed out at the end. Where the connection
+ * fails, or all that may wait have timed out and nothing comes, it writes what was lost and ends.
  */
 #define _POSIX_C_SOURCE 200809L
 #include <fcntl.h>
@@ -20,8 +25,8 @@
 
 #include "geocom.h"
 
-/* After so many milliseconds nothing from before comes any more. */
-enum { QUIET_MS = 2000 };
+/* Whether the last command that ended was answered with a value. */
+static int is_good = 0;
 
 static const char *const OUTCOMES[] = {"", "answered", "late", "lost"};
 static const char *const READINGS[] = {"none", "value", "refused", "com_fault", "unreadable"};
@@ -37,7 +42,8 @@ static void tell(const geocom_settlement *settlements, uint32_t count, const uin
     for (uint32_t k = 0; k < count; k++) {
         const geocom_settlement *s = &settlements[k];
         if (s->procedure == 0) continue;
-        printf("%u,%s,%s,%u", s->target, OUTCOMES[s->outcome], READINGS[s->reading], s->code);
+        is_good = s->reading == GEOCOM_VALUE;
+        printf("%u,%u,%s,%s,%u", s->target, s->procedure, OUTCOMES[s->outcome], READINGS[s->reading], s->code);
         for (uint16_t i = 0; i < s->items; i++)
             printf(",%.*s", (int)s->places[i].length, (const char *)text + s->places[i].offset);
         putchar('\n');
@@ -55,12 +61,12 @@ static int write_all(int fd, const uint8_t *bytes, size_t length) {
     return 0;
 }
 
-/* Drops what comes until nothing came for the quiet time, behind a line feed: -1 the connection failed. */
-static int drain(int fd) {
+/* Discards what comes until nothing came for so many milliseconds, behind a line feed: -1 the connection failed. */
+static int drain(int fd, uint64_t quiet) {
     uint8_t bytes[256];
     struct pollfd ready = {fd, POLLIN, 0};
     if (write_all(fd, (const uint8_t *)"\n", 1) < 0) return -1;
-    while (poll(&ready, 1, QUIET_MS) > 0)
+    while (poll(&ready, 1, (int)quiet) > 0)
         if (read(fd, bytes, sizeof bytes) <= 0) return -1;
     return 1;
 }
@@ -78,12 +84,12 @@ static int ask(geocom_client *client, int fd, uint32_t target, uint64_t deadline
     return write_all(fd, line, sent.count) < 0 ? -1 : 1;
 }
 
-/* Takes what comes, no longer than until the next deadline, or the quiet time: 1 something came or was given up, 0 nothing did,
- * -1 it failed. */
-static int hear(geocom_client *client, int fd) {
+/* Takes what comes, no longer than until the next deadline, or for so many milliseconds: 1 something came or timed out, 0 nothing
+ * did, -1 it failed. */
+static int hear(geocom_client *client, int fd, uint64_t quiet) {
     geocom_deadline next = geocom_client_next_deadline(client);
     uint64_t begin = now();
-    int wait = !next.is_set ? QUIET_MS : next.deadline <= begin ? 0 : (int)(next.deadline - begin);
+    int wait = !next.is_set ? (int)quiet : next.deadline <= begin ? 0 : (int)(next.deadline - begin);
     struct pollfd ready = {fd, POLLIN, 0};
     uint8_t bytes[256], text[GEOCOM_TEXT_ROOM];
     uint32_t targets[GEOCOM_WINDOW];
@@ -103,11 +109,50 @@ static int hear(geocom_client *client, int fd) {
     return came > 0 || next.is_set;
 }
 
+/* Whether a target's angles lie within one turn in radians, and not in gon or degrees. */
+static int is_in_radians(const char *word) {
+    const double turn = 6.2831853071795865;
+    const char *angles = strchr(word, ':');
+    char *end;
+    if (!angles) return 0;
+    double hz = strtod(angles + 1, &end);
+    if (*end != ',') return 0;
+    double v = strtod(end + 1, &end);
+    return *end == '\0' && hz >= -turn && hz <= turn && v >= 0 && v <= turn;
+}
+
+/* Sends the chain of a target, as 1:0.5,1.5, each command once the one before it was answered with a value: 1 the next target may
+ * follow, 0 nothing comes any more, -1 the connection failed. */
+static int measure(geocom_client *client, int fd, const char *word, uint64_t patience) {
+    char *angles, position[64];
+    uint32_t target = (uint32_t)strtoul(word, &angles, 10);
+    snprintf(position, sizeof position, "%s,0,1,0", *angles == ':' ? angles + 1 : angles);
+    const struct {
+        uint16_t procedure;
+        const char *params;
+    } chain[] = {{9027, position}, {2008, "1,1"}, {2108, "5000,1"}};
+    is_good = 1;
+    for (size_t k = 0; is_good && k < sizeof chain / sizeof chain[0]; k++) {
+        int going;
+        while ((going = ask(client, fd, target, now() + patience, chain[k].procedure, chain[k].params)) == 0)
+            if ((going = hear(client, fd, patience)) <= 0) return going;
+        is_good = 0;
+        while (going > 0 && geocom_client_next_deadline(client).is_set) going = hear(client, fd, patience);
+        if (going < 0) return going;
+    }
+    return 1;
+}
+
 int main(int count, char **words) {
     if (count < 4) {
-        fprintf(stderr, "station DEVICE|FD DEADLINE_MS TARGET..\n");
+        fprintf(stderr, "station DEVICE|FD DEADLINE_MS NUMBER:HZ,V..\n");
         return 2;
     }
+    for (int k = 3; k < count; k++)
+        if (!is_in_radians(words[k])) {
+            fprintf(stderr, "station: %s is no NUMBER:HZ,V in radians\n", words[k]);
+            return 2;
+        }
     char *end;
     int fd = (int)strtol(words[1], &end, 10);
     if (*end != '\0' && (fd = open(words[1], O_RDWR | O_NOCTTY)) < 0) {
@@ -117,17 +162,13 @@ int main(int count, char **words) {
     geocom_client client;
     if (geocom_version() != GEOCOM_VERSION || geocom_client_init(&client, GEOCOM_WINDOW) != 0) return 1;
     uint64_t patience = strtoull(words[2], NULL, 10);
-    int going = drain(fd);
+    int going = drain(fd, patience);
     if (going > 0) going = ask(&client, fd, 0, now() + patience, 0, "");
-    while (going > 0 && geocom_client_waiting(&client).count > 0) going = hear(&client, fd);
-    for (int k = 3; going > 0 && k < count;) {
-        going = ask(&client, fd, (uint32_t)strtoul(words[k], NULL, 10), now() + patience, 2108, "5000,1");
-        if (going == 1) k++;
-        if (going == 0) going = hear(&client, fd);
-    }
+    while (going > 0 && geocom_client_waiting(&client).count > 0) going = hear(&client, fd, patience);
+    for (int k = 3; going > 0 && k < count; k++) going = measure(&client, fd, words[k], patience);
     while (going > 0 && geocom_client_waiting(&client).count > 0) {
         if (!geocom_client_next_deadline(&client).is_set) going = ask(&client, fd, 0, now() + patience, 0, "");
-        if (going >= 0) going = hear(&client, fd);
+        if (going >= 0) going = hear(&client, fd, patience);
     }
     geocom_settlement settlements[GEOCOM_WINDOW];
     tell(settlements, geocom_client_restart(&client, settlements, GEOCOM_WINDOW).count, NULL);

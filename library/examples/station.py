@@ -2,16 +2,22 @@
 """A small monitoring station: it measures a list of targets every so many seconds, and writes a line of CSV for each
 request that ended. It wants python3-serial, and geocom.py with libgeocom.so on the path of Python's modules.
 
-    station.py /dev/ttyUSB0 --targets 1 2 3 --every 60 --deadline 5
+    station.py /dev/ttyUSB0 --targets 1:0.5,1.5 2:2.25,1.625 --every 60 --deadline 20
 
-Ids go on over connections. A new one is made where the port fails or is dead: half a line is dropped, the line rests, a
-line feed goes out, and what comes is dropped until the line is quiet. At its start, and where seven requests are given up
+A target is a number of your own, and its horizontal direction and vertical angle in radians. It is measured by a chain of
+three commands: the telescope is pointed, a distance is measured, and both are read. Each goes out only once the one before it
+was answered with a value, over the same connection; otherwise the rest of the chain isn't sent in that round. The positioning has
+target recognition mode 1, so that the instrument aims at the prism: with mode 0 the angles that are read only repeat the command.
+
+Ids go on over connections. A new one is made where the port fails or is dead: half a line is discarded, the line rests, a
+line feed goes out, and what comes is discarded until the line is quiet. At its start, and where seven requests have timed out
 and the line is quiet, it begins anew, with a null procedure that is answered alone. `docs/PROMISE.md` has the premises.
 """
 
 import argparse
 import collections
 import csv
+import math
 import sys
 import time
 
@@ -19,8 +25,13 @@ import serial
 
 import geocom
 
-MEASURE = (2108, "5000,1")
 NULL = (0, "")
+TURN = 2 * math.pi
+
+
+def chain(hz: str, v: str) -> list[tuple[int, str]]:
+    """The commands that measure a target: point and aim, measure a distance, read angles and distance."""
+    return [(9027, f"{hz},{v},0,1,0"), (2008, "1,1"), (2108, "5000,1")]
 
 
 def now() -> int:
@@ -29,10 +40,10 @@ def now() -> int:
 
 
 class Station:
-    def __init__(self, port: str, baud: int, deadline: int, quiet: int, width: int, out):
+    def __init__(self, port: str, baud: int, deadline: int, quiet: int, out):
         self.settings = dict(url=port, baudrate=baud, timeout=0)
         self.port = None
-        self.deadline, self.quiet, self.width = deadline, quiet, width
+        self.deadline, self.quiet = deadline, quiet
         self.client = geocom.Client()
         # What waits, in order: its deadline, and whether it is a null procedure.
         self.waiting = collections.deque()
@@ -40,6 +51,9 @@ class Station:
         self.moment = self.last = self.alive = now()
         self.replies = 0
         self.asked = False
+        # How many connections were made, and whether the last command that ended was answered with a value.
+        self.connections = 0
+        self.is_good = False
         self.pause = quiet
         self.rows = csv.writer(out, lineterminator="\n")
         self.out = out
@@ -49,7 +63,7 @@ class Station:
         return sum(deadline > self.moment for deadline, _ in self.waiting)
 
     def has_room(self) -> bool:
-        return self.under_way() < self.width and len(self.waiting) < geocom.WINDOW
+        return not self.under_way() and len(self.waiting) < geocom.WINDOW
 
     def ask(self, target: int, procedure: int, params: str) -> None:
         """Sends a request. It goes out once, whatever becomes of it."""
@@ -108,8 +122,9 @@ class Station:
                 print(f"station: {failed}", file=sys.stderr)
                 if self.port is None:
                     time.sleep(1)
-        # Half a line of the last connection is dropped, too.
+        # Half a line of the last connection is discarded, too.
         self.tell(self.client.feed(b"\n"))
+        self.connections += 1
         self.alive, self.asked = now(), False
 
     def begin(self) -> None:
@@ -130,13 +145,21 @@ class Station:
         if len(self.waiting) == geocom.WINDOW and self.is_silent():
             self.begin()
 
+    def is_done(self, target: int, procedure: int, params: str) -> bool:
+        """Sends a command once nothing else is under way: whether it was answered with a value, over the same connection."""
+        while not self.has_room():
+            self.wait()
+        connections, self.is_good = self.connections, False
+        self.ask(target, procedure, params)
+        while self.under_way():
+            self.wait()
+        return self.is_good and connections == self.connections
+
     def measure(self, targets) -> None:
-        """A round: each target once, until each is settled."""
+        """A round: each target's chain once, until each command that was sent is settled."""
         self.alive, self.asked = now(), False
-        for target in targets:
-            while not self.has_room():
-                self.wait()
-            self.ask(target, *MEASURE)
+        for target, hz, v in targets:
+            all(self.is_done(target, *command) for command in chain(hz, v))
         while not all(is_null for _, is_null in self.waiting):
             if not self.under_way() and self.has_room():
                 # Its reply settles those that are given up.
@@ -149,23 +172,33 @@ class Station:
             if s.outcome != geocom.Outcome.LOST and not is_null:
                 self.pause = self.quiet
             if not is_null:
-                self.rows.writerow([s.target, s.outcome, s.reading, s.code, *s.items])
+                self.is_good = s.reading == geocom.Reading.VALUE
+                self.rows.writerow([s.target, s.procedure, s.outcome, s.reading, s.code, *s.items])
         self.out.flush()
+
+
+def target(word: str) -> tuple[int, str, str]:
+    """A target of the command line, as 1:0.5,1.5."""
+    number, angles = word.split(":")
+    hz, v = angles.split(",")
+    if not (abs(float(hz)) <= TURN and 0 <= float(v) <= TURN):
+        raise ValueError("an angle outside one turn in radians looks like gon or degrees")
+    return int(number), hz, v
 
 
 def main() -> None:
     options = argparse.ArgumentParser(description=__doc__.splitlines()[0])
     options.add_argument("port", help="a serial port, or socket://127.0.0.1:4001")
-    options.add_argument("--targets", type=int, nargs="+", default=[1, 2, 3])
+    options.add_argument("--targets", type=target, nargs="+", required=True, help="NUMBER:HZ,V, angles in radians")
     options.add_argument("--every", type=float, default=60, help="seconds between two rounds")
-    options.add_argument("--deadline", type=float, default=5, help="seconds for an answer")
-    options.add_argument("--quiet", type=float, default=2, help="seconds after which nothing from before comes any more")
+    options.add_argument("--deadline", type=float, default=10, help="seconds for an answer: 20 to 30 where it aims")
+    options.add_argument("--quiet", type=float, help="seconds after which nothing from before comes any more: the deadline")
     options.add_argument("--baud", type=int, default=19200)
-    options.add_argument("--width", type=int, default=7, help="how many requests may be under way: 1 for an instrument that buffers one")
     options.add_argument("--rounds", type=int, default=0, help="stop after so many; 0 goes on")
     given = options.parse_args()
 
-    station = Station(given.port, given.baud, int(given.deadline * 1000), int(given.quiet * 1000), given.width, sys.stdout)
+    quiet = given.deadline if given.quiet is None else given.quiet
+    station = Station(given.port, given.baud, int(given.deadline * 1000), int(quiet * 1000), sys.stdout)
     station.begin()
     done = 0
     while given.rounds == 0 or done < given.rounds:

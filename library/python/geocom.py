@@ -1,16 +1,40 @@
-"""The proved GeoCOM client, from Python, over libgeocom.so.
+r"""The proved GeoCOM client, from Python, over libgeocom.so.
 
+This sends one request, and prints how it ended (quickstart.py of the library's examples):
+
+    import sys, time
     import geocom, serial
 
-    port = serial.Serial("/dev/ttyUSB0", 19200, timeout=1)
+    PATIENCE = 10_000  # milliseconds: longer than the instrument's slowest answer
+
+    def now():
+        return time.monotonic_ns() // 1_000_000
+
+    def ask(target, procedure, parameters=""):
+        port.write(client.send(target, now() + PATIENCE, procedure, parameters))
+        settled = []
+        while client.next_deadline() is not None:  # until it is answered or times out
+            data = port.read(256)
+            client.expire(now())
+            settled += client.feed(data)
+        return settled or sys.exit(f"target {target}: no answer in time")
+
     client = geocom.Client()
-    port.write(client.send(target=7, deadline=5000, procedure=5003))
-    for settlement in client.feed(port.read(256)):
-        print(settlement.target, settlement.outcome, settlement.items)
+    port = serial.Serial(sys.argv[1], 19200, timeout=0.1, exclusive=True)
+    port.write(b"\n")  # clears half a request of an earlier run
+    heard = now()
+    while now() - heard < PATIENCE:  # discards its replies until the line is quiet
+        if port.read(256):
+            heard = now()
+    ask(0, 0)  # the null procedure; nothing else goes out before it is answered
+    for settlement in ask(int(sys.argv[2]), int(sys.argv[3]), *sys.argv[4:]):
+        print(settlement.target, settlement.outcome, settlement.reading, settlement.items)
 
 A client settles each request once, in the order of sending: answered, late or lost. It reads no clock and opens no port:
-deadlines and moments are any count of yours, as milliseconds since the start. `geocom.h`, beside this file, says what each
-call does, and what its caller vouches for.
+deadlines and moments are any count of yours, as milliseconds since the start. After each read call `expire` with the moment, and
+then `feed` with the bytes: only so is a reply past its deadline late. A client starts on a quiet line, with a null procedure that is
+answered alone: otherwise an old reply could be taken for the answer to its first request. `geocom.h`, beside this file, says what
+each call does, and what its caller vouches for.
 """
 
 from __future__ import annotations

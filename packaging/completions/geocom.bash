@@ -3,7 +3,7 @@
 _geocom() {
     local cur prev words cword
     _init_completion || return
-    local command=${words[1]:-} given=
+    local command=${words[1]:-} word given=
     if [ "$cword" -eq 1 ]; then
         mapfile -t COMPREPLY < <(compgen -W 'exec check drill loop serve ask station --help --version' -- "$cur")
         return
@@ -31,6 +31,13 @@ _geocom() {
     station) given='--width --deadline --every --cycles --quiet --retries --csv --columns --json --append --sync --unchained --silent --log --help' ;;
     *) return ;;
     esac
+    # What can't be given behind what stands there.
+    for word in "${words[@]:2}"; do
+        case $word in
+        --json) given=${given/--csv --columns /} ;;
+        --csv | --columns) given=${given/--json /} ;;
+        esac
+    done
     case $command:$cur in
     *:-*) mapfile -t COMPREPLY < <(compgen -W "$given" -- "$cur") ;;
     serve:* | ask:* | station:*)

@@ -1,0 +1,123 @@
+"""What a station's rows are, as `docs/PROTOCOL.md`, "Rows", has them: their columns, their moments, and how the lines of both forms
+are read: those of a table, with or without `--columns`, and the objects of `--json`.
+"""
+
+import csv
+import datetime
+import json
+import re
+
+# The columns of a station's rows. Further ones are handed on under their names.
+COLUMNS = ["run", "sent", "time", "cycle", "place", "target", "name", "procedure", "outcome", "fault", "rc_com", "rc", "values"]
+HEAD = ",".join(COLUMNS).encode() + b"\n"
+OUTCOMES = ["answered", "late", "lost", "skipped", "unreadable", "missed"]
+MOMENTS = ["run", "sent", "time"]
+NUMBERS = ["cycle", "place", "target", "procedure", "fault", "rc_com", "rc"]
+# What every reader of a table needs. A table of an earlier version has no other columns.
+NEEDED = [column for column in COLUMNS if column not in ("run", "sent")]
+# What no row has empty.
+FILLED = ["run", "time", "cycle", "place", "target", "procedure", "outcome"]
+MOMENT = re.compile(r"[0-9]{4}-[0-9]{2}-[0-9]{2}T[0-9]{2}:[0-9]{2}:[0-9]{2}\.[0-9]{3}Z")
+ESCAPES = {byte: f"\\x{byte:02x}" for byte in range(256) if not 32 <= byte < 127}
+
+
+class NoRow(Exception):
+    """Why a line is no row."""
+
+
+def printable(data):
+    """A line as printable ASCII: each other byte is `\\xNN`, so that any sink takes it."""
+    return data.decode("latin-1").translate(ESCAPES)
+
+
+def moment(text):
+    """A moment as a station writes it; `ValueError` where it is none."""
+    if not MOMENT.fullmatch(text):
+        raise ValueError(text)
+    return datetime.datetime.fromisoformat(text.replace("Z", "+00:00"))
+
+
+def fields_of(line):
+    """The fields of a table's line without its line feed."""
+    try:
+        return next(csv.reader([printable(line)], strict=True), [])
+    except csv.Error as why:
+        raise NoRow(str(why)) from None
+
+
+def members_of(line):
+    """The members of an object of JSON, each as the text that stands there."""
+    try:
+        members = json.loads(printable(line), object_pairs_hook=list, parse_int=str, parse_float=str)
+    except (ValueError, RecursionError):
+        members = None
+    # A list of JSON would be read as the members of an object are.
+    if members is None or not line.startswith(b"{"):
+        raise NoRow("it is no object of JSON")
+    for name, field in members:
+        if not all(isinstance(text, str) and text.isascii() and text.isprintable() for text in (name, field)):
+            raise NoRow(f"its member {ascii(name)[:80]} is neither a number nor a printable text")
+    if len(dict(members)) != len(members):
+        raise NoRow("a member stands there twice")
+    return dict(members)
+
+
+def checked(fields):
+    """The fields of a row. A row that is glued to a torn one has a first field that is no moment."""
+    for column in FILLED:
+        if fields.get(column) == "":
+            raise NoRow(f"it has nothing as {column}")
+    for columns, kind, is_so in [(MOMENTS, "moment", moment), (NUMBERS, "number", whole_number)]:
+        for column in columns:
+            try:
+                if fields.get(column):
+                    is_so(fields[column])
+            except ValueError:
+                raise NoRow(f"its {column} is no {kind}: {fields[column][:80]}") from None
+    return fields
+
+
+def whole_number(text):
+    """A number that any database takes; `ValueError` where it is none."""
+    number = int(text)
+    if abs(number) >= 1 << 63:
+        raise ValueError(text)
+    return number
+
+
+class Table:
+    """The form of a file that begins with the names of its columns."""
+
+    def __init__(self, line, needed):
+        self.head = line
+        try:
+            self.names = fields_of(line)
+        except NoRow as why:
+            raise NoRow(f"doesn't begin with the names of columns: {why}") from None
+        for column in needed:
+            if column not in self.names:
+                raise NoRow(f"has no column {column}")
+
+    def row(self, line):
+        """The fields of a row, by the names of their columns; nothing of the names themselves, which stand again where the rows of
+        several starts were put one behind the other."""
+        if line == self.head:
+            return None
+        fields = fields_of(line)
+        if len(fields) != len(self.names):
+            raise NoRow(f"it has {len(fields)} fields for {len(self.names)} columns")
+        return checked(dict(zip(self.names, fields)))
+
+
+class Objects:
+    """The form of a file with an object of JSON on each line, in which empty fields are left out."""
+
+    @staticmethod
+    def row(line):
+        """The fields of a row, by the names of their columns."""
+        return checked({**dict.fromkeys(COLUMNS, ""), **members_of(line)})
+
+
+def form_of(line, needed=NEEDED):
+    """The form of a file with this first line. A table has to have the columns that are needed."""
+    return Objects() if line.startswith(b"{") else Table(line, needed)
