@@ -20,3 +20,6 @@ mod Dates
 mod FaultLines
 pub mod Logs
 mod LogStamps
+mod Told
+mod Moments
+mod Chained

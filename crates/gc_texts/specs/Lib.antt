@@ -19,3 +19,6 @@ pub mod Records
 pub mod Troubles
 pub mod Logs
 pub mod Laws
+pub mod Told
+pub mod Moments
+pub mod Chained

@@ -1,6 +1,9 @@
 //! What is proved of the definitions themselves. The functions have no effect: their contracts are the laws.
 
 ghost use Rattle.gc_texts.specs.FaultNumbers.{FaultsHaveTheirNumbers};
+ghost use Rattle.gc_texts.specs.Chained.{CommandsGoOutSo};
+ghost use Rattle.gc_texts.specs.Told.{QuantitiesHaveTheirNames, RowsFillTheirColumns};
+ghost use Rattle.gc_texts.specs.Moments.{StampsAreMoments};
 ghost use Rattle.gc_texts.specs.Laws.{OneCommandList, OneTaskList, CommandsAreTasks, CommandsArePlain, ChainsAreRows, ColumnsAreFields, WantedIsTheCatalogues, LogLinesReadBack, LogLinesArePrintable, RowsReadBack, RowsArePrintable, JsonLinesReadBack, RecordsAreMembers};
 
 /// A text gives one list of commands at most.
@@ -69,4 +72,28 @@ pub fn records_are_members()
 /// theirs, 31 and 41, in the clause of their call.
 pub fn faults_have_their_numbers()
     ensures { FaultsHaveTheirNumbers }
+{}
+
+/// Each command of a station's text has the deadline of the last line in front of it that says one. It is chained exactly where
+/// the last line of a mode says so, or the one who asked, and the command before it is for the same target, with no line of a mode
+/// between the two: lines of deadlines and names leave a chain whole.
+pub fn commands_go_out_as_their_lines_say()
+    ensures { CommandsGoOutSo }
+{}
+
+/// The values of an answer stand under the names of what its procedure tells, by its number in the manual's procedure tables. The
+/// columns of a row and the members of an object have these names.
+pub fn quantities_have_their_names()
+    ensures { QuantitiesHaveTheirNames }
+{}
+
+/// However a command ended, its row has as many fields as the header has names.
+pub fn rows_fill_their_columns()
+    ensures { RowsFillTheirColumns }
+{}
+
+/// A stamp has its day, hour, minute and second, and the milliseconds behind them, each in the digits that count it. The days are
+/// those that follow 1 January 1970.
+pub fn stamps_are_moments()
+    ensures { StampsAreMoments }
 {}

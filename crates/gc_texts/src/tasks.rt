@@ -1,6 +1,7 @@
 //! Tasks: commands of a station's text, with how each goes out.
 
-ghost use Rattle.std.specs.Prelude.{◌≡◌, ◌<◌, ◌≤◌, ◌↔◌, ◌++◌, ℕ, length, Err, None, IfOk, IfErr, OnOk};
+ghost use Rattle.std.specs.Prelude.{◌≡◌, ◌<◌, ◌≤◌, ◌↔◌, ◌⊎◌, ◌++◌, ℕ, length, Err, None, IfOk, IfErr, OnOk, OnErr};
+ghost use Rattle.std.specs.Vec.{vec_capacity, vec_len};
 ghost use Rattle.gc_texts.specs.Names.{name_text};
 ghost use Rattle.gc_texts.specs.Tasks.{opening, behind, goes_on, task_at, name_at, may_stand, IsTasks, IsFirstFaultyTask, IsBehindATask, TaskFault};
 ghost use Rattle.gc_texts.specs.declared.fault.RunFault.{RunFault};
@@ -115,6 +116,7 @@ fn keep(
 ) -> Result<(), AllocError>
     ensures tasks { OnOk result (tasks.new.items ≡ tasks.old.items ++ task_at mode said) }
     ensures names { OnOk result (names.new.items ≡ names.old.items ++ name_at said) }
+    ensures wants { OnErr result ((vec_capacity tasks.old ≤ vec_len tasks.old) ⊎ (vec_capacity names.old ≤ vec_len names.old)) }
 {
     match said {
         TaskLine::Command(command) => {

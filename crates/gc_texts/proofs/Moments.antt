@@ -1,0 +1,62 @@
+-- A stamp's numbers, from its milliseconds.
+use Rattle.std.proofs.Common.{◌≡◌, ℕ, ◌+◌, ◌*◌, ◌/◌, ◌%◌, ◌<◌, List, [], ◌∷◌, ◌++◌, refl, ap, ◌∙◌, arith}
+use Rattle.std.specs.Prelude.{codes}
+use Rattle.std.proofs.Math.Nat.{div-add-mod}
+use Rattle.gc_texts.specs.Moments.{millis_of, digit, StampsAreMoments}
+use Rattle.gc_texts.specs.Stamps.{next_day, days_after, date_of, two_digits, three_digits, date_text, time_text, stamp_text}
+use Rattle.gc_texts.proofs.Dates.{days_sum}
+
+two : (a b : ℕ) → b < 10 → two_digits (a * 10 + b) ≡ digit a ∷ digit b ∷ []
+two a b h =
+    let n = a * 10 + b in
+    let first : n / 10 ≡ a = omega (arith, h, div-add-mod n 10) in
+    let second : n % 10 ≡ b = omega (arith, h, div-add-mod n 10) in
+    ap (λ x. digit x ∷ digit (n % 10) ∷ []) first ∙ ap (λ x. digit a ∷ digit x ∷ []) second
+
+three : (a b c : ℕ) → b < 10 → c < 10 → three_digits (a * 100 + b * 10 + c) ≡ digit a ∷ digit b ∷ digit c ∷ []
+three a b c h k =
+    let n = a * 100 + b * 10 + c in
+    let first : n / 100 ≡ a = omega (arith, h, k, div-add-mod n 100) in
+    let rest : n % 100 ≡ b * 10 + c = omega (arith, h, k, div-add-mod n 100) in
+    ap (λ x. digit x ∷ two_digits (n % 100)) first ∙ ap (λ x. digit a ∷ two_digits x) rest ∙ ap (λ xs. digit a ∷ xs) (two b c k)
+
+-- the numbers of a time
+time : (hours minutes seconds more : ℕ) → minutes < 60 → seconds < 60 → more < 1000
+    → time_text (hours * 3600000 + minutes * 60000 + seconds * 1000 + more) ≡ two_digits hours ++ 58 ∷ (two_digits minutes ++ 58 ∷ (two_digits seconds ++ 46 ∷ three_digits more))
+time hours minutes seconds more m s k =
+    let n = hours * 3600000 + minutes * 60000 + seconds * 1000 + more in
+    let a : n / 3600000 ≡ hours = omega (arith, m, s, k, div-add-mod n 3600000) in
+    let b1 : n / 60000 ≡ hours * 60 + minutes = omega (arith, s, k, div-add-mod n 60000) in
+    let b2 : (hours * 60 + minutes) % 60 ≡ minutes = omega (arith, m, div-add-mod (hours * 60 + minutes) 60) in
+    let c1 : n / 1000 ≡ (hours * 60 + minutes) * 60 + seconds = omega (arith, k, div-add-mod n 1000) in
+    let c2 : ((hours * 60 + minutes) * 60 + seconds) % 60 ≡ seconds = omega (arith, s, div-add-mod ((hours * 60 + minutes) * 60 + seconds) 60) in
+    let d : n % 1000 ≡ more = omega (arith, k, div-add-mod n 1000) in
+    ap (λ x. two_digits x ++ 58 ∷ (two_digits (n / 60000 % 60) ++ 58 ∷ (two_digits (n / 1000 % 60) ++ 46 ∷ three_digits (n % 1000)))) a
+    ∙ ap (λ x. two_digits hours ++ 58 ∷ (two_digits x ++ 58 ∷ (two_digits (n / 1000 % 60) ++ 46 ∷ three_digits (n % 1000)))) (ap (λ x. x % 60) b1 ∙ b2)
+    ∙ ap (λ x. two_digits hours ++ 58 ∷ (two_digits minutes ++ 58 ∷ (two_digits x ++ 46 ∷ three_digits (n % 1000)))) (ap (λ x. x % 60) c1 ∙ c2)
+    ∙ ap (λ x. two_digits hours ++ 58 ∷ (two_digits minutes ++ 58 ∷ (two_digits seconds ++ 46 ∷ three_digits x))) d
+
+-- the parts of a stamp
+abbrev parts : List ℕ → List ℕ → List ℕ
+parts date time = date ++ codes "T" ++ time ++ codes "Z"
+
+moment : (days hours minutes seconds more : ℕ) → hours < 24 → minutes < 60 → seconds < 60 → more < 1000
+    → stamp_text (millis_of days hours minutes seconds more)
+    ≡ date_text (date_of days) ++ codes "T" ++ (two_digits hours ++ codes ":" ++ two_digits minutes ++ codes ":" ++ two_digits seconds ++ codes "." ++ three_digits more) ++ codes "Z"
+moment days hours minutes seconds more h m s k =
+    let n = millis_of days hours minutes seconds more in
+    let day : n / 86400000 ≡ days = omega (arith, h, m, s, k, div-add-mod n 86400000) in
+    let rest : n % 86400000 ≡ hours * 3600000 + minutes * 60000 + seconds * 1000 + more = omega (arith, h, m, s, k, div-add-mod n 86400000) in
+    ap (λ x. parts (date_text (date_of x)) (time_text (n % 86400000))) day
+    ∙ ap (λ x. parts (date_text (date_of days)) x) (ap time_text rest ∙ time hours minutes seconds more m s k)
+
+next : (days : ℕ) → date_of (days + 1) ≡ next_day (date_of days)
+unfolding days_after
+next days = days_sum days 1 (record { year = 1970; month = 1; day = 1 })
+
+first : date_of 0 ≡ record { year = 1970; month = 1; day = 1 }
+unfolding days_after
+first = refl
+
+pub are_moments : StampsAreMoments
+are_moments = record { moment = moment; two = two; three = three; first = first; next = next }

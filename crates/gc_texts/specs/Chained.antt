@@ -1,0 +1,68 @@
+-- What holds of a command in a station's text, by the lines in front of it: this project's own.
+use Rattle.std.specs.Prelude.{◌≡◌, ◌⊎◌, ℕ, suc, Bool, true, false, List, [], ◌∷◌, ◌++◌, length}
+use Rattle.std.specs.List.{AllByRecursion}
+use Rattle.gc_texts.specs.Tasks.{IsTasks}
+use Rattle.gc_texts.specs.declared.commands.Command.{Command}
+use Rattle.gc_texts.specs.declared.name.Name.{Name}
+use Rattle.gc_texts.specs.declared.task_line.TaskLine.{TaskLine}
+use Rattle.gc_texts.specs.declared.task_line.TaskLine.TheVariants as says
+use Rattle.gc_texts.specs.declared.tasks.Task.{Task}
+
+-- how many of these lines are commands
+abbrev pub commands_in : List TaskLine → ℕ
+commands_in [] = 0
+commands_in (says.Command command ∷ later) = suc (commands_in later)
+commands_in (line ∷ later) = commands_in later
+
+-- a line says no deadline
+abbrev pub SaysNoDeadline : TaskLine → Type 0
+SaysNoDeadline (says.Deadline deadline) = ⊥
+SaysNoDeadline _ = Unit {0}
+
+-- the deadline behind these lines: that of the last one that says one, and where none does, this
+abbrev pub IsDeadlineBehind : ℕ → List TaskLine → ℕ → Type 0
+IsDeadlineBehind given lines deadline =
+    (AllByRecursion SaysNoDeadline lines × (deadline ≡ given))
+    ⊎ ((before : List TaskLine) × (between : List TaskLine) × (lines ≡ before ++ says.Deadline deadline ∷ between) × AllByRecursion SaysNoDeadline between)
+
+-- a line says no mode
+abbrev pub SaysNoMode : TaskLine → Type 0
+SaysNoMode says.Chained = ⊥
+SaysNoMode says.Unchained = ⊥
+SaysNoMode _ = Unit {0}
+
+abbrev pub mode_line : Bool → TaskLine
+mode_line true = says.Chained
+mode_line false = says.Unchained
+
+-- whether commands are chained behind these lines: as the last one of a mode says, and where there is none, as this does
+abbrev pub IsModeBehind : Bool → List TaskLine → Bool → Type 0
+IsModeBehind given lines chained =
+    (AllByRecursion SaysNoMode lines × (chained ≡ given))
+    ⊎ ((before : List TaskLine) × (between : List TaskLine) × (lines ≡ before ++ mode_line chained ∷ between) × AllByRecursion SaysNoMode between)
+
+-- a line between two commands of a chain: a deadline, or a name
+abbrev pub KeepsChains : TaskLine → Type 0
+KeepsChains (says.Deadline deadline) = Unit {0}
+KeepsChains (says.Naming name) = Unit {0}
+KeepsChains _ = ⊥
+
+-- the last command of these lines is for this target, and behind it stand deadlines and names alone
+abbrev pub EndsWithTarget : List TaskLine → ℕ → Type 0
+EndsWithTarget lines target =
+    (before : List TaskLine) × (command : Command) × (between : List TaskLine) × (lines ≡ before ++ says.Command command ∷ between) × AllByRecursion KeepsChains between × (command.target ≡ target)
+
+-- how a command goes out that stands behind these lines: with the deadline there, and chained exactly where commands are chained there
+-- and the command before it is for the same target, with no line of a mode between the two
+pub record GoesOut (deadline : ℕ) (chained : Bool) (front : List TaskLine) (command : Command) (task : Task) : Type 0 where
+  pub asks : task.command ≡ command
+  pub deadline_is : IsDeadlineBehind deadline front task.deadline
+  pub only : task.chained ≡ true → IsModeBehind chained front true × EndsWithTarget front command.target
+  pub found : IsModeBehind chained front true → EndsWithTarget front command.target → task.chained ≡ true
+
+-- each command of a text goes out so
+abbrev pub CommandsGoOutSo : Type 0
+CommandsGoOutSo =
+    (text : List ℕ) (deadline : ℕ) (chained : Bool) (tasks : List Task) (names : List Name) (is : IsTasks text deadline chained tasks names)
+    (front later : List TaskLine) (command : Command) → is.said ≡ front ++ says.Command command ∷ later
+    → (earlier : List Task) × (task : Task) × (others : List Task) × (tasks ≡ earlier ++ task ∷ others) × (length earlier ≡ commands_in front) × GoesOut deadline chained front command task
