@@ -1,1 +1,2 @@
 mod LogLines
+mod Ways
