@@ -40,3 +40,8 @@ mod Used
 mod Waiting
 mod Walk
 pub mod Linking
+mod Codes
+mod Counting
+mod Room
+mod Cycles
+mod Pauses

@@ -23,3 +23,8 @@ pub mod Stations
 pub mod Pace
 pub mod Parts
 pub mod Links
+pub mod Codes
+pub mod Counting
+pub mod Room
+pub mod Cycles
+pub mod Pauses

@@ -13,6 +13,11 @@ ghost use Rattle.gc_station.specs.Answers.{IsTrueRecord};
 ghost use Rattle.gc_station.specs.Beginnings.{IsFirst, IsAnsweredAmong, BeginsWith, quiet_times};
 ghost use Rattle.gc_station.specs.Closing.{IsReasoned, ClosesForACause, StopsForACause};
 ghost use Rattle.gc_station.specs.Deciding.{patience_of};
+ghost use Rattle.gc_station.specs.Codes.{WellIsBothCodesZero};
+ghost use Rattle.gc_station.specs.Counting.{TalliesCountRecords};
+ghost use Rattle.gc_station.specs.Cycles.{CyclesBeginWhenDue, SentOnlyInTime, UnsentForACause};
+ghost use Rattle.gc_station.specs.Pauses.{TriesAndPausesAreCounted};
+ghost use Rattle.gc_station.specs.Room.{RequestsHaveRoom};
 ghost use Rattle.gc_station.specs.Chains.{IsChained, IsLinked};
 ghost use Rattle.gc_station.specs.EachOnce.{EachOnce, IsFurther};
 ghost use Rattle.gc_station.specs.Links.{ChainsStay, MarksGoOn, RecordsStay};
@@ -190,4 +195,45 @@ pub fn marks_go_on()
 /// A command of a chain goes out in the part of the run in which each one before it went out and was answered well.
 pub fn chains_stay()
     ensures { ChainsStay }
+{}
+
+/// A command was answered well only where the communication code and the return code of its reply are both 0 and its parameters
+/// read, and it was where they are an answer of its call. One that is late, lost, skipped or missed never was.
+pub fn answered_well_is_both_codes_zero()
+    ensures { WellIsBothCodesZero }
+{}
+
+/// Each count of a tally is that of the records that ended so, up to 2^64 - 1.
+pub fn tallies_count_the_records()
+    ensures { TalliesCountRecords }
+{}
+
+/// Where a request goes out, fewer are under way than the plan's width, or none is; and fewer than seven wait in all.
+pub fn each_request_has_room()
+    ensures { RequestsHaveRoom }
+{}
+
+/// Where cycles are due at times, each begins at or behind its due moment, by a clock that doesn't go back: the first is due when it
+/// begins, and each other one so long behind the one before it.
+pub fn cycles_begin_when_due()
+    ensures { CyclesBeginWhenDue }
+{}
+
+/// Where a command goes out, its cycle began before the next one was due: nothing of a missed cycle is sent.
+pub fn missed_cycles_are_not_sent()
+    ensures { SentOnlyInTime }
+{}
+
+/// Each record of a command that is missed is so: its cycle began when the next one was due, or later, and it has the moment at which
+/// its cycle was due. Each record of one that is skipped is so: its cycle wasn't missed; it is of a chain, and not its first; and the
+/// one before it wasn't answered well, or a connection was closed since that went out. Neither was sent.
+pub fn unsent_ones_are_so_for_a_cause()
+    ensures { UnsentForACause }
+{}
+
+/// Tries and pauses by the failures in a row. A failure takes one try, and without one left the run is over. The pause behind the
+/// first one is the quiet time, and behind each further one twice that of the one before it, up to a minute and never below the quiet
+/// time. A read that settles a command gives all tries back and ends the pause, and nothing else changes either.
+pub fn tries_and_pauses_are_counted()
+    ensures { TriesAndPausesAreCounted }
 {}

@@ -1,0 +1,62 @@
+-- A tally counts the records.
+use Rattle.std.proofs.Common.{◌≡◌, ℕ, suc, ◌+◌, ◌≤◌, Bool, true, false, List, [], ◌∷◌, if◌then◌else◌, refl, ap, ◌∙◌, arith}
+use Rattle.gc_texts.specs.Endings.{End, Answered, Unreadable, Late, Lost, Skipped, Missed}
+use Rattle.gc_station.specs.Counting.{how_many, is_answered, is_unreadable, is_late, is_lost, is_skipped, is_missed, at_most, TalliesCountRecords}
+use Rattle.gc_station.specs.Records.{Record}
+use Rattle.gc_station.specs.Tallies.{none_yet, one_more, counted, tallied}
+use Rattle.gc_station.specs.declared.tally.Tally.{Tally}
+
+none_more : (n : ℕ) → at_most (0 + n) ≡ at_most n
+none_more n = omega arith
+
+-- a count of a tally that grows by one where a command ended so, and by none where it didn't
+module _ (count : Tally → ℕ) (so : End → Bool) (step : (end : End) (t : Tally) → count (counted end t) ≡ (if so end then one_more (count t) else count t)) where
+  more : (b : Bool) (n k : ℕ) → at_most ((if b then one_more n else n) + k) ≡ at_most (n + (if b then suc k else k))
+  more true n k = omega arith
+  more false n k = refl
+
+  counts : (t : Tally) (records : List Record) → count t ≤ 18446744073709551615 → count (tallied t records) ≡ at_most (count t + how_many so records)
+  counts t [] few = omega (arith, few)
+  counts t (r ∷ others) few =
+      let is = step r.end t in
+      counts (counted r.end t) others (below (so r.end) is) ∙ ap (λ n. at_most (n + how_many so others)) is ∙ more (so r.end) (count t) (how_many so others) where
+        below : (b : Bool) → count (counted r.end t) ≡ (if b then one_more (count t) else count t) → count (counted r.end t) ≤ 18446744073709551615
+        below true e = omega (arith, e)
+        below false e = omega (arith, e, few)
+
+  pub counts_all : count none_yet ≡ 0 → (records : List Record) → count (tallied none_yet records) ≡ at_most (how_many so records)
+  counts_all none records = counts none_yet records (omega (arith, none)) ∙ ap (λ n. at_most (n + how_many so records)) none ∙ none_more (how_many so records)
+
+answered : (end : End) (t : Tally) → (counted end t).answered ≡ (if is_answered end then one_more t.answered else t.answered)
+answered (Answered answer line) t = refl
+answered end t = refl
+
+unreadable : (end : End) (t : Tally) → (counted end t).unreadable ≡ (if is_unreadable end then one_more t.unreadable else t.unreadable)
+unreadable (Unreadable line fault) t = refl
+unreadable end t = refl
+
+late : (end : End) (t : Tally) → (counted end t).late ≡ (if is_late end then one_more t.late else t.late)
+late Late t = refl
+late end t = refl
+
+lost : (end : End) (t : Tally) → (counted end t).lost ≡ (if is_lost end then one_more t.lost else t.lost)
+lost Lost t = refl
+lost end t = refl
+
+skipped : (end : End) (t : Tally) → (counted end t).skipped ≡ (if is_skipped end then one_more t.skipped else t.skipped)
+skipped Skipped t = refl
+skipped end t = refl
+
+missed : (end : End) (t : Tally) → (counted end t).missed ≡ (if is_missed end then one_more t.missed else t.missed)
+missed Missed t = refl
+missed end t = refl
+
+pub count_records : TalliesCountRecords
+count_records = record {
+  answered = counts_all (λ (t : Tally). t.answered) is_answered answered refl;
+  unreadable = counts_all (λ (t : Tally). t.unreadable) is_unreadable unreadable refl;
+  late = counts_all (λ (t : Tally). t.late) is_late late refl;
+  lost = counts_all (λ (t : Tally). t.lost) is_lost lost refl;
+  skipped = counts_all (λ (t : Tally). t.skipped) is_skipped skipped refl;
+  missed = counts_all (λ (t : Tally). t.missed) is_missed missed refl;
+}

@@ -1,0 +1,112 @@
+-- Tries and pauses by the failures in a row.
+use Rattle.std.proofs.Common.{◌≡◌, ◌⊎◌, inl, inr, ℕ, zero, suc, ◌+◌, ◌-◌, ◌*◌, ◌<◌, ◌≤◌, ◌||◌, Bool, true, false, List, if◌then◌else◌, nat_lt, min, max, refl, ap, ◌∙◌, arith}
+use Rattle.std.proofs.lemmas.Bool.{lt-ltb, le-ltb}
+use Rattle.gc_texts.specs.declared.tasks.Task.{Task}
+use Rattle.gc_links.specs.Acts.{Act}
+use Rattle.gc_station.specs.Deciding.{later}
+use Rattle.gc_station.specs.Pauses.{doubled, pause_behind, LeavesTries, TriesAndPausesAreCounted}
+use Rattle.gc_station.specs.Progressing.{is_finished, is_spared, again, gave}
+use Rattle.gc_station.specs.Standing.{Standing, moved}
+use Rattle.gc_station.specs.declared.cause.Cause.{Cause}
+use Rattle.gc_station.specs.declared.cause.Cause.TheVariants as cause
+use Rattle.gc_station.specs.declared.plan.Plan.{Plan}
+use Rattle.gc_station.specs.declared.progress.Order.{Order}
+use Rattle.gc_station.specs.declared.progress.Order.TheVariants as orders
+use Rattle.gc_station.specs.declared.progress.Phase.TheVariants as phase
+use Rattle.gc_station.specs.declared.progress.Progress.{Progress}
+use Rattle.gc_station.specs.declared.progress.Until.{Until}
+use Rattle.gc_station.specs.declared.progress.Waiting.{Waiting}
+use Rattle.gc_station.proofs.Walk.{moved_changed}
+
+takes_first : {A : Type 0} (b : Bool) (x y : A) → b ≡ true → (if b then x else y) ≡ x
+takes_first b x y e = ap (λ (c : Bool). if c then x else y) e
+
+takes_second : {A : Type 0} (b : Bool) (x y : A) → b ≡ false → (if b then x else y) ≡ y
+takes_second b x y e = ap (λ (c : Bool). if c then x else y) e
+
+-- twice a pause, up to a minute
+twice_none : (quiet : ℕ) → max (min (min (0 + 0) 18446744073709551615) 60000) quiet ≡ max (min quiet 60000) quiet
+twice_none quiet = omega arith
+
+doubled_least : (n time : ℕ) → time ≤ doubled n time
+doubled_least zero time = omega arith
+doubled_least (suc n) time = let least = doubled_least n time in omega (arith, least)
+
+twice_more : (d quiet : ℕ) → quiet ≤ d → max (min (min (max (min d 60000) quiet + max (min d 60000) quiet) 18446744073709551615) 60000) quiet ≡ max (min (2 * d) 60000) quiet
+twice_more d quiet least = omega (arith, least)
+
+twice : (plan : Plan) (n : ℕ) → max (min (later (pause_behind plan n) (pause_behind plan n)) 60000) plan.quiet ≡ pause_behind plan (suc n)
+twice plan zero = twice_none plan.quiet
+twice plan (suc n) = twice_more (doubled n plan.quiet) plan.quiet (doubled_least n plan.quiet)
+
+failed : (plan : Plan) (commands n : ℕ) (why : Cause) (p : Progress) → is_spared plan why p ≡ false → p.pause ≡ pause_behind plan n → (again plan commands why p).pause ≡ pause_behind plan (suc n)
+failed plan commands n why p e is =
+    takes_second (is_spared plan why p) (max p.pause plan.quiet) (max (min (later p.pause p.pause) 60000) plan.quiet) e
+    ∙ ap (λ x. max (min (later x x) 60000) plan.quiet) is ∙ twice plan n
+
+takes : (plan : Plan) (commands : ℕ) (why : Cause) (p : Progress) → is_spared plan why p ≡ false → 0 < p.tries → (again plan commands why p).tries + 1 ≡ p.tries
+takes plan commands why p e some = let less = takes_second (is_spared plan why p) p.tries (p.tries - 1) e in omega (arith, less, some)
+
+over_by : (done spared some : Bool) (why : Cause) → spared ≡ false → some ≡ false
+    → ((if done then phase.Over cause.Done else if spared || some then phase.Pausing else phase.Over why) ≡ phase.Over cause.Done) ⊎ ((if done then phase.Over cause.Done else if spared || some then phase.Pausing else phase.Over why) ≡ phase.Over why)
+over_by true spared some why e f = inl refl
+over_by false true some why e f = cc
+over_by false false true why e f = cc
+over_by false false false why e f = inr refl
+
+none_left : (plan : Plan) (commands : ℕ) (why : Cause) (p : Progress) → is_spared plan why p ≡ false → p.tries ≡ 0
+    → ((again plan commands why p).phase ≡ phase.Over cause.Done) ⊎ ((again plan commands why p).phase ≡ phase.Over why)
+none_left plan commands why p e none = over_by (is_finished commands p) (is_spared plan why p) (nat_lt 0 p.tries) why e (le-ltb 0 p.tries (omega (arith, none)))
+
+spared_stays : (d quiet : ℕ) → max (max (min d 60000) quiet) quiet ≡ max (min d 60000) quiet
+spared_stays d quiet = omega arith
+
+spared : (plan : Plan) (commands n : ℕ) (why : Cause) (p : Progress) → is_spared plan why p ≡ true → p.pause ≡ pause_behind plan (suc n)
+    → ((again plan commands why p).pause ≡ pause_behind plan (suc n)) × ((again plan commands why p).tries ≡ p.tries)
+spared plan commands n why p e is = (
+  takes_first (is_spared plan why p) (max p.pause plan.quiet) (max (min (later p.pause p.pause) 60000) plan.quiet) e
+      ∙ ap (λ x. max x plan.quiet) is ∙ spared_stays (doubled n plan.quiet) plan.quiet,
+  takes_first (is_spared plan why p) p.tries (p.tries - 1) e,
+)
+
+spared_none : (quiet : ℕ) → max 0 quiet ≡ max (min quiet 60000) quiet
+spared_none quiet = omega arith
+
+spared_first : (plan : Plan) (commands : ℕ) (why : Cause) (p : Progress) → is_spared plan why p ≡ true → p.pause ≡ pause_behind plan 0
+    → ((again plan commands why p).pause ≡ pause_behind plan 1) × ((again plan commands why p).tries ≡ p.tries)
+spared_first plan commands why p e is = (
+  takes_first (is_spared plan why p) (max p.pause plan.quiet) (max (min (later p.pause p.pause) 60000) plan.quiet) e
+      ∙ ap (λ x. max x plan.quiet) is ∙ spared_none plan.quiet,
+  takes_first (is_spared plan why p) p.tries (p.tries - 1) e,
+)
+
+settled : (plan : Plan) (until : Until) (before : ℕ) (after : Waiting) (p : Progress) → after.commands < before
+    → ((gave plan until before after p).tries ≡ plan.retries) × ((gave plan until before after p).pause ≡ pause_behind plan 0)
+settled plan until before after p fewer =
+    let e = lt-ltb after.commands before fewer in (takes_first (nat_lt after.commands before) plan.retries p.tries e, takes_first (nat_lt after.commands before) 0 p.pause e)
+
+unsettled : (plan : Plan) (until : Until) (before : ℕ) (after : Waiting) (p : Progress) → before ≤ after.commands
+    → ((gave plan until before after p).tries ≡ p.tries) × ((gave plan until before after p).pause ≡ p.pause)
+unsettled plan until before after p more =
+    let e = le-ltb after.commands before more in (takes_second (nat_lt after.commands before) plan.retries p.tries e, takes_second (nat_lt after.commands before) 0 p.pause e)
+
+other : (plan : Plan) (commands : List Task) (order : Order) (s : Standing) (act : Act) → LeavesTries order
+    → ((moved plan commands order s act).progress.tries ≡ s.progress.tries) × ((moved plan commands order s act).progress.pause ≡ s.progress.pause)
+other plan commands orders.Open s act leaves = absurd leaves
+other plan commands (orders.Read until) s act leaves = absurd leaves
+other plan commands (orders.Close why) s act leaves = absurd leaves
+other plan commands order s act leaves =
+    let is = moved_changed plan commands order s act in (ap (λ (x : Standing). x.progress.tries) is, ap (λ (x : Standing). x.progress.pause) is)
+
+pub counted : TriesAndPausesAreCounted
+counted = record {
+  start = λ plan turns. (refl, refl);
+  failed = failed;
+  takes = takes;
+  none_left = none_left;
+  spared = spared;
+  spared_first = spared_first;
+  settled = settled;
+  unsettled = unsettled;
+  other = other;
+}

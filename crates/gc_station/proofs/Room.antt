@@ -1,0 +1,31 @@
+-- Where a request goes out there is room for it.
+use Rattle.std.proofs.Common.{◌≡◌, ◌⊎◌, inl, inr, ◌<◌, arith}
+use Rattle.std.proofs.lemmas.Bool.Decides.{leb_tells}
+use Rattle.gc_station.specs.declared.plan.Plan.{Plan}
+use Rattle.gc_station.specs.declared.progress.Order.{Order}
+use Rattle.gc_station.specs.declared.progress.Order.TheVariants as orders
+use Rattle.gc_station.specs.declared.progress.Progress.{Progress}
+use Rattle.gc_station.specs.declared.progress.Waiting.{Waiting}
+use Rattle.gc_station.specs.Reasons.{IsFor, HasRoom}
+use Rattle.gc_station.specs.Room.{IsPutting, RequestsHaveRoom}
+use Rattle.gc_station.specs.Runs.{stood}
+use Rattle.gc_station.specs.Standing.{order_at, waiting_of}
+use Rattle.gc_station.proofs.Facts.{order_for}
+
+room_of : (plan : Plan) (p : Progress) (w : Waiting) (next : Order) → IsPutting next → IsFor plan p w next → HasRoom plan w
+room_of plan p w orders.Probe puts is = is.1
+room_of plan p w orders.Send puts is = is.3
+room_of plan p w orders.Flush puts is = is.5
+room_of plan p w next puts is = absurd puts
+
+few : (plan : Plan) (w : Waiting) → HasRoom plan w → (w.current ≡ 0) ⊎ (w.current < plan.width)
+few plan w room = elim (leb_tells plan.width 0) as (λ _. (w.current ≡ 0) ⊎ (w.current < plan.width)) [
+  | inl none ↦ let least = none.1 in let here = room.0 in inl (omega (arith, least, here))
+  | inr some ↦ let least = some.1 in let here = room.0 in inr (omega (arith, least, here))
+]
+
+pub have_room : RequestsHaveRoom
+have_room plan commands scope acts puts =
+    let s = stood plan commands scope acts in
+    let room = room_of plan s.progress (waiting_of s) (order_at plan s) puts (order_for plan s.progress (waiting_of s)) in
+    (few plan (waiting_of s) room, room.1)

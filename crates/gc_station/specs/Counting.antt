@@ -1,0 +1,47 @@
+-- A tally counts the records: this project's own.
+use Rattle.std.specs.Prelude.{◌≡◌, ℕ, suc, Bool, true, false, List, [], ◌∷◌, if◌then◌else◌, min}
+use Rattle.gc_texts.specs.Endings.{End, Answered, Unreadable, Late, Lost, Skipped, Missed}
+use Rattle.gc_station.specs.Records.{Record}
+use Rattle.gc_station.specs.Tallies.{none_yet, tallied}
+
+-- how many of these records ended so
+abbrev pub how_many : (End → Bool) → List Record → ℕ
+how_many so [] = 0
+how_many so (r ∷ others) = if so r.end then suc (how_many so others) else how_many so others
+
+abbrev pub is_answered : End → Bool
+is_answered (Answered answer line) = true
+is_answered _ = false
+
+abbrev pub is_unreadable : End → Bool
+is_unreadable (Unreadable line fault) = true
+is_unreadable _ = false
+
+abbrev pub is_late : End → Bool
+is_late Late = true
+is_late _ = false
+
+abbrev pub is_lost : End → Bool
+is_lost Lost = true
+is_lost _ = false
+
+abbrev pub is_skipped : End → Bool
+is_skipped Skipped = true
+is_skipped _ = false
+
+abbrev pub is_missed : End → Bool
+is_missed Missed = true
+is_missed _ = false
+
+-- so many, or as many as a count holds
+abbrev pub at_most : ℕ → ℕ
+at_most n = min n 18446744073709551615
+
+-- each count of a tally is that of the records that ended so
+pub record TalliesCountRecords : Type 0 where
+  pub answered : (records : List Record) → (tallied none_yet records).answered ≡ at_most (how_many is_answered records)
+  pub unreadable : (records : List Record) → (tallied none_yet records).unreadable ≡ at_most (how_many is_unreadable records)
+  pub late : (records : List Record) → (tallied none_yet records).late ≡ at_most (how_many is_late records)
+  pub lost : (records : List Record) → (tallied none_yet records).lost ≡ at_most (how_many is_lost records)
+  pub skipped : (records : List Record) → (tallied none_yet records).skipped ≡ at_most (how_many is_skipped records)
+  pub missed : (records : List Record) → (tallied none_yet records).missed ≡ at_most (how_many is_missed records)

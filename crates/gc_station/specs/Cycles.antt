@@ -1,0 +1,104 @@
+-- When cycles begin, and which commands aren't sent, in the acts' own moments: this project's own. Cycles are due on a grid: the first
+-- when it begins, and each other one so long behind the one before it.
+use Rattle.std.specs.Prelude.{◌≡◌, ℕ, zero, suc, ◌+◌, ◌-◌, ◌<◌, ◌≤◌, true, false, List, [], ◌∷◌, ◌++◌, drop, None}
+use Rattle.std.specs.List.{AllByRecursion}
+use Rattle.gc_texts.specs.Endings.{Skipped, Missed}
+use Rattle.gc_texts.specs.declared.tasks.Task.{Task}
+use Rattle.gc_links.specs.Acts.{Act, Told, Gave, Silent}
+use Rattle.gc_links.specs.declared.link.Moment.{Moment}
+use Rattle.gc_station.specs.Deciding.{may_go}
+use Rattle.gc_station.specs.Records.{Record}
+use Rattle.gc_station.specs.Runs.{stood}
+use Rattle.gc_station.specs.Scopes.{Scope}
+use Rattle.gc_station.specs.Standing.{opening, order_at, waiting_of, cycles_begun, place_next, is_chained, Runs}
+use Rattle.gc_station.specs.declared.plan.Plan.{Plan}
+use Rattle.gc_station.specs.declared.progress.Order.TheVariants.{Begin, Send, Skip}
+
+-- the clock doesn't go back: each moment that these acts tell is at or past the one before it, and has 64 bits
+abbrev pub Rises : ℕ → List Act → Type 0
+Rises now [] = Unit {0}
+Rises now (Told m ∷ acts) = (now ≤ m.elapsed) × (m.elapsed ≤ 18446744073709551615) × Rises m.elapsed acts
+Rises now (Gave bytes m ∷ acts) = (now ≤ m.elapsed) × (m.elapsed ≤ 18446744073709551615) × Rises m.elapsed acts
+Rises now (Silent m ∷ acts) = (now ≤ m.elapsed) × (m.elapsed ≤ 18446744073709551615) × Rises m.elapsed acts
+Rises now (act ∷ acts) = Rises now acts
+
+-- when a cycle is due that has so many before it, where the first began then
+abbrev pub due_behind : ℕ → ℕ → ℕ → ℕ
+due_behind first every zero = first
+due_behind first every (suc n) = due_behind first every n + every
+
+-- among these acts one reads the clock at this moment, and begins a cycle, which has so many before it
+pub record BeginsAt (plan : Plan) (commands : List Task) (scope : Scope) (acts : List Act) (n : ℕ) (m : Moment) : Type 0 where
+  pub before : List Act
+  pub behind : List Act
+  pub order : acts ≡ before ++ Told m ∷ behind
+  pub begins : order_at plan (stood plan commands scope before) ≡ Begin
+  pub number : cycles_begun plan (stood plan commands scope before).progress ≡ n
+
+-- among these acts a cycle begins at this moment, which has so many before it, and so long behind its due moment
+pub record BeginsLate (plan : Plan) (commands : List Task) (scope : Scope) (acts : List Act) (n : ℕ) (m : Moment) (late : ℕ) : Type 0 where
+  pub first : Moment
+  pub first_begins : BeginsAt plan commands scope acts 0 first
+  pub begins : BeginsAt plan commands scope acts n m
+  pub grid : due_behind first.elapsed plan.every n + late ≡ m.elapsed
+
+-- the cycle that began last among these acts began so long behind its due moment
+pub record LastBegan (plan : Plan) (commands : List Task) (scope : Scope) (acts : List Act) : Type 0 where
+  pub n : ℕ
+  pub moment : Moment
+  pub late : ℕ
+  pub begins : BeginsLate plan commands scope acts n moment late
+  pub number : cycles_begun plan (stood plan commands scope acts).progress ≡ suc n
+
+-- a cycle begins at or behind its due moment
+abbrev pub CyclesBeginWhenDue : Type 0
+CyclesBeginWhenDue =
+    (plan : Plan) (commands : List Task) (scope : Scope) (acts later : List Act) (m : Moment) → 0 < plan.every → Runs plan commands (opening plan scope) (acts ++ Told m ∷ later)
+    → Rises 0 (acts ++ Told m ∷ []) → order_at plan (stood plan commands scope acts) ≡ Begin
+    → (late : ℕ) × BeginsLate plan commands scope (acts ++ Told m ∷ []) (cycles_begun plan (stood plan commands scope acts).progress) m late
+
+-- where a command goes out, its cycle began before the next one was due
+abbrev pub SentOnlyInTime : Type 0
+SentOnlyInTime =
+    (plan : Plan) (commands : List Task) (scope : Scope) (acts : List Act) → 0 < plan.every → Runs plan commands (opening plan scope) acts → Rises 0 acts
+    → order_at plan (stood plan commands scope acts) ≡ Send → (last : LastBegan plan commands scope acts) × (last.late < plan.every)
+
+-- the command of a record is missed: its cycle began when the next one was due, or later; it wasn't sent, and the record has the moment at
+-- which its cycle was due, by the clock of time stamps
+pub record IsMissedIn (plan : Plan) (commands : List Task) (scope : Scope) (acts : List Act) (r : Record) : Type 0 where
+  pub n : ℕ
+  pub moment : Moment
+  pub late : ℕ
+  pub begins : BeginsLate plan commands scope acts n moment late
+  pub cycle : r.cycle ≡ suc n
+  pub too_late : plan.every ≤ late
+  pub sent : r.sent ≡ None
+  pub due : r.utc ≡ moment.utc - late
+
+-- the command of a record is skipped: it is of a chain, and not its first; its cycle began before the next one was due; it wasn't sent,
+-- since the one before it wasn't answered well, or a connection was closed since that went out; and the record has the moment at which that
+-- was seen
+pub record IsSkippedIn (plan : Plan) (commands : List Task) (scope : Scope) (acts : List Act) (r : Record) : Type 0 where
+  pub before : List Act
+  pub moment : Moment
+  pub behind : List Act
+  pub order : acts ≡ before ++ Told moment ∷ behind
+  pub skips : order_at plan (stood plan commands scope before) ≡ Skip
+  pub cycle : r.cycle ≡ cycles_begun plan (stood plan commands scope before).progress
+  pub place : r.place ≡ place_next commands (stood plan commands scope before).progress
+  pub not_first : 0 < place_next commands (stood plan commands scope before).progress
+  pub chained : is_chained (drop (place_next commands (stood plan commands scope before).progress) commands) ≡ true
+  pub broken : may_go (stood plan commands scope before).progress (waiting_of (stood plan commands scope before)) ≡ false
+  pub last : LastBegan plan commands scope before
+  pub in_time : last.late < plan.every
+  pub sent : r.sent ≡ None
+  pub utc : r.utc ≡ moment.utc
+
+-- a record that is missed, or skipped, is so
+abbrev pub IsTrulyUnsent : Plan → List Task → Scope → List Act → Record → Type 0
+IsTrulyUnsent plan commands scope acts r = (r.end ≡ Missed → IsMissedIn plan commands scope acts r) × (r.end ≡ Skipped → IsSkippedIn plan commands scope acts r)
+
+abbrev pub UnsentForACause : Type 0
+UnsentForACause =
+    (plan : Plan) (commands : List Task) (scope : Scope) (acts : List Act) → 0 < plan.every → Runs plan commands (opening plan scope) acts → Rises 0 acts
+    → AllByRecursion (IsTrulyUnsent plan commands scope acts) (stood plan commands scope acts).records

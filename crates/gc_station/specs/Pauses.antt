@@ -1,0 +1,55 @@
+-- How often a station connects anew, and how long it pauses before that, by its failures in a row: this project's own.
+use Rattle.std.specs.Prelude.{◌≡◌, ◌⊎◌, ℕ, zero, suc, ◌+◌, ◌*◌, ◌<◌, ◌≤◌, true, false, List, min, max}
+use Rattle.gc_texts.specs.declared.tasks.Task.{Task}
+use Rattle.gc_links.specs.Acts.{Act}
+use Rattle.gc_station.specs.Progressing.{at_start, is_spared, again, gave}
+use Rattle.gc_station.specs.Standing.{Standing, moved}
+use Rattle.gc_station.specs.declared.cause.Cause.{Cause}
+use Rattle.gc_station.specs.declared.cause.Cause.TheVariants as cause
+use Rattle.gc_station.specs.declared.plan.Plan.{Plan}
+use Rattle.gc_station.specs.declared.progress.Order.{Order}
+use Rattle.gc_station.specs.declared.progress.Order.TheVariants.{Open, Read, Close}
+use Rattle.gc_station.specs.declared.progress.Phase.TheVariants as phase
+use Rattle.gc_station.specs.declared.progress.Progress.{Progress}
+use Rattle.gc_station.specs.declared.progress.Until.{Until}
+use Rattle.gc_station.specs.declared.progress.Waiting.{Waiting}
+
+-- a time that was doubled so often
+abbrev pub doubled : ℕ → ℕ → ℕ
+doubled zero time = time
+doubled (suc n) time = 2 * doubled n time
+
+-- how long the pause is behind so many failures in a row: none behind none; behind the first one the quiet time, and behind each further one
+-- twice that of the one before it, up to a minute and never below the quiet time
+abbrev pub pause_behind : Plan → ℕ → ℕ
+pause_behind plan zero = 0
+pause_behind plan (suc n) = max (min (doubled n plan.quiet) 60000) plan.quiet
+
+-- other orders than these touch neither the tries nor the pause
+abbrev pub LeavesTries : Order → Type 0
+LeavesTries Open = ⊥
+LeavesTries (Read until) = ⊥
+LeavesTries (Close why) = ⊥
+LeavesTries _ = Unit {0}
+
+-- at the start all tries are left, and there is no pause. A failure takes one try, and makes the pause that of one failure more; without a
+-- try left the run is over. A close while no connection is wanted takes none, and makes the pause that of one failure where there was none
+-- before. A read that settles a command gives all tries back, and ends the pause; one that settles none changes neither, and no other act
+-- does
+pub record TriesAndPausesAreCounted : Type 0 where
+  pub start : (plan : Plan) (turns : ℕ) → ((at_start plan turns).tries ≡ plan.retries) × ((at_start plan turns).pause ≡ pause_behind plan 0)
+  pub failed : (plan : Plan) (commands n : ℕ) (why : Cause) (p : Progress) → is_spared plan why p ≡ false → p.pause ≡ pause_behind plan n
+      → (again plan commands why p).pause ≡ pause_behind plan (suc n)
+  pub takes : (plan : Plan) (commands : ℕ) (why : Cause) (p : Progress) → is_spared plan why p ≡ false → 0 < p.tries → (again plan commands why p).tries + 1 ≡ p.tries
+  pub none_left : (plan : Plan) (commands : ℕ) (why : Cause) (p : Progress) → is_spared plan why p ≡ false → p.tries ≡ 0
+      → ((again plan commands why p).phase ≡ phase.Over cause.Done) ⊎ ((again plan commands why p).phase ≡ phase.Over why)
+  pub spared : (plan : Plan) (commands n : ℕ) (why : Cause) (p : Progress) → is_spared plan why p ≡ true → p.pause ≡ pause_behind plan (suc n)
+      → ((again plan commands why p).pause ≡ pause_behind plan (suc n)) × ((again plan commands why p).tries ≡ p.tries)
+  pub spared_first : (plan : Plan) (commands : ℕ) (why : Cause) (p : Progress) → is_spared plan why p ≡ true → p.pause ≡ pause_behind plan 0
+      → ((again plan commands why p).pause ≡ pause_behind plan 1) × ((again plan commands why p).tries ≡ p.tries)
+  pub settled : (plan : Plan) (until : Until) (before : ℕ) (after : Waiting) (p : Progress) → after.commands < before
+      → ((gave plan until before after p).tries ≡ plan.retries) × ((gave plan until before after p).pause ≡ pause_behind plan 0)
+  pub unsettled : (plan : Plan) (until : Until) (before : ℕ) (after : Waiting) (p : Progress) → before ≤ after.commands
+      → ((gave plan until before after p).tries ≡ p.tries) × ((gave plan until before after p).pause ≡ p.pause)
+  pub other : (plan : Plan) (commands : List Task) (order : Order) (s : Standing) (act : Act) → LeavesTries order
+      → ((moved plan commands order s act).progress.tries ≡ s.progress.tries) × ((moved plan commands order s act).progress.pause ≡ s.progress.pause)
