@@ -1,12 +1,12 @@
 -- Behind a beginning the null procedure goes out first, and is answered before any other request goes out.
-use Rattle.std.proofs.Common.{◌≡◌, ℕ, ◌≤◌, ◌⊎◌, inl, inr, ◌||◌, Bool, true, false, List, [], ◌∷◌, ◌++◌, map, if◌then◌else◌, refl, sym, ap, ◌∙◌, subst, append_assoc, append-nil}
+use Rattle.std.proofs.Common.{◌≡◌, ℕ, ◌≤◌, ◌⊎◌, inl, inr, ◌||◌, Bool, true, false, List, [], ◌∷◌, ◌++◌, map, refl, sym, ap, ◌∙◌, subst, append_assoc, append-nil}
 use Rattle.std.specs.List.{AllByRecursion, filter_map}
 use Rattle.std.proofs.lemmas.List.{map-append}
 use Rattle.std.proofs.lemmas.List.Elements.{filter_map-append}
 use Rattle.gc_lines.specs.Frames.{frame_of, line_in, lines, pieces_behind, rest_of}
 use Rattle.gc_lines.proofs.Cutting.{pieces-append, rest-append}
 use Rattle.gc_catalogue.specs.declared.call.Call.TheVariants.{NullProc}
-use Rattle.gc_client.specs.Rule.{ById, heard}
+use Rattle.gc_client.specs.Rule.{ById}
 use Rattle.gc_texts.specs.declared.tasks.Task.{Task}
 use Rattle.gc_links.specs.declared.link.Moment.{Moment}
 use Rattle.gc_station.specs.declared.plan.Plan.{Plan}
@@ -18,28 +18,29 @@ use Rattle.gc_station.specs.declared.progress.Order.{Order}
 use Rattle.gc_station.specs.declared.progress.Order.TheVariants as orders
 use Rattle.gc_station.specs.declared.progress.Progress.{Progress}
 use Rattle.gc_station.specs.declared.progress.Waiting.{Waiting}
-use Rattle.gc_links.specs.Acts.{Act, Told, Untold, Put, Cut, Gave, Silent, Ended, Broke, Closed}
+use Rattle.gc_links.specs.Acts.{Act, Told, Untold, Put, Gave, Silent, Ended, Broke, Closed}
 use Rattle.gc_station.specs.Beginnings.{null_text, IsFirst, bytes_in, IsAnsweredAmong}
-use Rattle.gc_station.specs.Deciding.{is_up, order_in}
+use Rattle.gc_station.specs.Deciding.{order_in}
 use Rattle.gc_station.specs.Probing.{KeepsOpen}
-use Rattle.gc_station.specs.Progressing.{turned, probed, closed_again, closed}
+use Rattle.gc_station.specs.Progressing.{turned, closed_again, closed}
 use Rattle.gc_station.specs.Quiet.{IsRequest, AsksNothing, StaysConnected}
 use Rattle.gc_station.specs.Reasons.{IsFor}
 use Rattle.gc_station.specs.Runs.{stood}
-use Rattle.gc_station.specs.Standing.{Standing, opening, order_at, waiting_of, with_progress, lines_behind, is_heard, request_text, asks_null, after_put, ReadsClock, IsReading, Puts, Obeys, moved, after, after_all, Runs}
+use Rattle.gc_station.specs.Standing.{Standing, opening, order_at, waiting_of, with_progress, lines_behind, is_heard, request_text, ReadsClock, IsReading, Puts, Obeys, moved, after, after_all, Runs}
 use Rattle.gc_station.proofs.Closings.{runs_split}
 use Rattle.gc_station.proofs.Counts.{ended_progress}
-use Rattle.gc_station.proofs.Drains.{along}
-use Rattle.gc_station.proofs.EachRun.{fine_stood}
+use Rattle.gc_station.proofs.Always.{always}
+use Rattle.gc_station.proofs.EachRun.{fine_after, fine_stood}
 use Rattle.gc_station.proofs.Facts.{order_for}
 use Rattle.gc_station.proofs.Fine.{Fine, is_bare}
 use Rattle.gc_station.proofs.Givens.{rest_with, after_rest}
 use Rattle.gc_station.proofs.Going.{after_all-append, runs_behind}
 use Rattle.gc_station.proofs.Lists.{all_append}
-use Rattle.gc_station.proofs.Walk.{closed_along, moved_changed}
+use Rattle.gc_station.proofs.Since.{Since, since_now, since_on, cut_on}
+use Rattle.gc_station.proofs.Walk.{closed_along, moved_changed, walk}
 use Rattle.gc_station.proofs.Midway.{clash}
 use Rattle.gc_station.proofs.Probing.{Comes, Goes, alone_moved, alone_fine, over_stops}
-use Rattle.gc_station.proofs.Quiets.{stage_in, stage_stood, asks_not, not_closing}
+use Rattle.gc_station.proofs.Quiets.{unasked, stage_in, stage_stood, asks_not, not_closing}
 use Rattle.gc_station.specs.Scopes.{Scope}
 
 -- While it begins anew it goes on doing so, until the null procedure goes out.
@@ -71,15 +72,11 @@ rest_more xs act stays = ap rest_of (sym (bytes-append xs act ∙ append-nil (by
 -- What was done since it began anew.
 
 -- the null procedure went out, and isn't answered
-record IsLone (at : Phase) (alone : Bool) (rest : List ℕ) (acts : List Act) : Type 0 where
-  first : List Act
-  null : Act
-  waits : List Act
-  order : acts ≡ first ++ null ∷ waits
-  stays : AllByRecursion StaysConnected waits
-  none : AllByRecursion AsksNothing waits
-  whole : at ≡ phase.Ready → (null ≡ Put null_text) × (rest ≡ rest_of (bytes_in waits))
-  is : alone ≡ true
+abbrev Lone : Phase → List ℕ → List Act → Act → List Act → Type 0
+Lone at rest before null waits = AllByRecursion StaysConnected waits × AllByRecursion AsksNothing waits × (at ≡ phase.Ready → (null ≡ Put null_text) × (rest ≡ rest_of (bytes_in waits)))
+
+abbrev IsLone : Phase → Bool → List ℕ → List Act → Type 0
+IsLone at alone rest acts = (alone ≡ true) × Since (Lone at rest) acts
 
 -- it begins anew still; or that; or it is over; or it was answered
 abbrev Begun : Progress → List ℕ → List Act → Type 0
@@ -102,24 +99,23 @@ answered_more acts act a = record {
 }
 
 -- its answer comes
-lone_answered : (s : Standing) (acts : List Act) (piece : List ℕ) (m : Moment) → s.progress.phase ≡ phase.Ready → IsLone s.progress.phase s.progress.alone s.rest acts → Comes (lines_behind s.rest piece) → IsAnsweredAmong (acts ++ Gave piece m ∷ [])
+lone_answered : (s : Standing) (acts : List Act) (piece : List ℕ) (m : Moment) → s.progress.phase ≡ phase.Ready → Since (Lone s.progress.phase s.rest) acts → Comes (lines_behind s.rest piece) → IsAnsweredAmong (acts ++ Gave piece m ∷ [])
 lone_answered s acts piece m ready l c =
-    let it = l.whole ready in
+    let it = l.holds.2 ready in
+    let waits = l.behind ++ Gave piece m ∷ [] in
     record {
-      first = l.first;
-      waits = l.waits ++ Gave piece m ∷ [];
+      first = l.before;
+      waits = waits;
       behind = [];
-      order = ap (λ xs. xs ++ Gave piece m ∷ []) l.order ∙ append_assoc l.first (l.null ∷ l.waits) (Gave piece m ∷ [])
-          ∙ ap (λ (x : Act). l.first ++ x ∷ (l.waits ++ Gave piece m ∷ [])) it.0
-          ∙ ap (λ (xs : List Act). l.first ++ Put null_text ∷ xs) (sym (append-nil (l.waits ++ Gave piece m ∷ [])));
-      stays = all_append StaysConnected l.waits (Gave piece m ∷ []) l.stays (tt, tt);
-      alone = all_append AsksNothing l.waits (Gave piece m ∷ []) l.none (λ e. e, tt);
-      front = lines (bytes_in l.waits) ++ c.front;
+      order = cut_on (acts ++ Gave piece m ∷ []) acts l.before (l.start ∷ l.behind) (Gave piece m ∷ []) refl l.order ∙ ap (λ (x : Act). l.before ++ x ∷ waits) it.0 ∙ ap (λ (xs : List Act). l.before ++ Put null_text ∷ xs) (sym (append-nil waits));
+      stays = all_append StaysConnected l.behind (Gave piece m ∷ []) l.holds.0 (tt, tt);
+      alone = all_append AsksNothing l.behind (Gave piece m ∷ []) l.holds.1 (λ e. e, tt);
+      front = lines (bytes_in l.behind) ++ c.front;
       line = c.line;
       others = c.others;
-      came = ap lines (bytes_more l.waits piece m) ∙ lines_behind-append (bytes_in l.waits) piece
-          ∙ ap (λ r. lines (bytes_in l.waits) ++ lines_behind r piece) (sym it.1)
-          ∙ ap (λ ls. lines (bytes_in l.waits) ++ ls) c.order ∙ sym (append_assoc (lines (bytes_in l.waits)) c.front (c.line ∷ c.others));
+      came = ap lines (bytes_more l.behind piece m) ∙ lines_behind-append (bytes_in l.behind) piece
+          ∙ ap (λ r. lines (bytes_in l.behind) ++ lines_behind r piece) (sym it.1)
+          ∙ ap (λ ls. lines (bytes_in l.behind) ++ ls) c.order ∙ sym (append_assoc (lines (bytes_in l.behind)) c.front (c.line ∷ c.others));
       id = c.id;
     }
 
@@ -172,62 +168,32 @@ lone_close plan w why p is = inl (ap (λ (b : Bool). (closed_again plan w why b 
 -- One act more.
 
 -- the null procedure goes out
-lone_put : (requests : ℕ) (f : Standing → Standing) (s : Standing) (act : Act) (acts : List Act) (heard : Bool) (rest : List ℕ) → Puts null_text act → s.rest ≡ [] → rest ≡ rest_with heard act s.rest
-    → (f s).progress.phase ≡ phase.Ready → (f s).progress.alone ≡ true → IsLone (after_put requests f s act).progress.phase (after_put requests f s act).progress.alone rest (acts ++ act ∷ [])
-lone_put requests f s (Put out) acts heard rest o none left is alone = record {
-  first = acts;
-  null = Put out;
-  waits = [];
-  order = refl;
-  stays = tt;
-  none = tt;
-  whole = λ ready. (ap Put o, left ∙ none);
-  is = alone;
-}
-lone_put requests f s (Cut out n) acts heard rest o none left is alone = record {
-  first = acts;
-  null = Cut out n;
-  waits = [];
-  order = refl;
-  stays = tt;
-  none = tt;
-  whole = λ ready. absurd (cut (is_up (f s).progress.phase) ready);
-  is = alone;
-} where
-  cut : (up : Bool) → (if up then phase.Closing (cause.Write requests n) else phase.Over (cause.Write requests n)) ≡ phase.Ready → ⊥
-  cut true there = cc
-  cut false there = cc
-lone_put requests f s act acts heard rest o none left is alone = absurd o
+lone_put : (plan : Plan) (commands : List Task) (s : Standing) (act : Act) (acts : List Act) (rest : List ℕ) → Obeys commands s orders.Probe act → Puts null_text act → s.rest ≡ [] → rest ≡ rest_with (is_heard s.progress.phase) act s.rest
+    → IsLone (moved plan commands orders.Probe (with_progress turned s) act).progress.phase (moved plan commands orders.Probe (with_progress turned s) act).progress.alone rest (acts ++ act ∷ [])
+lone_put plan commands s act acts rest o puts none left =
+    walk plan commands (λ a (t : Standing). Puts null_text a → rest ≡ rest_with (is_heard s.progress.phase) a s.rest → IsLone t.progress.phase t.progress.alone rest (acts ++ a ∷ [])) orders.Probe (with_progress turned s) act o
+    (λ m p l. (refl, since_now (Lone phase.Ready rest) acts _ (tt, tt, λ ready. (ap Put p, l ∙ none))), λ n p l. (refl, since_now _ acts _ (tt, tt, λ ready. cc))) puts left
 
 anew_moved : (plan : Plan) (commands : List Task) (next : Order) (s : Standing) (act : Act) (acts : List Act) (rest : List ℕ) → Obeys commands s next act → IsFor plan s.progress (waiting_of s) next → Fine plan commands s → s.progress.anew ≡ true
     → rest ≡ rest_with (is_heard s.progress.phase) act s.rest → Begun (moved plan commands next (with_progress turned s) act).progress rest (acts ++ act ∷ [])
 anew_moved plan commands orders.Probe s act acts rest o needs fine d left =
     let none = fine.rest (ap is_bare needs.0) in
     let puts = subst (λ (c : ById). Puts (request_text c NullProc) act) (fine.anew d).0 o in
-    inr (inl (lone_put _ (λ (x : Standing). with_progress probed (asks_null plan x)) (with_progress turned s) act acts (is_heard s.progress.phase) rest puts none left refl refl))
-anew_moved plan commands orders.Begin s act acts rest o needs fine d left = absurd (clash s.progress.anew d (fine.ready needs.0))
-anew_moved plan commands orders.Send s act acts rest o needs fine d left = absurd (clash s.progress.anew d (fine.ready needs.0))
-anew_moved plan commands orders.Skip s act acts rest o needs fine d left = absurd (clash s.progress.anew d (fine.ready needs.0))
-anew_moved plan commands orders.Flush s act acts rest o needs fine d left = absurd (clash s.progress.anew d (fine.ready needs.0))
+    inr (inl (lone_put plan commands s act acts rest o puts none left))
 anew_moved plan commands (orders.Close why) s act acts rest o needs fine d left = inl (anew_close plan (waiting_of s) why (turned s.progress) d)
-anew_moved plan commands (orders.Stop why) s act acts rest o needs fine d left = absurd o
 anew_moved plan commands next s act acts rest o needs fine d left = inl (ap (λ (t : Standing). t.progress.anew) (moved_changed plan commands next (with_progress turned s) act) ∙ d)
 
 -- it waits on
-lone_more : (s : Standing) (act : Act) (acts : List Act) (at : Phase) (alone : Bool) (rest : List ℕ) → IsCalm act → s.progress.phase ≡ phase.Ready → alone ≡ true → rest ≡ rest_with (is_heard s.progress.phase) act s.rest
-    → IsLone s.progress.phase s.progress.alone s.rest acts → IsLone at alone rest (acts ++ act ∷ [])
-lone_more s act acts at alone rest calm ready is left l =
-    let it = l.whole ready in
-    record {
-      first = l.first;
-      null = l.null;
-      waits = l.waits ++ act ∷ [];
-      order = ap (λ xs. xs ++ act ∷ []) l.order ∙ append_assoc l.first (l.null ∷ l.waits) (act ∷ []);
-      stays = all_append StaysConnected l.waits (act ∷ []) l.stays (calm.stays, tt);
-      none = all_append AsksNothing l.waits (act ∷ []) l.none (calm.none, tt);
-      whole = λ there. (it.0, left ∙ ap (λ h. rest_with h act s.rest) (ap is_heard ready) ∙ ap (λ r. rest_with true act r) it.1 ∙ rest_more l.waits act calm.stays);
-      is = is;
-    }
+lone_more : (s : Standing) (act : Act) (acts : List Act) (at : Phase) (rest : List ℕ) → IsCalm act → s.progress.phase ≡ phase.Ready → rest ≡ rest_with (is_heard s.progress.phase) act s.rest
+    → Since (Lone s.progress.phase s.rest) acts → Since (Lone at rest) (acts ++ act ∷ [])
+lone_more s act acts at rest calm ready left l =
+    since_on (Lone s.progress.phase s.rest) (Lone at rest) acts (act ∷ [])
+    (λ before null waits order h.
+    let it = h.2 ready in (
+      all_append StaysConnected waits (act ∷ []) h.0 (calm.stays, tt),
+      all_append AsksNothing waits (act ∷ []) h.1 (calm.none, tt),
+      λ there. (it.0, left ∙ ap (λ x. rest_with x act s.rest) (ap is_heard ready) ∙ ap (λ r. rest_with true act r) it.1 ∙ rest_more waits act calm.stays),
+    )) l
 
 -- a close before it is answered
 lone_closed : (plan : Plan) (commands : List Task) (s : Standing) (act : Act) (acts : List Act) (why : Cause) (rest : List ℕ) → order_at plan s ≡ orders.Close why → s.progress.alone ≡ true
@@ -242,23 +208,23 @@ lone_closed plan commands s act acts why rest is alone =
 lone_moved : (plan : Plan) (commands : List Task) (s : Standing) (act : Act) (acts : List Act) (rest : List ℕ) → Obeys commands s (order_at plan s) act → Fine plan commands s
     → rest ≡ rest_with (is_heard s.progress.phase) act s.rest → IsLone s.progress.phase s.progress.alone s.rest acts
     → Begun (moved plan commands (order_at plan s) (with_progress turned s) act).progress rest (acts ++ act ∷ [])
-lone_moved plan commands s act acts rest o fine left l = by_phase (lone_at s.progress.phase s.progress.alone fine.bare l.is) where
+lone_moved plan commands s act acts rest o fine left l = by_phase (lone_at s.progress.phase s.progress.alone fine.bare l.0) where
   goes : s.progress.phase ≡ phase.Ready → IsCalm act → Goes s act (moved plan commands (order_at plan s) (with_progress turned s) act)
       → Begun (moved plan commands (order_at plan s) (with_progress turned s) act).progress rest (acts ++ act ∷ [])
-  goes ready calm (inl (piece, m, is, c)) = inr (inr (inr (subst (λ (x : Act). IsAnsweredAmong (acts ++ x ∷ [])) (sym is) (lone_answered s acts piece m ready l c))))
+  goes ready calm (inl (piece, m, is, c)) = inr (inr (inr (subst (λ (x : Act). IsAnsweredAmong (acts ++ x ∷ [])) (sym is) (lone_answered s acts piece m ready l.1 c))))
   goes ready calm (inr alone) =
       let t = moved plan commands (order_at plan s) (with_progress turned s) act in
-      inr (inl (lone_more s act acts t.progress.phase t.progress.alone rest calm ready alone left l))
+      inr (inl (alone, lone_more s act acts t.progress.phase rest calm ready left l.1))
 
   acts_on : s.progress.phase ≡ phase.Ready → (((why : Cause) × (order_at plan s ≡ orders.Close why) × (act ≡ Closed)) ⊎ IsCalm act)
       → Begun (moved plan commands (order_at plan s) (with_progress turned s) act).progress rest (acts ++ act ∷ [])
-  acts_on ready (inl closes) = lone_closed plan commands s act acts closes.0 rest closes.1 l.is
-  acts_on ready (inr calm) = goes ready calm (alone_moved plan commands s (order_at plan s) act o calm.open_ (alone_fine plan commands s act fine o l.is))
+  acts_on ready (inl closes) = lone_closed plan commands s act acts closes.0 rest closes.1 l.0
+  acts_on ready (inr calm) = goes ready calm (alone_moved plan commands s (order_at plan s) act o calm.open_ (alone_fine plan commands s act fine o l.0))
 
   by_phase : (s.progress.phase ≡ phase.Ready) ⊎ (((why : Cause) × (s.progress.phase ≡ phase.Closing why)) ⊎ ((why : Cause) × (s.progress.phase ≡ phase.Over why)))
       → Begun (moved plan commands (order_at plan s) (with_progress turned s) act).progress rest (acts ++ act ∷ [])
-  by_phase (inl ready) = acts_on ready (lone_act commands plan (order_at plan s) s act o (order_for plan s.progress (waiting_of s)) ready l.is)
-  by_phase (inr (inl closing)) = lone_closed plan commands s act acts closing.0 rest (ap (λ (x : Phase). order_in x plan s.progress (waiting_of s)) closing.1) l.is
+  by_phase (inl ready) = acts_on ready (lone_act commands plan (order_at plan s) s act o (order_for plan s.progress (waiting_of s)) ready l.0)
+  by_phase (inr (inl closing)) = lone_closed plan commands s act acts closing.0 rest (ap (λ (x : Phase). order_in x plan s.progress (waiting_of s)) closing.1) l.0
   by_phase (inr (inr over)) = absurd (over_stops plan commands s act o over.0 over.1)
 
 begun_moved : (plan : Plan) (commands : List Task) (s : Standing) (act : Act) (acts : List Act) (rest : List ℕ) → Obeys commands s (order_at plan s) act → Fine plan commands s
@@ -281,18 +247,10 @@ begun_after plan commands s act acts o fine b =
 begun_stood : (plan : Plan) (commands : List Task) (scope : Scope) (earlier between : List Act) → (stood plan commands scope earlier).progress.anew ≡ true → Runs plan commands (stood plan commands scope earlier) between
     → Begun (stood plan commands scope (earlier ++ between)).progress (stood plan commands scope (earlier ++ between)).rest between
 begun_stood plan commands scope earlier between anew runs =
+    let from = stood plan commands scope earlier in
     subst (λ (s : Standing). Begun s.progress s.rest between) (sym (after_all-append plan commands (opening plan scope) earlier between))
-    (along plan commands (stood plan commands scope earlier)
-    (λ (xs : List Act). Begun (after_all plan commands (stood plan commands scope earlier) xs).progress (after_all plan commands (stood plan commands scope earlier) xs).rest xs) step [] between runs (inl anew)) where
-      step : (done later : List Act) (act : Act) → Runs plan commands (stood plan commands scope earlier) (done ++ act ∷ later)
-          → Begun (after_all plan commands (stood plan commands scope earlier) done).progress (after_all plan commands (stood plan commands scope earlier) done).rest done
-          → Begun (after_all plan commands (stood plan commands scope earlier) (done ++ act ∷ [])).progress (after_all plan commands (stood plan commands scope earlier) (done ++ act ∷ [])).rest (done ++ act ∷ [])
-      step done later act runs b =
-          let from = stood plan commands scope earlier in
-          let s = after_all plan commands from done in
-          let fine = subst (λ (x : Standing). Fine plan commands x) (after_all-append plan commands (opening plan scope) earlier done) (fine_stood plan commands scope (earlier ++ done)) in
-          subst (λ (x : Standing). Begun x.progress x.rest (done ++ act ∷ [])) (sym (after_all-append plan commands from done (act ∷ [])))
-          (begun_after plan commands s act done (runs_split plan commands from done later act runs).1 fine b)
+    (always plan commands from (λ (done : List Act) (t : Standing). Fine plan commands t × Begun t.progress t.rest done)
+    (λ done act runs' o it. let s = after_all plan commands from done in (fine_after plan commands s act it.0, begun_after plan commands s act done o it.0 it.1)) (fine_stood plan commands scope earlier, inl anew) between runs).1
 
 -- the request that goes out where it begins anew
 pub first_act : (plan : Plan) (commands : List Task) (next : Order) (s : Standing) (act : Act) → Obeys commands s next act → IsRequest act → IsFor plan s.progress (waiting_of s) next → Fine plan commands s → s.progress.anew ≡ true
@@ -304,13 +262,13 @@ first_act plan commands next s act o asks needs fine d = absurd (asks_not plan c
 
 -- none goes out while it waits
 lone_none : (plan : Plan) (commands : List Task) (s : Standing) (act : Act) (acts : List Act) → Obeys commands s (order_at plan s) act → IsRequest act → Fine plan commands s → IsLone s.progress.phase s.progress.alone s.rest acts → ⊥
-lone_none plan commands s act acts o asks fine l = by_phase (lone_at s.progress.phase s.progress.alone fine.bare l.is) where
+lone_none plan commands s act acts o asks fine l = by_phase (lone_at s.progress.phase s.progress.alone fine.bare l.0) where
   acts_on : (((why : Cause) × (order_at plan s ≡ orders.Close why) × (act ≡ Closed)) ⊎ IsCalm act) → ⊥
   acts_on (inl closes) = not_closing act closes.2 asks
   acts_on (inr calm) = calm.none asks
 
   by_phase : (s.progress.phase ≡ phase.Ready) ⊎ (((why : Cause) × (s.progress.phase ≡ phase.Closing why)) ⊎ ((why : Cause) × (s.progress.phase ≡ phase.Over why))) → ⊥
-  by_phase (inl ready) = acts_on (lone_act commands plan (order_at plan s) s act o (order_for plan s.progress (waiting_of s)) ready l.is)
+  by_phase (inl ready) = acts_on (lone_act commands plan (order_at plan s) s act o (order_for plan s.progress (waiting_of s)) ready l.0)
   by_phase (inr (inl closing)) = not_closing act (subst (λ (x : Phase). Obeys commands s (order_in x plan s.progress (waiting_of s)) act) closing.1 o) asks
   by_phase (inr (inr over)) = over_stops plan commands s act o over.0 over.1
 
@@ -324,7 +282,7 @@ beginning_answered plan commands scope earlier between later act small runs anew
   by_case (inl anew) =
       let s = stood plan commands scope (earlier ++ between) in
       let it = first_act plan commands (order_at plan s) s act split.1 asks (order_for plan s.progress (waiting_of s)) (fine_stood plan commands scope (earlier ++ between)) anew in
-      inl (it.1, stage_in plan.quiet s.progress phase.Probing (earlier ++ between) it.0 (stage_stood plan commands scope (earlier ++ between) small split.0))
+      inl (it.1, unasked plan.quiet (earlier ++ between) (stage_in plan.quiet s.progress phase.Probing (earlier ++ between) it.0 (stage_stood plan commands scope (earlier ++ between) small split.0)))
   by_case (inr (inl l)) = absurd (lone_none plan commands (stood plan commands scope (earlier ++ between)) act between split.1 asks (fine_stood plan commands scope (earlier ++ between)) l)
   by_case (inr (inr (inl over))) = absurd (over_stops plan commands (stood plan commands scope (earlier ++ between)) act split.1 over.0 over.1)
   by_case (inr (inr (inr a))) = inr a

@@ -257,22 +257,21 @@ closing_shown plan commands scope acts why runs phase =
       shows before last (inl failed) = failed.1
       shows before last (inr gone) = let up : true ≡ false = sym (ap is_up phase) ∙ gone.0 in cc
 
-pub closed_for : (plan : Plan) (commands : List Task) (scope : Scope) (acts later : List Act) → Runs plan commands (opening plan scope) (acts ++ Closed ∷ later) → ClosesForACause plan commands scope acts
-closed_for plan commands scope acts later runs =
+pub closed_for : (plan : Plan) (commands : List Task) (scope : Scope) (acts : List Act) → Runs plan commands (opening plan scope) acts → Obeys commands (stood plan commands scope acts) (order_at plan (stood plan commands scope acts)) Closed
+    → ClosesForACause plan commands scope acts
+closed_for plan commands scope acts runs o =
     let s = stood plan commands scope acts in
-    let split = runs_split plan commands (opening plan scope) acts later Closed runs in
-    let it = closes_only commands s (order_at plan s) split.1 in
+    let it = closes_only commands s (order_at plan s) o in
     record {
       why = it.0;
       closes = it.1;
-      shown = by_needs it.0 (needs_of plan s (order.Close it.0) it.1).1 split.0;
+      shown = by_needs it.0 (needs_of plan s (order.Close it.0) it.1).1;
     } where
       by_needs : (why : Cause) → (((stood plan commands scope acts).progress.phase ≡ Closing why) ⊎ IsAtItsEnd plan (stood plan commands scope acts).progress (waiting_of (stood plan commands scope acts)) why)
-          → Runs plan commands (opening plan scope) acts
           → IsAtItsEnd plan (stood plan commands scope acts).progress (waiting_of (stood plan commands scope acts)) why
           ⊎ ((earlier : List Act) × (last : Act) × (acts ≡ earlier ++ last ∷ []) × Shows why last)
-      by_needs why (inl phase) runs = inr (closing_shown plan commands scope acts why runs phase)
-      by_needs why (inr end) runs = inl end
+      by_needs why (inl phase) = inr (closing_shown plan commands scope acts why runs phase)
+      by_needs why (inr end) = inl end
 
 pub stopped_for : (plan : Plan) (commands : List Task) (scope : Scope) (acts : List Act) (why : Cause) → Runs plan commands (opening plan scope) acts → order_at plan (stood plan commands scope acts) ≡ order.Stop why → StopsForACause plan commands scope acts why
 stopped_for plan commands scope acts why runs stop =

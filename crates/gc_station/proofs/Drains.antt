@@ -1,5 +1,5 @@
 -- A connection is drained for one quiet time at least: where it begins anew, some requests waited before.
-use Rattle.std.proofs.Common.{◌≡◌, ℕ, ◌≤◌, ◌⊎◌, inl, inr, Bool, true, false, List, [], ◌∷◌, ◌++◌, length, if◌then◌else◌, refl, sym, ap, ◌∙◌, subst, arith, append_assoc, append-nil}
+use Rattle.std.proofs.Common.{◌≡◌, ℕ, ◌≤◌, ◌⊎◌, inl, inr, Bool, true, false, List, [], ◌∷◌, ◌++◌, length, if◌then◌else◌, refl, sym, ap, ◌∙◌, subst, arith}
 use Rattle.std.proofs.Math.Nat.{le-min, le-max_right}
 use Rattle.gc_texts.specs.declared.tasks.Task.{Task}
 use Rattle.gc_station.specs.declared.plan.Plan.{Plan}
@@ -15,30 +15,13 @@ use Rattle.gc_station.specs.Progressing.{turned, begins_anew}
 use Rattle.gc_station.specs.Reasons.{IsFor, IsAtItsEnd, NothingMayGo}
 use Rattle.gc_station.specs.Runs.{stood}
 use Rattle.gc_station.specs.Standing.{Standing, opening, order_at, waiting_of, with_progress, Obeys, moved, Runs}
-use Rattle.gc_station.proofs.Closings.{runs_split, closed_for}
-use Rattle.gc_station.proofs.Counts.{ended_progress}
+use Rattle.gc_station.proofs.Always.{always_far}
+use Rattle.gc_station.proofs.Closings.{closed_for}
 use Rattle.gc_station.proofs.EachRun.{fine_stood}
 use Rattle.gc_station.proofs.Facts.{either_true, order_for}
 use Rattle.gc_station.proofs.Fine.{Fine}
-use Rattle.gc_station.proofs.Going.{after_all-append}
 use Rattle.gc_station.proofs.Walk.{closed_along, moved_changed}
 use Rattle.gc_station.specs.Scopes.{Scope}
-
--- what holds at the start, and behind each act of a run, holds behind a whole run
-pub along : (plan : Plan) (commands : List Task) (s : Standing) (P : List Act → Type 0)
-    → ((done later : List Act) (act : Act) → Runs plan commands s (done ++ act ∷ later) → P done → P (done ++ act ∷ []))
-    → (done left : List Act) → Runs plan commands s (done ++ left) → P done → P (done ++ left)
-along plan commands s P step done [] runs p = subst P (sym (append-nil done)) p
-along plan commands s P step done (act ∷ left) runs p =
-    let next = append_assoc done (act ∷ []) left in
-    subst P next (along plan commands s P step (done ++ act ∷ []) left (subst (λ (xs : List Act). Runs plan commands s xs) (sym next) runs) (step done left act runs p))
-
--- how far it is behind one act more
-pub progress_behind : (plan : Plan) (commands : List Task) (scope : Scope) (done : List Act) (act : Act)
-    → (stood plan commands scope (done ++ act ∷ [])).progress ≡ (moved plan commands (order_at plan (stood plan commands scope done)) (with_progress turned (stood plan commands scope done)) act).progress
-progress_behind plan commands scope done act =
-    let s = stood plan commands scope done in
-    ap (λ (x : Standing). x.progress) (after_all-append plan commands (opening plan scope) done (act ∷ [])) ∙ ended_progress (moved plan commands (order_at plan s) (with_progress turned s) act)
 
 -- The act of each order leaves what is said of it, unless a beginning is set by it.
 anew_turned : (why : Cause) (p : Progress) → begins_anew why (turned p) ≡ begins_anew why p
@@ -83,21 +66,19 @@ close_waits plan commands s acts cause.Silence fine up (inr shown) anew old = ab
 close_waits plan commands s acts why fine up because anew old = lone_waits plan commands s fine up (either_true s.progress.alone s.progress.anew anew old)
 
 pub drains_once : (plan : Plan) (commands : List Task) (scope : Scope) (acts : List Act) → Runs plan commands (opening plan scope) acts → 1 ≤ (stood plan commands scope acts).progress.drain
-drains_once plan commands scope acts runs = along plan commands (opening plan scope) (λ (xs : List Act). 1 ≤ (stood plan commands scope xs).progress.drain) step [] acts runs (omega arith) where
-  waits : (done later : List Act) (act : Act) (why : Cause) → Runs plan commands (opening plan scope) (done ++ act ∷ later) → order_at plan (stood plan commands scope done) ≡ orders.Close why
-      → begins_anew why (stood plan commands scope done).progress ≡ true → (stood plan commands scope done).progress.anew ≡ false → 1 ≤ length (stood plan commands scope done).client.waiting
-  waits done later act why runs is anew old =
+drains_once plan commands scope acts runs = always_far plan commands (opening plan scope) (λ (p : Progress) (xs : List Act). 1 ≤ p.drain) step (omega arith) acts runs where
+  waits : (done : List Act) (act : Act) (why : Cause) → Runs plan commands (opening plan scope) done → Obeys commands (stood plan commands scope done) (order_at plan (stood plan commands scope done)) act
+      → order_at plan (stood plan commands scope done) ≡ orders.Close why → begins_anew why (stood plan commands scope done).progress ≡ true → (stood plan commands scope done).progress.anew ≡ false
+      → 1 ≤ length (stood plan commands scope done).client.waiting
+  waits done act why runs o is anew old =
       let s = stood plan commands scope done in
-      let o = (runs_split plan commands (opening plan scope) done later act runs).1 in
       let closed_it : act ≡ Closed = subst (λ (next : Order). Obeys commands s next act) is o in
-      let it = closed_for plan commands scope done later (subst (λ (x : Act). Runs plan commands (opening plan scope) (done ++ x ∷ later)) closed_it runs) in
+      let it = closed_for plan commands scope done runs (subst (λ (x : Act). Obeys commands s (order_at plan s) x) closed_it o) in
       let both : orders.Close it.why ≡ orders.Close why = sym it.closes ∙ is in
       let same : it.why ≡ why = cc in
       let up = (subst (λ (next : Order). IsFor plan s.progress (waiting_of s) next) is (order_for plan s.progress (waiting_of s))).0 in
       close_waits plan commands s done why (fine_stood plan commands scope done) up (subst (λ (c : Cause). Because plan s done c) same it.shown) anew old
 
-  step : (done later : List Act) (act : Act) → Runs plan commands (opening plan scope) (done ++ act ∷ later) → 1 ≤ (stood plan commands scope done).progress.drain → 1 ≤ (stood plan commands scope (done ++ act ∷ [])).progress.drain
-  step done later act runs d =
-      let s = stood plan commands scope done in
-      let o = (runs_split plan commands (opening plan scope) done later act runs).1 in
-      subst (λ (p : Progress). 1 ≤ p.drain) (sym (progress_behind plan commands scope done act)) (moved_drain (λ n. 1 ≤ n) plan commands (order_at plan s) s act d (λ why is. waits done later act why runs is) o)
+  step : (done : List Act) (act : Act) → Runs plan commands (opening plan scope) done → Obeys commands (stood plan commands scope done) (order_at plan (stood plan commands scope done)) act → 1 ≤ (stood plan commands scope done).progress.drain
+      → 1 ≤ (moved plan commands (order_at plan (stood plan commands scope done)) (with_progress turned (stood plan commands scope done)) act).progress.drain
+  step done act runs o d = let s = stood plan commands scope done in moved_drain (λ n. 1 ≤ n) plan commands (order_at plan s) s act d (λ why is. waits done act why runs o is) o

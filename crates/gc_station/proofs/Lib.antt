@@ -1,10 +1,12 @@
 pub mod Acting
+mod Always
 mod Answers
 pub mod Beginning
 mod Beginnings
 pub mod Booking
 mod Chaining
 mod Closings
+mod Connected
 mod Counts
 mod Drained
 mod Drains
@@ -34,6 +36,7 @@ mod Quiets
 pub mod Readings
 mod Records
 mod Silences
+mod Since
 mod Tries
 mod Turns
 mod Used

@@ -1,40 +1,38 @@
 -- A connection is closed for a dead line only where no reply line came for so long.
-use Rattle.std.proofs.Common.{◌≡◌, ℕ, ◌-◌, ◌<◌, ◌≤◌, ◌⊎◌, inl, inr, ◌&&◌, Bool, true, false, not, List, [], ◌∷◌, ◌++◌, length, drop, if◌then◌else◌, nat_lt, nat_le, min, refl, sym, ap, ◌∙◌, subst, arith, append_assoc}
+use Rattle.std.proofs.Common.{◌≡◌, ℕ, ◌-◌, ◌<◌, ◌≤◌, ◌⊎◌, inl, inr, Bool, true, false, List, [], ◌∷◌, ◌++◌, length, drop, if◌then◌else◌, nat_lt, nat_le, min, refl, sym, ap, ◌∙◌, subst, arith, append_assoc}
 use Rattle.std.specs.List.{AllByRecursion}
 use Rattle.std.proofs.Math.Nat.{min-eq_left, min-eq_right}
 use Rattle.std.proofs.lemmas.Bool.{leb-true, leb-false, ltb-true}
 use Rattle.gc_lines.specs.Frames.{rest_behind}
-use Rattle.gc_client.specs.Rule.{ById, expiring}
+use Rattle.gc_client.specs.Rule.{ById}
 use Rattle.gc_catalogue.specs.declared.call.Call.TheVariants.{NullProc}
 use Rattle.gc_texts.specs.declared.tasks.Task.{Task}
 use Rattle.gc_links.specs.declared.link.Moment.{Moment}
 use Rattle.gc_station.specs.declared.plan.Plan.{Plan}
-use Rattle.gc_station.specs.declared.cause.Cause.{Cause}
 use Rattle.gc_station.specs.declared.cause.Cause.TheVariants as cause
 use Rattle.gc_station.specs.declared.progress.Phase.{Phase}
 use Rattle.gc_station.specs.declared.progress.Phase.TheVariants as phase
 use Rattle.gc_station.specs.declared.progress.Order.{Order}
 use Rattle.gc_station.specs.declared.progress.Order.TheVariants as orders
 use Rattle.gc_station.specs.declared.progress.Progress.{Progress}
-use Rattle.gc_station.specs.declared.progress.Until.{Until}
-use Rattle.gc_links.specs.Acts.{Act, Told, Untold, Put, Cut, Gave, Silent, Ended, Broke, Unopened}
-use Rattle.gc_station.specs.Deciding.{is_up, is_past, drain_of, patience_of}
-use Rattle.gc_station.specs.Marks.{commands_in}
-use Rattle.gc_station.specs.Progressing.{failing, again, turned, told, asking, time_passed, quiet_renewed, quieted, is_idle, drained}
+use Rattle.gc_links.specs.Acts.{Act, Told, Put, Gave, Silent}
+use Rattle.gc_station.specs.Deciding.{patience_of}
+use Rattle.gc_station.specs.Progressing.{turned, told, asking}
 use Rattle.gc_station.specs.Quiet.{TellsMoment, IsListening, IsSilent, StaysConnected}
 use Rattle.gc_station.specs.Reasons.{IsFor}
 use Rattle.gc_station.specs.Runs.{stood}
 use Rattle.gc_station.specs.Silences.{latest, IsNoReply, BringsNoReply, IsMute, WentBack, IsMuteFor}
-use Rattle.gc_station.specs.Standing.{Standing, requests_out, request_text, first_text, opening, order_at, waiting_of, with_progress, with_moment, with_rest, line_came, lines_came, lines_behind, came, is_heard, is_nil, is_reply, place_next, Obeys, moved, after, after_all, Runs}
-use Rattle.gc_station.proofs.Closings.{runs_split}
-use Rattle.gc_station.proofs.Drains.{along, progress_behind}
+use Rattle.gc_station.specs.Standing.{Standing, request_text, first_text, opening, order_at, waiting_of, with_progress, with_moment, with_rest, line_came, lines_came, lines_behind, came, is_heard, is_reply, place_next, Obeys, moved, after, after_all, Runs}
+use Rattle.gc_station.proofs.Always.{always_far}
+use Rattle.gc_station.proofs.Connected.{is_in_use, OnLine, on_line}
+use Rattle.gc_station.proofs.Midway.{clash}
+use Rattle.gc_station.proofs.Since.{Since, since_now, since_on, cut_on}
 use Rattle.gc_station.proofs.EachRun.{fine_stood}
 use Rattle.gc_station.proofs.Facts.{both_true, order_for, order_wakes, Awake, Wakes}
 use Rattle.gc_station.proofs.Going.{after_all-append}
 use Rattle.gc_station.proofs.Lists.{all_append}
 use Rattle.gc_station.proofs.Silences.{IsHushed, latest_more, hush_stood, awake_hushed, not_closing, end_here, awake_here}
-use Rattle.gc_station.proofs.Walk.{lines_along, walk}
-use Rattle.gc_station.proofs.Turns.{again_down, closed_down}
+use Rattle.gc_station.proofs.Walk.{lines_along}
 use Rattle.gc_station.specs.Scopes.{Scope}
 
 -- The act that told the last moment.
@@ -50,7 +48,7 @@ silent_last front start since now (Silent m ∷ silence) tells silent is =
 silent_last front start since now (act ∷ silence) tells silent is = absurd silent.0
 
 hushed_last : (plan : Plan) (commands : List Task) (scope : Scope) (since now : ℕ) (acts : List Act) → IsHushed plan commands scope since now acts → LastTells now acts
-hushed_last plan commands scope since now acts h = subst (LastTells now) (sym h.order) (silent_last h.before h.start since now h.silence h.starts h.silent h.last)
+hushed_last plan commands scope since now acts h = subst (LastTells now) (sym h.order) (silent_last h.before h.start since now h.behind h.holds.0 h.holds.1 h.holds.2)
 
 -- The lines of a piece: none reads as a reply, or the line was alive at that moment.
 
@@ -76,98 +74,78 @@ lines_alive s (line ∷ others) = on (is_reply line) refl (lines_alive (line_cam
 
 -- since when no reply line came: where no request went out since the last one, none behind that moment; else one went out at once, or the
 -- clock went back then
-abbrev Since : Bool → ℕ → List Act → List Act → Type 0
-Since false from before behind = AllByRecursion IsListening behind
-Since true from before behind = ((text : List ℕ) × (others : List Act) × (behind ≡ Put text ∷ others)) ⊎ WentBack from before
+abbrev Asks : Bool → ℕ → List Act → List Act → Type 0
+Asks false from before behind = AllByRecursion IsListening behind
+Asks true from before behind = ((text : List ℕ) × (others : List Act) × (behind ≡ Put text ∷ others)) ⊎ WentBack from before
 
-since_asked : (from : ℕ) (before behind : List Act) (act : Act) → Since true from before behind → Since true from before (behind ++ act ∷ [])
-since_asked from before behind act (inl put) = inl (put.0, put.1 ++ act ∷ [], ap (λ xs. xs ++ act ∷ []) put.2)
-since_asked from before behind act (inr back) = inr back
+asks_still : (from : ℕ) (before behind : List Act) (act : Act) → Asks true from before behind → Asks true from before (behind ++ act ∷ [])
+asks_still from before behind act (inl put) = inl (put.0, put.1 ++ act ∷ [], ap (λ xs. xs ++ act ∷ []) put.2)
+asks_still from before behind act (inr back) = inr back
 
-since_on : (asked : Bool) (from : ℕ) (before behind : List Act) (act : Act) → IsListening act → Since asked from before behind → Since asked from before (behind ++ act ∷ [])
-since_on false from before behind act listens since = all_append IsListening behind (act ∷ []) since (listens, tt)
-since_on true from before behind act listens since = since_asked from before behind act since
+asks_on : (asked : Bool) (from : ℕ) (before behind : List Act) (act : Act) → IsListening act → Asks asked from before behind → Asks asked from before (behind ++ act ∷ [])
+asks_on false from before behind act listens asks = all_append IsListening behind (act ∷ []) asks (listens, tt)
+asks_on true from before behind act listens asks = asks_still from before behind act asks
 
-since_any : (asked : Bool) (from : ℕ) (before behind : List Act) → Since asked from before behind → AllByRecursion IsListening behind ⊎ (((text : List ℕ) × (others : List Act) × (behind ≡ Put text ∷ others)) ⊎ WentBack from before)
-since_any false from before behind since = inl since
-since_any true from before behind since = inr since
+asks_any : (asked : Bool) (from : ℕ) (before behind : List Act) → Asks asked from before behind → AllByRecursion IsListening behind ⊎ (((text : List ℕ) × (others : List Act) × (behind ≡ Put text ∷ others)) ⊎ WentBack from before)
+asks_any false from before behind asks = inl asks
+asks_any true from before behind asks = inr asks
 
 module _ (plan : Plan) (commands : List Task) (scope : Scope) where
   -- behind an act that told a moment no reply line came on the same connection; this moment was told last
-  record IsMuted (asked : Bool) (alive now : ℕ) (acts : List Act) : Type 0 where
-    before : List Act
-    start : Act
-    behind : List Act
-    order : acts ≡ before ++ start ∷ behind
-    starts : TellsMoment alive start
-    stays : AllByRecursion StaysConnected behind
-    mute : IsMute plan commands (stood plan commands scope (before ++ start ∷ [])) behind
-    since : Since asked alive before behind
-    last : latest alive behind ≡ now
-    least : alive ≤ now
+  abbrev Mutes : Bool → ℕ → ℕ → List Act → Act → List Act → Type 0
+  Mutes asked alive now before start behind =
+      TellsMoment alive start × AllByRecursion StaysConnected behind × IsMute plan commands (stood plan commands scope (before ++ start ∷ [])) behind
+      × Asks asked alive before behind × (latest alive behind ≡ now) × (alive ≤ now)
+
+  abbrev IsMuted : Bool → ℕ → ℕ → List Act → Type 0
+  IsMuted asked alive now acts = Since (Mutes asked alive now) acts
 
   mute_more : (s : Standing) (xs : List Act) (act : Act) → IsMute plan commands s xs → BringsNoReply (after_all plan commands s xs).rest act → IsMute plan commands s (xs ++ act ∷ [])
   mute_more s [] act mute here = (here, tt)
   mute_more s (x ∷ xs) act mute here = (mute.0, mute_more (after plan commands s x) xs act mute.1 here)
 
   -- it begins
-  muted_from : (asked : Bool) (now : ℕ) (acts : List Act) (act : Act) → TellsMoment now act → Since asked now acts [] → IsMuted asked now now (acts ++ act ∷ [])
-  muted_from asked now acts act tells since = record {
-    before = acts;
-    start = act;
-    behind = [];
-    order = refl;
-    starts = tells;
-    stays = tt;
-    mute = tt;
-    since = since;
-    last = refl;
-    least = omega arith;
-  }
+  muted_from : (asked : Bool) (now : ℕ) (acts : List Act) (act : Act) → TellsMoment now act → Asks asked now acts [] → IsMuted asked now now (acts ++ act ∷ [])
+  muted_from asked now acts act tells asks = let least : now ≤ now = omega arith in since_now (Mutes asked now now) acts act (tells, tt, tt, asks, refl, least)
 
   muted_now : (now : ℕ) (acts : List Act) (act : Act) → TellsMoment now act → IsMuted false now now (acts ++ act ∷ [])
   muted_now now acts act tells = muted_from false now acts act tells tt
 
   -- it goes on
-  muted_on : (asked : Bool) (alive now : ℕ) (acts : List Act) (act : Act) → StaysConnected act → BringsNoReply (stood plan commands scope acts).rest act → (q : IsMuted asked alive now acts) → Since asked alive q.before (q.behind ++ act ∷ []) → alive ≤ latest now (act ∷ [])
+  muted_on : (asked : Bool) (alive now : ℕ) (acts : List Act) (act : Act) → StaysConnected act → BringsNoReply (stood plan commands scope acts).rest act
+      → ((before behind : List Act) → Asks asked alive before behind → Asks asked alive before (behind ++ act ∷ [])) → alive ≤ latest now (act ∷ []) → IsMuted asked alive now acts
       → IsMuted asked alive (latest now (act ∷ [])) (acts ++ act ∷ [])
-  muted_on asked alive now acts act stays none q since least =
-      let there : stood plan commands scope acts ≡ after_all plan commands (stood plan commands scope (q.before ++ q.start ∷ [])) q.behind =
-      ap (stood plan commands scope) (q.order ∙ sym (append_assoc q.before (q.start ∷ []) q.behind)) ∙ after_all-append plan commands (opening plan scope) (q.before ++ q.start ∷ []) q.behind in
-      record {
-        before = q.before;
-        start = q.start;
-        behind = q.behind ++ act ∷ [];
-        order = ap (λ xs. xs ++ act ∷ []) q.order ∙ append_assoc q.before (q.start ∷ q.behind) (act ∷ []);
-        starts = q.starts;
-        stays = all_append StaysConnected q.behind (act ∷ []) q.stays (stays, tt);
-        mute = mute_more (stood plan commands scope (q.before ++ q.start ∷ [])) q.behind act q.mute (subst (λ (x : Standing). BringsNoReply x.rest act) there none);
-        since = since;
-        last = latest_more alive q.behind act ∙ ap (λ n. latest n (act ∷ [])) q.last;
-        least = least;
-      }
+  muted_on asked alive now acts act stays none asks least q =
+      since_on (Mutes asked alive now) (Mutes asked alive (latest now (act ∷ []))) acts (act ∷ [])
+      (λ before start behind order h.
+      let there : stood plan commands scope acts ≡ after_all plan commands (stood plan commands scope (before ++ start ∷ [])) behind =
+      ap (stood plan commands scope) (order ∙ sym (append_assoc before (start ∷ []) behind)) ∙ after_all-append plan commands (opening plan scope) (before ++ start ∷ []) behind in (
+        h.0,
+        all_append StaysConnected behind (act ∷ []) h.1 (stays, tt),
+        mute_more (stood plan commands scope (before ++ start ∷ [])) behind act h.2 (subst (λ (x : Standing). BringsNoReply x.rest act) there none),
+        asks before behind h.3,
+        latest_more alive behind act ∙ ap (λ n. latest n (act ∷ [])) h.4,
+        least,
+      )) q
 
   -- or begins at the last moment, where a request goes out
   muted_asking : (now : ℕ) (acts : List Act) (out : List ℕ) → LastTells now acts → IsMuted true now now (acts ++ Put out ∷ [])
-  muted_asking now acts out (front, last, order, tells) = record {
-    before = front;
-    start = last;
-    behind = Put out ∷ [];
-    order = ap (λ xs. xs ++ Put out ∷ []) order ∙ append_assoc front (last ∷ []) (Put out ∷ []);
-    starts = tells;
-    stays = (tt, tt);
-    mute = (tt, tt);
-    since = inl (out, [], refl);
-    last = refl;
-    least = omega arith;
-  }
+  muted_asking now acts out (front, last, order, tells) =
+      let least : now ≤ now = omega arith in
+      record {
+        before = front;
+        start = last;
+        behind = Put out ∷ [];
+        order = cut_on (acts ++ Put out ∷ []) acts front (last ∷ []) (Put out ∷ []) refl order;
+        holds = (tells, (tt, tt), (tt, tt), inl (out, [], refl), refl, least);
+      }
 
   -- or anew, where the clock went back
-  went_back : (asked : Bool) (alive now m : ℕ) (acts : List Act) → m < alive → IsMuted asked alive now acts → Since asked m acts []
+  went_back : (asked : Bool) (alive now m : ℕ) (acts : List Act) → m < alive → IsMuted asked alive now acts → Asks asked m acts []
   went_back false alive now m acts less q = tt
   went_back true alive now m acts less q =
-      let least = q.least in
-      let last = q.last in
+      let least = q.holds.5 in
+      let last = q.holds.4 in
       let later : m < latest alive q.behind = omega (arith, less, least, last) in
       inr (record {
         earlier = q.before;
@@ -175,7 +153,7 @@ module _ (plan : Plan) (commands : List Task) (scope : Scope) where
         told = alive;
         others = q.behind;
         order = q.order;
-        tells = q.starts;
+        tells = q.holds.0;
         later = later;
       })
 
@@ -185,7 +163,7 @@ module _ (plan : Plan) (commands : List Task) (scope : Scope) where
       let low = leb-true alive m.elapsed e in
       let least : alive ≤ latest now (act ∷ []) = omega (arith, is, low) in
       subst (λ n. IsMuted asked n m.elapsed (acts ++ act ∷ [])) (sym (min-eq_left low))
-      (subst (λ n. IsMuted asked alive n (acts ++ act ∷ [])) is (muted_on asked alive now acts act stays none q (since_on asked alive q.before q.behind act listens q.since) least))
+      (subst (λ n. IsMuted asked alive n (acts ++ act ∷ [])) is (muted_on asked alive now acts act stays none (λ before behind asks. asks_on asked alive before behind act listens asks) least q))
   muted_clock asked alive now m acts act false e tells is stays listens none q =
       let low = leb-false alive m.elapsed e in
       let below : m.elapsed < alive = omega (arith, low) in
@@ -204,14 +182,10 @@ module _ (plan : Plan) (commands : List Task) (scope : Scope) where
 
   -- What each act leaves.
 
-  mute_failed : (asked : Bool) (alive now : ℕ) (up : Bool) (why : Cause) (acts : List Act) → Mute asked alive now (if up then phase.Closing why else phase.Over why) acts
-  mute_failed asked alive now true why acts = tt
-  mute_failed asked alive now false why acts = tt
-
-  mute_down : (asked : Bool) (alive now : ℕ) (at : Phase) (acts : List Act) → is_up at ≡ false → Mute asked alive now at acts
-  mute_down asked alive now phase.Probing acts down = cc
-  mute_down asked alive now phase.Ready acts down = cc
-  mute_down asked alive now at acts down = tt
+  mute_none : (asked : Bool) (alive now : ℕ) (at : Phase) (acts : List Act) → is_in_use at ≡ false → Mute asked alive now at acts
+  mute_none asked alive now phase.Probing acts none = cc
+  mute_none asked alive now phase.Ready acts none = cc
+  mute_none asked alive now at acts none = tt
 
   -- a moment is told, and no reply line came with it
   mute_told : (asked : Bool) (alive now : ℕ) (m : Moment) (at : Phase) (acts : List Act) (act : Act) → TellsMoment m.elapsed act → latest now (act ∷ []) ≡ m.elapsed → StaysConnected act → IsListening act → (at ≡ phase.Ready → BringsNoReply (stood plan commands scope acts).rest act)
@@ -223,22 +197,6 @@ module _ (plan : Plan) (commands : List Task) (scope : Scope) where
   anew_mute : (anew : Bool) (m : Moment) (acts : List Act) → Mute false m.elapsed m.elapsed (if anew then phase.Probing else phase.Ready) (acts ++ Silent m ∷ [])
   anew_mute true m acts = refl
   anew_mute false m acts = muted_now m.elapsed acts (Silent m) refl
-
-  drained_mute : (b gave_up : Bool) (until : Until) (m : Moment) (p : Progress) (acts : List Act) → p.phase ≡ phase.Draining → MuteAt (quiet_renewed gave_up m (if b then drained (time_passed until m p) else time_passed until m p)) (acts ++ Silent m ∷ [])
-  drained_mute true gave_up until m p acts is = anew_mute p.anew m acts
-  drained_mute false gave_up until m p acts is = subst (λ (x : Phase). Mute p.asked (min p.alive m.elapsed) m.elapsed x (acts ++ Silent m ∷ [])) (sym is) tt
-
-  paused_mute : (asked : Bool) (alive now : ℕ) (b : Bool) (at : Phase) (acts : List Act) → at ≡ phase.Pausing → Mute asked alive now (if b then phase.Down else at) acts
-  paused_mute asked alive now true at acts is = tt
-  paused_mute asked alive now false at acts is = subst (λ (x : Phase). Mute asked alive now x acts) (sym is) tt
-
-  silent_mute : (until : Until) (gave_up : Bool) (m : Moment) (p : Progress) (at : Phase) (acts : List Act) → p.phase ≡ at → Mute p.asked p.alive p.moment.elapsed at acts → MuteAt (quiet_renewed gave_up m (quieted plan at (time_passed until m p))) (acts ++ Silent m ∷ [])
-  silent_mute until gave_up m p phase.Draining acts is q = drained_mute (is_past (drain_of plan (time_passed until m p)) (time_passed until m p)) gave_up until m p acts is
-  silent_mute until gave_up m p phase.Pausing acts is q =
-      paused_mute p.asked (min p.alive m.elapsed) m.elapsed (is_past p.pause (time_passed until m p) && not (is_idle plan (time_passed until m p))) p.phase (acts ++ Silent m ∷ []) is
-  silent_mute until gave_up m p at acts is q =
-      subst (λ (x : Phase). Mute p.asked (min p.alive m.elapsed) m.elapsed x (acts ++ Silent m ∷ [])) (sym is)
-      (mute_told p.asked p.alive p.moment.elapsed m at acts (Silent m) refl refl tt tt (λ e. tt) q)
 
   -- a piece was heard: with a reply line the line was alive at this moment
   heard_mute : (s : Standing) (bytes : List ℕ) (m : Moment) (acts : List Act) (lines : List (List ℕ)) (mid : Standing) → mid.progress.alive ≡ min s.progress.alive m.elapsed → mid.progress.asked ≡ s.progress.asked → mid.progress.moment ≡ m
@@ -275,16 +233,9 @@ module _ (plan : Plan) (commands : List Task) (scope : Scope) where
   gave_mute s bytes m phase.Probing acts is rest q = subst (λ (x : Phase). Mute s.progress.asked (min s.progress.alive m.elapsed) m.elapsed x (acts ++ Gave bytes m ∷ [])) (sym is) q
   gave_mute s bytes m at acts is rest q = subst (λ (x : Phase). Mute s.progress.asked (min s.progress.alive m.elapsed) m.elapsed x (acts ++ Gave bytes m ∷ [])) (sym is) tt
 
-  -- behind an act
-  abbrev MuteBehind : List Act → Act → Standing → Type 0
-  MuteBehind acts act t = MuteAt t.progress (acts ++ act ∷ [])
-
-  fails_mute : (p : Progress) (why : Cause) (acts : List Act) → MuteAt (failing why p) acts
-  fails_mute p why acts = mute_failed p.asked p.alive p.moment.elapsed (is_up p.phase) why acts
-
   -- a request goes out
   muted_asks : (asked : Bool) (alive now : ℕ) (acts : List Act) (out : List ℕ) → LastTells now acts → (asked ≡ true → IsMuted true alive now acts) → IsMuted true (if asked then alive else now) now (acts ++ Put out ∷ [])
-  muted_asks true alive now acts out tells q = let it = q refl in muted_on true alive now acts (Put out) tt tt it (since_asked alive it.before it.behind (Put out) it.since) it.least
+  muted_asks true alive now acts out tells q = let it = q refl in muted_on true alive now acts (Put out) tt tt (λ before behind asks. asks_still alive before behind (Put out) asks) it.holds.5 it
   muted_asks false alive now acts out tells q = muted_asking now acts out tells
 
   -- where requests go out, the moment was told last
@@ -305,40 +256,21 @@ module _ (plan : Plan) (commands : List Task) (scope : Scope) where
       subst (λ (x : Phase). Mute true (if p.asked then p.alive else p.moment.elapsed) p.moment.elapsed x (acts ++ Put out ∷ [])) (sym is)
       (muted_asks p.asked p.alive p.moment.elapsed acts out tells (λ e. subst (λ b. IsMuted b p.alive p.moment.elapsed acts) e (in_phase p phase.Ready acts is q)))
 
-  mute_moved : (next : Order) (s : Standing) (act : Act) (acts : List Act) → Obeys commands s next act → IsFor plan s.progress (waiting_of s) next → Tells s.progress acts next → (stood plan commands scope acts).rest ≡ s.rest
-      → MuteAt s.progress acts → MuteAt (moved plan commands next (with_progress turned s) act).progress (acts ++ act ∷ [])
-  mute_moved orders.Open s act acts o needs tells rest q =
-      let p = again plan (commands_in s.marks) cause.Open (turned s.progress) in
-      walk plan commands (MuteBehind acts) orders.Open (with_progress turned s) act o
-      (λ m. tt, λ n. mute_down p.asked p.alive p.moment.elapsed p.phase (acts ++ Unopened ∷ []) (again_down plan (commands_in s.marks) cause.Open (turned s.progress)))
-  mute_moved orders.Clear s act acts o needs tells rest q = walk plan commands (MuteBehind acts) orders.Clear (with_progress turned s) act o (λ m. tt, λ n. tt)
-  mute_moved orders.Probe s act acts o needs tells rest q =
-      walk plan commands (MuteBehind acts) orders.Probe (with_progress turned s) act o (
-        λ m. muted_asks s.progress.asked s.progress.alive s.progress.moment.elapsed acts (request_text s.client NullProc) tells
-            (λ e. let none = in_phase s.progress phase.Probing acts needs.0 q in let both : true ≡ false = sym e ∙ none in cc),
-        λ n. tt,
-      )
-  mute_moved orders.Send s act acts o needs tells rest q =
-      let text = first_text s.client (drop (place_next commands s.progress) commands) in
-      walk plan commands (MuteBehind acts) orders.Send (with_progress turned s) act o
-      (λ m. asks_mute s.progress acts text needs.0 tells q, λ n. fails_mute (asking s.progress) (cause.Write (requests_out plan commands (turned s.progress)) n) (acts ++ Cut text n ∷ []))
-  mute_moved orders.Flush s act acts o needs tells rest q =
-      let text = request_text s.client NullProc in
-      walk plan commands (MuteBehind acts) orders.Flush (with_progress turned s) act o
-      (λ m. asks_mute s.progress acts text needs.0 tells q, λ n. fails_mute (asking s.progress) (cause.Write (requests_out plan commands (turned s.progress)) n) (acts ++ Cut text n ∷ []))
-  mute_moved (orders.Read until) s act acts o needs tells rest q =
-      walk plan commands (MuteBehind acts) (orders.Read until) (with_progress turned s) act o (
-        λ bytes m. gave_mute (with_progress turned s) bytes m s.progress.phase acts refl rest q,
-        λ m. silent_mute until (not (is_nil (expiring m.elapsed s.client.waiting))) m (turned s.progress) s.progress.phase acts refl q,
-        fails_mute s.progress cause.End (acts ++ Ended ∷ []),
-        fails_mute s.progress cause.Read (acts ++ Broke ∷ []),
-        fails_mute s.progress cause.Clock (acts ++ Untold ∷ []),
-      )
-  mute_moved (orders.Close why) s act acts o needs tells rest q =
-      let p = (moved plan commands (orders.Close why) (with_progress turned s) act).progress in mute_down p.asked p.alive p.moment.elapsed p.phase (acts ++ act ∷ []) (closed_down plan (waiting_of s) why (turned s.progress))
-  mute_moved (orders.Stop why) s act acts o needs tells rest q = absurd o
-  mute_moved next s act acts o needs tells rest q =
-      walk plan commands (MuteBehind acts) next (with_progress turned s) act o (λ m. told_mute s.progress m acts q, λ n. fails_mute s.progress cause.Clock (acts ++ Untold ∷ []))
+  mute_line : (next : Order) (s : Standing) (acts : List Act) → IsFor plan s.progress (waiting_of s) next → Tells s.progress acts next → (stood plan commands scope acts).rest ≡ s.rest
+      → MuteAt s.progress acts → OnLine plan commands MuteAt next (with_progress turned s) acts
+  mute_line orders.Open s acts needs tells rest q = λ m. tt
+  mute_line orders.Clear s acts needs tells rest q = λ m. tt
+  mute_line orders.Probe s acts needs tells rest q =
+      let p = s.progress in
+      λ m. muted_asks p.asked p.alive p.moment.elapsed acts (request_text s.client NullProc) tells (λ e. absurd (clash p.asked e (in_phase p phase.Probing acts needs.0 q)))
+  mute_line orders.Send s acts needs tells rest q = λ m. asks_mute s.progress acts (first_text s.client (drop (place_next commands s.progress) commands)) needs.0 tells q
+  mute_line orders.Flush s acts needs tells rest q = λ m. asks_mute s.progress acts (request_text s.client NullProc) needs.0 tells q
+  mute_line (orders.Read until) s acts needs tells rest q =
+      let p = s.progress in
+      (λ bytes m. gave_mute (with_progress turned s) bytes m p.phase acts refl rest q, λ m. (mute_told p.asked p.alive p.moment.elapsed m p.phase acts (Silent m) refl refl tt tt (λ e. tt) q, λ draining past. anew_mute p.anew m acts))
+  mute_line (orders.Close why) s acts needs tells rest q = tt
+  mute_line (orders.Stop why) s acts needs tells rest q = tt
+  mute_line next s acts needs tells rest q = λ m. told_mute s.progress m acts q
 
   -- Whole runs.
 
@@ -349,15 +281,15 @@ module _ (plan : Plan) (commands : List Task) (scope : Scope) where
   tells_in p acts next awake last = tt
 
   mute_stood : (acts : List Act) → Runs plan commands (opening plan scope) acts → MuteAt (stood plan commands scope acts).progress acts
-  mute_stood acts runs = along plan commands (opening plan scope) (λ (xs : List Act). MuteAt (stood plan commands scope xs).progress xs) step [] acts runs tt where
-    step : (done later : List Act) (act : Act) → Runs plan commands (opening plan scope) (done ++ act ∷ later) → MuteAt (stood plan commands scope done).progress done → MuteAt (stood plan commands scope (done ++ act ∷ [])).progress (done ++ act ∷ [])
-    step done later act runs q =
+  mute_stood acts runs = always_far plan commands (opening plan scope) MuteAt step tt acts runs where
+    step : (done : List Act) (act : Act) → Runs plan commands (opening plan scope) done → Obeys commands (stood plan commands scope done) (order_at plan (stood plan commands scope done)) act → MuteAt (stood plan commands scope done).progress done
+        → MuteAt (moved plan commands (order_at plan (stood plan commands scope done)) (with_progress turned (stood plan commands scope done)) act).progress (done ++ act ∷ [])
+    step done act runs o q =
         let s = stood plan commands scope done in
-        let split = runs_split plan commands (opening plan scope) done later act runs in
-        let hush = hush_stood plan commands scope done split.0 in
-        let tells = tells_in s.progress done (order_at plan s) (order_wakes plan s.progress (waiting_of s)) (λ awake. hushed_last plan commands scope s.progress.since s.progress.moment.elapsed done (awake_hushed plan commands scope s.progress done awake hush)) in
-        subst (λ (p : Progress). MuteAt p (done ++ act ∷ [])) (sym (progress_behind plan commands scope done act))
-        (mute_moved (order_at plan s) s act done split.1 (order_for plan s.progress (waiting_of s)) tells refl q)
+        let p = s.progress in
+        let hush = hush_stood plan commands scope done runs in
+        let tells = tells_in p done (order_at plan s) (order_wakes plan p (waiting_of s)) (λ awake. hushed_last plan commands scope p.since p.moment.elapsed done (awake_hushed plan commands scope p done awake hush)) in
+        on_line plan commands MuteAt (λ x acts none. mute_none x.asked x.alive x.moment.elapsed x.phase acts none) (order_at plan s) s act done o (mute_line (order_at plan s) s done (order_for plan p (waiting_of s)) tells refl q)
 
   pub mute_close : (acts : List Act) → Runs plan commands (opening plan scope) acts → order_at plan (stood plan commands scope acts) ≡ orders.Close cause.Dead → IsMuteFor (patience_of plan) plan commands scope acts
   mute_close acts runs is = by_phase awake.1 where
@@ -388,9 +320,9 @@ module _ (plan : Plan) (commands : List Task) (scope : Scope) where
           from = s.progress.alive;
           behind = q.behind;
           order = q.order;
-          starts = q.starts;
-          stays = q.stays;
-          mute = q.mute;
-          asked = since_any s.progress.asked s.progress.alive q.before q.behind q.since;
-          long = subst (λ n. patience_of plan ≤ n - s.progress.alive) (sym q.last) long;
+          starts = q.holds.0;
+          stays = q.holds.1;
+          mute = q.holds.2;
+          asked = asks_any s.progress.asked s.progress.alive q.before q.behind q.holds.3;
+          long = subst (λ n. patience_of plan ≤ n - s.progress.alive) (sym q.holds.4) long;
         }

@@ -1,5 +1,5 @@
 -- Before a request goes out its connection was cleared and quiet: what was done on it, by the phase.
-use Rattle.std.proofs.Common.{◌≡◌, ℕ, ◌*◌, ◌-◌, ◌≤◌, ◌⊎◌, inl, inr, ◌&&◌, Bool, true, false, not, List, [], ◌∷◌, ◌++◌, drop, if◌then◌else◌, nat_le, min, refl, sym, ap, ◌∙◌, subst, arith, append_assoc}
+use Rattle.std.proofs.Common.{◌≡◌, ℕ, ◌*◌, ◌-◌, ◌≤◌, ◌⊎◌, inl, inr, Bool, true, false, not, List, [], ◌∷◌, ◌++◌, drop, if◌then◌else◌, nat_le, min, refl, sym, ap, ◌∙◌, subst, arith}
 use Rattle.std.specs.List.{AllByRecursion}
 use Rattle.std.proofs.Math.Nat.{le-min, mul-le-mul_right, min-eq_left, min-eq_right}
 use Rattle.std.proofs.lemmas.Bool.{leb-true, leb-false}
@@ -8,66 +8,98 @@ use Rattle.gc_catalogue.specs.declared.call.Call.TheVariants.{NullProc}
 use Rattle.gc_texts.specs.declared.tasks.Task.{Task}
 use Rattle.gc_links.specs.declared.link.Moment.{Moment}
 use Rattle.gc_station.specs.declared.plan.Plan.{Plan}
-use Rattle.gc_station.specs.declared.cause.Cause.{Cause}
-use Rattle.gc_station.specs.declared.cause.Cause.TheVariants as cause
 use Rattle.gc_station.specs.declared.progress.Phase.{Phase}
 use Rattle.gc_station.specs.declared.progress.Phase.TheVariants as phase
 use Rattle.gc_station.specs.declared.progress.Order.{Order}
 use Rattle.gc_station.specs.declared.progress.Order.TheVariants as orders
 use Rattle.gc_station.specs.declared.progress.Progress.{Progress}
 use Rattle.gc_station.specs.declared.progress.Until.{Until}
-use Rattle.gc_links.specs.Acts.{Act, Told, Untold, Put, Cut, Gave, Silent, Ended, Broke, Closed, Opened, Unopened}
-use Rattle.gc_station.specs.Deciding.{is_up, is_past, drain_of}
-use Rattle.gc_station.specs.Marks.{commands_in}
-use Rattle.gc_station.specs.Progressing.{failing, again, turned, told, probed, asking, time_passed, quiet_renewed, quieted, is_idle, drained}
+use Rattle.gc_links.specs.Acts.{Act, Told, Put, Gave, Silent, Closed, Opened}
+use Rattle.gc_station.specs.Deciding.{is_past, drain_of}
+use Rattle.gc_station.specs.Progressing.{turned, told, time_passed, quiet_renewed, drained}
 use Rattle.gc_station.specs.Beginnings.{IsUnasked}
 use Rattle.gc_station.specs.Quiet.{IsRequest, AsksNothing, TellsMoment, IsListening, IsSilent, StaysConnected, IsClearedAndQuiet}
 use Rattle.gc_station.specs.Reasons.{IsFor}
 use Rattle.gc_station.specs.Runs.{stood}
-use Rattle.gc_station.specs.Standing.{Standing, requests_out, request_text, first_text, place_next, opening, order_at, waiting_of, with_progress, with_moment, is_heard, is_nil, asks_null, Obeys, moved, Runs}
+use Rattle.gc_station.specs.Standing.{Standing, request_text, first_text, place_next, opening, order_at, waiting_of, with_progress, with_moment, is_heard, is_nil, Obeys, moved, Runs}
 use Rattle.gc_station.proofs.Closings.{runs_split}
-use Rattle.gc_station.proofs.Drains.{along, progress_behind, drains_once}
-use Rattle.gc_station.proofs.Facts.{order_for, order_timely, Reads, Timely}
+use Rattle.gc_station.proofs.Always.{always_far}
+use Rattle.gc_station.proofs.Connected.{is_in_use, OnLine, on_line}
+use Rattle.gc_station.proofs.Drains.{drains_once}
+use Rattle.gc_station.proofs.Facts.{order_for, order_timely, Timely}
 use Rattle.gc_station.proofs.Lists.{all_append, all_on}
 use Rattle.gc_station.proofs.Midway.{clash}
-use Rattle.gc_station.proofs.Walk.{Putting, came_along, sending, walk}
-use Rattle.gc_station.proofs.Turns.{again_down, closed_down}
+use Rattle.gc_station.proofs.Since.{Since, since_now, since_on, cut_on}
+use Rattle.gc_station.proofs.Walk.{came_along, walk}
 use Rattle.gc_station.specs.Scopes.{Scope}
 
 -- What was done on a connection.
 
 -- it was made
-pub record IsOpened (acts : List Act) : Type 0 where
-  before : List Act
-  order : acts ≡ before ++ Opened ∷ []
+abbrev pub IsOpened : List Act → Type 0
+IsOpened acts = (before : List Act) × (acts ≡ before ++ Opened ∷ [])
 
--- and cleared
-pub record IsCleared (acts : List Act) : Type 0 where
-  before : List Act
-  order : acts ≡ before ++ Opened ∷ Put (10 ∷ []) ∷ []
+-- and cleared, and nothing went out since
+abbrev Clears : List Act → Act → List Act → Type 0
+Clears before start behind = IsOpened before × (start ≡ Put (10 ∷ [])) × AllByRecursion IsListening behind
 
 -- and nothing came since this moment
-pub record IsDrained (since : ℕ) (acts : List Act) : Type 0 where
-  before : List Act
-  drain : List Act
-  start : Act
-  silence : List Act
-  order : acts ≡ before ++ Opened ∷ Put (10 ∷ []) ∷ (drain ++ start ∷ silence)
-  drains : AllByRecursion IsListening drain
-  starts : TellsMoment since start
-  silent : AllByRecursion IsSilent silence
+abbrev Drains : ℕ → List Act → Act → List Act → Type 0
+Drains since before start behind = Since Clears before × TellsMoment since start × AllByRecursion IsSilent behind
+
+abbrev pub IsDrained : ℕ → List Act → Type 0
+IsDrained since acts = Since (Drains since) acts
+
+-- until it was quiet, and this holds of each act behind that
+abbrev pub Quiets : (Act → Type 0) → ℕ → List Act → Act → List Act → Type 0
+Quiets Holds quiet before start behind = (from : ℕ) × (last : Moment) × IsDrained from before × (start ≡ Silent last) × (quiet ≤ last.elapsed - from) × AllByRecursion Holds behind
+
+abbrev pub WasQuiet : (Act → Type 0) → ℕ → List Act → Type 0
+WasQuiet Holds quiet acts = Since (Quiets Holds quiet) acts
+
+-- no request goes out on the connection
+abbrev pub Unasking : Act → Type 0
+Unasking act = StaysConnected act × AsksNothing act
+
+-- in the words of the promise
+abbrev pub was_quiet : (Holds : Act → Type 0) (quiet : ℕ) (acts : List Act) → ((act : Act) → Holds act → StaysConnected act) → WasQuiet Holds quiet acts → IsClearedAndQuiet quiet acts
+was_quiet Holds quiet acts stays q =
+    let d = q.holds.2 in
+    let c = d.holds.0 in
+    let o = c.holds.0 in
+    record {
+      before = o.0;
+      drain = c.behind;
+      start = d.start;
+      from = q.holds.0;
+      silence = d.behind;
+      last = q.holds.1;
+      behind = q.behind;
+      order = cut_on acts c.before o.0 (Opened ∷ []) (c.start ∷ (c.behind ++ d.start ∷ (d.behind ++ q.start ∷ q.behind)))
+          (cut_on acts d.before c.before (c.start ∷ c.behind) (d.start ∷ (d.behind ++ q.start ∷ q.behind)) (cut_on acts q.before d.before (d.start ∷ d.behind) (q.start ∷ q.behind) q.order d.order) c.order) o.1
+          ∙ ap (λ (x : Act). o.0 ++ Opened ∷ x ∷ (c.behind ++ d.start ∷ (d.behind ++ q.start ∷ q.behind))) c.holds.1
+          ∙ ap (λ (x : Act). o.0 ++ Opened ∷ Put (10 ∷ []) ∷ (c.behind ++ d.start ∷ (d.behind ++ x ∷ q.behind))) q.holds.3;
+      drains = c.holds.2;
+      starts = d.holds.1;
+      silent = d.holds.2;
+      long = q.holds.4;
+      stays = all_on Holds StaysConnected q.behind stays q.holds.5;
+    }
+
+pub unasked : (quiet : ℕ) (acts : List Act) → WasQuiet Unasking quiet acts → IsUnasked quiet acts
+unasked quiet acts q = (was_quiet Unasking quiet acts (λ act h. h.0) q, all_on Unasking AsksNothing q.behind (λ act h. h.1) q.holds.5)
 
 -- whether a moment was told since
 abbrev pub IsDraining : Bool → ℕ → List Act → Type 0
-IsDraining true since acts = IsCleared acts
+IsDraining true since acts = Since Clears acts
 IsDraining false since acts = IsDrained since acts
 
 -- by the phase
 abbrev pub Stage : ℕ → Bool → ℕ → Phase → List Act → Type 0
 Stage quiet stale since phase.Clearing acts = (stale ≡ false) × IsOpened acts
 Stage quiet stale since phase.Draining acts = IsDraining stale since acts
-Stage quiet stale since phase.Probing acts = IsUnasked quiet acts
-Stage quiet stale since phase.Ready acts = IsClearedAndQuiet quiet acts
+Stage quiet stale since phase.Probing acts = WasQuiet Unasking quiet acts
+Stage quiet stale since phase.Ready acts = WasQuiet StaysConnected quiet acts
 Stage quiet stale since _ acts = Unit {0}
 
 abbrev pub StageAt : ℕ → Progress → List Act → Type 0
@@ -75,50 +107,9 @@ StageAt quiet p acts = Stage quiet p.stale p.since p.phase acts
 
 -- One act more.
 
-abbrev pub more : (quiet : ℕ) (acts : List Act) (act : Act) → StaysConnected act → IsClearedAndQuiet quiet acts → IsClearedAndQuiet quiet (acts ++ act ∷ [])
-more quiet acts act stays c = record {
-  before = c.before;
-  drain = c.drain;
-  start = c.start;
-  from = c.from;
-  silence = c.silence;
-  last = c.last;
-  behind = c.behind ++ act ∷ [];
-  order = ap (λ xs. xs ++ act ∷ []) c.order
-      ∙ append_assoc c.before (Opened ∷ Put (10 ∷ []) ∷ (c.drain ++ c.start ∷ (c.silence ++ Silent c.last ∷ c.behind))) (act ∷ [])
-      ∙ ap (λ (xs : List Act). c.before ++ Opened ∷ Put (10 ∷ []) ∷ xs)
-      (append_assoc c.drain (c.start ∷ (c.silence ++ Silent c.last ∷ c.behind)) (act ∷ [])
-      ∙ ap (λ (xs : List Act). c.drain ++ c.start ∷ xs) (append_assoc c.silence (Silent c.last ∷ c.behind) (act ∷ [])));
-  drains = c.drains;
-  starts = c.starts;
-  silent = c.silent;
-  long = c.long;
-  stays = all_append StaysConnected c.behind (act ∷ []) c.stays (stays, tt);
-}
-
--- which is no request
-pub more_unasked : (quiet : ℕ) (acts : List Act) (act : Act) → StaysConnected act → AsksNothing act → IsUnasked quiet acts → IsUnasked quiet (acts ++ act ∷ [])
-more_unasked quiet acts act stays none u = (more quiet acts act stays u.0, all_append AsksNothing u.0.behind (act ∷ []) u.1 (none, tt))
-
--- the line feed went out
-cleared_now : (acts : List Act) (out : List ℕ) → out ≡ 10 ∷ [] → IsOpened acts → IsCleared (acts ++ Put out ∷ [])
-cleared_now acts out is o = record {
-  before = o.before;
-  order = ap (λ xs. xs ++ Put out ∷ []) o.order ∙ append_assoc o.before (Opened ∷ []) (Put out ∷ []) ∙ ap (λ (xs : List ℕ). o.before ++ Opened ∷ Put xs ∷ []) is;
-}
-
--- a moment is told behind it
-drained_first : (acts : List Act) (m : Moment) → IsCleared acts → IsDrained m.elapsed (acts ++ Told m ∷ [])
-drained_first acts m c = record {
-  before = c.before;
-  drain = [];
-  start = Told m;
-  silence = [];
-  order = ap (λ xs. xs ++ Told m ∷ []) c.order ∙ append_assoc c.before (Opened ∷ Put (10 ∷ []) ∷ []) (Told m ∷ []);
-  drains = tt;
-  starts = refl;
-  silent = tt;
-}
+pub more : (Holds : Act → Type 0) (quiet : ℕ) (acts : List Act) (act : Act) → Holds act → WasQuiet Holds quiet acts → WasQuiet Holds quiet (acts ++ act ∷ [])
+more Holds quiet acts act on q =
+    since_on (Quiets Holds quiet) (Quiets Holds quiet) acts (act ∷ []) (λ before start behind order h. (h.0, h.1, h.2, h.3, h.4, all_append Holds behind (act ∷ []) h.5 (on, tt))) q
 
 tells_listening : (since : ℕ) (act : Act) → TellsMoment since act → IsListening act
 tells_listening since (Told m) e = tt
@@ -130,88 +121,54 @@ silent_listening : (act : Act) → IsSilent act → IsListening act
 silent_listening (Silent m) e = tt
 silent_listening act e = absurd e
 
+drained_clears : (since : ℕ) (acts : List Act) → IsDrained since acts → Since Clears acts
+drained_clears since acts d =
+    let listened : AllByRecursion IsListening (d.start ∷ d.behind) = (tells_listening since d.start d.holds.1, all_on IsSilent IsListening d.behind silent_listening d.holds.2) in
+    subst (λ (xs : List Act). Since Clears xs) (sym d.order)
+    (since_on Clears Clears d.before (d.start ∷ d.behind) (λ before start behind order c. (c.0, c.1, all_append IsListening behind (d.start ∷ d.behind) c.2 listened)) d.holds.0)
+
 -- the quiet time begins anew
 drained_anew : (since now : ℕ) (acts : List Act) (act : Act) → TellsMoment now act → IsDrained since acts → IsDrained now (acts ++ act ∷ [])
-drained_anew since now acts act tells d = record {
-  before = d.before;
-  drain = d.drain ++ d.start ∷ d.silence;
-  start = act;
-  silence = [];
-  order = ap (λ xs. xs ++ act ∷ []) d.order ∙ append_assoc d.before (Opened ∷ Put (10 ∷ []) ∷ (d.drain ++ d.start ∷ d.silence)) (act ∷ []);
-  drains = all_append IsListening d.drain (d.start ∷ d.silence) d.drains (tells_listening since d.start d.starts, all_on IsSilent IsListening d.silence silent_listening d.silent);
-  starts = tells;
-  silent = tt;
-}
+drained_anew since now acts act tells d = since_now (Drains now) acts act (drained_clears since acts d, tells, tt)
 
 -- nothing came
 drained_longer : (since : ℕ) (acts : List Act) (m : Moment) → IsDrained since acts → IsDrained since (acts ++ Silent m ∷ [])
-drained_longer since acts m d = record {
-  before = d.before;
-  drain = d.drain;
-  start = d.start;
-  silence = d.silence ++ Silent m ∷ [];
-  order = ap (λ xs. xs ++ Silent m ∷ []) d.order
-      ∙ append_assoc d.before (Opened ∷ Put (10 ∷ []) ∷ (d.drain ++ d.start ∷ d.silence)) (Silent m ∷ [])
-      ∙ ap (λ (xs : List Act). d.before ++ Opened ∷ Put (10 ∷ []) ∷ xs) (append_assoc d.drain (d.start ∷ d.silence) (Silent m ∷ []));
-  drains = d.drains;
-  starts = d.starts;
-  silent = all_append IsSilent d.silence (Silent m ∷ []) d.silent (tt, tt);
-}
+drained_longer since acts m d = since_on (Drains since) (Drains since) acts (Silent m ∷ []) (λ before start behind order h. (h.0, h.1, all_append IsSilent behind (Silent m ∷ []) h.2 (tt, tt))) d
 
 -- long enough
-abbrev pub quiet_now : (quiet since : ℕ) (acts : List Act) (m : Moment) → quiet ≤ m.elapsed - since → IsDrained since acts → IsClearedAndQuiet quiet (acts ++ Silent m ∷ [])
-quiet_now quiet since acts m long d = record {
-  before = d.before;
-  drain = d.drain;
-  start = d.start;
-  from = since;
-  silence = d.silence;
-  last = m;
-  behind = [];
-  order = ap (λ xs. xs ++ Silent m ∷ []) d.order
-      ∙ append_assoc d.before (Opened ∷ Put (10 ∷ []) ∷ (d.drain ++ d.start ∷ d.silence)) (Silent m ∷ [])
-      ∙ ap (λ (xs : List Act). d.before ++ Opened ∷ Put (10 ∷ []) ∷ xs) (append_assoc d.drain (d.start ∷ d.silence) (Silent m ∷ []));
-  drains = d.drains;
-  starts = d.starts;
-  silent = d.silent;
-  long = long;
-  stays = tt;
-}
+pub quiet_now : (Holds : Act → Type 0) (quiet since : ℕ) (acts : List Act) (m : Moment) → quiet ≤ m.elapsed - since → IsDrained since acts → WasQuiet Holds quiet (acts ++ Silent m ∷ [])
+quiet_now Holds quiet since acts m long d = since_now (Quiets Holds quiet) acts (Silent m) (since, m, d, refl, long, tt)
 
 -- What each act leaves.
 
-stage_failed : (quiet : ℕ) (stale : Bool) (since : ℕ) (up : Bool) (why : Cause) (acts : List Act) → Stage quiet stale since (if up then phase.Closing why else phase.Over why) acts
-stage_failed quiet stale since true why acts = tt
-stage_failed quiet stale since false why acts = tt
-
-stage_down : (quiet : ℕ) (stale : Bool) (since : ℕ) (at : Phase) (acts : List Act) → is_up at ≡ false → Stage quiet stale since at acts
-stage_down quiet stale since phase.Clearing acts down = cc
-stage_down quiet stale since phase.Draining acts down = cc
-stage_down quiet stale since phase.Probing acts down = cc
-stage_down quiet stale since phase.Ready acts down = cc
-stage_down quiet stale since at acts down = tt
+stage_none : (quiet : ℕ) (stale : Bool) (since : ℕ) (at : Phase) (acts : List Act) → is_in_use at ≡ false → Stage quiet stale since at acts
+stage_none quiet stale since phase.Clearing acts none = cc
+stage_none quiet stale since phase.Draining acts none = cc
+stage_none quiet stale since phase.Probing acts none = cc
+stage_none quiet stale since phase.Ready acts none = cc
+stage_none quiet stale since at acts none = tt
 
 draining_told : (stale : Bool) (since : ℕ) (m : Moment) (acts : List Act) → stale ≡ true → IsDraining stale since acts → IsDrained m.elapsed (acts ++ Told m ∷ [])
-draining_told true since m acts old d = drained_first acts m d
+draining_told true since m acts old d = since_now (Drains m.elapsed) acts (Told m) (d, refl, tt)
 draining_told false since m acts old d = cc
 
 pub draining_read : (stale : Bool) (since : ℕ) (acts : List Act) → stale ≡ false → IsDraining stale since acts → IsDrained since acts
 draining_read true since acts now d = cc
 draining_read false since acts now d = d
 
-stage_told : (quiet : ℕ) (stale : Bool) (since : ℕ) (at : Phase) (m : Moment) (acts : List Act) → stale ≡ true → Stage quiet stale since at acts → Stage quiet false m.elapsed at (acts ++ Told m ∷ [])
-stage_told quiet stale since phase.Clearing m acts old st = absurd (clash stale old st.0)
-stage_told quiet stale since phase.Draining m acts old st = draining_told stale since m acts old st
-stage_told quiet stale since phase.Probing m acts old st = more_unasked quiet acts (Told m) tt (λ e. e) st
-stage_told quiet stale since phase.Ready m acts old st = more quiet acts (Told m) tt st
-stage_told quiet stale since at m acts old st = tt
+-- a moment was told, and no request went out
+stage_on : (quiet : ℕ) (stale : Bool) (since now : ℕ) (at : Phase) (acts : List Act) (act : Act) → Unasking act → (at ≡ phase.Clearing → stale ≡ false → ⊥) → (IsDraining stale since acts → IsDrained now (acts ++ act ∷ []))
+    → Stage quiet stale since at acts → Stage quiet false now at (acts ++ act ∷ [])
+stage_on quiet stale since now phase.Clearing acts act calm never drains st = absurd (never refl st.0)
+stage_on quiet stale since now phase.Draining acts act calm never drains st = drains st
+stage_on quiet stale since now phase.Probing acts act calm never drains st = more Unasking quiet acts act calm st
+stage_on quiet stale since now phase.Ready acts act calm never drains st = more StaysConnected quiet acts act calm.0 st
+stage_on quiet stale since now at acts act calm never drains st = tt
 
-stage_gave : (quiet : ℕ) (stale : Bool) (since : ℕ) (at : Phase) (bytes : List ℕ) (m : Moment) (acts : List Act) → stale ≡ false → (at ≡ phase.Clearing → ⊥) → Stage quiet stale since at acts → Stage quiet false m.elapsed at (acts ++ Gave bytes m ∷ [])
-stage_gave quiet stale since phase.Clearing bytes m acts now not_there st = absurd (not_there refl)
-stage_gave quiet stale since phase.Draining bytes m acts now not_there st = drained_anew since m.elapsed acts (Gave bytes m) refl (draining_read stale since acts now st)
-stage_gave quiet stale since phase.Probing bytes m acts now not_there st = more_unasked quiet acts (Gave bytes m) tt (λ e. e) st
-stage_gave quiet stale since phase.Ready bytes m acts now not_there st = more quiet acts (Gave bytes m) tt st
-stage_gave quiet stale since at bytes m acts now not_there st = tt
+-- where requests go out, the connection stays
+stage_ready : (quiet : ℕ) (stale stale' : Bool) (since since' : ℕ) (at : Phase) (acts : List Act) (act : Act) → StaysConnected act → at ≡ phase.Ready → Stage quiet stale since at acts → Stage quiet stale' since' at (acts ++ act ∷ [])
+stage_ready quiet stale stale' since since' at acts act stays is st =
+    subst (λ (x : Phase). Stage quiet stale' since' x (acts ++ act ∷ [])) (sym is) (more StaysConnected quiet acts act stays (subst (λ (x : Phase). Stage quiet stale since x acts) is st))
 
 -- a drain is at least the quiet time
 drain_long : (plan : Plan) (anew : Bool) (drain : ℕ) → plan.quiet ≤ 18446744073709551615 → 1 ≤ drain → plan.quiet ≤ (if anew then min (drain * plan.quiet) 18446744073709551615 else plan.quiet)
@@ -239,105 +196,65 @@ silent_given_up : (gave_up : Bool) (since : ℕ) (m : Moment) (acts : List Act) 
 silent_given_up true since m acts d = drained_anew since m.elapsed acts (Silent m) refl d
 silent_given_up false since m acts d = silent_on since m acts (nat_le since m.elapsed) refl d
 
-anew_or_not : (quiet : ℕ) (stale : Bool) (since : ℕ) (anew : Bool) (acts : List Act) → IsUnasked quiet acts → Stage quiet stale since (if anew then phase.Probing else phase.Ready) acts
-anew_or_not quiet stale since true acts c = c
-anew_or_not quiet stale since false acts c = c.0
+anew_or_not : (quiet : ℕ) (stale : Bool) (since : ℕ) (anew : Bool) (acts : List Act) → ((Holds : Act → Type 0) → WasQuiet Holds quiet acts) → Stage quiet stale since (if anew then phase.Probing else phase.Ready) acts
+anew_or_not quiet stale since true acts q = q Unasking
+anew_or_not quiet stale since false acts q = q StaysConnected
 
-silent_drained : (plan : Plan) (until : Until) (gave_up : Bool) (m : Moment) (p : Progress) (acts : List Act) (b : Bool) → is_past (drain_of plan (time_passed until m p)) (time_passed until m p) ≡ b
-    → plan.quiet ≤ 18446744073709551615 → 1 ≤ p.drain → p.phase ≡ phase.Draining → IsDrained p.since acts
-    → StageAt plan.quiet (quiet_renewed gave_up m (if b then drained (time_passed until m p) else time_passed until m p)) (acts ++ Silent m ∷ [])
-silent_drained plan until gave_up m p acts true past small once is d =
+-- a drain was long enough
+stage_drained : (plan : Plan) (until : Until) (gave_up : Bool) (m : Moment) (p : Progress) (acts : List Act) → is_past (drain_of plan (time_passed until m p)) (time_passed until m p) ≡ true
+    → plan.quiet ≤ 18446744073709551615 → 1 ≤ p.drain → IsDrained p.since acts → StageAt plan.quiet (quiet_renewed gave_up m (drained (time_passed until m p))) (acts ++ Silent m ∷ [])
+stage_drained plan until gave_up m p acts past small once d =
     let enough = drain_long plan p.anew p.drain small once in
     let long = leb-true (drain_of plan (time_passed until m p)) (m.elapsed - min p.since m.elapsed) past in
     let same = not_longer m.elapsed p.since (nat_le p.since m.elapsed) refl in
-    anew_or_not plan.quiet false (if gave_up then m.elapsed else min p.since m.elapsed) p.anew (acts ++ Silent m ∷ []) (quiet_now plan.quiet p.since acts m (omega (arith, enough, long, same)) d, tt)
-silent_drained plan until gave_up m p acts false past small once is d =
-    subst (λ (at : Phase). Stage plan.quiet false (if gave_up then m.elapsed else min p.since m.elapsed) at (acts ++ Silent m ∷ [])) (sym is) (silent_given_up gave_up p.since m acts d)
-
-paused_stage : (quiet : ℕ) (stale : Bool) (since : ℕ) (b : Bool) (at : Phase) (acts : List Act) → at ≡ phase.Pausing → Stage quiet stale since (if b then phase.Down else at) acts
-paused_stage quiet stale since true at acts is = tt
-paused_stage quiet stale since false at acts is = subst (λ (x : Phase). Stage quiet stale since x acts) (sym is) tt
-
-stage_silent : (plan : Plan) (until : Until) (gave_up : Bool) (m : Moment) (p : Progress) (at : Phase) (acts : List Act) → p.phase ≡ at → plan.quiet ≤ 18446744073709551615 → 1 ≤ p.drain → Reads p → Stage plan.quiet p.stale p.since at acts
-    → StageAt plan.quiet (quiet_renewed gave_up m (quieted plan at (time_passed until m p))) (acts ++ Silent m ∷ [])
-stage_silent plan until gave_up m p phase.Clearing acts is small once r st = absurd (r.1 is)
-stage_silent plan until gave_up m p phase.Draining acts is small once r st =
-    silent_drained plan until gave_up m p acts (is_past (drain_of plan (time_passed until m p)) (time_passed until m p)) refl small once is (draining_read p.stale p.since acts r.0 st)
-stage_silent plan until gave_up m p phase.Pausing acts is small once r st =
-    paused_stage plan.quiet false (if gave_up then m.elapsed else min p.since m.elapsed) (is_past p.pause (time_passed until m p) && not (is_idle plan (time_passed until m p))) p.phase (acts ++ Silent m ∷ []) is
-stage_silent plan until gave_up m p phase.Probing acts is small once r st =
-    subst (λ (x : Phase). Stage plan.quiet false (if gave_up then m.elapsed else min p.since m.elapsed) x (acts ++ Silent m ∷ [])) (sym is) (more_unasked plan.quiet acts (Silent m) tt (λ e. e) st)
-stage_silent plan until gave_up m p phase.Ready acts is small once r st =
-    subst (λ (x : Phase). Stage plan.quiet false (if gave_up then m.elapsed else min p.since m.elapsed) x (acts ++ Silent m ∷ [])) (sym is) (more plan.quiet acts (Silent m) tt st)
-stage_silent plan until gave_up m p at acts is small once r st =
-    subst (λ (x : Phase). Stage plan.quiet false (if gave_up then m.elapsed else min p.since m.elapsed) x (acts ++ Silent m ∷ [])) (sym is) tt
-
--- behind an act
-abbrev StageBehind : Plan → List Act → Act → Standing → Type 0
-StageBehind plan acts act t = StageAt plan.quiet t.progress (acts ++ act ∷ [])
-
-stage_fails : (plan : Plan) (p : Progress) (why : Cause) (acts : List Act) → StageAt plan.quiet (failing why p) acts
-stage_fails plan p why acts = stage_failed plan.quiet p.stale p.since (is_up p.phase) why acts
-
-put_stage : (plan : Plan) (requests : ℕ) (text : List ℕ) (t : Standing) (acts : List Act) → t.progress.phase ≡ phase.Ready → IsClearedAndQuiet plan.quiet acts → Putting (StageBehind plan acts) requests text t
-put_stage plan requests text t acts is c =
-    let p = t.progress in
-    (λ m. subst (λ (at : Phase). Stage plan.quiet p.stale p.since at (acts ++ Put text ∷ [])) (sym is) (more plan.quiet acts (Put text) tt c), λ n. stage_fails plan p (cause.Write requests n) (acts ++ Cut text n ∷ []))
+    let quiet : plan.quiet ≤ m.elapsed - p.since = omega (arith, enough, long, same) in
+    anew_or_not plan.quiet false (if gave_up then m.elapsed else min p.since m.elapsed) p.anew (acts ++ Silent m ∷ []) (λ Holds. quiet_now Holds plan.quiet p.since acts m quiet d)
 
 -- what is said where it is in this phase
 pub stage_in : (quiet : ℕ) (p : Progress) (at : Phase) (acts : List Act) → p.phase ≡ at → StageAt quiet p acts → Stage quiet p.stale p.since at acts
 stage_in quiet p at acts is st = subst (λ (x : Phase). Stage quiet p.stale p.since x acts) is st
 
-stage_moved : (plan : Plan) (commands : List Task) (next : Order) (s : Standing) (act : Act) (acts : List Act) → plan.quiet ≤ 18446744073709551615 → 1 ≤ s.progress.drain
-    → Obeys commands s next act → IsFor plan s.progress (waiting_of s) next → Timely s.progress next → StageAt plan.quiet s.progress acts
-    → StageAt plan.quiet (moved plan commands next (with_progress turned s) act).progress (acts ++ act ∷ [])
-stage_moved plan commands orders.ReadClock s act acts small once o needs time st =
-    walk plan commands (StageBehind plan acts) orders.ReadClock (with_progress turned s) act o
-    (λ m. stage_told plan.quiet s.progress.stale s.progress.since s.progress.phase m acts time st, λ n. stage_fails plan s.progress cause.Clock (acts ++ Untold ∷ []))
-stage_moved plan commands orders.Open s act acts small once o needs time st =
-    let p = again plan (commands_in s.marks) cause.Open (turned s.progress) in
-    walk plan commands (StageBehind plan acts) orders.Open (with_progress turned s) act o
-    (λ m. (time, record { before = acts; order = refl }), λ n. stage_down plan.quiet true p.since p.phase (acts ++ Unopened ∷ []) (again_down plan (commands_in s.marks) cause.Open (turned s.progress)))
-stage_moved plan commands orders.Clear s act acts small once o needs time st =
-    walk plan commands (StageBehind plan acts) orders.Clear (with_progress turned s) act o (λ m. cleared_now acts (10 ∷ []) refl (stage_in plan.quiet s.progress phase.Clearing acts needs st).1, λ n. tt)
-stage_moved plan commands orders.Probe s act acts small once o needs time st =
-    walk plan commands (StageBehind plan acts) orders.Probe (with_progress turned s) act o
-    (put_stage plan (requests_out plan commands (turned s.progress)) (request_text s.client NullProc) (with_progress probed (asks_null plan (with_progress turned s))) acts refl (stage_in plan.quiet s.progress phase.Probing acts needs.0 st).0)
-stage_moved plan commands orders.Send s act acts small once o needs time st =
-    walk plan commands (StageBehind plan acts) orders.Send (with_progress turned s) act o
-    (put_stage plan (requests_out plan commands (turned s.progress)) (first_text s.client (drop (place_next commands s.progress) commands)) (sending plan commands (with_progress turned s)) acts needs.0 (stage_in plan.quiet s.progress phase.Ready acts needs.0 st))
-stage_moved plan commands orders.Flush s act acts small once o needs time st =
-    walk plan commands (StageBehind plan acts) orders.Flush (with_progress turned s) act o
-    (put_stage plan (requests_out plan commands (turned s.progress)) (request_text s.client NullProc) (with_progress asking (asks_null plan (with_progress turned s))) acts needs.0 (stage_in plan.quiet s.progress phase.Ready acts needs.0 st))
-stage_moved plan commands (orders.Read until) s act acts small once o needs time st =
-    let here = λ (bytes : List ℕ) (m : Moment). stage_gave plan.quiet s.progress.stale s.progress.since s.progress.phase bytes m acts time.0 time.1 st in
-    walk plan commands (StageBehind plan acts) (orders.Read until) (with_progress turned s) act o (
-      λ bytes m. came_along (λ (t : Standing). StageAt plan.quiet t.progress (acts ++ Gave bytes m ∷ [])) (λ t line on. on) (is_heard s.progress.phase) bytes (with_moment m (with_progress (told m) (with_progress turned s))) (here bytes m) (here bytes m),
-      λ m. stage_silent plan until (not (is_nil (expiring m.elapsed s.client.waiting))) m (turned s.progress) s.progress.phase acts refl small once time st,
-      stage_fails plan s.progress cause.End (acts ++ Ended ∷ []),
-      stage_fails plan s.progress cause.Read (acts ++ Broke ∷ []),
-      stage_fails plan s.progress cause.Clock (acts ++ Untold ∷ []),
+stage_line : (plan : Plan) (commands : List Task) (next : Order) (s : Standing) (acts : List Act) → plan.quiet ≤ 18446744073709551615 → 1 ≤ s.progress.drain
+    → IsFor plan s.progress (waiting_of s) next → Timely s.progress next → StageAt plan.quiet s.progress acts → OnLine plan commands (StageAt plan.quiet) next (with_progress turned s) acts
+stage_line plan commands orders.ReadClock s acts small once needs time st =
+    let p = s.progress in
+    λ m. stage_on plan.quiet p.stale p.since m.elapsed p.phase acts (Told m) (tt, λ e. e) (λ is now. clash p.stale time now) (draining_told p.stale p.since m acts time) st
+stage_line plan commands orders.Open s acts small once needs time st = λ m. (time, (acts, refl))
+stage_line plan commands orders.Clear s acts small once needs time st = λ m. since_now Clears acts (Put (10 ∷ [])) ((stage_in plan.quiet s.progress phase.Clearing acts needs st).1, refl, tt)
+stage_line plan commands orders.Probe s acts small once needs time st =
+    λ m. since_on (Quiets Unasking plan.quiet) (Quiets StaysConnected plan.quiet) acts (Put (request_text s.client NullProc) ∷ [])
+    (λ before start behind order h. (h.0, h.1, h.2, h.3, h.4, all_append StaysConnected behind (Put (request_text s.client NullProc) ∷ []) (all_on Unasking StaysConnected behind (λ act u. u.0) h.5) (tt, tt)))
+    (stage_in plan.quiet s.progress phase.Probing acts needs.0 st)
+stage_line plan commands (orders.Read until) s acts small once needs time st =
+    let p = s.progress in
+    let heard = λ (bytes : List ℕ) (m : Moment). stage_on plan.quiet p.stale p.since m.elapsed p.phase acts (Gave bytes m) (tt, λ e. e) (λ is now. time.1 is)
+    (λ d. drained_anew p.since m.elapsed acts (Gave bytes m) refl (draining_read p.stale p.since acts time.0 d)) st in (
+      λ bytes m. came_along (λ (t : Standing). StageAt plan.quiet t.progress (acts ++ Gave bytes m ∷ [])) (λ t line on. on) (is_heard p.phase) bytes (with_moment m (with_progress (told m) (with_progress turned s))) (heard bytes m) (heard bytes m),
+      λ m.
+          let gave_up = not (is_nil (expiring m.elapsed s.client.waiting)) in (
+            stage_on plan.quiet p.stale p.since (if gave_up then m.elapsed else min p.since m.elapsed) p.phase acts (Silent m) (tt, λ e. e) (λ is now. time.1 is)
+                (λ d. silent_given_up gave_up p.since m acts (draining_read p.stale p.since acts time.0 d)) st,
+            λ is past. stage_drained plan until gave_up m (turned p) acts past small once (draining_read p.stale p.since acts time.0 (stage_in plan.quiet p phase.Draining acts is st)),
+          ),
     )
-stage_moved plan commands (orders.Close why) s act acts small once o needs time st =
-    let t = moved plan commands (orders.Close why) (with_progress turned s) act in
-    stage_down plan.quiet t.progress.stale t.progress.since t.progress.phase (acts ++ act ∷ []) (closed_down plan (waiting_of s) why (turned s.progress))
-stage_moved plan commands (orders.Stop why) s act acts small once o needs time st = absurd o
-stage_moved plan commands next s act acts small once o needs time st =
-    walk plan commands (StageBehind plan acts) next (with_progress turned s) act o (
-      λ m. subst (λ (at : Phase). Stage plan.quiet false m.elapsed at (acts ++ Told m ∷ [])) (sym needs.0) (more plan.quiet acts (Told m) tt (stage_in plan.quiet s.progress phase.Ready acts needs.0 st)),
-      λ n. stage_fails plan s.progress cause.Clock (acts ++ Untold ∷ []),
-    )
+stage_line plan commands (orders.Close why) s acts small once needs time st = tt
+stage_line plan commands (orders.Stop why) s acts small once needs time st = tt
+stage_line plan commands orders.Send s acts small once needs time st =
+    let p = s.progress in λ m. stage_ready plan.quiet p.stale true p.since p.since p.phase acts (Put (first_text s.client (drop (place_next commands p) commands))) tt needs.0 st
+stage_line plan commands orders.Flush s acts small once needs time st = let p = s.progress in λ m. stage_ready plan.quiet p.stale true p.since p.since p.phase acts (Put (request_text s.client NullProc)) tt needs.0 st
+stage_line plan commands next s acts small once needs time st = let p = s.progress in λ m. stage_ready plan.quiet p.stale false p.since m.elapsed p.phase acts (Told m) tt needs.0 st
 
 -- Whole runs.
 
 pub stage_stood : (plan : Plan) (commands : List Task) (scope : Scope) (acts : List Act) → plan.quiet ≤ 18446744073709551615 → Runs plan commands (opening plan scope) acts → StageAt plan.quiet (stood plan commands scope acts).progress acts
-stage_stood plan commands scope acts small runs = along plan commands (opening plan scope) (λ (xs : List Act). StageAt plan.quiet (stood plan commands scope xs).progress xs) step [] acts runs tt where
-  step : (done later : List Act) (act : Act) → Runs plan commands (opening plan scope) (done ++ act ∷ later) → StageAt plan.quiet (stood plan commands scope done).progress done → StageAt plan.quiet (stood plan commands scope (done ++ act ∷ [])).progress (done ++ act ∷ [])
-  step done later act runs st =
+stage_stood plan commands scope acts small runs = always_far plan commands (opening plan scope) (StageAt plan.quiet) step tt acts runs where
+  step : (done : List Act) (act : Act) → Runs plan commands (opening plan scope) done → Obeys commands (stood plan commands scope done) (order_at plan (stood plan commands scope done)) act → StageAt plan.quiet (stood plan commands scope done).progress done
+      → StageAt plan.quiet (moved plan commands (order_at plan (stood plan commands scope done)) (with_progress turned (stood plan commands scope done)) act).progress (done ++ act ∷ [])
+  step done act runs o st =
       let s = stood plan commands scope done in
-      let split = runs_split plan commands (opening plan scope) done later act runs in
-      subst (λ (p : Progress). StageAt plan.quiet p (done ++ act ∷ [])) (sym (progress_behind plan commands scope done act))
-      (stage_moved plan commands (order_at plan s) s act done small (drains_once plan commands scope done split.0) split.1 (order_for plan s.progress (waiting_of s)) (order_timely plan s.progress (waiting_of s)) st)
+      let p = s.progress in
+      on_line plan commands (StageAt plan.quiet) (λ q acts none. stage_none plan.quiet q.stale q.since q.phase acts none) (order_at plan s) s act done o
+      (stage_line plan commands (order_at plan s) s done small (drains_once plan commands scope done runs) (order_for plan p (waiting_of s)) (order_timely plan p (waiting_of s)) st)
 
 -- A request goes out where requests may.
 
@@ -345,8 +262,8 @@ abbrev Asks : Phase → Type 0
 Asks at = (at ≡ phase.Probing) ⊎ (at ≡ phase.Ready)
 
 asks_in : (quiet : ℕ) (p : Progress) (acts : List Act) → Asks p.phase → StageAt quiet p acts → IsClearedAndQuiet quiet acts
-asks_in quiet p acts (inl is) st = (stage_in quiet p phase.Probing acts is st).0
-asks_in quiet p acts (inr is) st = stage_in quiet p phase.Ready acts is st
+asks_in quiet p acts (inl is) st = (unasked quiet acts (stage_in quiet p phase.Probing acts is st)).0
+asks_in quiet p acts (inr is) st = was_quiet StaysConnected quiet acts (λ act h. h) (stage_in quiet p phase.Ready acts is st)
 
 pub not_closing : (act : Act) → act ≡ Closed → IsRequest act → ⊥
 not_closing act o asks = subst IsRequest o asks

@@ -1,12 +1,11 @@
 -- A connection is closed for silence only where reads gave nothing for so long.
-use Rattle.std.proofs.Common.{◌≡◌, ℕ, ◌-◌, ◌≤◌, ◌⊎◌, inl, inr, ◌&&◌, ◌||◌, Bool, true, false, not, List, [], ◌∷◌, ◌++◌, drop, map, if◌then◌else◌, nat_eq, nat_le, min, refl, sym, ap, ◌∙◌, subst, arith, append_assoc}
+use Rattle.std.proofs.Common.{◌≡◌, ℕ, ◌-◌, ◌≤◌, ◌⊎◌, inl, inr, ◌&&◌, ◌||◌, Bool, true, false, not, List, [], ◌∷◌, ◌++◌, map, if◌then◌else◌, nat_eq, nat_le, min, refl, sym, ap, ◌∙◌, subst, arith}
 use Rattle.std.specs.List.{AllByRecursion}
 use Rattle.std.proofs.Math.Nat.{min-eq_left, min-eq_right}
 use Rattle.std.proofs.lemmas.Bool.{leb-true, leb-false}
 use Rattle.std.proofs.lemmas.List.{nil_from_length}
 use Rattle.gc_client.specs.declared.pending.Pending.{Pending}
 use Rattle.gc_client.specs.Rule.{ById, expired, is_expiring, expiring, deadlines}
-use Rattle.gc_catalogue.specs.declared.call.Call.TheVariants.{NullProc}
 use Rattle.gc_texts.specs.declared.tasks.Task.{Task}
 use Rattle.gc_links.specs.declared.link.Moment.{Moment}
 use Rattle.gc_station.specs.declared.plan.Plan.{Plan}
@@ -18,25 +17,25 @@ use Rattle.gc_station.specs.declared.progress.Order.{Order}
 use Rattle.gc_station.specs.declared.progress.Order.TheVariants as orders
 use Rattle.gc_station.specs.declared.progress.Progress.{Progress}
 use Rattle.gc_station.specs.declared.progress.Until.{Until}
-use Rattle.gc_links.specs.Acts.{Act, Told, Untold, Put, Cut, Gave, Silent, Ended, Broke, Unopened}
+use Rattle.gc_links.specs.Acts.{Act, Told, Gave, Silent}
 use Rattle.gc_station.specs.Closing.{Shows}
 use Rattle.gc_station.specs.Deciding.{is_up, is_past, drain_of}
-use Rattle.gc_station.specs.Marks.{commands_in}
-use Rattle.gc_station.specs.Progressing.{failing, again, turned, told, cleared, probed, asking, time_passed, quiet_renewed, quieted, is_idle, drained, is_over, is_over_in, loses_all}
+use Rattle.gc_station.specs.Progressing.{turned, told, time_passed, quieted, is_idle, drained, is_over, is_over_in, loses_all}
 use Rattle.gc_station.specs.Quiet.{TellsMoment, IsSilent}
 use Rattle.gc_station.specs.Reasons.{IsAtItsEnd}
 use Rattle.gc_station.specs.Runs.{stood}
 use Rattle.gc_station.specs.Silences.{latest, IsSilentFor}
-use Rattle.gc_station.specs.Standing.{Standing, requests_out, request_text, first_text, place_next, opening, order_at, waiting_of, with_progress, with_moment, is_heard, is_nil, asks_null, after_read, Obeys, moved, losing, ended, after, Runs}
-use Rattle.gc_station.proofs.Closings.{runs_split, closing_shown, needs_of}
-use Rattle.gc_station.proofs.Drains.{along, progress_behind}
+use Rattle.gc_station.specs.Standing.{Standing, opening, order_at, waiting_of, with_progress, with_moment, is_heard, is_nil, after_read, Obeys, moved, losing, ended, Runs}
+use Rattle.gc_station.proofs.Closings.{closing_shown, needs_of}
+use Rattle.gc_station.proofs.Always.{always_far}
+use Rattle.gc_station.proofs.Connected.{is_in_use, OnLine, on_line}
+use Rattle.gc_station.proofs.Since.{Since, since_now, since_on}
 use Rattle.gc_station.proofs.EachRun.{fine_stood}
 use Rattle.gc_station.proofs.Facts.{either_true, order_timely, order_wakes, Timely, Awake, Wakes}
 use Rattle.gc_station.proofs.Fine.{Fine}
 use Rattle.gc_station.proofs.Going.{after_all-append}
 use Rattle.gc_station.proofs.Lists.{all_append}
-use Rattle.gc_station.proofs.Walk.{Putting, came_along, quieted_along, sending, walk}
-use Rattle.gc_station.proofs.Turns.{again_down, closed_down}
+use Rattle.gc_station.proofs.Walk.{came_along, quieted_along}
 use Rattle.gc_station.specs.Scopes.{Scope}
 
 -- What was told, and came, behind the moment at which the quiet time began.
@@ -120,28 +119,16 @@ silent_keeps plan commands until s m fine up none = lost_deadlines t (loses_all 
 
 module _ (plan : Plan) (commands : List Task) (scope : Scope) where
   -- behind an act that told a moment all reads gave nothing, and no request was given up; this moment was told last
-  pub record IsHushed (since now : ℕ) (acts : List Act) : Type 0 where
-    pub before : List Act
-    pub start : Act
-    pub silence : List Act
-    pub order : acts ≡ before ++ start ∷ silence
-    pub starts : TellsMoment since start
-    pub silent : AllByRecursion IsSilent silence
-    pub last : latest since silence ≡ now
-    pub kept : deadlines (stood plan commands scope acts).client.waiting ≡ deadlines (stood plan commands scope (before ++ start ∷ [])).client.waiting
+  abbrev pub Hushes : ℕ → ℕ → List Act → List Act → Act → List Act → Type 0
+  Hushes since now acts before start silence =
+      TellsMoment since start × AllByRecursion IsSilent silence × (latest since silence ≡ now) × (deadlines (stood plan commands scope acts).client.waiting ≡ deadlines (stood plan commands scope (before ++ start ∷ [])).client.waiting)
+
+  abbrev pub IsHushed : ℕ → ℕ → List Act → Type 0
+  IsHushed since now acts = Since (Hushes since now acts) acts
 
   -- it begins
   hushed_now : (now : ℕ) (acts : List Act) (act : Act) → TellsMoment now act → IsHushed now now (acts ++ act ∷ [])
-  hushed_now now acts act tells = record {
-    before = acts;
-    start = act;
-    silence = [];
-    order = refl;
-    starts = tells;
-    silent = tt;
-    last = refl;
-    kept = refl;
-  }
+  hushed_now now acts act tells = since_now (Hushes now now (acts ++ act ∷ [])) acts act (tells, tt, refl, refl)
 
   -- a read that gave nothing leaves what is under way
   abbrev Keeps : List Act → Moment → Type 0
@@ -149,16 +136,9 @@ module _ (plan : Plan) (commands : List Task) (scope : Scope) where
 
   -- it goes on
   hushed_on : (since now : ℕ) (acts : List Act) (m : Moment) → Keeps acts m → IsHushed since now acts → IsHushed since m.elapsed (acts ++ Silent m ∷ [])
-  hushed_on since now acts m keeps h = record {
-    before = h.before;
-    start = h.start;
-    silence = h.silence ++ Silent m ∷ [];
-    order = ap (λ xs. xs ++ Silent m ∷ []) h.order ∙ append_assoc h.before (h.start ∷ h.silence) (Silent m ∷ []);
-    starts = h.starts;
-    silent = all_append IsSilent h.silence (Silent m ∷ []) h.silent (tt, tt);
-    last = latest_more since h.silence (Silent m);
-    kept = keeps ∙ h.kept;
-  }
+  hushed_on since now acts m keeps h =
+      since_on (Hushes since now acts) (Hushes since m.elapsed (acts ++ Silent m ∷ [])) acts (Silent m ∷ [])
+      (λ before start silence order x. (x.0, all_append IsSilent silence (Silent m ∷ []) x.1 (tt, tt), latest_more since silence (Silent m), keeps ∙ x.3)) h
 
   -- or begins anew, where the clock went back or the moment gave requests up
   hushed_clock : (since now : ℕ) (m : Moment) (acts : List Act) (b : Bool) → nat_le since m.elapsed ≡ b → Keeps acts m → IsHushed since now acts → IsHushed (min since m.elapsed) m.elapsed (acts ++ Silent m ∷ [])
@@ -189,11 +169,20 @@ module _ (plan : Plan) (commands : List Task) (scope : Scope) where
 
   -- What each act leaves.
 
+  hush_none : (stale : Bool) (since now : ℕ) (at : Phase) (acts : List Act) → is_in_use at ≡ false → Hush stale since now at acts
+  hush_none stale since now phase.Draining acts none = cc
+  hush_none stale since now phase.Probing acts none = cc
+  hush_none stale since now phase.Ready acts none = cc
+  hush_none stale since now at acts none = tt
+
   hush_there : (since now : ℕ) (at : Phase) (acts : List Act) → IsHushed since now acts → Hush false since now at acts
   hush_there since now phase.Draining acts h = h
   hush_there since now phase.Probing acts h = h
   hush_there since now phase.Ready acts h = h
   hush_there since now at acts h = tt
+
+  hush_told : (at : Phase) (m : Moment) (acts : List Act) (act : Act) → TellsMoment m.elapsed act → Hush false m.elapsed m.elapsed at (acts ++ act ∷ [])
+  hush_told at m acts act tells = hush_there m.elapsed m.elapsed at (acts ++ act ∷ []) (hushed_now m.elapsed acts act tells)
 
   hush_stale : (since now : ℕ) (at : Phase) (acts : List Act) → Hush true since now at acts
   hush_stale since now phase.Draining acts = tt
@@ -201,116 +190,62 @@ module _ (plan : Plan) (commands : List Task) (scope : Scope) where
   hush_stale since now phase.Ready acts = tt
   hush_stale since now at acts = tt
 
-  hush_failed : (stale : Bool) (since now : ℕ) (up : Bool) (why : Cause) (acts : List Act) → Hush stale since now (if up then phase.Closing why else phase.Over why) acts
-  hush_failed stale since now true why acts = tt
-  hush_failed stale since now false why acts = tt
-
-  hush_down : (stale : Bool) (since now : ℕ) (at : Phase) (acts : List Act) → is_up at ≡ false → Hush stale since now at acts
-  hush_down stale since now phase.Draining acts down = cc
-  hush_down stale since now phase.Probing acts down = cc
-  hush_down stale since now phase.Ready acts down = cc
-  hush_down stale since now at acts down = tt
-
   heard_fresh : (stale : Bool) (since now : ℕ) (acts : List Act) → stale ≡ false → Heard stale since now acts → IsHushed since now acts
   heard_fresh true since now acts fresh h = cc
   heard_fresh false since now acts fresh h = h
 
-  hush_drained : (b gave_up : Bool) (until : Until) (m : Moment) (p : Progress) (acts : List Act) → (gave_up ≡ false → Keeps acts m) → IsHushed p.since p.moment.elapsed acts
-      → HushAt (quiet_renewed gave_up m (if b then drained (time_passed until m p) else time_passed until m p)) (acts ++ Silent m ∷ [])
-  hush_drained true gave_up until m p acts keeps h =
-      hush_there (if gave_up then m.elapsed else min p.since m.elapsed) m.elapsed (if p.anew then phase.Probing else phase.Ready) (acts ++ Silent m ∷ []) (hushed_silent gave_up p.since p.moment.elapsed m acts keeps h)
-  hush_drained false gave_up until m p acts keeps h = hush_there (if gave_up then m.elapsed else min p.since m.elapsed) m.elapsed p.phase (acts ++ Silent m ∷ []) (hushed_silent gave_up p.since p.moment.elapsed m acts keeps h)
+  -- a read gave nothing
+  heard_silent : (stale gave_up : Bool) (since now : ℕ) (m : Moment) (acts : List Act) → stale ≡ false → (gave_up ≡ false → Keeps acts m) → Heard stale since now acts
+      → IsHushed (if gave_up then m.elapsed else min since m.elapsed) m.elapsed (acts ++ Silent m ∷ [])
+  heard_silent stale gave_up since now m acts fresh keeps h = hushed_silent gave_up since now m acts keeps (heard_fresh stale since now acts fresh h)
 
-  hush_paused : (stale : Bool) (since now : ℕ) (b : Bool) (at : Phase) (acts : List Act) → at ≡ phase.Pausing → Hush stale since now (if b then phase.Down else at) acts
-  hush_paused stale since now true at acts is = tt
-  hush_paused stale since now false at acts is = subst (λ (x : Phase). Hush stale since now x acts) (sym is) tt
-
-  hush_silent : (until : Until) (gave_up : Bool) (m : Moment) (p : Progress) (at : Phase) (acts : List Act) → p.phase ≡ at → p.stale ≡ false → (is_up at ≡ true → gave_up ≡ false → Keeps acts m) → Hush p.stale p.since p.moment.elapsed at acts
-      → HushAt (quiet_renewed gave_up m (quieted plan at (time_passed until m p))) (acts ++ Silent m ∷ [])
-  hush_silent until gave_up m p phase.Draining acts is fresh keeps h =
-      hush_drained (is_past (drain_of plan (time_passed until m p)) (time_passed until m p)) gave_up until m p acts (keeps refl) (heard_fresh p.stale p.since p.moment.elapsed acts fresh h)
-  hush_silent until gave_up m p phase.Pausing acts is fresh keeps h =
-      hush_paused false (if gave_up then m.elapsed else min p.since m.elapsed) m.elapsed (is_past p.pause (time_passed until m p) && not (is_idle plan (time_passed until m p))) p.phase (acts ++ Silent m ∷ []) is
-  hush_silent until gave_up m p phase.Probing acts is fresh keeps h =
-      hush_there (if gave_up then m.elapsed else min p.since m.elapsed) m.elapsed p.phase (acts ++ Silent m ∷ []) (hushed_silent gave_up p.since p.moment.elapsed m acts (keeps refl) (heard_fresh p.stale p.since p.moment.elapsed acts fresh h))
-  hush_silent until gave_up m p phase.Ready acts is fresh keeps h =
-      hush_there (if gave_up then m.elapsed else min p.since m.elapsed) m.elapsed p.phase (acts ++ Silent m ∷ []) (hushed_silent gave_up p.since p.moment.elapsed m acts (keeps refl) (heard_fresh p.stale p.since p.moment.elapsed acts fresh h))
-  hush_silent until gave_up m p at acts is fresh keeps h =
-      subst (λ (x : Phase). Hush false (if gave_up then m.elapsed else min p.since m.elapsed) m.elapsed x (acts ++ Silent m ∷ [])) (sym is) tt
+  hush_silent : (stale gave_up : Bool) (since now : ℕ) (m : Moment) (at : Phase) (acts : List Act) → stale ≡ false → (is_up at ≡ true → gave_up ≡ false → Keeps acts m) → Hush stale since now at acts
+      → Hush false (if gave_up then m.elapsed else min since m.elapsed) m.elapsed at (acts ++ Silent m ∷ [])
+  hush_silent stale gave_up since now m phase.Draining acts fresh keeps h = heard_silent stale gave_up since now m acts fresh (keeps refl) h
+  hush_silent stale gave_up since now m phase.Probing acts fresh keeps h = heard_silent stale gave_up since now m acts fresh (keeps refl) h
+  hush_silent stale gave_up since now m phase.Ready acts fresh keeps h = heard_silent stale gave_up since now m acts fresh (keeps refl) h
+  hush_silent stale gave_up since now m at acts fresh keeps h = tt
 
   -- where there is a connection, and nothing is given up
-  abbrev KeepsAt : Standing → Act → List Act → Type 0
-  KeepsAt s (Silent m) acts = is_up s.progress.phase ≡ true → not (is_nil (expiring m.elapsed s.client.waiting)) ≡ false → Keeps acts m
-  KeepsAt s act acts = Unit {0}
+  keeps_stood : (acts : List Act) (until : Until) (m : Moment) → order_at plan (stood plan commands scope acts) ≡ orders.Read until → is_up (stood plan commands scope acts).progress.phase ≡ true
+      → not (is_nil (expiring m.elapsed (stood plan commands scope acts).client.waiting)) ≡ false → Keeps acts m
+  keeps_stood acts until m is up none =
+      let s = stood plan commands scope acts in
+      ap (λ (x : Standing). deadlines x.client.waiting) (after_all-append plan commands (opening plan scope) acts (Silent m ∷ []) ∙ ap (λ (next : Order). ended (moved plan commands next (with_progress turned s) (Silent m))) is)
+      ∙ silent_keeps plan commands until s m (fine_stood plan commands scope acts) up none
 
-  -- behind an act
-  abbrev HushBehind : List Act → Act → Standing → Type 0
-  HushBehind acts act t = HushAt t.progress (acts ++ act ∷ [])
-
-  hush_fails : (p : Progress) (why : Cause) (acts : List Act) → HushAt (failing why p) acts
-  hush_fails p why acts = hush_failed p.stale p.since p.moment.elapsed (is_up p.phase) why acts
-
-  put_hush : (requests : ℕ) (text : List ℕ) (t : Standing) (acts : List Act) → t.progress.stale ≡ true → Putting (HushBehind acts) requests text t
-  put_hush requests text t acts old =
-      let p = t.progress in
-      (λ m. subst (λ (b : Bool). Hush b p.since p.moment.elapsed p.phase (acts ++ Put text ∷ [])) (sym old) (hush_stale p.since p.moment.elapsed p.phase (acts ++ Put text ∷ [])), λ n. hush_fails p (cause.Write requests n) (acts ++ Cut text n ∷ []))
-
-  keeps_stood : (done : List Act) (act : Act) → Obeys commands (stood plan commands scope done) (order_at plan (stood plan commands scope done)) act → KeepsAt (stood plan commands scope done) act done
-  keeps_stood done (Silent m) o = keeps where
-    s : Standing
-    s = stood plan commands scope done
-
-    there : stood plan commands scope (done ++ Silent m ∷ []) ≡ after plan commands s (Silent m)
-    there = after_all-append plan commands (opening plan scope) done (Silent m ∷ [])
-
-    keeps : is_up (stood plan commands scope done).progress.phase ≡ true → not (is_nil (expiring m.elapsed (stood plan commands scope done).client.waiting)) ≡ false → Keeps done m
-    keeps up none = by_order (order_at plan s) refl o where
-      read : (until : Until) → after plan commands s (Silent m) ≡ ended (after_read plan until (with_progress turned s) (Silent m)) → Keeps done m
-      read until is = ap (λ (x : Standing). deadlines x.client.waiting) (there ∙ is) ∙ silent_keeps plan commands until s m (fine_stood plan commands scope done) up none
-
-      by_order : (next : Order) → order_at plan s ≡ next → Obeys commands s next (Silent m) → Keeps done m
-      by_order (orders.Read until) is o = read until (ap (λ (next : Order). ended (moved plan commands next (with_progress turned s) (Silent m))) is)
-      by_order (orders.Close why) is o = cc
-      by_order next is o = absurd o
-  keeps_stood done act o = tt
-
-  hush_moved : (next : Order) (s : Standing) (act : Act) (acts : List Act) → Obeys commands s next act → Timely s.progress next → KeepsAt s act acts
-      → HushAt s.progress acts → HushAt (moved plan commands next (with_progress turned s) act).progress (acts ++ act ∷ [])
-  hush_moved orders.Open s act acts o time keeps h =
-      let p = again plan (commands_in s.marks) cause.Open (turned s.progress) in
-      walk plan commands (HushBehind acts) orders.Open (with_progress turned s) act o
-      (λ m. tt, λ n. hush_down true p.since p.moment.elapsed p.phase (acts ++ Unopened ∷ []) (again_down plan (commands_in s.marks) cause.Open (turned s.progress)))
-  hush_moved orders.Clear s act acts o time keeps h = walk plan commands (HushBehind acts) orders.Clear (with_progress turned s) act o (put_hush (requests_out plan commands (turned s.progress)) (10 ∷ []) (with_progress cleared (with_progress turned s)) acts refl)
-  hush_moved orders.Probe s act acts o time keeps h = walk plan commands (HushBehind acts) orders.Probe (with_progress turned s) act o (put_hush (requests_out plan commands (turned s.progress)) (request_text s.client NullProc) (with_progress probed (asks_null plan (with_progress turned s))) acts refl)
-  hush_moved orders.Send s act acts o time keeps h = walk plan commands (HushBehind acts) orders.Send (with_progress turned s) act o (put_hush (requests_out plan commands (turned s.progress)) (first_text s.client (drop (place_next commands s.progress) commands)) (sending plan commands (with_progress turned s)) acts refl)
-  hush_moved orders.Flush s act acts o time keeps h = walk plan commands (HushBehind acts) orders.Flush (with_progress turned s) act o (put_hush (requests_out plan commands (turned s.progress)) (request_text s.client NullProc) (with_progress asking (asks_null plan (with_progress turned s))) acts refl)
-  hush_moved (orders.Read until) s act acts o time keeps h =
-      let heard = is_heard s.progress.phase in
-      let here = λ (bytes : List ℕ) (m : Moment). hush_there m.elapsed m.elapsed s.progress.phase (acts ++ Gave bytes m ∷ []) (hushed_now m.elapsed acts (Gave bytes m) refl) in
-      walk plan commands (λ a (t : Standing). KeepsAt s a acts → HushAt t.progress (acts ++ a ∷ [])) (orders.Read until) (with_progress turned s) act o (
-        λ bytes m none. came_along (λ (t : Standing). HushAt t.progress (acts ++ Gave bytes m ∷ [])) (λ t line hushed. hushed) heard bytes (with_moment m (with_progress (told m) (with_progress turned s))) (here bytes m) (here bytes m),
-        λ m kept. hush_silent until (not (is_nil (expiring m.elapsed s.client.waiting))) m (turned s.progress) s.progress.phase acts refl time.0 kept h,
-        λ none. hush_fails s.progress cause.End (acts ++ Ended ∷ []),
-        λ none. hush_fails s.progress cause.Read (acts ++ Broke ∷ []),
-        λ none. hush_fails s.progress cause.Clock (acts ++ Untold ∷ []),
-      ) keeps
-  hush_moved (orders.Close why) s act acts o time keeps h =
-      let p = (moved plan commands (orders.Close why) (with_progress turned s) act).progress in hush_down p.stale p.since p.moment.elapsed p.phase (acts ++ act ∷ []) (closed_down plan (waiting_of s) why (turned s.progress))
-  hush_moved (orders.Stop why) s act acts o time keeps h = absurd o
-  hush_moved next s act acts o time keeps h =
-      walk plan commands (HushBehind acts) next (with_progress turned s) act o
-      (λ m. hush_there m.elapsed m.elapsed s.progress.phase (acts ++ Told m ∷ []) (hushed_now m.elapsed acts (Told m) refl), λ n. hush_fails s.progress cause.Clock (acts ++ Untold ∷ []))
+  hush_line : (next : Order) (acts : List Act) → order_at plan (stood plan commands scope acts) ≡ next → Timely (stood plan commands scope acts).progress next
+      → HushAt (stood plan commands scope acts).progress acts → OnLine plan commands HushAt next (with_progress turned (stood plan commands scope acts)) acts
+  hush_line orders.Open acts is time h = λ m. tt
+  hush_line orders.Clear acts is time h = λ m. tt
+  hush_line orders.Probe acts is time h = λ m. tt
+  hush_line orders.Send acts is time h = let p = (stood plan commands scope acts).progress in λ m. hush_stale p.since p.moment.elapsed p.phase _
+  hush_line orders.Flush acts is time h = let p = (stood plan commands scope acts).progress in λ m. hush_stale p.since p.moment.elapsed p.phase _
+  hush_line (orders.Read until) acts is time h =
+      let s = stood plan commands scope acts in
+      let p = s.progress in (
+        λ bytes m. came_along (λ (t : Standing). HushAt t.progress (acts ++ Gave bytes m ∷ [])) (λ t line on. on) (is_heard p.phase) bytes (with_moment m (with_progress (told m) (with_progress turned s)))
+            (hush_told p.phase m acts (Gave bytes m) refl) (hush_told p.phase m acts (Gave bytes m) refl),
+        λ m.
+            let gave_up = not (is_nil (expiring m.elapsed s.client.waiting)) in (
+              hush_silent p.stale gave_up p.since p.moment.elapsed m p.phase acts time.0 (keeps_stood acts until m is) h,
+              λ draining past. hush_there (if gave_up then m.elapsed else min p.since m.elapsed) m.elapsed (if p.anew then phase.Probing else phase.Ready) (acts ++ Silent m ∷ [])
+                  (heard_silent p.stale gave_up p.since p.moment.elapsed m acts time.0 (keeps_stood acts until m is (ap is_up draining)) (subst (λ (x : Phase). Hush p.stale p.since p.moment.elapsed x acts) draining h)),
+            ),
+      )
+  hush_line (orders.Close why) acts is time h = tt
+  hush_line (orders.Stop why) acts is time h = tt
+  hush_line next acts is time h = λ m. hush_told (stood plan commands scope acts).progress.phase m acts (Told m) refl
 
   -- Whole runs.
 
   pub hush_stood : (acts : List Act) → Runs plan commands (opening plan scope) acts → HushAt (stood plan commands scope acts).progress acts
-  hush_stood acts runs = along plan commands (opening plan scope) (λ (xs : List Act). HushAt (stood plan commands scope xs).progress xs) step [] acts runs tt where
-    step : (done later : List Act) (act : Act) → Runs plan commands (opening plan scope) (done ++ act ∷ later) → HushAt (stood plan commands scope done).progress done → HushAt (stood plan commands scope (done ++ act ∷ [])).progress (done ++ act ∷ [])
-    step done later act runs h =
+  hush_stood acts runs = always_far plan commands (opening plan scope) HushAt step tt acts runs where
+    step : (done : List Act) (act : Act) → Runs plan commands (opening plan scope) done → Obeys commands (stood plan commands scope done) (order_at plan (stood plan commands scope done)) act → HushAt (stood plan commands scope done).progress done
+        → HushAt (moved plan commands (order_at plan (stood plan commands scope done)) (with_progress turned (stood plan commands scope done)) act).progress (done ++ act ∷ [])
+    step done act runs o h =
         let s = stood plan commands scope done in
-        let split = runs_split plan commands (opening plan scope) done later act runs in
-        subst (λ (p : Progress). HushAt p (done ++ act ∷ [])) (sym (progress_behind plan commands scope done act))
-        (hush_moved (order_at plan s) s act done split.1 (order_timely plan s.progress (waiting_of s)) (keeps_stood done act split.1) h)
+        on_line plan commands HushAt (λ p acts none. hush_none p.stale p.since p.moment.elapsed p.phase acts none) (order_at plan s) s act done o (hush_line (order_at plan s) done refl (order_timely plan s.progress (waiting_of s)) h)
 
   -- where requests may go out, behind a moment that was told
   pub awake_hushed : (p : Progress) (acts : List Act) → Awake p → HushAt p acts → IsHushed p.since p.moment.elapsed acts
@@ -345,10 +280,10 @@ silent_close plan commands scope acts runs is =
       before = h.before;
       start = h.start;
       from = p.since;
-      silence = h.silence;
+      silence = h.behind;
       order = h.order;
-      starts = h.starts;
-      given_up = sym h.kept ∙ nil_from_length (deadlines s.client.waiting) end.0;
-      silent = h.silent;
-      long = subst (λ n. plan.quiet ≤ n - p.since) (sym h.last) long;
+      starts = h.holds.0;
+      given_up = sym h.holds.3 ∙ nil_from_length (deadlines s.client.waiting) end.0;
+      silent = h.holds.1;
+      long = subst (λ n. plan.quiet ≤ n - p.since) (sym h.holds.2) long;
     }

@@ -30,8 +30,8 @@ use Rattle.gc_station.specs.Tries.{IsTried, IsEnding, ends_in, opens_in, Settles
 use Rattle.gc_station.proofs.Beginning.{over_stays}
 use Rattle.gc_station.proofs.Closings.{runs_split, needs_of, end_of, Decided, after_decided, done_sent}
 use Rattle.gc_station.proofs.Counts.{ended_progress}
-use Rattle.gc_station.proofs.Drains.{along, progress_behind}
-use Rattle.gc_station.proofs.EachRun.{fine_stood}
+use Rattle.gc_station.proofs.Always.{always}
+use Rattle.gc_station.proofs.EachRun.{fine_after, fine_stood}
 use Rattle.gc_station.proofs.Facts.{either_true, order_for}
 use Rattle.gc_station.proofs.Fine.{Fine}
 use Rattle.gc_station.proofs.Going.{after_all-append}
@@ -241,9 +241,8 @@ trying_anew plan commands scope tries up acts bytes m all settled = record {
   some [] e = cc
   some (x ∷ xs) e = cc
 
-abbrev Try : Plan → List Task → Scope → List Act → Type 0
-Try plan commands scope acts =
-    is_over (stood plan commands scope acts).progress ≡ false → Trying plan commands scope (stood plan commands scope acts).progress.tries (is_up (stood plan commands scope acts).progress.phase) acts
+abbrev Try : Plan → List Task → Scope → List Act → Standing → Type 0
+Try plan commands scope acts s = is_over s.progress ≡ false → Trying plan commands scope s.progress.tries (is_up s.progress.phase) acts
 
 goes_on : (b : Bool) → (b ≡ true → ⊥) → b ≡ false
 goes_on true never = absurd (never refl)
@@ -279,28 +278,24 @@ try_step plan commands scope acts act s u t before behind does same took counted
 behind_one : (plan : Plan) (commands : List Task) (scope : Scope) (done : List Act) (act : Act) → stood plan commands scope (done ++ act ∷ []) ≡ after plan commands (stood plan commands scope done) act
 behind_one plan commands scope done act = after_all-append plan commands (opening plan scope) done (act ∷ [])
 
-try_after : (plan : Plan) (commands : List Task) (scope : Scope) (done later : List Act) (act : Act) → Runs plan commands (opening plan scope) (done ++ act ∷ later) → Try plan commands scope done → Try plan commands scope (done ++ act ∷ [])
-try_after plan commands scope done later act runs trying not_over =
+try_after : (plan : Plan) (commands : List Task) (scope : Scope) (done : List Act) (act : Act) → Obeys commands (stood plan commands scope done) (order_at plan (stood plan commands scope done)) act → Try plan commands scope done (stood plan commands scope done)
+    → Try plan commands scope (done ++ act ∷ []) (after plan commands (stood plan commands scope done) act)
+try_after plan commands scope done act o trying not_over =
     let s = stood plan commands scope done in
-    let u = stood plan commands scope (done ++ act ∷ []) in
+    let u = after plan commands s act in
     let t = moved plan commands (order_at plan s) (with_progress turned s) act in
-    let split = runs_split plan commands (opening plan scope) done later act runs in
-    let same = progress_behind plan commands scope done act in
-    let goes = goes_on (is_over s.progress) (λ over. over_stays plan commands s act over split.1) in
+    let same = ended_progress t in
+    let goes = goes_on (is_over s.progress) (λ over. over_stays plan commands s act over o) in
     let fine = fine_stood plan commands scope done in
-    let fine' = fine_stood plan commands scope (done ++ act ∷ []) in
-    let there = behind_one plan commands scope done act in
     let not_over_mid : is_over t.progress ≡ false = sym (ap is_over same) ∙ not_over in
-    try_step plan commands scope done act s u t refl refl there same (untook plan s t act (took_moved plan commands (order_at plan s) s act split.1))
-    (counted_moved plan commands (order_at plan s) s act split.1 (order_for plan s.progress (waiting_of s)))
-    (λ gave h. gave_settles plan commands s t u fine fine' h
-    (subst (λ (x : Standing). Grew s.records x.records) (sym there) (after_grew plan commands s act)) same
-    (subst (λ (x : Standing). (commands_in x.marks ≡ commands_in t.marks) ⊎ (commands_in s.marks ≡ 0)) (sym there) (kept_marks plan commands s t (loses_all t.progress) refl not_over_mid h.anew fine)))
+    try_step plan commands scope done act s u t refl (behind_one plan commands scope done act) refl same (untook plan s t act (took_moved plan commands (order_at plan s) s act o))
+    (counted_moved plan commands (order_at plan s) s act o (order_for plan s.progress (waiting_of s)))
+    (λ gave h. gave_settles plan commands s t u fine (fine_after plan commands s act fine) h (after_grew plan commands s act) same (kept_marks plan commands s t (loses_all t.progress) refl not_over_mid h.anew fine))
     (trying goes)
 
-try_stood : (plan : Plan) (commands : List Task) (scope : Scope) (acts : List Act) → Runs plan commands (opening plan scope) acts → Try plan commands scope acts
+try_stood : (plan : Plan) (commands : List Task) (scope : Scope) (acts : List Act) → Runs plan commands (opening plan scope) acts → Try plan commands scope acts (stood plan commands scope acts)
 try_stood plan commands scope acts runs =
-    along plan commands (opening plan scope) (Try plan commands scope) (λ done later act. try_after plan commands scope done later act) [] acts runs
+    always plan commands (opening plan scope) (Try plan commands scope) (λ done act runs' o. try_after plan commands scope done act o)
     (λ not_over. record {
       before = [];
       behind = [];
@@ -312,22 +307,16 @@ try_stood plan commands scope acts runs =
       most = omega arith;
       first = λ e. refl;
       opens = refl;
-    })
+    }) acts runs
 
 -- A run that stops.
 
 ending_shows : (why : Cause) (act : Act) → IsEnding act → Shows why act → ⊥
-ending_shows cause.End Closed o shows = cc
-ending_shows cause.End Unopened o shows = cc
-ending_shows cause.Read Closed o shows = cc
-ending_shows cause.Read Unopened o shows = cc
-ending_shows cause.Clock Closed o shows = cc
-ending_shows cause.Clock Unopened o shows = cc
-ending_shows (cause.Write requests bytes) Closed o shows = let other = shows.1 in cc
-ending_shows (cause.Write requests bytes) Unopened o shows = let other = shows.1 in cc
-ending_shows why Closed o shows = absurd shows
-ending_shows why Unopened o shows = absurd shows
-ending_shows why act o shows = absurd o
+ending_shows cause.End act o shows = subst IsEnding shows o
+ending_shows cause.Read act o shows = subst IsEnding shows o
+ending_shows cause.Clock act o shows = subst IsEnding shows o
+ending_shows (cause.Write requests bytes) act o shows = subst IsEnding shows.1 o
+ending_shows why act o shows = shows
 
 not_done : (p : Progress) (n : ℕ) (why : Cause) → IsTried why → EndsDone p n why → ⊥
 not_done p n why tried done = subst IsTried done.0 tried

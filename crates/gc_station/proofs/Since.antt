@@ -1,0 +1,33 @@
+-- Facts of the past: what has held since an element of a growing list, as since an act of a run.
+use Rattle.std.proofs.Common.{◌≡◌, List, [], ◌∷◌, ◌++◌, refl, ap, ◌∙◌, append_assoc}
+
+-- an element, what stands before it and what behind it, of which this holds
+pub record Since {A : Type 0} (P : List A → A → List A → Type 0) (all : List A) : Type 0 where
+  pub before : List A
+  pub start : A
+  pub behind : List A
+  pub order : all ≡ before ++ start ∷ behind
+  pub holds : P before start behind
+
+-- it begins at the last element
+pub since_now : {A : Type 0} (P : List A → A → List A → Type 0) (all : List A) (last : A) → P all last [] → Since P (all ++ last ∷ [])
+since_now P all last p = record { before = all; start = last; behind = []; order = refl; holds = p }
+
+-- it goes on
+pub since_on : {A : Type 0} (P Q : List A → A → List A → Type 0) (all more : List A) → ((before : List A) (start : A) (behind : List A) → all ≡ before ++ start ∷ behind → P before start behind → Q before start (behind ++ more))
+    → Since P all → Since Q (all ++ more)
+since_on P Q all more step s = record {
+  before = s.before;
+  start = s.start;
+  behind = s.behind ++ more;
+  order = ap (λ xs. xs ++ more) s.order ∙ append_assoc s.before (s.start ∷ s.behind) more;
+  holds = step s.before s.start s.behind s.order s.holds;
+}
+
+-- it is said otherwise
+pub since_as : {A : Type 0} (P Q : List A → A → List A → Type 0) (all : List A) → ((before : List A) (start : A) (behind : List A) → all ≡ before ++ start ∷ behind → P before start behind → Q before start behind) → Since P all → Since Q all
+since_as P Q all step s = record { before = s.before; start = s.start; behind = s.behind; order = s.order; holds = step s.before s.start s.behind s.order s.holds }
+
+-- a front that is cut itself
+pub cut_on : {A : Type 0} (all front before rest tail : List A) → all ≡ front ++ tail → front ≡ before ++ rest → all ≡ before ++ (rest ++ tail)
+cut_on all front before rest tail order inner = order ∙ ap (λ xs. xs ++ tail) inner ∙ append_assoc before rest tail
