@@ -11,10 +11,10 @@ use Rattle.gc_lines.proofs.Known.{Appends-append, Appends-nil, Appends-is}
 use Rattle.gc_client.specs.declared.settlement.Settlement
 use Rattle.gc_client.specs.Rule.{ById, Settlement, heard, fits, hears, met, place_in}
 use Rattle.gc_client.specs.Settlements.{settlement_seen}
-use Rattle.gc_ask.specs.Asking.{asked_for, idle, waiting_for, Reply, first_reply, settled_by, asked_from, asked, request_text, request_texts, lost_of, LinkEnd, IsNext, AsksAll, AsksUpTo, AsksPart, TellsPart}
+use Rattle.gc_ask.specs.Asking.{asked_for, idle, waiting_for, Reply, first_reply, settled_by, asked_from, asked, request_text, request_texts, lost_of, LinkEnd, IsNext, AsksAll, TellsPart}
 use Rattle.gc_texts.specs.declared.commands.Command.{Command}
 use Rattle.gc_texts.specs.Settlements.{settlement_line, settlement_lines, lines_from, ToldPart}
-use Rattle.gc_ask.specs.Listening.{lines_behind, Settles}
+use Rattle.gc_ask.specs.Listening.{lines_behind, IsCut, Settles, StopsAt}
 use Rattle.gc_texts.proofs.SettlementLines.{lines_one}
 use Rattle.gc_ask.proofs.FirstReplies.{lines_behind-append, first_reply-at}
 
@@ -177,31 +177,32 @@ course_all commands given left kept client a b c d at =
       told = Appends-is _ _ _ _ (ap settlement_lines (sym all)) at.sink;
     }
 
--- the next one was sent, and what came doesn't settle it
-pub course_up_to : (commands done later : List Command) (command : Command) (given left more : List ℕ) (kept : Kept) (client : ById) (a b b' c d d' : Option (List ℕ))
+-- the next one was sent, and is lost
+pub course_stops : (alone : Bool) (commands done later : List Command) (command : Command) (given left more : List ℕ) (kept : Kept) (client : ById) (a b b' c d d' : Option (List ℕ))
     → (at : Course done given left kept client a b c d) → commands ≡ done ++ command ∷ later
-    → first_reply (waiting_for (length done) command) (lines_behind at.now (left ++ more)) ≡ None
+    → (alone ≡ true → first_reply (waiting_for (length done) command) (lines_behind at.now (left ++ more)) ≡ None)
     → Appends b b' (request_text (length done) command) → Appends d d' (lines_from (length done) (lost_of command ∷ []))
-    → AsksUpTo commands (given ++ more) (record { link_old = a; link_new = b'; sink_old = c; sink_new = d' })
-course_up_to commands done later command given left more kept client a b b' c d d' at order none sent told =
-    let so : asked commands (given ++ more) ≡ at.settled = ap (λ xs. asked xs (given ++ more)) order ∙ asked_on done given left kept client a b c d more at command later None none ∙ append-nil at.settled in
+    → StopsAt alone commands (given ++ more) (record { link_old = a; link_new = b'; sink_old = c; sink_new = d' })
+course_stops alone commands done later command given left more kept client a b b' c d d' at order none sent told =
+    let so : asked done (given ++ more) ≡ at.settled = asked_so done given left kept client a b c d more at in
     record {
       earlier = done;
       command = command;
       later = later;
       order = order;
       settled = ap length so ∙ at.count;
+      none = λ is. ap (λ xs. asked xs (given ++ more)) order ∙ asked_on done given left kept client a b c d more at command later None (none is) ∙ append-nil at.settled ∙ sym so;
       sent = Appends-is _ _ _ _ (sym (all_texts_one done command)) (Appends-append _ _ _ _ _ at.link sent);
       told = Appends-is _ _ _ _ (sym (lines_last at.settled (length done) (lost_of command) at.count) ∙ ap (λ zs. settlement_lines (zs ++ lost_of command ∷ [])) (sym so)) (Appends-append _ _ _ _ _ at.sink told);
     }
 
--- the next one was sent in part
-pub course_part : (commands done later : List Command) (command : Command) (given left more : List ℕ) (kept : Kept) (client : ById) (a b b' c d d' : Option (List ℕ)) (count bytes : ℕ)
-    → Course done given left kept client a b c d → commands ≡ done ++ command ∷ later
-    → count ≡ length done → bytes < length (request_text (length done) command)
+-- the same, where its request or its reply was cut
+pub course_cut : (alone : Bool) (commands done later : List Command) (command : Command) (given left more : List ℕ) (kept : Kept) (client : ById) (a b b' c d d' : Option (List ℕ)) (count part bytes : ℕ)
+    → Course done given left kept client a b c d → commands ≡ done ++ command ∷ later → count ≡ length done
+    → (alone ≡ true → (bytes ≡ part) × (part < length (request_text (length done) command)))
     → Appends b b' (take bytes (request_text (length done) command)) → Appends d d' (lines_from (length done) (lost_of command ∷ []))
-    → AsksPart commands (given ++ more) (record { link_old = a; link_new = b'; sink_old = c; sink_new = d' }) count bytes
-course_part commands done later command given left more kept client a b b' c d d' count bytes at order is short sent told =
+    → IsCut alone commands (given ++ more) (record { link_old = a; link_new = b'; sink_old = c; sink_new = d' }) count part
+course_cut alone commands done later command given left more kept client a b b' c d d' count part bytes at order is cut sent told =
     let so : asked done (given ++ more) ≡ at.settled = asked_so done given left kept client a b c d more at in
     record {
       earlier = done;
@@ -210,7 +211,8 @@ course_part commands done later command given left more kept client a b b' c d d
       order = order;
       count_is = is;
       settled = ap length so ∙ at.count;
-      not_all = subst (λ n. bytes < length (request_text n command)) (sym is) short;
+      bytes = bytes;
+      cut = subst (λ n. alone ≡ true → (bytes ≡ part) × (part < length (request_text n command))) (sym is) cut;
       sent = Appends-is _ _ _ _ (ap (λ n. all_of (request_texts 0 done) ++ take bytes (request_text n command)) (sym is)) (Appends-append _ _ _ _ _ at.link sent);
       told = Appends-is _ _ _ _ (sym (lines_last at.settled (length done) (lost_of command) at.count) ∙ ap (λ zs. settlement_lines (zs ++ lost_of command ∷ [])) (sym so)) (Appends-append _ _ _ _ _ at.sink told);
     }

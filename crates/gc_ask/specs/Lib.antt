@@ -3,5 +3,6 @@ pub mod AskRuns
 pub mod Keeping
 pub mod Listening
 pub mod Laws
+pub mod Links
 pub mod Looping
 pub mod Places

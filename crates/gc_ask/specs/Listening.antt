@@ -1,17 +1,20 @@
 -- No part of a promise: what the functions inside asking say of the bytes that a link gives.
-use Rattle.std.specs.Prelude.{◌≡◌, ℕ, ◌<◌, ◌≤◌, ◌⊎◌, Bool, true, false, List, [], ◌∷◌, ◌++◌, length, Option, Some, None, Result, Ok, Err, take, drop, map}
+use Rattle.std.specs.Prelude.{◌≡◌, ℕ, ◌+◌, ◌*◌, ◌-◌, ◌<◌, ◌≤◌, ◌⊎◌, Bool, true, false, List, [], ◌∷◌, ◌++◌, length, Option, Some, None, Result, Ok, Err, take, drop, map}
 use Rattle.std.specs.List.{filter_map}
-use Rattle.std.specs.Io.KnownBytes.{Appends}
-use Rattle.gc_lines.specs.Answering.{Ports}
+use Rattle.std.specs.Io.KnownBytes.{Appends, Consumes}
+use Rattle.gc_lines.specs.Answering.{all_of}
 use Rattle.gc_lines.specs.Assembler.{Kept, StandsFor}
 use Rattle.gc_lines.specs.Frames.{line_in, rest_behind}
 use Rattle.gc_lines.specs.Passing.{frames_behind}
 use Rattle.gc_client.specs.declared.settlement.Settlement.{Settlement}
 use Rattle.gc_client.specs.Rule.{ById, heard, fits, hears}
 use Rattle.gc_client.specs.Settlements.{AreSettlements, settlement_seen}
-use Rattle.gc_texts.specs.Settlements.{lines_from, ToldPart}
-use Rattle.gc_ask.specs.Asking.{Taken, Written, LinkEnd, first_reply, waiting_for, request_text, lost_of, LinkEnds}
-use Rattle.gc_texts.specs.WholeTexts.{Input}
+use Rattle.gc_texts.specs.Settlements.{lines_from, settlement_lines, ToldPart}
+use Rattle.gc_ask.specs.Asking.{Written, LinkEnd, first_reply, asked, waiting_for, request_text, request_texts, lost_of, AsksAll, TellsPart, EndsWith}
+use Rattle.gc_ask.specs.Links.{TakesRequest}
+use Rattle.gc_ask.specs.Looping.{BothEnd, SeenAtBoth, written_there}
+use Rattle.gc_texts.specs.Texts.{end_reads}
+use Rattle.gc_texts.specs.WholeTexts.{Input, GivesCommands, RefusesCommands}
 use Rattle.gc_texts.specs.declared.commands.Command.{Command}
 use Rattle.gc_texts.specs.declared.fault.RunFault.{RunFault}
 use Rattle.gc_texts.specs.declared.fault.RunFault.TheVariants.{Read, Write, TooManyReads, LinkClosed, Output}
@@ -85,33 +88,16 @@ ReadEnds old new after (Err TooManyReads) =
 ReadEnds old new after (Err LinkClosed) = (old.reads < new.reads) × (new.ended ≡ true) × (new.failed ≡ old.failed)
 ReadEnds old new after (Err _) = ⊥
 
--- a request went to a link whole, or the link failed, and so many bytes of it went
-abbrev pub Sends : ℕ → Command → Taken → Taken → Result (Unit {0}) RunFault → Type 0
-Sends place command old new (Ok _) = Appends old.bytes new.bytes (request_text place command) × (new.failed ≡ old.failed)
-Sends place command old new (Err (Write count bytes)) =
-    (count ≡ place) × (bytes < length (request_text place command)) × Appends old.bytes new.bytes (take bytes (request_text place command)) × (new.failed ≡ true)
-Sends place command old new (Err _) = ⊥
-
--- a request was sent, and its reply waited for
-abbrev pub Exchanges : ℕ → Command → Heard → (old new : Option (List ℕ)) → Result (Unit {0}) RunFault → Type 0
-Exchanges place command heard_so old new (Ok _) = Appends old new (request_text place command) × Settles (waiting_for place command) heard_so
-Exchanges place command heard_so old new (Err (Write count part)) =
-    (count ≡ place) × (part < length (request_text place command)) × Appends old new (take part (request_text place command))
+-- a request was sent, and its reply waited for. Where the link is alone and no write failed, what came settles nothing; where it isn't,
+-- the fault may be of the other end, and what came isn't looked at
+abbrev pub Exchanges : (alone : Bool) → ℕ → Command → Heard → (old new : Option (List ℕ)) → LinkEnd → Type 0
+Exchanges alone place command heard_so old new (Ok _) = Appends old new (request_text place command) × Settles (waiting_for place command) heard_so
+Exchanges alone place command heard_so old new (Err (Write count part)) =
+    TakesRequest alone place (request_text place command) old new (Err (Write count part)) × (heard_so.client ≡ waiting_for place command)
+Exchanges alone place command heard_so old new (Err _) =
+    Appends old new (request_text place command)
+    × (alone ≡ true → first_reply (waiting_for place command) (lines_behind heard_so.rest heard_so.bytes) ≡ None)
     × (heard_so.client ≡ waiting_for place command)
-Exchanges place command heard_so old new (Err _) =
-    Appends old new (request_text place command) × (first_reply (waiting_for place command) (lines_behind heard_so.rest heard_so.bytes) ≡ None)
-    × (heard_so.client ≡ waiting_for place command)
-
--- what is seen of the source of a link
-abbrev pub source_of : Ports → Input
-source_of ports = record { remaining = ports.remaining; reads = ports.reads; ended = ports.ended; failed = ports.source_failed }
-
--- why that ended, with so many reads left
-abbrev pub ExchangeEnds : Ports → Ports → (after : ℕ) → Result (Unit {0}) RunFault → Type 0
-ExchangeEnds old new after (Err (Write _ _)) =
-    (new.reads ≡ old.reads) × (new.ended ≡ old.ended) × (new.source_failed ≡ old.source_failed) × (new.sink_failed ≡ true)
-ExchangeEnds old new after (Ok x) = ReadEnds (source_of old) (source_of new) after (Ok x) × (new.sink_failed ≡ old.sink_failed)
-ExchangeEnds old new after (Err e) = ReadEnds (source_of old) (source_of new) after (Err e) × (new.sink_failed ≡ old.sink_failed)
 
 -- of the line of a settlement the sink took the first bytes: of the one that a reply settled, where the link had ended well, or, behind a
 -- fault of it, of the one that is lost
@@ -123,52 +109,70 @@ TellsOne place command heard_so w over =
     × ((part : ℕ) × Appends w.link_old w.link_new (take part (request_text place command)) × ToldPart place (lost_of command ∷ []) w.sink_old w.sink_new))
 
 -- a request was sent, its reply waited for, and its settlement told
-abbrev pub AsksOne : ℕ → Command → Heard → Written → (over : LinkEnd → Type 0) → LinkEnd → Type 0
-AsksOne place command heard_so w over (Ok _) =
+abbrev pub AsksOne : (alone : Bool) → ℕ → Command → Heard → Written → (over : LinkEnd → Type 0) → LinkEnd → Type 0
+AsksOne alone place command heard_so w over (Ok _) =
     Appends w.link_old w.link_new (request_text place command)
     × Settles (waiting_for place command) heard_so × Appends w.sink_old w.sink_new (lines_from place (map settlement_seen heard_so.settled))
-AsksOne place command heard_so w over (Err (Write count part)) =
-    (count ≡ place) × (part < length (request_text place command)) × Appends w.link_old w.link_new (take part (request_text place command))
+AsksOne alone place command heard_so w over (Err (Write count part)) =
+    TakesRequest alone place (request_text place command) w.link_old w.link_new (Err (Write count part))
     × Appends w.sink_old w.sink_new (lines_from place (lost_of command ∷ []))
-AsksOne place command heard_so w over (Err Output) = TellsOne place command heard_so w over
-AsksOne place command heard_so w over (Err _) =
+AsksOne alone place command heard_so w over (Err Output) = TellsOne place command heard_so w over
+AsksOne alone place command heard_so w over (Err _) =
     Appends w.link_old w.link_new (request_text place command)
-    × (first_reply (waiting_for place command) (lines_behind heard_so.rest heard_so.bytes) ≡ None)
+    × (alone ≡ true → first_reply (waiting_for place command) (lines_behind heard_so.rest heard_so.bytes) ≡ None)
     × Appends w.sink_old w.sink_new (lines_from place (lost_of command ∷ []))
 
--- A loop's two ends.
+-- Runs.
 
--- what the ports of an end are a step later, with this end of it
-pub record StepEnds (old new : Ports) (result : Result (Unit {0}) RunFault) : Type 0 where
-  pub ends : LinkEnds old new result
-  pub same : new.reads ≡ old.reads → new.ended ≡ old.ended
-  pub grows : old.reads ≤ new.reads
+-- what came settles the commands before one, which was sent, and is lost; those behind it weren't sent. Where the link is alone, what came
+-- doesn't settle that one either
+pub record StopsAt (alone : Bool) (commands : List Command) (given : List ℕ) (w : Written) : Type 0 where
+  pub earlier : List Command
+  pub command : Command
+  pub later : List Command
+  pub order : commands ≡ earlier ++ command ∷ later
+  pub settled : length (asked earlier given) ≡ length earlier
+  pub none : alone ≡ true → asked commands given ≡ asked earlier given
+  pub sent : Appends w.link_old w.link_new (all_of (request_texts 0 (earlier ++ command ∷ [])))
+  pub told : Appends w.sink_old w.sink_new (settlement_lines (asked earlier given ++ lost_of command ∷ []))
 
--- a reply that was cut is the one at this place
-abbrev pub CountsReplies : ℕ → Result (Unit {0}) RunFault → Type 0
-CountsReplies place (Err (Write count _)) = count ≡ place
-CountsReplies place _ = Unit {0}
+-- the same, where of the one that is lost the first bytes were sent, or all: its request, or its reply, was cut
+pub record IsCut (alone : Bool) (commands : List Command) (given : List ℕ) (w : Written) (count part : ℕ) : Type 0 where
+  pub earlier : List Command
+  pub command : Command
+  pub later : List Command
+  pub order : commands ≡ earlier ++ command ∷ later
+  pub count_is : count ≡ length earlier
+  pub settled : length (asked earlier given) ≡ length earlier
+  pub bytes : ℕ
+  pub cut : alone ≡ true → (bytes ≡ part) × (part < length (request_text count command))
+  pub sent : Appends w.link_old w.link_new (all_of (request_texts 0 earlier) ++ take bytes (request_text count command))
+  pub told : Appends w.sink_old w.sink_new (settlement_lines (asked earlier given ++ lost_of command ∷ []))
 
--- it came at one of the two ends
-abbrev pub BothStep : (client_old client_new instrument_old instrument_new : Ports) → Result (Unit {0}) RunFault → Type 0
-BothStep client_old client_new instrument_old instrument_new result =
-    (StepEnds client_old client_new result × StepEnds instrument_old instrument_new (Ok tt))
-    ⊎ (StepEnds client_old client_new (Ok tt) × StepEnds instrument_old instrument_new result)
+-- what was asked over a link, of what it gave, with this end
+abbrev pub AsksOn : (alone : Bool) → List Command → List ℕ → Written → (over : LinkEnd → Type 0) → LinkEnd → Type 0
+AsksOn alone commands given w over (Ok _) = AsksAll commands given w
+AsksOn alone commands given w over (Err Read) = StopsAt alone commands given w
+AsksOn alone commands given w over (Err LinkClosed) = StopsAt alone commands given w
+AsksOn alone commands given w over (Err TooManyReads) = StopsAt alone commands given w
+AsksOn alone commands given w over (Err (Write count part)) = IsCut alone commands given w count part
+AsksOn alone commands given w over (Err Output) = TellsPart commands given w over
+AsksOn alone commands given w over (Err _) = ⊥
 
--- a request was sent, answered at the other end, and its reply waited for
-abbrev pub LoopExchanges : ℕ → Command → Heard → (old new : Option (List ℕ)) → Result (Unit {0}) RunFault → Type 0
-LoopExchanges place command heard_so old new (Ok x) = Exchanges place command heard_so old new (Ok x)
-LoopExchanges place command heard_so old new (Err (Write count _)) =
-    (count ≡ place) × ((part : ℕ) × Appends old new (take part (request_text place command))) × (heard_so.client ≡ waiting_for place command)
-LoopExchanges place command heard_so old new (Err _) =
-    Appends old new (request_text place command) × (heard_so.client ≡ waiting_for place command)
+-- commands were asked over a link, in so many reads of both ends at most, with this end
+pub record AsksAt (alone : Bool) (commands : List Command) (most : ℕ) (old new : SeenAtBoth) (result : LinkEnd) : Type 0 where
+  pub given : List ℕ
+  pub gave : Consumes old.client.remaining new.client.remaining given
+  pub few : length given ≤ 256 * (new.client.reads - old.client.reads)
+  pub asks : AsksOn alone commands given (written_there old new) (BothEnd old.client new.client old.instrument new.instrument) result
+  pub ends : EndsWith (BothEnd old.client new.client old.instrument new.instrument) old.sink.failed new.sink.failed result
+  pub bound : new.client.reads + new.instrument.reads ≤ old.client.reads + old.instrument.reads + most
+  pub too_many : result ≡ Err TooManyReads → new.client.reads + new.instrument.reads ≡ old.client.reads + old.instrument.reads + most
 
--- a request was sent, its reply waited for, and its settlement told
-abbrev pub LoopsOne : ℕ → Command → Heard → Written → (over : LinkEnd → Type 0) → LinkEnd → Type 0
-LoopsOne place command heard_so w over (Ok x) = AsksOne place command heard_so w over (Ok x)
-LoopsOne place command heard_so w over (Err (Write count _)) =
-    (count ≡ place) × ((part : ℕ) × Appends w.link_old w.link_new (take part (request_text place command)))
-    × Appends w.sink_old w.sink_new (lines_from place (lost_of command ∷ []))
-LoopsOne place command heard_so w over (Err Output) = TellsOne place command heard_so w over
-LoopsOne place command heard_so w over (Err _) =
-    Appends w.link_old w.link_new (request_text place command) × Appends w.sink_old w.sink_new (lines_from place (lost_of command ∷ []))
+-- a run over a source of commands and a link: the text was refused, and nothing else happened; or its commands were asked
+abbrev pub RunsAt : (alone : Bool) → (text_old text_new : Input) → (most : ℕ) → (old new : SeenAtBoth) → LinkEnd → Type 0
+RunsAt alone text_old text_new most old new result =
+    (given : List ℕ) × Consumes text_old.remaining text_new.remaining given
+    × (text_new.reads ≤ text_old.reads + length given + end_reads text_new.ended)
+    × (((fault : RunFault) × (result ≡ Err fault) × RefusesCommands given text_old text_new fault × (new ≡ old))
+    ⊎ ((commands : List Command) × GivesCommands given text_old text_new commands × AsksAt alone commands most old new result))

@@ -1,11 +1,11 @@
 -- A client and a simulator at the two ends of one link: this project's own.
-use Rattle.std.specs.Prelude.{◌≡◌, ℕ, ◌+◌, ◌≤◌, ◌⊎◌, List, [], ◌∷◌, ◌++◌, length, take, Result, Ok, Err}
+use Rattle.std.specs.Prelude.{◌≡◌, false, ℕ, ◌+◌, ◌≤◌, ◌⊎◌, List, [], ◌∷◌, ◌++◌, length, take, Result, Ok, Err}
 use Rattle.std.specs.Io.KnownBytes.{Appends, Consumes}
 use Rattle.gc_lines.specs.Answering.{Ports, all_of}
 use Rattle.gc_texts.specs.Settlements.{settlement_lines}
 use Rattle.gc_texts.specs.declared.commands.Command.{Command}
 use Rattle.gc_texts.specs.declared.fault.RunFault.{RunFault}
-use Rattle.gc_texts.specs.declared.fault.RunFault.TheVariants.{Read, Write, TooManyReads, LinkClosed, Output}
+use Rattle.gc_texts.specs.declared.fault.RunFault.TheVariants.{Read, Write, TooManyReads, LinkClosed, Output, Socket}
 use Rattle.gc_texts.specs.WholeTexts.{Input, GivesCommands, RefusesCommands}
 use Rattle.gc_ask.specs.Asking.{asked, lost_of, request_text, request_texts, Taken, Written, LinkEnd, AsksAll, TellsPart, LinkEnds, EndsWith}
 use Rattle.gc_texts.specs.Texts.{end_reads}
@@ -73,3 +73,26 @@ LoopRuns text_old text_new old new result =
     × (text_new.reads ≤ text_old.reads + length given + end_reads text_new.ended)
     × (((fault : RunFault) × (result ≡ Err fault) × RefusesCommands given text_old text_new fault × (new ≡ old))
     ⊎ ((commands : List Command) × GivesCommands given text_old text_new commands × LoopsOver commands old new result))
+
+-- commands were asked over a connection with a simulator at its other end, in so many reads at most, with this end: neither of its ends had
+-- failed, and nothing was read of them before
+pub record LoopsOverOne (commands : List Command) (most : ℕ) (old new : Taken) (result : Result (Unit {0}) RunFault) : Type 0 where
+  pub before : SeenAtBoth
+  pub after : SeenAtBoth
+  pub unread : (before.client.reads ≡ 0) × (before.instrument.reads ≡ 0)
+  pub client_sound : (before.client.source_failed ≡ false) × (before.client.sink_failed ≡ false)
+  pub instrument_sound : (before.instrument.source_failed ≡ false) × (before.instrument.sink_failed ≡ false)
+  pub sinks : (before.sink ≡ old) × (after.sink ≡ new)
+  pub loops : LoopsOver commands before after result
+  pub bound : after.client.reads + after.instrument.reads ≤ most
+  pub too_many : result ≡ Err TooManyReads → after.client.reads + after.instrument.reads ≡ most
+
+-- a run over a source of commands, a connection that it makes to a simulator of its own, and a sink: the text was refused, or it was read
+-- and no connection could be had, and in both cases nothing was written; or its commands were asked over the connection
+abbrev pub LoopRunsAt : (text_old text_new : Input) → (most : ℕ) → (old new : Taken) → Result (Unit {0}) RunFault → Type 0
+LoopRunsAt text_old text_new most old new result =
+    (given : List ℕ) × Consumes text_old.remaining text_new.remaining given
+    × (text_new.reads ≤ text_old.reads + length given + end_reads text_new.ended)
+    × (((fault : RunFault) × (result ≡ Err fault) × RefusesCommands given text_old text_new fault × (new ≡ old))
+    ⊎ ((commands : List Command) × GivesCommands given text_old text_new commands
+    × (((result ≡ Err Socket) × (new ≡ old)) ⊎ LoopsOverOne commands most old new result)))

@@ -1,19 +1,22 @@
 //! Asking: each command of a text is sent over a link, once the one before it is settled, and each settlement is told.
 
-ghost use Rattle.std.specs.Prelude.{◌≡◌, ◌+◌, ◌*◌, ◌-◌, ◌<◌, ◌≤◌, ◌++◌, [], ℕ, List, length, Err};
+ghost use Rattle.std.specs.Prelude.{◌≡◌, ◌+◌, ◌*◌, ◌-◌, ◌≤◌, ◌++◌, [], ℕ, List, length, Err};
 ghost use Rattle.std.specs.Io.KnownBytes.{Consumes};
-ghost use Rattle.gc_lines.specs.Assembler.{StandsFor};
-ghost use Rattle.gc_ask.specs.AskRuns.{AskRuns};
-ghost use Rattle.gc_texts.specs.declared.text.TheConstants.{TEXT_LIMIT};
-ghost use Rattle.gc_ask.specs.Asking.{Asks, EndsWith, LinkEnds, idle, taken_by, waiting_for};
-ghost use Rattle.gc_texts.specs.declared.fault.RunFault.{RunFault};
-ghost use Rattle.gc_ask.specs.Listening.{Sends, Exchanges, ExchangeEnds, AsksOne};
 ghost use Rattle.gc_lines.specs.Answering.{ports_of};
+ghost use Rattle.gc_lines.specs.Assembler.{StandsFor};
+ghost use Rattle.gc_lines.specs.Lines.{with_end};
+ghost use Rattle.gc_ask.specs.AskRuns.{AskRuns};
+ghost use Rattle.gc_ask.specs.Asking.{EndsWith, idle, request_text, taken_by, waiting_for};
+ghost use Rattle.gc_ask.specs.Links.{BothStep, seen_at};
+ghost use Rattle.gc_ask.specs.Listening.{AsksAt, AsksOne, Exchanges, RunsAt};
+ghost use Rattle.gc_texts.specs.declared.fault.RunFault.{RunFault};
+ghost use Rattle.gc_texts.specs.declared.text.TheConstants.{TEXT_LIMIT};
 ghost use Rattle.gc_texts.specs.WholeTexts.{input_of};
 
 use crate::client_end::ClientEnd;
+use crate::link::{Alone, Link};
 use crate::unheard::Unheard;
-use gc_lines::{Line, Sink, Source, write_line};
+use gc_lines::{Line, Sink, Source};
 use gc_texts::{Command, RunFault, read_command_text, write_settlements};
 use std::alloc::Global;
 
@@ -41,15 +44,10 @@ impl Asking {
         }
     }
 
-    // Sends the command at this place, without a deadline.
-    pub(crate) fn send<O: Sink>(
-        &mut self,
-        place: usize,
-        command: &Command,
-        link: &mut O,
-    ) -> Result<(), RunFault>
+    // The request of the command at this place, for which the client then waits, without a deadline.
+    fn request(&mut self, place: usize, command: &Command) -> Line
         requires { self.old.end.client.ids ≡ idle place }
-        ensures sends { Sends place command.now (taken_by O.Sink link.old) (taken_by O.Sink link.new) result }
+        ensures text { with_end result.items ≡ request_text place command.now }
         ensures client { self.new.end.client.ids ≡ waiting_for place command.now }
         ensures same { (self.new.end.assembler ≡ self.old.end.assembler) × (self.new.ahead ≡ self.old.ahead) × (self.new.reads ≡ self.old.reads) }
     {
@@ -61,61 +59,58 @@ impl Asking {
         else {
             unreachable!()
         };
-        write_line(link, &line).map_err(|bytes| RunFault::Write {
-            replies: place as u64,
-            bytes,
-        })
+        line
     }
 
     // Sends the command at this place, and waits until it is settled.
-    fn exchange<I: Source, O: Sink>(
+    fn exchange<L: Link>(
         &mut self,
         place: usize,
         command: &Command,
-        link_in: &mut I,
-        link_out: &mut O,
+        link: &mut L,
     ) -> Result<(), RunFault>
         requires { self.old.end.client.ids ≡ idle place }
-        ensures exchanges { (given : List ℕ) × Consumes (I.remaining link_in.old) (I.remaining link_in.new) given
-            × (length given ≤ 256 * (I.reads link_in.new - I.reads link_in.old))
+        ensures exchanges { (given : List ℕ) × Consumes (L.client link.old).remaining (L.client link.new).remaining given
+            × (length given ≤ 256 * ((L.client link.new).reads - (L.client link.old).reads))
             × ((rest : List ℕ) → StandsFor self.old.end.assembler rest
-            → Exchanges place command.now (record { rest = rest; bytes = self.old.ahead ++ given; left = self.new.ahead; kept = self.new.end.assembler; client = self.new.end.client.ids; settled = self.new.end.settled.items }) (O.taken link_out.old) (O.taken link_out.new) result) }
-        ensures grows { I.reads link_in.old ≤ I.reads link_in.new }
-        ensures reads { I.reads link_in.new + self.new.reads ≡ I.reads link_in.old + self.old.reads }
-        ensures ends { ExchangeEnds
-            (ports_of I.Source link_in.old O.Sink link_out.old)
-            (ports_of I.Source link_in.new O.Sink link_out.new)
-            self.new.reads result }
+            → Exchanges L.alone place command.now (record { rest = rest; bytes = self.old.ahead ++ given; left = self.new.ahead; kept = self.new.end.assembler; client = self.new.end.client.ids; settled = self.new.end.settled.items }) (L.client link.old).taken (L.client link.new).taken result) }
+        ensures ends { BothStep (L.client link.old) (L.client link.new) (L.instrument link.old) (L.instrument link.new) result }
+        ensures grows { (L.client link.old).reads ≤ (L.client link.new).reads }
+        ensures reads { (L.client link.new).reads + (L.instrument link.new).reads + self.new.reads ≡ (L.client link.old).reads + (L.instrument link.old).reads + self.old.reads }
+        ensures too_many { result ≡ Err RunFault.TooManyReads → self.new.reads ≡ 0 }
+        ensures held { L.held link.new ≡ L.held link.old }
     {
-        self.send(place, command, link_out)?;
-        self.end
-            .hear_reply(link_in, &mut self.ahead, &mut self.reads)
+        let line = self.request(place, command);
+        if let Err(fault) = link.send(place, &line, &mut self.reads) {
+            return Err(fault);
+        }
+        self.end.hear_reply(link, &mut self.ahead, &mut self.reads)
     }
 
     // Asks the command at this place, and writes the line of its settlement. After a fault of the link it is lost, which is
     // written too.
-    fn ask<I: Source, O: Sink, K: Sink>(
+    fn ask<L: Link, K: Sink>(
         &mut self,
         place: usize,
         command: &Command,
-        link_in: &mut I,
-        link_out: &mut O,
+        link: &mut L,
         sink: &mut K,
     ) -> Result<(), RunFault>
         requires idle { self.old.end.client.ids ≡ idle place }
         requires stands { (rest : List ℕ) × StandsFor self.old.end.assembler rest }
-        ensures asks { (given : List ℕ) × Consumes (I.remaining link_in.old) (I.remaining link_in.new) given
-            × (length given ≤ 256 * (I.reads link_in.new - I.reads link_in.old))
+        ensures asks { (given : List ℕ) × Consumes (L.client link.old).remaining (L.client link.new).remaining given
+            × (length given ≤ 256 * ((L.client link.new).reads - (L.client link.old).reads))
             × ((rest : List ℕ) → StandsFor self.old.end.assembler rest
-            → AsksOne place command.now (record { rest = rest; bytes = self.old.ahead ++ given; left = self.new.ahead; kept = self.new.end.assembler; client = self.new.end.client.ids; settled = self.new.end.settled.items }) (record { link_old = O.taken link_out.old; link_new = O.taken link_out.new; sink_old = K.taken sink.old; sink_new = K.taken sink.new })
-            (ExchangeEnds (ports_of I.Source link_in.old O.Sink link_out.old) (ports_of I.Source link_in.new O.Sink link_out.new) self.new.reads) result) }
-        ensures grows { I.reads link_in.old ≤ I.reads link_in.new }
-        ensures reads { I.reads link_in.new + self.new.reads ≡ I.reads link_in.old + self.old.reads }
-        ensures ends { EndsWith
-            (ExchangeEnds (ports_of I.Source link_in.old O.Sink link_out.old) (ports_of I.Source link_in.new O.Sink link_out.new) self.new.reads)
+            → AsksOne L.alone place command.now (record { rest = rest; bytes = self.old.ahead ++ given; left = self.new.ahead; kept = self.new.end.assembler; client = self.new.end.client.ids; settled = self.new.end.settled.items }) (record { link_old = (L.client link.old).taken; link_new = (L.client link.new).taken; sink_old = K.taken sink.old; sink_new = K.taken sink.new })
+            (BothStep (L.client link.old) (L.client link.new) (L.instrument link.old) (L.instrument link.new)) result) }
+        ensures ends { EndsWith (BothStep (L.client link.old) (L.client link.new) (L.instrument link.old) (L.instrument link.new))
             (K.failed sink.old) (K.failed sink.new) result }
+        ensures grows { (L.client link.old).reads ≤ (L.client link.new).reads }
+        ensures reads { (L.client link.new).reads + (L.instrument link.new).reads + self.new.reads ≡ (L.client link.old).reads + (L.instrument link.old).reads + self.old.reads }
+        ensures too_many { result ≡ Err RunFault.TooManyReads → self.new.reads ≡ 0 }
+        ensures held { L.held link.new ≡ L.held link.old }
     {
-        match self.exchange(place, command, link_in, link_out) {
+        match self.exchange(place, command, link) {
             Ok(()) => write_settlements(sink, place, self.end.settled.as_slice()),
             Err(fault) => {
                 let lost = self.end.client.restart();
@@ -164,39 +159,59 @@ pub fn run_ask<S: Source, I: Source, O: Sink, K: Sink>(
         → (I.remaining link_in.new ≡ I.remaining link_in.old) × (I.reads link_in.new ≡ I.reads link_in.old)
         × (O.taken link_out.new ≡ O.taken link_out.old) × (K.taken sink.new ≡ K.taken sink.old) }
 {
+    let mut link = Alone {
+        source: link_in,
+        sink: link_out,
+    };
+    run_over(alloc, commands, &mut link, sink, max_reads)
+}
+
+/// Reads the whole command text of a source, and asks its commands over any link, in at most `max_reads` reads of its ends.
+pub(crate) fn run_over<S: Source, L: Link, K: Sink>(
+    alloc: Global,
+    commands: &mut S,
+    link: &mut L,
+    sink: &mut K,
+    max_reads: u32,
+) -> Result<(), RunFault>
+    ensures asks { RunsAt L.alone (input_of S.Source commands.old) (input_of S.Source commands.new) max_reads
+        (seen_at (L.client link.old) (L.instrument link.old) (taken_by K.Sink sink.old))
+        (seen_at (L.client link.new) (L.instrument link.new) (taken_by K.Sink sink.new))
+        result }
+    ensures bounded { S.reads commands.new ≤ S.reads commands.old + (TEXT_LIMIT + 1) }
+
+    // After want of memory nothing was read of the link, sent or written.
+    ensures memory { result ≡ Err RunFault.Memory
+        → (L.client link.new ≡ L.client link.old) × (L.instrument link.new ≡ L.instrument link.old) × (K.taken sink.new ≡ K.taken sink.old) }
+    ensures bound { (L.client link.new).reads + (L.instrument link.new).reads ≤ (L.client link.old).reads + (L.instrument link.old).reads + max_reads }
+    ensures too_many { result ≡ Err RunFault.TooManyReads
+        → (L.client link.new).reads + (L.instrument link.new).reads ≡ (L.client link.old).reads + (L.instrument link.old).reads + max_reads }
+    ensures held { L.held link.new ≡ L.held link.old }
+{
     let commands = match read_command_text(alloc, commands) {
         Ok(commands) => commands,
         Err(fault) => return Err(fault),
     };
-    ask_all(commands.as_slice(), link_in, link_out, sink, max_reads)
+    ask_all(commands.as_slice(), link, sink, max_reads)
 }
 
-// Asks commands in order, in so many reads of the link at most.
-pub(crate) fn ask_all<I: Source, O: Sink, K: Sink>(
+/// Asks commands in order, in so many reads of the link's ends at most.
+pub(crate) fn ask_all<L: Link, K: Sink>(
     commands: &[Command],
-    link_in: &mut I,
-    link_out: &mut O,
+    link: &mut L,
     sink: &mut K,
     max_reads: u32,
 ) -> Result<(), RunFault>
-    // What the link gave, and what of the commands it took, and the sink of their settlements.
-    ensures asks { (given : List ℕ) × Consumes (I.remaining link_in.old) (I.remaining link_in.new) given
-        × (length given ≤ 256 * (I.reads link_in.new - I.reads link_in.old))
-        × Asks commands.now given (record { link_old = O.taken link_out.old; link_new = O.taken link_out.new; sink_old = K.taken sink.old; sink_new = K.taken sink.new })
-        (LinkEnds (ports_of I.Source link_in.old O.Sink link_out.old) (ports_of I.Source link_in.new O.Sink link_out.new)) result }
-
-    // At most so many reads were answered, and all of them where that is the fault.
-    ensures bound { I.reads link_in.new ≤ I.reads link_in.old + max_reads }
-    ensures too_many { result ≡ Err RunFault.TooManyReads → I.reads link_in.new ≡ I.reads link_in.old + max_reads }
-
-    // Why it ended, and which ports have failed.
-    ensures ends { EndsWith
-        (LinkEnds (ports_of I.Source link_in.old O.Sink link_out.old) (ports_of I.Source link_in.new O.Sink link_out.new))
-        (K.failed sink.old) (K.failed sink.new) result }
+    // What the link gave, what it took and the sink of the settlements, why it ended, and which ports have failed.
+    ensures asks { AsksAt L.alone commands.now max_reads
+        (seen_at (L.client link.old) (L.instrument link.old) (taken_by K.Sink sink.old))
+        (seen_at (L.client link.new) (L.instrument link.new) (taken_by K.Sink sink.new))
+        result }
+    ensures held { L.held link.new ≡ L.held link.old }
 {
     let mut asking = Asking::new(max_reads);
     for (place, command) in commands.iter().enumerate() {
-        if let Err(fault) = asking.ask(place, command, link_in, link_out, sink) {
+        if let Err(fault) = asking.ask(place, command, link, sink) {
             return Err(fault);
         }
     }

@@ -7,12 +7,13 @@ ghost use Rattle.gc_lines.specs.Frames.{line_in};
 ghost use Rattle.gc_lines.specs.Lent.{lent_seen, IsLineWithin};
 ghost use Rattle.gc_ask.specs.Asking.{idle};
 ghost use Rattle.gc_ask.specs.Listening.{TakesFrame, Listens, left_by, HearsReply, ReadEnds};
-ghost use Rattle.gc_texts.specs.WholeTexts.{input_of};
+ghost use Rattle.gc_ask.specs.Links.{OnlyReads, source_of};
 
+use crate::link::Link;
 use crate::unheard::Unheard;
 use arrayvec::ArrayVec;
 use gc_client::{Client, Hearing, Settlement, Slots, WINDOW};
-use gc_lines::{Assembler, Lent, Line, Source};
+use gc_lines::{Assembler, Lent, Line};
 use gc_texts::RunFault;
 
 /// A client behind an assembler.
@@ -69,19 +70,20 @@ impl ClientEnd {
 
     // Reads a link until a line of it settles a request that waits, in so many reads at most. Bytes behind that line stay
     // in `ahead` for the next request.
-    pub(crate) fn hear_reply<I: Source>(
+    pub(crate) fn hear_reply<L: Link>(
         &mut self,
-        link: &mut I,
+        link: &mut L,
         ahead: &mut Unheard,
         reads: &mut u32,
     ) -> Result<(), RunFault>
-        ensures hears { (given : List ℕ) × Consumes (I.remaining link.old) (I.remaining link.new) given
-            × (length given ≤ 256 * (I.reads link.new - I.reads link.old))
+        ensures hears { (given : List ℕ) × Consumes (L.client link.old).remaining (L.client link.new).remaining given
+            × (length given ≤ 256 * ((L.client link.new).reads - (L.client link.old).reads))
             × ((rest : List ℕ) → StandsFor self.old.assembler rest
             → HearsReply self.old.client.ids (record { rest = rest; bytes = ahead.old ++ given; left = ahead.new; kept = self.new.assembler; client = self.new.client.ids; settled = self.new.settled.items }) result) }
-        ensures grows { I.reads link.old ≤ I.reads link.new }
-        ensures reads { I.reads link.new + reads.new ≡ I.reads link.old + reads.old }
-        ensures ends { ReadEnds (input_of I.Source link.old) (input_of I.Source link.new) reads.new result }
+        ensures grows { (L.client link.old).reads ≤ (L.client link.new).reads }
+        ensures reads { (L.client link.new).reads + reads.new ≡ (L.client link.old).reads + reads.old }
+        ensures ends { ReadEnds (source_of (L.client link.old)) (source_of (L.client link.new)) reads.new result }
+        ensures only { OnlyReads (L.client link.old) (L.client link.new) (L.instrument link.old) (L.instrument link.new) (L.held link.old) (L.held link.new) }
     {
         let mut cut = Line::new();
         loop {
@@ -92,7 +94,7 @@ impl ClientEnd {
             if *reads == 0 {
                 return Err(RunFault::TooManyReads);
             }
-            let Ok(more) = ahead.read(link) else {
+            let Ok(more) = link.read(ahead) else {
                 return Err(RunFault::Read);
             };
             *reads -= 1;

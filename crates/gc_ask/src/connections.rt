@@ -7,6 +7,7 @@ ghost use Rattle.gc_instrument.specs.Serving.{IsServing};
 ghost use Rattle.gc_instrument.specs.State.{restarted};
 ghost use Rattle.gc_ask.specs.AskRuns.{AskRunsAt, AsksOverOne};
 ghost use Rattle.gc_ask.specs.Asking.{taken_by};
+ghost use Rattle.gc_ask.specs.Looping.{LoopRunsAt, LoopsOverOne};
 ghost use Rattle.gc_ask.specs.Places.{fault_of_reason};
 ghost use Rattle.gc_texts.specs.Faults.{end_of_serving};
 ghost use Rattle.gc_lines.specs.Answering.{ports_of};
@@ -15,7 +16,9 @@ ghost use Rattle.gc_texts.specs.WholeTexts.{input_of};
 ghost use Rattle.gc_texts.specs.declared.fault.RunFault.{RunFault};
 
 use crate::ask::ask_all;
-use crate::looped::loop_all;
+use crate::instrument_end::InstrumentEnd;
+use crate::link::Alone;
+use crate::looped::Loop;
 use gc_instrument::{Instrument, ServeFault, serve};
 use gc_lines::{FromReader, Sink, Source, ToWriter};
 use gc_links::{Place, Unusable, accept, both_ends, connect_here, listen, wire_to};
@@ -42,21 +45,50 @@ pub fn loop_tcp_on<R: Net<Listener = TcpListener, Stream = TcpStream>, S: Source
     commands: &mut S,
     sink: &mut K,
     max_reads: u32,
-) -> Result<(), RunFault> {
-    let commands = read_command_text(alloc, commands)?;
+) -> Result<(), RunFault>
+    ensures loops { LoopRunsAt (input_of S.Source commands.old) (input_of S.Source commands.new) max_reads
+        (taken_by K.Sink sink.old) (taken_by K.Sink sink.new) result }
+{
+    let commands = match read_command_text(alloc, commands) {
+        Ok(commands) => commands,
+        Err(fault) => return Err(fault),
+    };
     let Ok((near, far)) = both_ends(rt) else {
         return Err(RunFault::Socket);
     };
-    loop_all(
+    loop_over(
         commands.as_slice(),
         instrument,
-        &mut FromReader::new(&near),
-        &mut ToWriter::new(&near),
-        &mut FromReader::new(&far),
-        &mut ToWriter::new(&far),
+        &near,
+        &far,
         sink,
         max_reads,
     )
+}
+
+// Asks commands over a connection that was just made, at whose far end an instrument answers.
+fn loop_over<K: Sink>(
+    commands: &[Command],
+    instrument: Instrument,
+    near: &TcpStream,
+    far: &TcpStream,
+    sink: &mut K,
+    max_reads: u32,
+) -> Result<(), RunFault>
+    ensures { LoopsOverOne commands.now max_reads (taken_by K.Sink sink.old) (taken_by K.Sink sink.new) result }
+{
+    let mut client_in = FromReader::new(near);
+    let mut client_out = ToWriter::new(near);
+    let mut instrument_in = FromReader::new(far);
+    let mut instrument_out = ToWriter::new(far);
+    let mut link = Loop {
+        client_in: &mut client_in,
+        client_out: &mut client_out,
+        instrument: InstrumentEnd::new(instrument),
+        instrument_in: &mut instrument_in,
+        instrument_out: &mut instrument_out,
+    };
+    ask_all(commands, &mut link, sink, max_reads)
 }
 
 /// Asks the commands of a source as `loop_tcp_on` does, of a simulator, and has the same ends.
@@ -66,7 +98,10 @@ pub fn loop_tcp<R: Net<Listener = TcpListener, Stream = TcpStream>, S: Source, K
     commands: &mut S,
     sink: &mut K,
     max_reads: u32,
-) -> Result<(), RunFault> {
+) -> Result<(), RunFault>
+    ensures loops { LoopRunsAt (input_of S.Source commands.old) (input_of S.Source commands.new) max_reads
+        (taken_by K.Sink sink.old) (taken_by K.Sink sink.new) result }
+{
     loop_tcp_on(
         rt,
         alloc,
@@ -190,13 +225,13 @@ fn ask_over<I: Read + Drop, O: Write + Drop, K: Sink>(
 ) -> Result<(), RunFault>
     ensures { AsksOverOne commands.now max_reads (taken_by K.Sink sink.old) (taken_by K.Sink sink.new) result }
 {
-    ask_all(
-        commands,
-        &mut FromReader::new(reader),
-        &mut ToWriter::new(writer),
-        sink,
-        max_reads,
-    )
+    let mut source = FromReader::new(reader);
+    let mut to = ToWriter::new(writer);
+    let mut link = Alone {
+        source: &mut source,
+        sink: &mut to,
+    };
+    ask_all(commands, &mut link, sink, max_reads)
 }
 
 /// The fault of a place over which no connection can be had: `Socket` where that is none of the device.

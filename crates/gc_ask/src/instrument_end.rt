@@ -2,7 +2,7 @@
 
 ghost use Rattle.std.specs.Prelude.{◌≡◌, ◌+◌, Err};
 ghost use Rattle.gc_texts.specs.declared.fault.RunFault.{RunFault};
-ghost use Rattle.gc_ask.specs.Listening.{StepEnds, CountsReplies};
+ghost use Rattle.gc_ask.specs.Links.{StepEnds, CountsReplies};
 ghost use Rattle.gc_lines.specs.Answering.{ports_of};
 
 use crate::unheard::Unheard;

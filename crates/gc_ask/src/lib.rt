@@ -10,6 +10,7 @@ mod devices;
 mod instrument_end;
 mod kept_port;
 pub mod laws;
+mod link;
 mod looped;
 mod unheard;
 
@@ -20,4 +21,4 @@ pub use connections::{
 };
 pub use devices::{keep_device, serve_device};
 pub use kept_port::{Keeping, keep_on, keep_tcp};
-pub use looped::{run_loop, run_loop_on};
+pub use looped::{Duplex, run_loop, run_loop_on};

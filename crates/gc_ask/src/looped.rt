@@ -1,31 +1,29 @@
-//! A loop: a client and an instrument at the two ends of one link, in one thread.
+//! A loop: commands are asked over a link whose other end answers them itself, in one thread.
 
-ghost use Rattle.std.specs.Prelude.{◌≡◌, ◌+◌, ◌*◌, ◌-◌, ◌≤◌, ◌++◌, ℕ, List, length, Err};
-ghost use Rattle.std.specs.Io.KnownBytes.{Consumes};
-ghost use Rattle.gc_lines.specs.Assembler.{StandsFor};
-ghost use Rattle.gc_ask.specs.Asking.{EndsWith, idle, taken_by};
-ghost use Rattle.gc_ask.specs.Listening.{LoopExchanges, LoopsOne, BothStep};
-ghost use Rattle.gc_ask.specs.Looping.{Loops, BothEnd, LoopRuns};
-ghost use Rattle.gc_texts.specs.declared.fault.RunFault.{RunFault};
+ghost use Rattle.std.specs.Prelude.{◌≡◌, ◌+◌, ◌≤◌, Err};
 ghost use Rattle.gc_lines.specs.Answering.{ports_of};
+ghost use Rattle.gc_ask.specs.Asking.{taken_by};
+ghost use Rattle.gc_ask.specs.Looping.{LoopRuns};
+ghost use Rattle.gc_texts.specs.declared.fault.RunFault.{RunFault};
 ghost use Rattle.gc_texts.specs.WholeTexts.{input_of};
 
-use crate::ask::Asking;
+use crate::ask::run_over;
 use crate::instrument_end::InstrumentEnd;
+use crate::link::{Link, send_line};
+use crate::unheard::Unheard;
 use gc_instrument::Instrument;
-use gc_lines::{Sink, Source};
-use gc_texts::{Command, RunFault, read_command_text, write_settlements};
+use gc_lines::{Line, PortFailed, Sink, Source};
+use gc_texts::RunFault;
 use std::alloc::Global;
 
-/// Reads the whole command text of a source, and asks its commands over a link at whose other end an instrument stands,
-/// in at most `max_reads` reads of both ends together.
+/// Reads the whole command text of a source, and asks its commands over a link at whose other end a simulator stands, in at most
+/// `max_reads` reads of both ends together.
 ///
 /// After each request the instrument's end is read until one line was answered, and that reply is written; then the
 /// client's end is read until the request is settled. The faults are those of `run_ask`: 43 counts requests where the
 /// client's end can't be written and replies where the instrument's can't, and 45 is the end of either input.
-pub fn run_loop_on<S: Source, A: Source, B: Sink, C: Source, D: Sink, K: Sink>(
+pub fn run_loop<S: Source, A: Source, B: Sink, C: Source, D: Sink, K: Sink>(
     alloc: Global,
-    instrument: Instrument,
     commands: &mut S,
     client_in: &mut A,
     client_out: &mut B,
@@ -48,233 +46,108 @@ pub fn run_loop_on<S: Source, A: Source, B: Sink, C: Source, D: Sink, K: Sink>(
           sink = taken_by K.Sink sink.new;
         })
         result }
-
-    // At most so many reads of both ends were answered, and all of them where that is the fault.
     ensures bound { A.reads client_in.new + C.reads instrument_in.new ≤ A.reads client_in.old + C.reads instrument_in.old + max_reads }
     ensures too_many { result ≡ Err RunFault.TooManyReads → A.reads client_in.new + C.reads instrument_in.new ≡ A.reads client_in.old + C.reads instrument_in.old + max_reads }
-
-    // After want of memory nothing was read of the link, sent or written.
     ensures memory { result ≡ Err RunFault.Memory
         → (A.remaining client_in.new ≡ A.remaining client_in.old) × (A.reads client_in.new ≡ A.reads client_in.old)
         × (C.remaining instrument_in.new ≡ C.remaining instrument_in.old) × (C.reads instrument_in.new ≡ C.reads instrument_in.old)
         × (B.taken client_out.new ≡ B.taken client_out.old) × (D.taken instrument_out.new ≡ D.taken instrument_out.old)
         × (K.taken sink.new ≡ K.taken sink.old) }
 {
-    let commands = match read_command_text(alloc, commands) {
-        Ok(commands) => commands,
-        Err(fault) => return Err(fault),
-    };
-    loop_all(
-        commands.as_slice(),
-        instrument,
+    let mut link = Loop {
         client_in,
         client_out,
+        instrument: InstrumentEnd::new(Instrument::simulator()),
         instrument_in,
         instrument_out,
-        sink,
-        max_reads,
-    )
+    };
+    run_over(alloc, commands, &mut link, sink, max_reads)
 }
 
-/// Asks the commands of a source as `run_loop_on` does, of a simulator, and has the same ends.
-pub fn run_loop<S: Source, A: Source, B: Sink, C: Source, D: Sink, K: Sink>(
+/// Both directions of one end of a link.
+#[derive(Drop)]
+pub struct Duplex<I, O> {
+    /// What is read of it.
+    pub source: I,
+    /// What is written to it.
+    pub sink: O,
+}
+
+/// Asks the commands of a source as `run_loop` does, of any instrument, and has the same ends.
+pub fn run_loop_on<S: Source, A: Source, B: Sink, C: Source, D: Sink, K: Sink>(
     alloc: Global,
+    instrument: Instrument,
     commands: &mut S,
-    client_in: &mut A,
-    client_out: &mut B,
-    instrument_in: &mut C,
-    instrument_out: &mut D,
+    client: &mut Duplex<A, B>,
+    instrument_end: &mut Duplex<C, D>,
     sink: &mut K,
     max_reads: u32,
 ) -> Result<(), RunFault>
     ensures loops { LoopRuns (input_of S.Source commands.old) (input_of S.Source commands.new)
         (record {
-          client = ports_of A.Source client_in.old B.Sink client_out.old;
-          instrument = ports_of C.Source instrument_in.old D.Sink instrument_out.old;
+          client = ports_of A.Source client.old.source B.Sink client.old.sink;
+          instrument = ports_of C.Source instrument_end.old.source D.Sink instrument_end.old.sink;
           sink = taken_by K.Sink sink.old;
         })
         (record {
-          client = ports_of A.Source client_in.new B.Sink client_out.new;
-          instrument = ports_of C.Source instrument_in.new D.Sink instrument_out.new;
+          client = ports_of A.Source client.new.source B.Sink client.new.sink;
+          instrument = ports_of C.Source instrument_end.new.source D.Sink instrument_end.new.sink;
           sink = taken_by K.Sink sink.new;
         })
         result }
-    ensures bound { A.reads client_in.new + C.reads instrument_in.new ≤ A.reads client_in.old + C.reads instrument_in.old + max_reads }
-    ensures too_many { result ≡ Err RunFault.TooManyReads → A.reads client_in.new + C.reads instrument_in.new ≡ A.reads client_in.old + C.reads instrument_in.old + max_reads }
-    ensures memory { result ≡ Err RunFault.Memory
-        → (A.remaining client_in.new ≡ A.remaining client_in.old) × (A.reads client_in.new ≡ A.reads client_in.old)
-        × (C.remaining instrument_in.new ≡ C.remaining instrument_in.old) × (C.reads instrument_in.new ≡ C.reads instrument_in.old)
-        × (B.taken client_out.new ≡ B.taken client_out.old) × (D.taken instrument_out.new ≡ D.taken instrument_out.old)
-        × (K.taken sink.new ≡ K.taken sink.old) }
-{
-    run_loop_on(
-        alloc,
-        Instrument::simulator(),
-        commands,
-        client_in,
-        client_out,
-        instrument_in,
-        instrument_out,
-        sink,
-        max_reads,
-    )
-}
-
-// Asks commands in order, in so many reads of both ends together.
-pub(crate) fn loop_all<A: Source, B: Sink, C: Source, D: Sink, K: Sink>(
-    commands: &[Command],
-    instrument: Instrument,
-    client_in: &mut A,
-    client_out: &mut B,
-    instrument_in: &mut C,
-    instrument_out: &mut D,
-    sink: &mut K,
-    max_reads: u32,
-) -> Result<(), RunFault>
-    // What the client's end gave, and what of the commands it took, and the sink of their settlements.
-    ensures loops { (given : List ℕ) × Consumes (A.remaining client_in.old) (A.remaining client_in.new) given
-        × (length given ≤ 256 * (A.reads client_in.new - A.reads client_in.old))
-        × Loops commands.now given (record { link_old = B.taken client_out.old; link_new = B.taken client_out.new; sink_old = K.taken sink.old; sink_new = K.taken sink.new })
-        (BothEnd
-        (ports_of A.Source client_in.old B.Sink client_out.old)
-        (ports_of A.Source client_in.new B.Sink client_out.new)
-        (ports_of C.Source instrument_in.old D.Sink instrument_out.old)
-        (ports_of C.Source instrument_in.new D.Sink instrument_out.new))
-        result }
 
     // At most so many reads of both ends were answered, and all of them where that is the fault.
-    ensures bound { A.reads client_in.new + C.reads instrument_in.new ≤ A.reads client_in.old + C.reads instrument_in.old + max_reads }
-    ensures too_many { result ≡ Err RunFault.TooManyReads → A.reads client_in.new + C.reads instrument_in.new ≡ A.reads client_in.old + C.reads instrument_in.old + max_reads }
+    ensures bound { A.reads client.new.source + C.reads instrument_end.new.source ≤ A.reads client.old.source + C.reads instrument_end.old.source + max_reads }
+    ensures too_many { result ≡ Err RunFault.TooManyReads → A.reads client.new.source + C.reads instrument_end.new.source ≡ A.reads client.old.source + C.reads instrument_end.old.source + max_reads }
 
-    // Why it ended, and which ports have failed.
-    ensures ends { EndsWith
-        (BothEnd
-        (ports_of A.Source client_in.old B.Sink client_out.old)
-        (ports_of A.Source client_in.new B.Sink client_out.new)
-        (ports_of C.Source instrument_in.old D.Sink instrument_out.old)
-        (ports_of C.Source instrument_in.new D.Sink instrument_out.new))
-        (K.failed sink.old) (K.failed sink.new) result }
+    // After want of memory nothing was read of the link, sent or written.
+    ensures memory { result ≡ Err RunFault.Memory
+        → (A.remaining client.new.source ≡ A.remaining client.old.source) × (A.reads client.new.source ≡ A.reads client.old.source)
+        × (C.remaining instrument_end.new.source ≡ C.remaining instrument_end.old.source) × (C.reads instrument_end.new.source ≡ C.reads instrument_end.old.source)
+        × (B.taken client.new.sink ≡ B.taken client.old.sink) × (D.taken instrument_end.new.sink ≡ D.taken instrument_end.old.sink)
+        × (K.taken sink.new ≡ K.taken sink.old) }
 {
-    let asking = Asking::new(max_reads);
-    let mut ends = Ends {
-        asking,
+    let mut link = Loop {
+        client_in: &mut client.source,
+        client_out: &mut client.sink,
         instrument: InstrumentEnd::new(instrument),
+        instrument_in: &mut instrument_end.source,
+        instrument_out: &mut instrument_end.sink,
     };
-    for (place, command) in commands.iter().enumerate() {
-        if let Err(fault) = ends.ask(
-            place,
-            command,
-            client_in,
-            client_out,
-            instrument_in,
-            instrument_out,
-            sink,
-        ) {
-            return Err(fault);
-        }
-    }
-    Ok(())
+    run_over(alloc, commands, &mut link, sink, max_reads)
 }
 
-// The two ends of the link.
+/// A link at whose other end an instrument stands, which answers each request once it is sent.
 #[derive(Drop)]
-struct Ends {
-    asking: Asking,
-    instrument: InstrumentEnd,
+pub(crate) struct Loop<'a, 'b, 'c, 'd, A, B, C, D> {
+    pub(crate) client_in: &'a mut A,
+    pub(crate) client_out: &'b mut B,
+    pub(crate) instrument: InstrumentEnd,
+    pub(crate) instrument_in: &'c mut C,
+    pub(crate) instrument_out: &'d mut D,
 }
 
-impl Ends {
-    // Asks the command at this place, and writes the line of its settlement. After a fault it is lost, which is written too.
-    fn ask<A: Source, B: Sink, C: Source, D: Sink, K: Sink>(
-        &mut self,
-        place: usize,
-        command: &Command,
-        client_in: &mut A,
-        client_out: &mut B,
-        instrument_in: &mut C,
-        instrument_out: &mut D,
-        sink: &mut K,
-    ) -> Result<(), RunFault>
-        requires idle { self.old.asking.end.client.ids ≡ idle place }
-        requires stands { (rest : List ℕ) × StandsFor self.old.asking.end.assembler rest }
-        ensures loops { (given : List ℕ) × Consumes (A.remaining client_in.old) (A.remaining client_in.new) given
-            × (length given ≤ 256 * (A.reads client_in.new - A.reads client_in.old))
-            × ((rest : List ℕ) → StandsFor self.old.asking.end.assembler rest
-            → LoopsOne place command.now (record { rest = rest; bytes = self.old.asking.ahead ++ given; left = self.new.asking.ahead; kept = self.new.asking.end.assembler; client = self.new.asking.end.client.ids; settled = self.new.asking.end.settled.items }) (record { link_old = B.taken client_out.old; link_new = B.taken client_out.new; sink_old = K.taken sink.old; sink_new = K.taken sink.new })
-            (BothStep
-            (ports_of A.Source client_in.old B.Sink client_out.old)
-            (ports_of A.Source client_in.new B.Sink client_out.new)
-            (ports_of C.Source instrument_in.old D.Sink instrument_out.old)
-            (ports_of C.Source instrument_in.new D.Sink instrument_out.new))
-            result) }
-        ensures reads { A.reads client_in.new + C.reads instrument_in.new + self.new.asking.reads ≡ A.reads client_in.old + C.reads instrument_in.old + self.old.asking.reads }
-        ensures grows { A.reads client_in.old ≤ A.reads client_in.new }
-        ensures too_many { result ≡ Err RunFault.TooManyReads → self.new.asking.reads ≡ 0 }
-        ensures ends { EndsWith
-            (BothStep
-            (ports_of A.Source client_in.old B.Sink client_out.old)
-            (ports_of A.Source client_in.new B.Sink client_out.new)
-            (ports_of C.Source instrument_in.old D.Sink instrument_out.old)
-            (ports_of C.Source instrument_in.new D.Sink instrument_out.new))
-            (K.failed sink.old) (K.failed sink.new) result }
-    {
-        match self.exchange(
-            place,
-            command,
-            client_in,
-            client_out,
-            instrument_in,
-            instrument_out,
-        ) {
-            Ok(()) => write_settlements(sink, place, self.asking.end.settled.as_slice()),
-            Err(fault) => {
-                let lost = self.asking.end.client.restart();
-                match write_settlements(sink, place, lost.as_slice()) {
-                    Ok(()) => Err(fault),
-                    Err(output) => Err(output),
-                }
-            }
+impl<'a, 'b, 'c, 'd, A: Source, B: Sink, C: Source, D: Sink> Link
+    for Loop<'a, 'b, 'c, 'd, A, B, C, D> {
+    ghost use Rattle.std.specs.Prelude.{false};
+
+    ghost alone = { false };
+
+    ghost client = { λ l. ports_of A.Source l.client_in.now B.Sink l.client_out.now };
+
+    ghost instrument = { λ l. ports_of C.Source l.instrument_in.now D.Sink l.instrument_out.now };
+
+    ghost held = { λ l. record { client_in = l.client_in.ghost_name; client_out = l.client_out.ghost_name; instrument_in = l.instrument_in.ghost_name; instrument_out = l.instrument_out.ghost_name } };
+
+    fn send(&mut self, place: usize, request: &Line, reads: &mut u32) -> Result<(), RunFault> {
+        if let Err(fault) = send_line(place, request, self.client_out) {
+            return Err(fault);
         }
+        self.instrument
+            .answer_line(place, self.instrument_in, self.instrument_out, reads)
     }
 
-    // Sends the command at this place, answers it at the other end, and waits until it is settled.
-    fn exchange<A: Source, B: Sink, C: Source, D: Sink>(
-        &mut self,
-        place: usize,
-        command: &Command,
-        client_in: &mut A,
-        client_out: &mut B,
-        instrument_in: &mut C,
-        instrument_out: &mut D,
-    ) -> Result<(), RunFault>
-        requires idle { self.old.asking.end.client.ids ≡ idle place }
-        ensures exchanges { (given : List ℕ) × Consumes (A.remaining client_in.old) (A.remaining client_in.new) given
-            × (length given ≤ 256 * (A.reads client_in.new - A.reads client_in.old))
-            × ((rest : List ℕ) → StandsFor self.old.asking.end.assembler rest
-            → LoopExchanges place command.now (record { rest = rest; bytes = self.old.asking.ahead ++ given; left = self.new.asking.ahead; kept = self.new.asking.end.assembler; client = self.new.asking.end.client.ids; settled = self.new.asking.end.settled.items }) (B.taken client_out.old) (B.taken client_out.new) result) }
-        ensures reads { A.reads client_in.new + C.reads instrument_in.new + self.new.asking.reads ≡ A.reads client_in.old + C.reads instrument_in.old + self.old.asking.reads }
-        ensures grows { A.reads client_in.old ≤ A.reads client_in.new }
-        ensures too_many { result ≡ Err RunFault.TooManyReads → self.new.asking.reads ≡ 0 }
-        ensures ends { BothStep
-            (ports_of A.Source client_in.old B.Sink client_out.old)
-            (ports_of A.Source client_in.new B.Sink client_out.new)
-            (ports_of C.Source instrument_in.old D.Sink instrument_out.old)
-            (ports_of C.Source instrument_in.new D.Sink instrument_out.new)
-            result }
-    {
-        if let Err(fault) = self.asking.send(place, command, client_out) {
-            return Err(fault);
-        }
-        if let Err(fault) = self.instrument.answer_line(
-            place,
-            instrument_in,
-            instrument_out,
-            &mut self.asking.reads,
-        ) {
-            return Err(fault);
-        }
-        self.asking
-            .end
-            .hear_reply(client_in, &mut self.asking.ahead, &mut self.asking.reads)
+    fn read(&mut self, ahead: &mut Unheard) -> Result<bool, PortFailed> {
+        ahead.read(self.client_in)
     }
 }

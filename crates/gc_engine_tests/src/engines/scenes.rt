@@ -1,6 +1,6 @@
 //! The text of a scene: what its instrument answers, which texts are refused, and the engines on an instrument of one's own.
 
-use gc_ask::run_loop_on;
+use gc_ask::{Duplex, run_loop_on};
 use gc_engines::{read_scene, run_drill_on};
 use gc_instrument::{Instrument, serve};
 use gc_probes::{PieceSink, PieceSource, Pipe};
@@ -155,14 +155,20 @@ fn a_drill_and_a_loop_are_on_the_instrument_of_a_scene(rt: HostRuntime) -> Resul
     let mut commands = PieceSource::new(b"7 5003\n", &[], u64::MAX);
     let (up, down) = (Pipe::new(alloc), Pipe::new(alloc));
     let mut sink = PieceSink::new(alloc, 1000, u64::MAX);
+    let mut client = Duplex {
+        source: down.source(u64::MAX),
+        sink: up.sink(1000, u64::MAX),
+    };
+    let mut instrument_end = Duplex {
+        source: up.source(u64::MAX),
+        sink: down.sink(1000, u64::MAX),
+    };
     let result = run_loop_on(
         alloc,
         read_scene(alloc, PILLAR)?,
         &mut commands,
-        &mut down.source(u64::MAX),
-        &mut up.sink(1000, u64::MAX),
-        &mut up.source(u64::MAX),
-        &mut down.sink(1000, u64::MAX),
+        &mut client,
+        &mut instrument_end,
         &mut sink,
         100,
     );

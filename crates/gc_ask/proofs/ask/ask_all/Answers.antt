@@ -1,22 +1,25 @@
-use Rattle.std.proofs.Common.{◌≡◌, ℕ, ◌+◌, ◌<◌, List, [], ◌++◌, length, take, drop, ap, ◌∙◌, refl, arith, length-append}
+use Rattle.std.proofs.Common.{◌≡◌, ℕ, ◌+◌, ◌<◌, List, [], ◌++◌, length, take, drop, Ok, Err, ap, ◌∙◌, refl, arith, length-append}
 use Rattle.std.proofs.lemmas.List.{length-take, take_all}
 use Rattle.gc_lines.proofs.Known.{Consumes-append, Consumes-nil}
-use Rattle.gc_ask.specs.Asking.{idle}
+use Rattle.gc_ask.specs.Asking.{LinkEnd, idle}
+use Rattle.gc_ask.specs.Links.{BothStep}
+use Rattle.gc_ask.specs.Looping.{BothEnd}
 use Rattle.gc_ask.proofs.Asked.{course_start, course_all}
-use Rattle.gc_texts.proofs.SettlementLines.{at_place}
-use Rattle.gc_ask.proofs.Exchanging.{course_next, course_fault, going_fault, still_on}
+use Rattle.gc_ask.proofs.Ends.{sound_start, sound_on, both_end, both_sound, ends_as}
+use Rattle.gc_ask.proofs.Exchanging.{course_next, run_fault}
 use Rattle.gc_ask.proofs.ask.ask_all.Goals as goal
-use Rattle.gc_lines.specs.Answering.{ports_of}
+use Rattle.gc_texts.proofs.SettlementLines.{at_place}
+use Rattle.gc_texts.specs.declared.fault.RunFault.{RunFault}
+use Rattle.gc_texts.specs.declared.fault.RunFault.TheVariants.{TooManyReads}
 
 pub loop-place-init : goal.loop-place-init
 loop-place-init g c = record {
   course = ([], Consumes-nil _, omega arith, rw c.new-asking.ensures.ahead (course_start _ _ _ _ c.new-asking.ensures.assembler c.new-asking.ensures.client));
-  reads = ap (λ n. g.I.Source.reads c.args.link_in.now + n) c.new-asking.ensures.reads;
-  grows = omega arith;
-  going = λ some. absurd (omega (arith, some));
-  source = refl;
-  link = refl;
+  reads = ap (λ n. (g.L.Link.client c.args.link.now).reads + (g.L.Link.instrument c.args.link.now).reads + n) c.new-asking.ensures.reads;
+  client = sound_start _;
+  instrument = sound_start _;
   sink = refl;
+  held = refl;
 }
 
 -- the place of the command is how many were asked
@@ -39,22 +42,27 @@ loop-place-preserved g c =
     let place = c.loop-place.place in
     let command = c.index-commands-place.result in
     let one = c.in_default.ensures.asks in
+    let old = c.loop-place.asking in
     let asking = c.ask.new.self in
-    let next = course_next commands (take place commands) (drop (place + 1) commands) command place so.0 c.loop-place.asking.ahead one.0 asking.ahead c.loop-place.asking.end.assembler asking.end.assembler c.loop-place.asking.end.client.ids asking.end.client.ids asking.end.settled.items
-    _ _ _ _ _ _ at (place_is commands place c.loop-place-test.true) (one.3 at.now at.stands) in
+    let next = course_next g.L.Link.alone commands (take place commands) (drop (place + 1) commands) command place so.0 old.ahead one.0 asking.ahead old.end.assembler asking.end.assembler old.end.client.ids asking.end.client.ids asking.end.settled.items
+    _ _ _ _ _ _ (BothStep (g.L.Link.client c.loop-place.link) (g.L.Link.client c.ask.new.link) (g.L.Link.instrument c.loop-place.link) (g.L.Link.instrument c.ask.new.link))
+    at (place_is commands place c.loop-place-test.true) (one.3 at.now at.stands) in
+    let sound = sound_on
+    (g.L.Link.client c.args.link.now) (g.L.Link.client c.loop-place.link) (g.L.Link.client c.ask.new.link)
+    (g.L.Link.instrument c.args.link.now) (g.L.Link.instrument c.loop-place.link) (g.L.Link.instrument c.ask.new.link)
+    (g.K.Sink.failed c.loop-place.sink) (g.K.Sink.failed c.ask.new.sink) c.loop-place.invariant.client c.loop-place.invariant.instrument c.in_default.ensures.ends in
     record {
       course = (
         so.0 ++ one.0,
         Consumes-append _ _ _ so.0 one.0 so.1 one.1,
-        omega (arith, so.2, one.2, length-append so.0 one.0, c.loop-place.invariant.grows, c.in_default.ensures.grows),
+        omega (arith, so.2, one.2, length-append so.0 one.0, c.loop-place.invariant.client.grows, c.in_default.ensures.grows),
         rw (at_place commands place command c.loop-place-test.true c.index-commands-place.is).0 next,
       );
       reads = omega (arith, c.loop-place.invariant.reads, c.in_default.ensures.reads);
-      grows = omega (arith, c.loop-place.invariant.grows, c.in_default.ensures.grows);
-      going = still_on _ _ _ _ _ c.loop-place.invariant.grows c.in_default.ensures.grows c.loop-place.invariant.going c.in_default.ensures.ends.0.0.0 c.in_default.ensures.ends.0.0.1;
-      source = c.in_default.ensures.ends.0.0.2 ∙ c.loop-place.invariant.source;
-      link = c.in_default.ensures.ends.0.1 ∙ c.loop-place.invariant.link;
+      client = sound.0;
+      instrument = sound.1;
       sink = c.in_default.ensures.ends.1 ∙ c.loop-place.invariant.sink;
+      held = c.in_default.ensures.held ∙ c.loop-place.invariant.held;
     }
 
 pub returns-in-Err-clause-asks : goal.returns-in-Err-clause-asks
@@ -65,58 +73,44 @@ returns-in-Err-clause-asks g c =
     let place = c.loop-place.place in
     let command = c.index-commands-place.result in
     let one = c.in-Err.ensures.asks in
+    let old = c.loop-place.asking in
     let asking = c.ask.new.self in
-    let link = c.loop-place.link_in in
-    let out = c.loop-place.link_out in
-    let link' = c.ask.new.link_in in
-    let out' = c.ask.new.link_out in (
-      so.0 ++ one.0,
-      Consumes-append _ _ _ so.0 one.0 so.1 one.1,
-      omega (arith, so.2, one.2, length-append so.0 one.0, c.loop-place.invariant.grows, c.in-Err.ensures.grows),
-      course_fault commands (take place commands) (drop (place + 1) commands) command place so.0 c.loop-place.asking.ahead one.0 asking.ahead c.loop-place.asking.end.assembler asking.end.assembler c.loop-place.asking.end.client.ids asking.end.client.ids asking.end.settled.items
-          (g.O.Sink.taken c.args.link_out.now) (g.O.Sink.taken out) (g.O.Sink.taken out') (g.K.Sink.taken c.args.sink.now) (g.K.Sink.taken c.loop-place.sink) (g.K.Sink.taken c.ask.new.sink)
-          c.in-Err.fault
-          (ports_of g.I.Source c.args.link_in.now g.O.Sink c.args.link_out.now)
-          (ports_of g.I.Source link g.O.Sink out)
-          (ports_of g.I.Source link' g.O.Sink out')
-          asking.reads
-          (g.K.Sink.failed c.args.sink.now) (g.K.Sink.failed c.loop-place.sink) (g.K.Sink.failed c.ask.new.sink)
-          (record {
-            grows = c.loop-place.invariant.grows;
-            going = c.loop-place.invariant.going;
-            source = c.loop-place.invariant.source;
-            link = c.loop-place.invariant.link;
-            sink = c.loop-place.invariant.sink;
-          })
-          c.in-Err.ensures.grows at (place_is commands place c.loop-place-test.true) (at_place commands place command c.loop-place-test.true c.index-commands-place.is).1
-          (one.3 at.now at.stands) c.in-Err.ensures.ends,
-    )
+    let client0 = g.L.Link.client c.args.link.now in
+    let client = g.L.Link.client c.loop-place.link in
+    let client' = g.L.Link.client c.ask.new.link in
+    let far0 = g.L.Link.instrument c.args.link.now in
+    let far = g.L.Link.instrument c.loop-place.link in
+    let far' = g.L.Link.instrument c.ask.new.link in
+    record {
+      given = so.0 ++ one.0;
+      gave = Consumes-append _ _ _ so.0 one.0 so.1 one.1;
+      few = omega (arith, so.2, one.2, length-append so.0 one.0, c.loop-place.invariant.client.grows, c.in-Err.ensures.grows);
+      asks = run_fault g.L.Link.alone commands (take place commands) (drop (place + 1) commands) command place so.0 old.ahead one.0 asking.ahead old.end.assembler asking.end.assembler old.end.client.ids asking.end.client.ids asking.end.settled.items
+          client0.taken client.taken client'.taken (g.K.Sink.taken c.args.sink.now) (g.K.Sink.taken c.loop-place.sink) (g.K.Sink.taken c.ask.new.sink)
+          c.in-Err.fault client0 client client' far0 far far' (g.K.Sink.failed c.loop-place.sink) (g.K.Sink.failed c.ask.new.sink)
+          c.loop-place.invariant.client c.loop-place.invariant.instrument at (place_is commands place c.loop-place-test.true) (at_place commands place command c.loop-place-test.true c.index-commands-place.is).1
+          (one.3 at.now at.stands) c.in-Err.ensures.ends;
+      ends = ends_as (BothStep client client' far far') (BothEnd client0 client' far0 far')
+          (λ r. both_end client0 client client' far0 far far' r c.loop-place.invariant.client c.loop-place.invariant.instrument)
+          (g.K.Sink.failed c.args.sink.now) (g.K.Sink.failed c.loop-place.sink) (g.K.Sink.failed c.ask.new.sink) c.loop-place.invariant.sink (Err c.in-Err.fault) c.in-Err.ensures.ends;
+      bound = omega (arith, c.loop-place.invariant.reads, c.in-Err.ensures.reads);
+      too_many = λ is. omega (arith, c.loop-place.invariant.reads, c.in-Err.ensures.reads, c.in-Err.ensures.too_many is);
+    }
+
+-- what went well is no fault
+went_well : (e : RunFault) → ◌≡◌ {A = LinkEnd} (Ok tt) (Err e) → ⊥
+went_well e is = cc
 
 pub returns-clause-asks : goal.returns-clause-asks
 returns-clause-asks g c =
     let so = c.loop-place.invariant.course in
     let whole : take c.loop-place.place c.args.commands.now ≡ c.args.commands.now = take_all _ _ c.loop-place-test.false in
-    (so.0, so.1, so.2, course_all _ _ _ _ _ _ _ _ _ (rw whole at so.3))
-
-pub returns-in-Err-clause-ends : goal.returns-in-Err-clause-ends
-returns-in-Err-clause-ends g c =
-    let link0 = c.args.link_in.now in
-    let out0 = c.args.link_out.now in
-    let link = c.loop-place.link_in in
-    let out = c.loop-place.link_out in
-    let link' = c.ask.new.link_in in
-    let out' = c.ask.new.link_out in
-    going_fault
-    (ports_of g.I.Source link0 g.O.Sink out0)
-    (ports_of g.I.Source link g.O.Sink out)
-    (ports_of g.I.Source link' g.O.Sink out')
-    (g.K.Sink.failed c.args.sink.now) (g.K.Sink.failed c.loop-place.sink) (g.K.Sink.failed c.ask.new.sink)
-    c.ask.new.self.reads c.in-Err.fault
-    (record {
-      grows = c.loop-place.invariant.grows;
-      going = c.loop-place.invariant.going;
-      source = c.loop-place.invariant.source;
-      link = c.loop-place.invariant.link;
-      sink = c.loop-place.invariant.sink;
-    })
-    c.in-Err.ensures.grows c.in-Err.ensures.ends
+    record {
+      given = so.0;
+      gave = so.1;
+      few = so.2;
+      asks = course_all _ _ _ _ _ _ _ _ _ (rw whole at so.3);
+      ends = (both_sound _ _ _ _ c.loop-place.invariant.client c.loop-place.invariant.instrument, c.loop-place.invariant.sink);
+      bound = omega (arith, c.loop-place.invariant.reads);
+      too_many = λ is. absurd (went_well TooManyReads is);
+    }

@@ -1,24 +1,25 @@
-use Rattle.std.proofs.Common.{inr}
+use Rattle.std.proofs.Common.{◌≡◌, ap, rules}
+use Rattle.gc_lines.specs.Answering.{Ports, ports_of}
+use Rattle.gc_ask.specs.AskRuns.{AskRuns}
+use Rattle.gc_ask.specs.Asking.{taken_by}
+use Rattle.gc_ask.proofs.Runs.{runs_alone}
 use Rattle.gc_ask.proofs.ask.run_ask.Goals as goal
+use Rattle.gc_texts.specs.WholeTexts.{input_of}
 
 pub returns-clause-asks : goal.returns-clause-asks
 returns-clause-asks g c =
-    let found = c.in-Ok.ensures.found in
-    let asks = c.ask_all.ensures.asks in (
-      found.0,
-      found.1,
-      found.2,
-      inr (
-        c.in-Ok.commands.items,
-        found.3,
-        record {
-          given = asks.0;
-          gave = asks.1;
-          few = asks.2;
-          asks = rw c.as_slice.ensures.value at asks.3;
-          bound = c.ask_all.ensures.bound;
-          too_many = c.ask_all.ensures.too_many;
-          ends = c.ask_all.ensures.ends;
-        },
-      ),
-    )
+    let asks : AskRuns (input_of g.S.Source c.args.commands.now) (input_of g.S.Source c.run_over.new.commands) c.args.max_reads
+    (record { link = ports_of g.I.Source c.args.link_in.now g.O.Sink c.args.link_out.now; sink = taken_by g.K.Sink c.args.sink.now })
+    (record { link = ports_of g.I.Source c.run_over.new.link.source.now g.O.Sink c.run_over.new.link.sink.now; sink = taken_by g.K.Sink c.run_over.new.sink })
+    c.run_over.result = runs_alone _ _ _ _ _ _ c.run_over.ensures.asks in
+    search rules
+
+pub returns-clause-memory : goal.returns-clause-memory
+returns-clause-memory g c is =
+    let same = c.run_over.ensures.memory is in
+    let all : (g.I.Source.remaining c.run_over.new.link.source.now ≡ g.I.Source.remaining c.args.link_in.now)
+    × (g.I.Source.reads c.run_over.new.link.source.now ≡ g.I.Source.reads c.args.link_in.now)
+    × (g.O.Sink.taken c.run_over.new.link.sink.now ≡ g.O.Sink.taken c.args.link_out.now)
+    × (g.K.Sink.taken c.run_over.new.sink ≡ g.K.Sink.taken c.args.sink.now) =
+    (ap (λ (p : Ports). p.remaining) same.0, ap (λ (p : Ports). p.reads) same.0, ap (λ (p : Ports). p.taken) same.0, same.2) in
+    search rules

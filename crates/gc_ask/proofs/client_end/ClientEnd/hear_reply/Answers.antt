@@ -40,8 +40,8 @@ returns-in_default-read-clause-hears g c =
 pub returns-then-not-more-clause-hears : goal.returns-then-not-more-clause-hears
 returns-then-not-more-clause-hears g c =
     let h = c.loop-used.invariant.heard in
-    let ended : c.read.new.self ≡ [] = c.in-Ok.ensures.end (ap Ok c.if-not-more.true) in
-    let gave = subst (λ (xs : List ℕ). Consumes (g.I.Source.remaining c.args.link.now) (g.I.Source.remaining c.read.new.source) xs) (append-nil h.0) (Consumes-append _ _ _ h.0 [] h.1 (rw ended at c.in-Ok.ensures.bytes.0)) in (
+    let ended : c.read.new.ahead ≡ [] = c.in-Ok.ensures.end (ap Ok c.if-not-more.true) in
+    let gave = subst (λ (xs : List ℕ). Consumes (g.L.Link.client c.args.link.now).remaining (g.L.Link.client c.read.new.self).remaining xs) (append-nil h.0) (Consumes-append _ _ _ h.0 [] h.1 (rw ended at c.in-Ok.ensures.bytes.0)) in (
       h.0,
       gave,
       omega (arith, h.2, c.in-Ok.ensures.bytes.1),
@@ -53,11 +53,13 @@ returns-then-not-more-clause-hears g c =
 pub loop-used-preserved : goal.loop-used-preserved
 loop-used-preserved g c =
     let h = c.loop-used.invariant.heard in
+    let only = c.loop-used.invariant.only in
+    let next = c.in-Ok.ensures.only in
     record {
       heard = (
-        h.0 ++ c.read.new.self,
-        Consumes-append _ _ _ h.0 c.read.new.self h.1 c.in-Ok.ensures.bytes.0,
-        omega (arith, h.2, length-append h.0 c.read.new.self, c.in-Ok.ensures.few, c.in-Ok.ensures.bytes.1, c.loop-used.invariant.grows),
+        h.0 ++ c.read.new.ahead,
+        Consumes-append _ _ _ h.0 c.read.new.ahead h.1 c.in-Ok.ensures.bytes.0,
+        omega (arith, h.2, length-append h.0 c.read.new.ahead, c.in-Ok.ensures.few, c.in-Ok.ensures.bytes.1, c.loop-used.invariant.grows),
         λ rest s.
             let r = h.3 rest s in
             reading_more rest _ _ _ _ _ _ _ _ _ r (rw (c.left.ensures) at (c.in_default.ensures.listens _ r.quiet.stands)),
@@ -67,4 +69,17 @@ loop-used-preserved g c =
       going = λ _. c.in-Ok.ensures.bytes.2 ∙ ap not c.if-not-more.false;
       same = λ e. absurd (omega (arith, e, c.in-Ok.ensures.bytes.1, c.loop-used.invariant.grows));
       failed = c.in-Ok.ensures.bytes.4 ∙ sym c.in-Ok.ensures.bytes.3 ∙ c.loop-used.invariant.failed;
+      only = (next.0 ∙ only.0, next.1 ∙ only.1, next.2 ∙ only.2, next.3 ∙ only.3);
     }
+
+pub returns-in_default-read-clause-only : goal.returns-in_default-read-clause-only
+returns-in_default-read-clause-only g c =
+    let only = c.loop-used.invariant.only in
+    let next = c.in_default-read.ensures.only in
+    (next.0 ∙ only.0, next.1 ∙ only.1, next.2 ∙ only.2, next.3 ∙ only.3)
+
+pub returns-then-not-more-clause-only : goal.returns-then-not-more-clause-only
+returns-then-not-more-clause-only g c =
+    let only = c.loop-used.invariant.only in
+    let next = c.in-Ok.ensures.only in
+    (next.0 ∙ only.0, next.1 ∙ only.1, next.2 ∙ only.2, next.3 ∙ only.3)

@@ -1,0 +1,146 @@
+-- The ports of a link's two ends: what they are a step later, and behind many.
+use Rattle.std.proofs.Common.{◌≡◌, ℕ, ◌<◌, ◌≤◌, Bool, true, false, ltb, List, [], Option, Ok, Err, ◌⊎◌, inl, inr, refl, sym, ap, ◌∙◌, subst, arith}
+use Rattle.std.specs.Io.KnownBytes.{Consumes}
+use Rattle.std.proofs.lemmas.Bool.{ltb-true, ltb-false}
+use Rattle.gc_lines.specs.Answering.{Ports}
+use Rattle.gc_lines.proofs.Known.{Consumes-nil}
+use Rattle.gc_ask.specs.Asking.{EndsWith, LinkEnd, LinkEnds, Taken}
+use Rattle.gc_ask.specs.Links.{BothStep, Sends, StepEnds, no_ports, source_of}
+use Rattle.gc_ask.specs.Listening.{ReadEnds}
+use Rattle.gc_ask.specs.Looping.{BothEnd}
+use Rattle.gc_texts.specs.declared.fault.RunFault.{RunFault}
+use Rattle.gc_texts.specs.declared.fault.RunFault.TheVariants.{Read, Write, TooManyReads, LinkClosed, Output}
+use Rattle.gc_texts.specs.WholeTexts.{Input}
+
+-- Ports, a step later.
+
+-- nothing happened at an end
+pub step_none : (old new : Ports) → new.reads ≡ old.reads → new.ended ≡ old.ended → new.source_failed ≡ old.source_failed → new.sink_failed ≡ old.sink_failed → StepEnds old new (Ok tt)
+step_none old new reads ended source sink = record {
+  ends = ((λ some. absurd (omega (arith, some, reads))), source, sink);
+  same = λ _. ended;
+  grows = omega (arith, reads);
+}
+
+-- the request couldn't be sent
+pub step_sends : (place : ℕ) (text : List ℕ) (old new : Ports) (e : RunFault) → Sends place text (record { bytes = old.taken; failed = old.sink_failed }) (record { bytes = new.taken; failed = new.sink_failed }) (Err e)
+    → new.reads ≡ old.reads → new.ended ≡ old.ended → new.source_failed ≡ old.source_failed → StepEnds old new (Err e)
+step_sends place text old new (Write count bytes) s reads ended source = record {
+  ends = ((λ some. absurd (omega (arith, some, reads))), source, s.3);
+  same = λ _. ended;
+  grows = omega (arith, reads);
+}
+step_sends place text old new Read s reads ended source = absurd s
+step_sends place text old new TooManyReads s reads ended source = absurd s
+step_sends place text old new LinkClosed s reads ended source = absurd s
+step_sends place text old new other s reads ended source = absurd s
+
+pub step_sent : (place : ℕ) (text : List ℕ) (old new : Ports) (r : LinkEnd) → Sends place text (record { bytes = old.taken; failed = old.sink_failed }) (record { bytes = new.taken; failed = new.sink_failed }) r
+    → new.reads ≡ old.reads → new.ended ≡ old.ended → new.source_failed ≡ old.source_failed → StepEnds old new r
+step_sent place text old new (Ok u) s reads ended source = step_none old new reads ended source s.1
+step_sent place text old new (Err e) s reads ended source = step_sends place text old new e s reads ended source
+
+-- its fault isn't that reads are spent
+pub sends_no : (place : ℕ) (text : List ℕ) (old new : Taken) (r : LinkEnd) → Sends place text old new r → r ≡ Err TooManyReads → ⊥
+sends_no place text old new r s is = subst (λ (e : LinkEnd). Sends place text old new e) is s
+
+-- its reply was waited for
+pub step_hears : (old new : Ports) (after : ℕ) (r : LinkEnd) → ReadEnds (source_of old) (source_of new) after r
+    → old.reads ≤ new.reads → new.sink_failed ≡ old.sink_failed → StepEnds old new r
+step_hears old new after (Ok u) h grows sink = record { ends = (h.0, h.2, sink); same = h.1; grows = grows }
+step_hears old new after (Err Read) h grows sink = record { ends = (h.0, h.3, sink); same = h.1; grows = grows }
+step_hears old new after (Err TooManyReads) h grows sink = record { ends = (h.0, h.3, sink); same = h.1; grows = grows }
+step_hears old new after (Err LinkClosed) h grows sink = record { ends = (h.0, h.1, h.2, sink); same = λ e. absurd (omega (arith, e, h.0)); grows = grows }
+step_hears old new after (Err (Write count part)) h grows sink = absurd h
+step_hears old new after (Err other) h grows sink = absurd h
+
+-- both ends are sound after a command that was settled
+both_ok : (a b c d : Ports) → BothStep a b c d (Ok tt) → StepEnds a b (Ok tt) × StepEnds c d (Ok tt)
+both_ok a b c d (inl s) = s
+both_ok a b c d (inr s) = s
+
+-- a request was sent, and answered where that is the link's own affair; then the client's end was read
+pub step_both : (c c' c'' i i' i'' : Ports) (after : ℕ) (r : LinkEnd) → BothStep c c' i i' (Ok tt) → source_of c' ≡ source_of c
+    → c''.sink_failed ≡ c'.sink_failed → i'' ≡ i' → c'.reads ≤ c''.reads → ReadEnds (source_of c') (source_of c'') after r → BothStep c c'' i i'' r
+step_both c c' c'' i i' i'' after r sent unread sink same grows ends =
+    let both = both_ok c c' i i' sent in
+    let reads : c'.reads ≡ c.reads = ap (λ (s : Input). s.reads) unread in
+    inl (
+      step_hears c c'' after r (subst (λ (s : Input). ReadEnds s (source_of c'') after r) unread ends) (omega (arith, reads, grows)) (sink ∙ both.0.ends.2),
+      subst (λ (x : Ports). StepEnds i x (Ok tt)) (sym same) both.1,
+    )
+
+-- of an end whose source was left alone nothing was read
+pub reads_nothing : (old new : Ports) → source_of new ≡ source_of old → Consumes old.remaining new.remaining []
+reads_nothing old new same = subst (λ (r : Option (List ℕ)). Consumes old.remaining r []) (ap (λ (s : Input). s.remaining) (sym same)) (Consumes-nil _)
+
+pub reads_then : (old mid new : Ports) (given : List ℕ) → source_of mid ≡ source_of old → Consumes mid.remaining new.remaining given → Consumes old.remaining new.remaining given
+reads_then old mid new given same gave = subst (λ (r : Option (List ℕ)). Consumes r new.remaining given) (ap (λ (s : Input). s.remaining) same) gave
+
+-- whether the last read was the end, one request later
+still_on : (old mid new : ℕ) (mid_end new_end : Bool) → old ≤ mid → mid ≤ new → (old < mid → mid_end ≡ false) → (mid < new → new_end ≡ false) → (new ≡ mid → new_end ≡ mid_end) → old < new → new_end ≡ false
+still_on old mid new mid_end new_end grows more going on same below = by_order (le_cases mid new more) where
+  le_cases : (a b : ℕ) → a ≤ b → (a < b) ⊎ (b ≡ a)
+  le_cases a b h = elim (ltb a b) as (λ v. ltb a b ≡ v → (a < b) ⊎ (b ≡ a)) [
+    | true ↦ λ e. inl (ltb-true a b e)
+    | false ↦ λ e. inr (let f = ltb-false a b e in omega (arith, f, h))
+  ] refl
+
+  by_order : (mid < new) ⊎ (new ≡ mid) → new_end ≡ false
+  by_order (inl h) = on h
+  by_order (inr e) = same e ∙ going (omega (arith, e, below))
+
+-- a sound end, and a step of it
+pub record Sound (old new : Ports) : Type 0 where
+  pub ends : LinkEnds old new (Ok tt)
+  pub grows : old.reads ≤ new.reads
+
+pub sound_start : (old : Ports) → Sound old old
+sound_start old = record { ends = ((λ some. absurd (omega (arith, some))), refl, refl); grows = omega arith }
+
+on : (old mid new : Ports) (r : LinkEnd) → Sound old mid → StepEnds mid new r → (mid.reads < new.reads → new.ended ≡ false) → old.reads < new.reads → new.ended ≡ false
+on old mid new r g s more = still_on old.reads mid.reads new.reads mid.ended new.ended g.grows s.grows g.ends.0 more s.same
+
+link_step : (old mid new : Ports) (r : LinkEnd) → Sound old mid → StepEnds mid new r → LinkEnds old new r
+link_step old mid new (Ok u) g s = (on old mid new (Ok u) g s s.ends.0, s.ends.1 ∙ g.ends.1, s.ends.2 ∙ g.ends.2)
+link_step old mid new (Err Read) g s = (on old mid new (Err Read) g s s.ends.0, s.ends.1, s.ends.2 ∙ g.ends.2)
+link_step old mid new (Err (Write count part)) g s = (on old mid new (Err (Write count part)) g s s.ends.0, s.ends.1 ∙ g.ends.1, s.ends.2)
+link_step old mid new (Err TooManyReads) g s = (on old mid new (Err TooManyReads) g s s.ends.0, s.ends.1 ∙ g.ends.1, s.ends.2 ∙ g.ends.2)
+link_step old mid new (Err LinkClosed) g s = (omega (arith, g.grows, s.ends.0), s.ends.1, s.ends.2 ∙ g.ends.1, s.ends.3 ∙ g.ends.2)
+link_step old mid new (Err other) g s = absurd s.ends
+
+sound_step : (old mid new : Ports) → Sound old mid → StepEnds mid new (Ok tt) → Sound old new
+sound_step old mid new g s = record { ends = link_step old mid new (Ok tt) g s; grows = omega (arith, g.grows, s.grows) }
+
+pub sound_on : (c0 c c' i0 i i' : Ports) (x y : Bool) → Sound c0 c → Sound i0 i → EndsWith (BothStep c c' i i') x y (Ok tt) → Sound c0 c' × Sound i0 i'
+sound_on c0 c c' i0 i i' x y gc gi ends =
+    let both = both_ok c c' i i' ends.0 in (sound_step c0 c c' gc both.0, sound_step i0 i i' gi both.1)
+
+pub both_end : (c0 c c' i0 i i' : Ports) (r : LinkEnd) → Sound c0 c → Sound i0 i → BothStep c c' i i' r → BothEnd c0 c' i0 i' r
+both_end c0 c c' i0 i i' r gc gi (inl s) = inl (link_step c0 c c' r gc s.0, link_step i0 i i' (Ok tt) gi s.1)
+both_end c0 c c' i0 i i' r gc gi (inr s) = inr (link_step c0 c c' (Ok tt) gc s.0, link_step i0 i i' r gi s.1)
+
+pub both_sound : (c0 c i0 i : Ports) → Sound c0 c → Sound i0 i → BothEnd c0 c i0 i (Ok tt)
+both_sound c0 c i0 i gc gi = inl (gc.ends, gi.ends)
+
+-- no end of a step is the sink's
+pub no_output : (p p' q q' : Ports) → BothStep p p' q q' (Err Output) → ⊥
+no_output p p' q q' (inl s) = s.0.ends
+no_output p p' q q' (inr s) = s.1.ends
+
+-- A link that is alone: all that ends it comes at the client's end.
+
+pub alone_end : (p p' : Ports) (r : LinkEnd) → BothEnd p p' no_ports no_ports r → LinkEnds p p' r
+alone_end p p' r (inl s) = s.0
+alone_end p p' (Ok u) (inr s) = s.0
+alone_end p p' (Err Read) (inr s) = let bad : false ≡ true = s.1.1 in cc
+alone_end p p' (Err (Write count part)) (inr s) = let bad : false ≡ true = s.1.2 in cc
+alone_end p p' (Err TooManyReads) (inr s) = s.0
+alone_end p p' (Err LinkClosed) (inr s) = absurd (omega (arith, s.1.0))
+alone_end p p' (Err other) (inr s) = absurd s.1
+
+-- what holds of the link's ends holds of why it ended
+pub ends_as : (over other : LinkEnd → Type 0) → ((r : LinkEnd) → over r → other r) → (x y z : Bool) → y ≡ x → (r : LinkEnd) → EndsWith over y z r → EndsWith other x z r
+ends_as over other so x y z same (Ok u) ends = (so (Ok u) ends.0, ends.1 ∙ same)
+ends_as over other so x y z same (Err Output) ends = (ends.0, (ends.1.0, so ends.1.0 ends.1.1))
+ends_as over other so x y z same (Err e) ends = (so (Err e) ends.0, ends.1 ∙ same)

@@ -1,0 +1,110 @@
+-- What a run over any link is, where the link is alone, and where an instrument answers at its other end.
+use Rattle.std.proofs.Common.{◌≡◌, ℕ, Bool, true, List, [], ◌∷◌, ◌++◌, length, take, Ok, Err, inl, inr, refl, sym, ap, ◌∙◌, subst, arith}
+use Rattle.gc_lines.specs.Answering.{all_of}
+use Rattle.gc_lines.proofs.Known.{Appends-is}
+use Rattle.gc_ask.specs.AskRuns.{AskRuns, AsksOver, Seen, written}
+use Rattle.gc_ask.specs.Asking.{Asks, AsksPart, AsksUpTo, LinkEnd, LinkEnds, TellsPart, Written, lost_of, request_text, request_texts}
+use Rattle.gc_ask.specs.Links.{no_ports, seen_at}
+use Rattle.gc_ask.specs.Listening.{AsksAt, AsksOn, IsCut, RunsAt, StopsAt}
+use Rattle.gc_ask.specs.Looping.{BothEnd, LoopRuns, Loops, LoopsOver, LoopsPart, LoopsUpTo, SeenAtBoth, written_there}
+use Rattle.gc_ask.proofs.Ends.{alone_end, ends_as}
+use Rattle.gc_texts.specs.declared.commands.Command.{Command}
+use Rattle.gc_texts.specs.declared.fault.RunFault.TheVariants.{Read, Write, TooManyReads, LinkClosed, Output, Memory}
+use Rattle.gc_texts.specs.Settlements.{settlement_lines}
+use Rattle.gc_texts.specs.WholeTexts.{Input}
+
+-- Alone.
+
+up_to : (commands : List Command) (given : List ℕ) (w : Written) → StopsAt true commands given w → AsksUpTo commands given w
+up_to commands given w s = record {
+  earlier = s.earlier;
+  command = s.command;
+  later = s.later;
+  order = s.order;
+  settled = ap length (s.none refl) ∙ s.settled;
+  sent = s.sent;
+  told = Appends-is _ _ _ _ (ap (λ zs. settlement_lines (zs ++ lost_of s.command ∷ [])) (sym (s.none refl))) s.told;
+}
+
+in_part : (commands : List Command) (given : List ℕ) (w : Written) (count part : ℕ) → IsCut true commands given w count part → AsksPart commands given w count part
+in_part commands given w count part s = record {
+  earlier = s.earlier;
+  command = s.command;
+  later = s.later;
+  order = s.order;
+  count_is = s.count_is;
+  settled = s.settled;
+  not_all = (s.cut refl).1;
+  sent = Appends-is _ _ _ _ (ap (λ n. all_of (request_texts 0 s.earlier) ++ take n (request_text count s.command)) (s.cut refl).0) s.sent;
+  told = s.told;
+}
+
+tells : (commands : List Command) (given : List ℕ) (w : Written) (over other : LinkEnd → Type 0) → ((r : LinkEnd) → over r → other r) → TellsPart commands given w over → TellsPart commands given w other
+tells commands given w over other so t = record {
+  earlier = t.earlier;
+  command = t.command;
+  later = t.later;
+  order = t.order;
+  settled = t.settled;
+  bytes = t.bytes;
+  sent = t.sent;
+  link = t.link;
+  ends = so t.link t.ends;
+  next = t.next;
+  next_is = t.next_is;
+  part = t.part;
+  not_all = t.not_all;
+  told = t.told;
+}
+
+asks_alone : (commands : List Command) (given : List ℕ) (w : Written) (over other : LinkEnd → Type 0) → ((r : LinkEnd) → over r → other r) → (r : LinkEnd) → AsksOn true commands given w over r → Asks commands given w other r
+asks_alone commands given w over other so (Ok u) x = x
+asks_alone commands given w over other so (Err Read) x = up_to commands given w x
+asks_alone commands given w over other so (Err LinkClosed) x = up_to commands given w x
+asks_alone commands given w over other so (Err TooManyReads) x = up_to commands given w x
+asks_alone commands given w over other so (Err (Write count part)) x = in_part commands given w count part x
+asks_alone commands given w over other so (Err Output) x = tells commands given w over other so x
+asks_alone commands given w over other so (Err e) x = absurd x
+
+pub over_alone : (commands : List Command) (most : ℕ) (old new : Seen) (r : LinkEnd) → AsksAt true commands most (seen_at old.link no_ports old.sink) (seen_at new.link no_ports new.sink) r → AsksOver commands most old new r
+over_alone commands most old new r x = record {
+  given = x.given;
+  gave = x.gave;
+  few = x.few;
+  asks = asks_alone commands x.given (written old new) (BothEnd old.link new.link no_ports no_ports) (LinkEnds old.link new.link) (alone_end old.link new.link) r x.asks;
+  bound = omega (arith, x.bound);
+  too_many = λ is. omega (arith, x.too_many is);
+  ends = ends_as (BothEnd old.link new.link no_ports no_ports) (LinkEnds old.link new.link) (alone_end old.link new.link) old.sink.failed old.sink.failed new.sink.failed refl r x.ends;
+}
+
+pub runs_alone : (text_old text_new : Input) (most : ℕ) (old new : Seen) (r : LinkEnd) → RunsAt true text_old text_new most (seen_at old.link no_ports old.sink) (seen_at new.link no_ports new.sink) r → AskRuns text_old text_new most old new r
+runs_alone text_old text_new most old new r (given, gave, few, inl x) = (given, gave, few, inl (x.0, x.1, x.2, ap (λ (s : SeenAtBoth). record { link = s.client; sink = s.sink }) x.3))
+runs_alone text_old text_new most old new r (given, gave, few, inr x) = (given, gave, few, inr (x.0, x.1, over_alone x.0 most old new r x.2))
+
+-- A loop.
+
+loops_up_to : (alone : Bool) (commands : List Command) (given : List ℕ) (w : Written) → StopsAt alone commands given w → LoopsUpTo commands given w
+loops_up_to alone commands given w s = record { earlier = s.earlier; command = s.command; later = s.later; order = s.order; settled = s.settled; sent = s.sent; told = s.told }
+
+loops_part : (alone : Bool) (commands : List Command) (given : List ℕ) (w : Written) (count part : ℕ) → IsCut alone commands given w count part → LoopsPart commands given w count
+loops_part alone commands given w count part s = record { earlier = s.earlier; command = s.command; later = s.later; order = s.order; count_is = s.count_is; settled = s.settled; bytes = s.bytes; sent = s.sent; told = s.told }
+
+loops : (alone : Bool) (commands : List Command) (given : List ℕ) (w : Written) (over : LinkEnd → Type 0) (r : LinkEnd) → AsksOn alone commands given w over r → Loops commands given w over r
+loops alone commands given w over (Ok u) x = x
+loops alone commands given w over (Err Read) x = loops_up_to alone commands given w x
+loops alone commands given w over (Err LinkClosed) x = loops_up_to alone commands given w x
+loops alone commands given w over (Err TooManyReads) x = loops_up_to alone commands given w x
+loops alone commands given w over (Err (Write count part)) x = loops_part alone commands given w count part x
+loops alone commands given w over (Err Output) x = x
+loops alone commands given w over (Err e) x = absurd x
+
+pub loops_over : (alone : Bool) (commands : List Command) (most : ℕ) (old new : SeenAtBoth) (r : LinkEnd) → AsksAt alone commands most old new r → LoopsOver commands old new r
+loops_over alone commands most old new r x = record { given = x.given; gave = x.gave; loops = loops alone commands x.given _ _ r x.asks; ends = x.ends }
+
+pub loop_runs : (alone : Bool) (text_old text_new : Input) (most : ℕ) (old new : SeenAtBoth) (r : LinkEnd) → RunsAt alone text_old text_new most old new r → LoopRuns text_old text_new old new r
+loop_runs alone text_old text_new most old new r (given, gave, few, inl x) = (given, gave, few, inl x)
+loop_runs alone text_old text_new most old new r (given, gave, few, inr x) = (given, gave, few, inr (x.0, x.1, loops_over alone x.0 most old new r x.2))
+
+-- no want of memory comes while commands are asked
+pub no_memory : (alone : Bool) (commands : List Command) (most : ℕ) (old new : SeenAtBoth) (r : LinkEnd) → AsksAt alone commands most old new r → r ≡ Err Memory → ⊥
+no_memory alone commands most old new r x is = subst (λ (e : LinkEnd). AsksOn alone commands x.given (written_there old new) (BothEnd old.client new.client old.instrument new.instrument) e) is x.asks

@@ -1,0 +1,65 @@
+-- No part of a promise: what is seen of a link that commands are asked over, and what its calls do.
+use Rattle.std.specs.Prelude.{◌≡◌, ℕ, ◌<◌, ◌⊎◌, Bool, true, false, List, [], Option, Some, Ok, Err, ◌≤◌, length, take}
+use Rattle.std.specs.Borrow.{GName}
+use Rattle.std.specs.Io.KnownBytes.{Appends}
+use Rattle.gc_lines.specs.Answering.{Ports}
+use Rattle.gc_ask.specs.Asking.{Taken, LinkEnd, LinkEnds}
+use Rattle.gc_ask.specs.Looping.{SeenAtBoth}
+use Rattle.gc_texts.specs.WholeTexts.{Input}
+use Rattle.gc_texts.specs.declared.fault.RunFault.TheVariants.{Write}
+
+-- the ghost names of the references that a link holds: of its client's end, and of its instrument's
+pub record Held : Type 0 where
+  pub client_in : GName
+  pub client_out : GName
+  pub instrument_in : GName
+  pub instrument_out : GName
+
+-- the ports of an end that isn't there: nothing is read of it, and none of them fails
+abbrev pub no_ports : Ports
+no_ports = record { remaining = Some []; reads = 0; ended = false; source_failed = false; taken = Some []; sink_failed = false }
+
+-- what is seen of both ends of a link, and of the sink of the settlements
+abbrev pub seen_at : (client instrument : Ports) → (sink : Taken) → SeenAtBoth
+seen_at client instrument sink = record { client = client; instrument = instrument; sink = sink }
+
+-- what is seen of the source of an end
+abbrev pub source_of : Ports → Input
+source_of ports = record { remaining = ports.remaining; reads = ports.reads; ended = ports.ended; failed = ports.source_failed }
+
+-- what the ports of an end are a step later, with this end of it
+pub record StepEnds (old new : Ports) (result : LinkEnd) : Type 0 where
+  pub ends : LinkEnds old new result
+  pub same : new.reads ≡ old.reads → new.ended ≡ old.ended
+  pub grows : old.reads ≤ new.reads
+
+-- it came at one of the two ends
+abbrev pub BothStep : (client_old client_new instrument_old instrument_new : Ports) → LinkEnd → Type 0
+BothStep client_old client_new instrument_old instrument_new result =
+    (StepEnds client_old client_new result × StepEnds instrument_old instrument_new (Ok tt))
+    ⊎ (StepEnds client_old client_new (Ok tt) × StepEnds instrument_old instrument_new result)
+
+-- a text, the one at this place, went out whole, or the sink failed, and took so many bytes of it
+abbrev pub Sends : ℕ → List ℕ → Taken → Taken → LinkEnd → Type 0
+Sends place text old new (Ok _) = Appends old.bytes new.bytes text × (new.failed ≡ old.failed)
+Sends place text old new (Err (Write count bytes)) =
+    (count ≡ place) × (bytes < length text) × Appends old.bytes new.bytes (take bytes text) × (new.failed ≡ true)
+Sends place text old new (Err _) = ⊥
+
+-- what the client's end took of a request, the one at this place, that was sent and, unless the link is alone, answered at the other end:
+-- all of it, or its first bytes. A link that is alone fails by this write or not at all
+abbrev pub TakesRequest : (alone : Bool) → ℕ → List ℕ → (old new : Option (List ℕ)) → LinkEnd → Type 0
+TakesRequest alone place text old new (Ok _) = Appends old new text
+TakesRequest alone place text old new (Err (Write count part)) =
+    (count ≡ place) × ((bytes : ℕ) × Appends old new (take bytes text) × (alone ≡ true → (bytes ≡ part) × (part < length text)))
+TakesRequest alone place text old new (Err _) = Appends old new text × (alone ≡ true → ⊥)
+
+-- a reply that was cut is the one at this place
+abbrev pub CountsReplies : ℕ → LinkEnd → Type 0
+CountsReplies place (Err (Write count _)) = count ≡ place
+CountsReplies place _ = Unit {0}
+
+-- a read of the client's end left all else as it was
+abbrev pub OnlyReads : (client_old client_new instrument_old instrument_new : Ports) → (held_old held_new : Held) → Type 0
+OnlyReads client_old client_new instrument_old instrument_new held_old held_new =
+    (client_new.taken ≡ client_old.taken) × (client_new.sink_failed ≡ client_old.sink_failed) × (instrument_new ≡ instrument_old) × (held_new ≡ held_old)

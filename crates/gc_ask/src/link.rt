@@ -1,0 +1,91 @@
+//! A link that commands are asked over: requests are sent over it, and read is what comes. It may have an instrument of its own at
+//! the other end.
+
+ghost use Rattle.std.specs.Prelude.{◌≡◌, ◌+◌, ◌≤◌, [], length, true, false, not, Err, Ok, MatchResult};
+ghost use Rattle.std.specs.Io.KnownBytes.{Consumes, Keeps};
+ghost use Rattle.gc_lines.specs.Lines.{with_end};
+ghost use Rattle.gc_ask.specs.Asking.{taken_by};
+ghost use Rattle.gc_ask.specs.Links.{BothStep, OnlyReads, Sends, TakesRequest, source_of};
+ghost use Rattle.gc_texts.specs.declared.fault.RunFault.{RunFault};
+
+use crate::unheard::Unheard;
+use gc_lines::{Line, PortFailed, Sink, Source, write_line};
+use gc_texts::RunFault;
+
+/// A link that commands are asked over, one after the other.
+pub(crate) trait Link {
+    ghost use Rattle.std.specs.Prelude.{Bool};
+    ghost use Rattle.gc_lines.specs.Answering.{Ports};
+    ghost use Rattle.gc_ask.specs.Links.{Held};
+
+    /// Whether the other end is none of this program's.
+    ghost alone: { Bool };
+
+    /// What is seen of the client's end.
+    ghost client: { Self → Ports };
+
+    /// What is seen of the instrument's end.
+    ghost instrument: { Self → Ports };
+
+    /// The references that it holds. No call changes them, so a caller knows behind a call what became of its ports.
+    ghost held: { Self → Held };
+
+    /// Sends a request, the one at this place, and has it answered where the instrument's end is this program's, in so many reads
+    /// at most.
+    fn send(&mut self, place: usize, request: &Line, reads: &mut u32) -> Result<(), RunFault>
+        ensures takes { TakesRequest alone place (with_end request.now.items) (client self.old).taken (client self.new).taken result }
+        ensures ends { BothStep (client self.old) (client self.new) (instrument self.old) (instrument self.new) result }
+        ensures unread { source_of (client self.new) ≡ source_of (client self.old) }
+        ensures reads { (instrument self.new).reads + reads.new ≡ (instrument self.old).reads + reads.old }
+        ensures too_many { result ≡ Err RunFault.TooManyReads → reads.new ≡ 0 }
+        ensures held { held self.new ≡ held self.old };
+
+    /// Reads the client's end once, in place of what was left of the last read, and says whether that wasn't the end.
+    fn read(&mut self, ahead: &mut Unheard) -> Result<bool, PortFailed>
+        ensures few { length ahead.new ≤ 256 }
+        ensures end { result ≡ Ok false → ahead.new ≡ [] }
+        ensures bytes { MatchResult result (λ more. Consumes (client self.old).remaining (client self.new).remaining ahead.new
+            × ((client self.new).reads ≡ (client self.old).reads + 1) × ((client self.new).ended ≡ not more)
+            × ((client self.old).source_failed ≡ false) × ((client self.new).source_failed ≡ false))
+            (λ _. Keeps (client self.old).remaining (client self.new).remaining × ((client self.new).reads ≡ (client self.old).reads)
+            × ((client self.new).ended ≡ (client self.old).ended) × ((client self.new).source_failed ≡ true)) }
+        ensures only { OnlyReads (client self.old) (client self.new) (instrument self.old) (instrument self.new) (held self.old) (held self.new) };
+}
+
+/// A link at whose other end somebody else answers.
+#[derive(Drop)]
+pub(crate) struct Alone<'a, 'b, I, O> {
+    pub(crate) source: &'a mut I,
+    pub(crate) sink: &'b mut O,
+}
+
+impl<'a, 'b, I: Source, O: Sink> Link for Alone<'a, 'b, I, O> {
+    ghost use Rattle.gc_lines.specs.Answering.{ports_of};
+    ghost use Rattle.gc_ask.specs.Links.{no_ports};
+
+    ghost alone = { true };
+
+    ghost client = { λ a. ports_of I.Source a.source.now O.Sink a.sink.now };
+
+    ghost instrument = { λ _. no_ports };
+
+    ghost held = { λ a. record { client_in = a.source.ghost_name; client_out = a.sink.ghost_name; instrument_in = a.source.ghost_name; instrument_out = a.sink.ghost_name } };
+
+    fn send(&mut self, place: usize, request: &Line, _reads: &mut u32) -> Result<(), RunFault> {
+        send_line(place, request, self.sink)
+    }
+
+    fn read(&mut self, ahead: &mut Unheard) -> Result<bool, PortFailed> {
+        ahead.read(self.source)
+    }
+}
+
+/// Writes a request, the one at this place, with its CR LF.
+pub(crate) fn send_line<O: Sink>(place: usize, request: &Line, sink: &mut O) -> Result<(), RunFault>
+    ensures { Sends place (with_end request.now.items) (taken_by O.Sink sink.old) (taken_by O.Sink sink.new) result }
+{
+    write_line(sink, request).map_err(|bytes| RunFault::Write {
+        replies: place as u64,
+        bytes,
+    })
+}
