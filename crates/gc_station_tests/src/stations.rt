@@ -3,11 +3,13 @@
 
 mod beginnings;
 mod chains;
+mod devices;
 mod drills;
 mod faults;
 mod idle;
 mod logs;
 mod places;
+mod rig;
 mod script;
 mod stalls;
 mod tcp;
