@@ -36,7 +36,7 @@ use Rattle.gc_station.specs.declared.progress.Until.{Until}
 use Rattle.gc_station.specs.declared.progress.Until.TheVariants.{Limit, Due}
 use Rattle.gc_station.specs.declared.progress.Waiting.{Waiting}
 use Rattle.gc_station.proofs.Closings.{runs_split, needs_of}
-use Rattle.gc_station.proofs.Drains.{along, progress_behind}
+use Rattle.gc_station.proofs.Always.{always, progress_behind}
 use Rattle.gc_station.proofs.EachRun.{fine_stood}
 use Rattle.gc_station.proofs.Facts.{either, order_for}
 use Rattle.gc_station.proofs.Fine.{Fine}
@@ -517,12 +517,11 @@ module _ (plan : Plan) (commands : List Task) (scope : Scope) (some : 0 < plan.e
   rises_here : (acts : List Act) (act : Act) → Rises 0 (acts ++ act ∷ []) → (stood plan commands scope acts).progress.moment.elapsed ≡ last_of 0 acts → Rises (stood plan commands scope acts).progress.moment.elapsed (act ∷ [])
   rises_here acts act rises at = subst (λ (n : ℕ). Rises n (act ∷ [])) (sym at) (rises_last 0 acts act rises)
 
-  kept_step : (done later : List Act) (act : Act) → Runs plan commands (opening plan scope) (done ++ act ∷ later) → Kept done → Kept (done ++ act ∷ [])
-  kept_step done later act runs h rises =
+  kept_step : (done : List Act) (act : Act) → Runs plan commands (opening plan scope) done → Obeys commands (stood plan commands scope done) (order_at plan (stood plan commands scope done)) act → Kept done → Kept (done ++ act ∷ [])
+  kept_step done act runs o h rises =
       let s = stood plan commands scope done in
-      let split = runs_split plan commands (opening plan scope) done later act runs in
       let old = h (rises_front 0 done act rises) in
-      let on = on_moved done (order_at plan s) act refl split.1 (fine_stood plan commands scope done) (order_for plan s.progress (waiting_of s)) (begun_turned done s.progress old.1) in
+      let on = on_moved done (order_at plan s) act refl o (fine_stood plan commands scope done) (order_for plan s.progress (waiting_of s)) (begun_turned done s.progress old.1) in
       let t = moved plan commands (order_at plan s) (with_progress turned s) act in
       let there = progress_behind plan commands scope done act in (
         ap (λ (p : Progress). p.moment.elapsed) there ∙ on.0 ∙ ap (λ (n : ℕ). last_of n (act ∷ [])) old.0 ∙ sym (last_more 0 done act),
@@ -530,7 +529,7 @@ module _ (plan : Plan) (commands : List Task) (scope : Scope) (some : 0 < plan.e
       )
 
   kept_stood : (acts : List Act) → Runs plan commands (opening plan scope) acts → Kept acts
-  kept_stood acts runs = along plan commands (opening plan scope) Kept kept_step [] acts runs (λ rises. (refl, inl (refl, refl)))
+  kept_stood acts runs = always plan commands (opening plan scope) (λ (xs : List Act) (t : Standing). Kept xs) kept_step (λ rises. (refl, inl (refl, refl))) acts runs
 
   last_began : (acts : List Act) (p : Progress) → p ≡ (stood plan commands scope acts).progress → (c : Cycling acts p) → p.missed ≡ false → (last : LastBegan plan commands scope acts) × (last.late < plan.every)
   last_began acts p is c free =
@@ -702,19 +701,18 @@ module _ (plan : Plan) (commands : List Task) (scope : Scope) (some : 0 < plan.e
   abbrev Written : List Act → Type 0
   Written acts = Rises 0 acts → AllByRecursion (Truly acts) (stood plan commands scope acts).records
 
-  written_step : (done later : List Act) (act : Act) → Runs plan commands (opening plan scope) (done ++ act ∷ later) → Written done → Written (done ++ act ∷ [])
-  written_step done later act runs h rises =
+  written_step : (done : List Act) (act : Act) → Runs plan commands (opening plan scope) done → Obeys commands (stood plan commands scope done) (order_at plan (stood plan commands scope done)) act → Written done → Written (done ++ act ∷ [])
+  written_step done act runs o h rises =
       let s = stood plan commands scope done in
-      let split = runs_split plan commands (opening plan scope) done later act runs in
       let front = rises_front 0 done act rises in
-      let begun = (kept_stood done split.0 front).1 in
+      let begun = (kept_stood done runs front).1 in
       let old = all_on (Truly done) (Truly (done ++ act ∷ [])) s.records (λ r x. truly_more done (act ∷ []) r x) (h front) in
       let t = moved plan commands (order_at plan s) (with_progress turned s) act in
       subst (λ (x : Standing). AllByRecursion (Truly (done ++ act ∷ [])) x.records) (sym (after_all-append plan commands (opening plan scope) done (act ∷ [])))
       (losing_truly (done ++ act ∷ []) (loses_all t.progress) t (moved_truly done (order_at plan s) act begun refl old))
 
   written_stood : (acts : List Act) → Runs plan commands (opening plan scope) acts → Written acts
-  written_stood acts runs = along plan commands (opening plan scope) Written written_step [] acts runs (λ rises. tt)
+  written_stood acts runs = always plan commands (opening plan scope) (λ (xs : List Act) (t : Standing). Written xs) written_step (λ rises. tt) acts runs
 
 pub begin_when_due : CyclesBeginWhenDue
 begin_when_due plan commands scope acts later m some runs rises is = begins_due plan commands scope some acts later m runs rises is
