@@ -1,5 +1,5 @@
 -- A beginning over lines of bytes is one over their ids.
-use Rattle.std.proofs.Common.{◌≡◌, ℕ, zero, suc, ◌+◌, ◌<◌, ◌≤◌, ◌⊎◌, inl, inr, Bool, true, false, List, [], ◌∷◌, ◌++◌, map, Option, Some, None, nat_eq, refl, sym, ◌∙◌, ap, subst, arith}
+use Rattle.std.proofs.Common.{◌≡◌, ℕ, zero, suc, ◌<◌, ◌⊎◌, inl, inr, Bool, true, false, List, [], ◌∷◌, ◌++◌, map, Option, Some, None, refl, sym, ◌∙◌, ap, subst, arith}
 use mathlib.Core.Path.{ap₂}
 use Rattle.std.specs.List.{filter_map, cons_option}
 use Rattle.std.proofs.lemmas.Bool.{ne_eqb}
@@ -13,15 +13,14 @@ use Rattle.gc_instrument.specs.State.{KeptReply}
 use Rattle.gc_world.specs.Order.{Each}
 use Rattle.gc_world.specs.World.{Ends, Request, without, doubled}
 use Rattle.gc_world.proofs.Options.{some_is, none_is_not}
-use Rattle.gc_field.specs.Begin.{Aged, AreLines, AreTurns, IsTurn, Standing, Turn, Asks, Comes, Foreign, Reaches, Up_lose, Up_repeat, Down_lose, Down_repeat, Anew, Changes, UnderWay, begins, leaves, ids_under_way, asks, comes, reaches, turns, turned}
+use Rattle.gc_field.specs.Begin.{Aged, AreLines, AreTurns, Standing, Turn, Asks, Comes, Foreign, Reaches, Up_lose, Up_repeat, Down_lose, Down_repeat, Anew, Changes, UnderWay, begins, leaves, ids_under_way, asks, comes, reaches, turns, turned}
 use Rattle.gc_field.specs.Begun.{HasBegunCleanly, eighth}
 use Rattle.gc_field.specs.Instrument.{IsAnInstrument}
 use Rattle.gc_field.proofs.BeginIds as ids
 use Rattle.gc_field.proofs.BeginIds.{Sent, Begins, IsClean, aged, begun_anew, ids_of, moved}
 use Rattle.gc_field.proofs.BeginKilled.{begins_anew, behind_one, under_way}
-use Rattle.gc_field.proofs.BeginLists.{each_both, each_append, each_front, each_without, each_doubled}
+use Rattle.gc_field.proofs.BeginLists.{each_append, each_front, each_without, each_doubled}
 use Rattle.gc_field.proofs.BeginSound.{the_word_begins_cleanly}
-use Rattle.gc_field.proofs.BeginWords.{stands_front}
 
 -- Lists.
 

@@ -1,16 +1,15 @@
 -- Beginnings that are killed: each makes the front of the word that stands in the line longer by one id at most.
-use Rattle.std.proofs.Common.{◌≡◌, ℕ, zero, ◌+◌, ◌%◌, ◌<◌, ◌≤◌, ◌⊎◌, inl, inr, Bool, true, false, List, [], ◌∷◌, ◌++◌, length, nat_eq, refl, sym, ◌∙◌, ap, subst, arith, append-nil, map}
-use mathlib.Core.Path.{ap₂}
+use Rattle.std.proofs.Common.{◌≡◌, ℕ, zero, ◌⊎◌, inl, inr, Bool, true, false, List, [], ◌∷◌, ◌++◌, nat_eq, refl, sym, ◌∙◌, ap, subst, append-nil}
 use Rattle.std.proofs.lemmas.Bool.{eqb-true}
 use Rattle.gc_client.specs.Beginning.{next_if, IsSubsequence, the_word}
-use Rattle.gc_field.proofs.BeginIds.{Sent, Standing, Move, heard, moved, aged, begun_anew, tried, Pairs, AllDiffer, Begins, IsClean, ids_of}
-use Rattle.gc_world.specs.Order.{Each, Rising}
+use Rattle.gc_field.proofs.BeginIds.{Sent, Standing, Move, heard, moved, aged, begun_anew, Pairs, AllDiffer, Begins, ids_of}
+use Rattle.gc_world.specs.Order.{Each}
 use Rattle.gc_world.specs.World.{without, doubled}
 use Rattle.gc_field.proofs.BeginLists.{each_more, each_both, each_append, each_back, each_without, each_doubled, pairs_front, pairs_back, goes_over}
-use Rattle.gc_field.proofs.BeginWords.{Has, stands_front, stands_each, never, three_within, word_differs}
+use Rattle.gc_field.proofs.BeginWords.{Has, stands_front, stands_each, never, word_differs}
 use Rattle.gc_field.proofs.BeginMoves.{Lasts, holds_moved}
 use Rattle.gc_field.proofs.BeginLines.{IsLine, IsOld, IsOwn, IsBefore, HasNone, Follows, AreOwn, old_if, olds, olds_all, olds_push, has_without, has_doubled, line_without, line_doubled, line_asked, line_came}
-use Rattle.gc_field.proofs.BeginSound.{sound_at_start, the_word_begins_cleanly}
+use Rattle.gc_field.proofs.BeginSound.{sound_at_start}
 
 -- The invariant of one beginning.
 

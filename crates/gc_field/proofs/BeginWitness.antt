@@ -1,5 +1,5 @@
 -- Runs by computation.
-use Rattle.std.proofs.Common.{ℕ, ◌≤◌, [], ◌∷◌, refl, arith, lit<}
+use Rattle.std.proofs.Common.{◌≤◌, [], ◌∷◌, refl, arith, lit<}
 use Rattle.std.specs.Prelude.{codes, take, drop}
 use Rattle.std.specs.Fmt.{digits}
 use Rattle.gc_lines.specs.Readers.{header_at, reply_at}

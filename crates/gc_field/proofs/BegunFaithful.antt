@@ -1,7 +1,6 @@
 -- Behind a beginning that has begun cleanly: the eight null procedures are requests that were settled, and what is under way is of the last.
-use Rattle.std.proofs.Common.{◌≡◌, ℕ, ◌+◌, ◌-◌, ◌%◌, ◌<◌, ◌≤◌, inl, inr, Bool, true, false, List, [], ◌∷◌, ◌++◌, length, map, Option, Some, None, refl, sym, ◌∙◌, ap, subst, arith, append_assoc, append-nil}
+use Rattle.std.proofs.Common.{◌≡◌, ℕ, ◌+◌, ◌<◌, ◌≤◌, inl, inr, List, [], ◌∷◌, ◌++◌, map, Option, Some, None, refl, sym, ◌∙◌, ap, subst, arith, append_assoc}
 use Rattle.std.specs.Prelude.{slice_get}
-use Rattle.std.proofs.lemmas.List.{map-append}
 use Rattle.gc_catalogue.specs.declared.call.Call.{Call}
 use Rattle.gc_catalogue.specs.declared.call.Call.TheVariants.{NullProc}
 use Rattle.gc_catalogue.specs.Texts.{request_line}
@@ -9,25 +8,25 @@ use Rattle.gc_client.specs.OneForOne.{Asked, Course, Step, Send, Hear, Expire, R
 use Rattle.gc_client.specs.Rule.{ById, Answered, Late, Sending, Settled, Settlement, expires, fresh, heard, hears, restarts, sends}
 use Rattle.gc_client.proofs.OneForOne.{one_for_one}
 use Rattle.gc_instrument.specs.State.{KeptReply}
-use Rattle.gc_world.specs.Clients.{ByNumber, by_ids, by_numbers}
+use Rattle.gc_world.specs.Clients.{by_ids, by_numbers}
 use Rattle.gc_world.specs.Exchange.{IsExchange}
 use Rattle.gc_world.specs.Order.{Each, Rising, numbers}
 use Rattle.gc_world.specs.Record.{IsReplyTo}
-use Rattle.gc_world.specs.World.{Ends, Numbered, Request, Up_deliver, Wire, World}
+use Rattle.gc_world.specs.World.{Ends, Numbered, Request, Up_deliver, Wire}
 use Rattle.gc_world.proofs.Booked.{has_at}
 use Rattle.gc_world.proofs.Replay.{IsOf}
 use Rattle.gc_world.proofs.Settled.{of_sent}
 use Rattle.gc_world.proofs.Settled as settled
 use Rattle.gc_world.proofs.Sound.{IsGoing, IsComing, Sound}
 use Rattle.gc_field.specs.Begin.{UnderWay}
-use Rattle.gc_field.specs.Begun.{IsClean, IsFaithful, WasMadeOn, behind, eighth, begun_wire, ids_begun, numbers_begun, nulls, nulls_settled}
+use Rattle.gc_field.specs.Begun.{IsClean, IsFaithful, WasMadeOn, behind, eighth, ids_begun, numbers_begun, nulls, nulls_settled}
 use Rattle.gc_field.specs.Field.{Move, OnLine, ArePossible, moved, seen}
 use Rattle.gc_field.specs.Instrument.{IsAnInstrument}
 use Rattle.gc_field.proofs.Answered.{AllSo, IsSo, all_so_get}
 use Rattle.gc_field.proofs.Instruments.{exchange_of}
 use Rattle.gc_field.proofs.Moving.{Both, both_all, first_reply, Vouches, IsVouchedFor, AreOn, whole_all}
 use Rattle.gc_field.proofs.Possible.{possible_front}
-use Rattle.gc_field.proofs.Seen.{SameAs, same_all}
+use Rattle.gc_field.proofs.Seen.{same_all}
 use Rattle.gc_field.proofs.Vouched.{IsVouched, KeptIs, True, Vouched}
 
 -- The course of a client, behind what was sent and settled before.

@@ -1,5 +1,5 @@
 -- What a client has under way, behind a beginning that has begun cleanly: numbers from the eighth null procedure on, whose ids go upward.
-use Rattle.std.proofs.Common.{◌≡◌, ℕ, ◌+◌, ◌-◌, ◌%◌, ◌<◌, ◌≤◌, Bool, true, false, List, [], ◌∷◌, ◌++◌, length, map, Option, Some, None, refl, sym, ◌∙◌, ap, subst, arith, ltb, eqb}
+use Rattle.std.proofs.Common.{◌≡◌, ℕ, ◌+◌, ◌-◌, ◌%◌, ◌<◌, ◌≤◌, Bool, true, false, List, [], ◌∷◌, ◌++◌, length, map, Option, Some, refl, sym, ◌∙◌, ap, subst, arith, ltb, eqb}
 use mathlib.Core.Path.{ap₂}
 use Rattle.std.specs.List.{filter_map, cons_option}
 use Rattle.std.proofs.lemmas.Bool.{ltb-false}
@@ -10,14 +10,14 @@ use Rattle.gc_client.specs.Rule as rule
 use Rattle.gc_client.specs.Rule.{ById, Sending}
 use Rattle.gc_instrument.specs.State.{KeptReply}
 use Rattle.gc_world.specs.Clients.{ByNumber, by_ids, by_numbers, number_reply, number_send}
-use Rattle.gc_world.specs.Order.{Each, Rising, numbers}
+use Rattle.gc_world.specs.Order.{Each, numbers}
 use Rattle.gc_world.specs.World.{Ends, Numbered, Request, Step, Send, Up_deliver, Up_lose, Up_repeat, Down_deliver, Down_lose, Down_repeat, Expire, Restart_client, Restart_instrument, Nothing, Wire, World, happens, down_delivered, requested}
 use Rattle.gc_world.proofs.Rows.{each_more}
 use Rattle.gc_world.proofs.Sound.{IsComing, IsGoing, Sound, all_sent}
 use Rattle.gc_field.specs.Begin.{UnderWay, ids_under_way}
 use Rattle.gc_field.specs.Beginnings.{IsRow, on_line}
 use Rattle.gc_field.specs.Begun.{IsClean, behind, ids_begun, numbers_begun}
-use Rattle.gc_field.specs.Field.{Move, Sends, Tells, Comes, Foreign, OnLine, Anew, Changes, Joins, IsOfLine, ArePossible, moves, moved}
+use Rattle.gc_field.specs.Field.{Move, Sends, Tells, Comes, Foreign, OnLine, Anew, Changes, Joins, IsOfLine, ArePossible, moved}
 use Rattle.gc_field.specs.Instrument.{IsAnInstrument}
 use Rattle.gc_field.proofs.BeginWords.{none_within, three_within}
 use Rattle.gc_field.proofs.BegunFaithful.{both_begun, ex}

@@ -1,15 +1,13 @@
 -- One run after the other: each that is killed while it begins makes the front of the word that may be under way longer by one id at most.
-use Rattle.std.proofs.Common.{◌≡◌, ℕ, suc, ◌+◌, ◌<◌, ◌≤◌, false, List, [], ◌∷◌, ◌++◌, length, map, Option, Some, refl, sym, ◌∙◌, ap, subst, arith}
+use Rattle.std.proofs.Common.{◌≡◌, ℕ, suc, ◌+◌, ◌≤◌, false, List, [], ◌∷◌, ◌++◌, length, map, Option, Some, refl, sym, ◌∙◌, ap, subst, arith}
 use Rattle.gc_client.specs.Beginning.{IsSubsequence, the_word}
 use Rattle.gc_client.specs.Rule.{heard}
 use Rattle.gc_instrument.specs.State.{KeptReply}
-use Rattle.gc_world.specs.Clients.{by_ids}
 use Rattle.gc_world.specs.Order.{Each}
 use Rattle.gc_world.specs.World.{Ends, Request}
 use Rattle.gc_field.specs.Begin.{Aged, AreLines, AreTurns, Standing, UnderWay, begins, ids_under_way, leaves}
 use Rattle.gc_field.specs.Beginnings.{AreFewKilled, AreOwn, AreRuns, ArePossibleIf, IsOwnIf, IsRow, Run, killed_if, left_by_run, left_if, on_line, stood}
-use Rattle.gc_field.specs.Begun.{HasBegunCleanly, IsClean, behind, eighth, ids_begun}
-use Rattle.gc_field.specs.Field.{Move, ArePossible}
+use Rattle.gc_field.specs.Begun.{HasBegunCleanly, IsClean, behind, eighth}
 use Rattle.gc_field.specs.Instrument.{IsAnInstrument}
 use Rattle.gc_field.proofs.BeginJoin.{begins_cleanly, left_absent, left_lines}
 use Rattle.gc_field.proofs.BeginLists.{goes_over}

@@ -1,13 +1,12 @@
 -- Some runs are such runs, and the premise on the word is needed: this project's own.
-use Rattle.std.specs.Prelude.{◌≡◌, ℕ, List, [], ◌∷◌, ◌++◌, map, codes}
-use Rattle.gc_catalogue.specs.declared.call.Call.TheVariants.{NullProc, InstrumentNo}
-use Rattle.gc_client.specs.Beginning.{IsSubsequence, the_word}
+use Rattle.std.specs.Prelude.{◌≡◌, List, [], ◌∷◌, ◌++◌, codes}
+use Rattle.gc_catalogue.specs.declared.call.Call.TheVariants.{InstrumentNo}
 use Rattle.gc_client.specs.declared.window.TheConstants.{WINDOW}
 use Rattle.gc_client.specs.Rule.{Answered}
 use Rattle.gc_instrument.specs.State.{State, IsFittingState, simulator_opening}
 use Rattle.gc_world.specs.Clients.{ends, by_ids}
 use Rattle.gc_world.specs.World.{Up_deliver}
-use Rattle.gc_field.specs.Begin.{AreLines, AreTurns, Turn, Asks, Comes, Reaches, Up_lose, Up_repeat, Anew, UnderWay, begins, ids_under_way, leaves, turned}
+use Rattle.gc_field.specs.Begin.{AreLines, Turn, Asks, Comes, Reaches, Up_lose, Up_repeat, Anew, UnderWay, begins, leaves, turned}
 use Rattle.gc_field.specs.Beginnings.{AreFewKilled, AreRuns, IsRow, Run, left_by_run}
 use Rattle.gc_field.specs.Begun.{WasMadeOn, behind, ids_begun, nulls_settled}
 use Rattle.gc_field.specs.Field as field

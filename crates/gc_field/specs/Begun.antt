@@ -1,6 +1,6 @@
 -- Once it has begun, this project's own: nothing from before is under way; and each answer of the client that sends then is its own, from its
 -- first request on.
-use Rattle.std.specs.Prelude.{◌≡◌, ℕ, ◌-◌, ◌<◌, ◌≤◌, true, false, List, [], ◌∷◌, ◌++◌, length, map, Option, Some, slice_get}
+use Rattle.std.specs.Prelude.{◌≡◌, ℕ, ◌-◌, ◌≤◌, true, false, List, [], ◌∷◌, ◌++◌, length, map, Option, Some, slice_get}
 use Rattle.gc_catalogue.specs.declared.call.Call.{Call}
 use Rattle.gc_catalogue.specs.declared.call.Call.TheVariants.{NullProc}
 use Rattle.gc_catalogue.specs.Texts.{request_line}
@@ -14,7 +14,7 @@ use Rattle.gc_world.specs.Clients.{ByNumber, ends, by_ids, by_numbers}
 use Rattle.gc_world.specs.Order.{Each}
 use Rattle.gc_world.specs.Record.{IsBooked, IsOneForOne}
 use Rattle.gc_world.specs.World.{Ends, Numbered, Request, Sent, Up_deliver, Wire, World}
-use Rattle.gc_field.specs.Begin.{Aged, AreLines, AreTurns, Standing, Turn, UnderWay, begins, ids_under_way, turned}
+use Rattle.gc_field.specs.Begin.{AreLines, AreTurns, Standing, Turn, UnderWay, begins, ids_under_way, turned}
 use Rattle.gc_field.specs.Field.{Move, Comes, OnLine, ArePossible, moved, moves, seen}
 use Rattle.gc_field.specs.Instrument.{AnyState, IsAnInstrument, KeepsItsReply}
 use Rattle.gc_field.specs.Laws.{WasExecuted, asked, kept_of}
