@@ -8,3 +8,4 @@ pub mod OneForOne
 pub mod Rounds
 pub mod Settling
 pub mod Silence
+pub mod Begins

@@ -5,3 +5,4 @@ pub mod Hearing
 pub mod Places
 pub mod Silence
 pub mod OneForOne
+pub mod Beginning

@@ -1,6 +1,7 @@
 //! The client: what a monitoring station embeds. It reads no clock and opens no port.
 #![tactic(auto)]
 
+mod beginning;
 mod client;
 mod ending;
 mod heard;
@@ -11,6 +12,7 @@ mod settlement;
 mod slots;
 mod window;
 
+pub use beginning::{Beginning, WORD};
 pub use client::{Client, WindowFull};
 pub use heard::{Heard, Hearing};
 pub use pending::Pending;

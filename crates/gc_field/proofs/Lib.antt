@@ -27,3 +27,15 @@ pub mod Needed
 pub mod Drifting
 pub mod CountingChain
 pub mod LateAnswer
+pub mod BeginIds
+pub mod BeginLists
+pub mod BeginWords
+pub mod BeginLines
+pub mod BeginMoves
+pub mod BeginSound
+pub mod BeginKilled
+pub mod BeginJoin
+pub mod BegunFaithful
+pub mod BegunRows
+pub mod BegunRuns
+pub mod BeginWitness

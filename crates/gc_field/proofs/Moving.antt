@@ -112,7 +112,7 @@ module _ {State : Type 0} (width : ℕ) (narrow : width ≤ 7) (ends : Ends Stat
       true_changed width narrow ends Good ex kept keeper low M b state (p.1 ∙ ap (λ (w : Wire State). kept w.state) both.agree.wire) t
   trusted_move (Joins line) ms a b both p on s t = absurd p
 
-  whole_all : (ms : List (Move State)) (a : World ById State) (b : World ByNumber State) → Both width narrow ends Good ex kept a b → ArePossible ends Good kept (by_ids width ends) ms a → AreOn ms b → Trusted b → IsVouchedFor (moved ends (by_numbers width) ms b).wire
+  pub whole_all : (ms : List (Move State)) (a : World ById State) (b : World ByNumber State) → Both width narrow ends Good ex kept a b → ArePossible ends Good kept (by_ids width ends) ms a → AreOn ms b → Trusted b → IsVouchedFor (moved ends (by_numbers width) ms b).wire
   whole_all [] a b h p on t = record { answers = t.answers; order = t.order.order; once = λ keeps. (t.once keeps).once }
   whole_all (m ∷ ms) a b h p on t =
       whole_all ms _ _ (both_move width narrow ends Good ex kept a b m p.0 h) p.1 (are_on_behind m ms b on) (trusted_move m ms a b h p.0 on h.sound t)

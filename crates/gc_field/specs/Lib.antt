@@ -19,3 +19,7 @@ pub mod Needed
 pub mod Drifting
 pub mod CountingChain
 pub mod LateAnswer
+pub mod Begin
+pub mod Begun
+pub mod Beginnings
+pub mod BeginWitness

@@ -2,4 +2,5 @@
 //! or repeat, and however often the instrument starts anew, each answer is its own request's.
 #![tactic(auto)]
 
+pub mod beginning;
 pub mod laws;

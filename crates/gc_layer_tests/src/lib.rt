@@ -3,6 +3,8 @@
 #![tactic(auto)]
 
 #[cfg(test)]
+mod beginning;
+#[cfg(test)]
 mod catalogue;
 #[cfg(test)]
 mod client;

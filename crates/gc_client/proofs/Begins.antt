@@ -1,0 +1,12 @@
+-- A beginning has begun where all eight are answered.
+use Rattle.std.proofs.Common.{◌≡◌, ℕ, ◌≤◌, true, List, [], drop, length, length-drop, nat_eq, sym, ◌∙◌, ap, arith}
+use Rattle.std.proofs.lemmas.Bool.{eqb-true, eq-eqb}
+use Rattle.gc_client.specs.Beginning.{the_word}
+
+pub all_answered : (n : ℕ) (left : List ℕ) → left ≡ drop n the_word → n ≤ 8 → (nat_eq n 8 ≡ true → left ≡ []) × (left ≡ [] → nat_eq n 8 ≡ true)
+all_answered n left is most = (
+  (λ e. is ∙ ap (λ k. drop k the_word) (eqb-true n 8 e)),
+  (λ e.
+      let none : length (drop n the_word) ≡ 0 = ap length (sym is ∙ e) in
+      eq-eqb n 8 (let size = length-drop n the_word in omega (arith, none, size, most))),
+)

@@ -1,0 +1,39 @@
+-- A beginning, this project's own: null procedures with the ids of a word, one after the other. By ids alone it leaves nothing from before
+-- under way; no clock has a part in it. The line's part is in `gc_field`.
+use Rattle.std.specs.Prelude.{◌≡◌, ◌⊎◌, ℕ, Bool, true, false, List, [], ◌∷◌, Option, Some, None, nat_eq}
+use Rattle.gc_catalogue.specs.declared.call.Call.TheVariants.{NullProc}
+use Rattle.gc_catalogue.specs.Texts.{request_line}
+
+-- The word: the ids of the null procedures, in order. It goes downward, since the ids of a run that measures go upward; and its last id is
+-- the one before that of the first command.
+abbrev pub the_word : List ℕ
+the_word = 6 ∷ 5 ∷ 4 ∷ 3 ∷ 2 ∷ 1 ∷ 0 ∷ 7 ∷ []
+
+-- these ids are a subsequence of those: they stand among them in their order, with any others between
+abbrev pub IsSubsequence : List ℕ → List ℕ → Type 0
+IsSubsequence [] ids = Unit {0}
+IsSubsequence (w ∷ word) [] = ⊥
+IsSubsequence (w ∷ word) (i ∷ ids) = ((w ≡ i) × IsSubsequence word ids) ⊎ IsSubsequence (w ∷ word) ids
+
+-- A beginning, as what isn't answered of its word: at first all of it; and where nothing is left, it has begun.
+
+-- the line of the null procedure that is asked for: that of the first id that isn't answered, whenever it goes out, the first time or again
+abbrev pub asks : List ℕ → Option (List ℕ)
+asks [] = None
+asks (asked ∷ rest) = Some (request_line (Some asked) NullProc)
+
+-- whether a line that is heard with this id, or with none, answers it: a reply with its id does, whatever its codes and parameters
+abbrev pub is_answered : List ℕ → Option ℕ → Bool
+is_answered [] id = false
+is_answered (asked ∷ rest) None = false
+is_answered (asked ∷ rest) (Some id) = nat_eq id asked
+
+-- what isn't answered behind one that answers, or doesn't
+abbrev pub next_if : Bool → ℕ → List ℕ → List ℕ
+next_if true asked rest = rest
+next_if false asked rest = asked ∷ rest
+
+-- what isn't answered behind a line that is heard with this id, or with none: every line that doesn't answer is dropped
+abbrev pub left_by : List ℕ → Option ℕ → List ℕ
+left_by [] id = []
+left_by (asked ∷ rest) id = next_if (is_answered (asked ∷ rest) id) asked rest

@@ -1,0 +1,124 @@
+-- A beginning over a line of ids alone: the line, its two ends, what may happen, and a run.
+use Rattle.std.specs.Prelude.{◌≡◌, ℕ, zero, suc, ◌+◌, ◌%◌, nat_eq, Bool, true, false, List, [], ◌∷◌, ◌++◌, map, Option, Some, None}
+use Rattle.gc_client.specs.Beginning.{IsSubsequence, next_if, the_word}
+use Rattle.gc_world.specs.Order.{Each}
+use Rattle.gc_world.specs.World.{without, doubled}
+
+-- The line.
+
+-- a request under way, or a reply: its id, and whether the request (or the one for which the reply was sent) is from before this beginning
+pub record Sent : Type 0 where
+  pub id : ℕ
+  pub old : Bool
+
+-- all there is: the requests and the replies under way, the front of each queue first; the id of the reply that the instrument keeps; and
+-- of the word what isn't answered yet (nothing: it has begun)
+pub record Standing : Type 0 where
+  pub up : List Sent
+  pub down : List Sent
+  pub kept : Option ℕ
+  pub left : List ℕ
+
+-- What may happen.
+
+pub data Move : Type 0 where
+  -- a null procedure goes out, with the id that is asked for now: the first time or again
+  Ask : Move
+  -- the front request reaches the instrument, whose reply goes out, or is lost at once
+  Reach : (replies : Bool) → Move
+  -- the front reply comes
+  Come : Move
+  -- the line loses an element, or repeats it directly behind itself
+  Up_lose : (which : ℕ) → Move
+  Up_repeat : (which : ℕ) → Move
+  Down_lose : (which : ℕ) → Move
+  Down_repeat : (which : ℕ) → Move
+  -- the instrument starts anew, whatever is under way
+  Anew : Move
+
+-- what is left of the word once a reply with this id came: its first id is answered by that, and any other reply is dropped
+abbrev pub heard : List ℕ → ℕ → List ℕ
+heard [] id = []
+heard (asked ∷ rest) id = next_if (nat_eq id asked) asked rest
+
+-- the beginner asks, while it has not begun
+abbrev pub asks : Standing → List ℕ → Standing
+asks s [] = s
+asks s (asked ∷ rest) = record s { up = s.up ++ record { id = asked; old = false } ∷ [] }
+
+-- the instrument replies with the id of the request: by the reply that it keeps, if that has this id, and else it executes the request, and
+-- keeps that reply. So what it keeps has this id from now on, and what it sends is for this request
+abbrev pub reaches : Standing → Bool → List Sent → Standing
+reaches s replies [] = s
+reaches s true (x ∷ rest) = record s { up = rest; down = s.down ++ x ∷ []; kept = Some x.id }
+reaches s false (x ∷ rest) = record s { up = rest; kept = Some x.id }
+
+abbrev pub comes : Standing → List Sent → Standing
+comes s [] = s
+comes s (x ∷ rest) = record s { down = rest; left = heard s.left x.id }
+
+-- one move; one that isn't possible changes nothing
+abbrev pub moves : Standing → Move → Standing
+moves s Ask = asks s s.left
+moves s (Reach replies) = reaches s replies s.up
+moves s Come = comes s s.down
+moves s (Up_lose k) = record s { up = without k s.up }
+moves s (Up_repeat k) = record s { up = doubled k s.up }
+moves s (Down_lose k) = record s { down = without k s.down }
+moves s (Down_repeat k) = record s { down = doubled k s.down }
+moves s Anew = record s { kept = None }
+
+abbrev pub moved : List Move → Standing → Standing
+moved [] s = s
+moved (m ∷ ms) s = moved ms (moves s m)
+
+-- each element and each one behind it have it
+abbrev pub Pairs : {A : Type 0} → (A → A → Type 0) → List A → Type 0
+Pairs R [] = Unit {0}
+Pairs R (x ∷ xs) = Each (R x) xs × Pairs R xs
+
+-- no id stands twice
+abbrev pub AllDiffer : List ℕ → Type 0
+AllDiffer ids = Pairs (λ i j. i ≡ j → ⊥) ids
+
+abbrev pub ids_of : List Sent → List ℕ
+ids_of xs = map (λ x. x.id) xs
+
+-- the last id of a word, or this one
+abbrev pub last : ℕ → List ℕ → ℕ
+last z [] = z
+last z (i ∷ ids) = last i ids
+
+-- A beginning.
+
+-- it begins: all that is under way is from before, and the word doesn't stand in it, the replies first
+pub record Begins (word : List ℕ) (s : Standing) : Type 0 where
+  pub left : s.left ≡ word
+  pub up : Each (λ x. x.old ≡ true) s.up
+  pub down : Each (λ x. x.old ≡ true) s.down
+  pub absent : IsSubsequence word (ids_of s.down ++ ids_of s.up) → ⊥
+
+-- it has begun cleanly: nothing from before is under way, and what is has this id; so has what the instrument keeps, if it keeps anything
+pub record IsClean (id : ℕ) (s : Standing) : Type 0 where
+  pub up : Each (λ x. (x.old ≡ false) × (x.id ≡ id)) s.up
+  pub down : Each (λ x. (x.old ≡ false) × (x.id ≡ id)) s.down
+  pub kept : (i : ℕ) → s.kept ≡ Some i → i ≡ id
+
+-- The word.
+
+-- so many ids from this one on, upward and round at eight: what a run that measures has under way
+abbrev pub upward : ℕ → ℕ → List ℕ
+upward i zero = []
+upward i (suc n) = i % 8 ∷ upward (i + 1) n
+
+-- all that is under way is from before now
+abbrev pub aged : List Sent → List Sent
+aged xs = map (λ x. record { id = x.id; old = true }) xs
+
+abbrev pub begun_anew : List ℕ → Standing → Standing
+begun_anew word s = record { up = aged s.up; down = aged s.down; kept = s.kept; left = word }
+
+-- one beginning after the other; each is killed behind its moves, wherever it stands
+abbrev pub tried : List (List Move) → Standing → Standing
+tried [] s = s
+tried (ms ∷ mss) s = tried mss (moved ms (begun_anew the_word s))

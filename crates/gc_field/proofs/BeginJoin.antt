@@ -1,0 +1,341 @@
+-- A beginning over lines of bytes is one over their ids.
+use Rattle.std.proofs.Common.{◌≡◌, ℕ, zero, suc, ◌<◌, ◌⊎◌, inl, inr, Bool, true, false, List, [], ◌∷◌, ◌++◌, map, Option, Some, None, refl, sym, ◌∙◌, ap, subst, arith}
+use mathlib.Core.Path.{ap₂}
+use Rattle.std.specs.List.{filter_map, cons_option}
+use Rattle.std.proofs.lemmas.Bool.{ne_eqb}
+use Rattle.std.proofs.lemmas.List.{map-append}
+use Rattle.gc_catalogue.specs.declared.call.Call.{Call}
+use Rattle.gc_catalogue.specs.declared.call.Call.TheVariants.{NullProc}
+use Rattle.gc_client.specs.Beginning.{IsSubsequence, the_word, is_answered, left_by, next_if}
+use Rattle.gc_client.specs.Rule as rule
+use Rattle.gc_instrument.specs.Replying.{Handed}
+use Rattle.gc_instrument.specs.State.{KeptReply}
+use Rattle.gc_world.specs.Order.{Each}
+use Rattle.gc_world.specs.World.{Ends, Request, without, doubled}
+use Rattle.gc_world.proofs.Options.{some_is, none_is_not}
+use Rattle.gc_field.specs.Begin.{Aged, AreLines, AreTurns, Standing, Turn, Asks, Comes, Foreign, Reaches, Up_lose, Up_repeat, Down_lose, Down_repeat, Anew, Changes, UnderWay, begins, leaves, ids_under_way, asks, comes, reaches, turns, turned}
+use Rattle.gc_field.specs.Begun.{HasBegunCleanly, eighth}
+use Rattle.gc_field.specs.Instrument.{IsAnInstrument}
+use Rattle.gc_field.proofs.BeginIds as ids
+use Rattle.gc_field.proofs.BeginIds.{Sent, Begins, IsClean, aged, begun_anew, ids_of, moved}
+use Rattle.gc_field.proofs.BeginKilled.{begins_anew, behind_one, under_way}
+use Rattle.gc_field.proofs.BeginLists.{each_append, each_front, each_without, each_doubled}
+use Rattle.gc_field.proofs.BeginSound.{the_word_begins_cleanly}
+
+-- Lists.
+
+map_without : {A B : Type 0} (f : A → B) (k : ℕ) (xs : List A) → without k (map f xs) ≡ map f (without k xs)
+map_without f k [] = refl
+map_without f zero (x ∷ xs) = refl
+map_without f (suc k) (x ∷ xs) = ap (λ l. f x ∷ l) (map_without f k xs)
+
+map_doubled : {A B : Type 0} (f : A → B) (k : ℕ) (xs : List A) → doubled k (map f xs) ≡ map f (doubled k xs)
+map_doubled f k [] = refl
+map_doubled f zero (x ∷ xs) = refl
+map_doubled f (suc k) (x ∷ xs) = ap (λ l. f x ∷ l) (map_doubled f k xs)
+
+each_of_map : {A B : Type 0} (P : B → Type 0) (f : A → B) (xs : List A) → Each P (map f xs) → Each (λ x. P (f x)) xs
+each_of_map P f [] h = tt
+each_of_map P f (x ∷ xs) h = (h.0, each_of_map P f xs h.1)
+
+each_to_map : {A B : Type 0} (P : B → Type 0) (f : A → B) (xs : List A) → Each (λ x. P (f x)) xs → Each P (map f xs)
+each_to_map P f [] h = tt
+each_to_map P f (x ∷ xs) h = (h.0, each_to_map P f xs h.1)
+
+-- Ids: a line without one has a number that is none.
+
+abbrev id_or : Option ℕ → ℕ
+id_or None = 8
+id_or (Some id) = id
+
+abbrev IsSmall : List ℕ → Type 0
+IsSmall word = Each (λ i. i < 8) word
+
+abbrev mark_up : Aged Request → Sent
+mark_up x = record { id = x.line.id; old = x.old }
+
+abbrev mark_down : Aged (List ℕ) → Sent
+mark_down x = record { id = id_or (rule.heard x.line); old = x.old }
+
+word_small : IsSmall the_word
+word_small = (omega arith, (omega arith, (omega arith, (omega arith, (omega arith, (omega arith, (omega arith, (omega arith, tt))))))))
+
+small_if : (b : Bool) (asked : ℕ) (rest : List ℕ) → IsSmall (asked ∷ rest) → IsSmall (next_if b asked rest)
+small_if true asked rest h = h.1
+small_if false asked rest h = h
+
+small_left : (left : List ℕ) (o : Option ℕ) → IsSmall left → IsSmall (left_by left o)
+small_left [] o h = tt
+small_left (asked ∷ rest) o h = small_if (is_answered (asked ∷ rest) o) asked rest h
+
+same_left : (left : List ℕ) (o : Option ℕ) → IsSmall left → ids.heard left (id_or o) ≡ left_by left o
+same_left [] o h = refl
+same_left (asked ∷ rest) (Some id) h = refl
+same_left (asked ∷ rest) None h = ap (λ b. next_if b asked rest) (ne_eqb 8 asked (λ e. omega (arith, e, h.0)))
+
+none_left : (left : List ℕ) → left_by left None ≡ left
+none_left [] = refl
+none_left (asked ∷ rest) = refl
+
+-- One standing shows another.
+
+abbrev IsKnown : Aged Request → Type 0
+IsKnown x = (x.line.id < 8) × (x.old ≡ false → x.line.call ≡ NullProc)
+
+module _ {State : Type 0} (ends : Ends State) (Good : State → Type 0) (kept : State → Option KeptReply) (is : IsAnInstrument ends Good kept) where
+  pub record Shows (s : Standing State) (p : ids.Standing) : Type 0 where
+    pub up : p.up ≡ map mark_up s.up
+    pub down : p.down ≡ map mark_down s.down
+    pub left : p.left ≡ s.left
+    pub keeps : (k : KeptReply) → kept s.state ≡ Some k → p.kept ≡ Some k.id
+    pub good : Good s.state
+    pub known : Each IsKnown s.up
+    pub small : IsSmall s.left
+
+  shows_asks : (s : Standing State) (p : ids.Standing) (left : List ℕ) → s.left ≡ left → Shows s p → Shows (asks s left) (ids.asks p left)
+  shows_asks s p [] e g = g
+  shows_asks s p (asked ∷ rest) e g =
+      let new : Aged Request = record { old = false; line = record { id = asked; call = NullProc } } in
+      record {
+        up = ap (λ l. l ++ mark_up new ∷ []) g.up ∙ sym (map-append mark_up s.up (new ∷ []));
+        down = g.down;
+        left = g.left;
+        keeps = g.keeps;
+        good = g.good;
+        known = each_append IsKnown s.up (new ∷ []) g.known (((subst IsSmall e g.small).0, (λ o. refl)), tt);
+        small = g.small;
+      }
+
+  shows_comes : (s : Standing State) (p : ids.Standing) (q : List (Aged (List ℕ))) → s.down ≡ q → Shows s p → Shows (comes s q) (ids.comes p (map mark_down q))
+  shows_comes s p [] e g = g
+  shows_comes s p (x ∷ rest) e g = record {
+    up = g.up;
+    down = refl;
+    left = ap (λ l. ids.heard l (id_or (rule.heard x.line))) g.left ∙ same_left s.left (rule.heard x.line) g.small;
+    keeps = g.keeps;
+    good = g.good;
+    known = g.known;
+    small = small_left s.left (rule.heard x.line) g.small;
+  }
+
+  shows_foreign : (s : Standing State) (p : ids.Standing) (line : List ℕ) → rule.heard line ≡ None → Shows s p → Shows (record s { left = left_by s.left (rule.heard line) }) p
+  shows_foreign s p line e g = record {
+    up = g.up;
+    down = g.down;
+    left = g.left ∙ sym (ap (left_by s.left) e ∙ none_left s.left);
+    keeps = g.keeps;
+    good = g.good;
+    known = g.known;
+    small = small_left s.left (rule.heard line) g.small;
+  }
+
+  -- what is kept behind a request has its id
+  kept_behind : (k o : Option KeptReply) (id : ℕ) (line : List ℕ) (r : KeptReply) → (k ≡ None) ⊎ (k ≡ Some (record { id = id; line = line })) → k ≡ Some r → Some id ≡ Some r.id
+  kept_behind k o id line r (inl none) e = absurd (none_is_not r (sym none ∙ e))
+  kept_behind k o id line r (inr some) e = ap (λ (x : KeptReply). Some x.id) (some_is (record { id = id; line = line }) r (sym some ∙ e))
+
+  shows_reaches : (s : Standing State) (p : ids.Standing) (q : List (Aged Request)) → s.up ≡ q → Shows s p → Shows (reaches ends s q) (ids.reaches p true (map mark_up q))
+  shows_reaches s p [] e g = g
+  shows_reaches s p (x ∷ rest) e g =
+      let known = subst (Each IsKnown) e g.known in
+      let small : x.line.id < 8 = known.0.0 in
+      let hd : Handed State = ends.handed s.state x.line.id x.line.call in
+      let reply : Aged (List ℕ) = record { old = x.old; line = hd.reply } in
+      record {
+        up = refl;
+        down =
+            ap (λ l. l ++ mark_up x ∷ []) g.down
+            ∙ ap (λ o. map mark_down s.down ++ record { id = id_or o; old = x.old } ∷ []) (sym (is.replies s.state x.line.id x.line.call g.good small))
+            ∙ sym (map-append mark_down s.down (reply ∷ []));
+        left = g.left;
+        keeps = λ k f. kept_behind (kept hd.state) (kept hd.state) x.line.id hd.reply k (is.keeps s.state x.line.id x.line.call g.good small) f;
+        good = is.stays_good s.state x.line.id x.line.call g.good small;
+        known = known.1;
+        small = g.small;
+      }
+
+  shows_up : (s : Standing State) (p : ids.Standing) (up : List (Aged Request)) (ups : List Sent) → ups ≡ map mark_up up → Each IsKnown up → Shows s p → Shows (record s { up = up }) (record p { up = ups })
+  shows_up s p up ups e known g = record { up = e; down = g.down; left = g.left; keeps = g.keeps; good = g.good; known = known; small = g.small }
+
+  shows_down : (s : Standing State) (p : ids.Standing) (down : List (Aged (List ℕ))) (downs : List Sent) → downs ≡ map mark_down down → Shows s p → Shows (record s { down = down }) (record p { down = downs })
+  shows_down s p down downs e g = record { up = g.up; down = e; left = g.left; keeps = g.keeps; good = g.good; known = g.known; small = g.small }
+
+  still_kept : (k after : Option KeptReply) (o : Option ℕ) → (after ≡ None) ⊎ (after ≡ k) → ((r : KeptReply) → k ≡ Some r → o ≡ Some r.id) → (r : KeptReply) → after ≡ Some r → o ≡ Some r.id
+  still_kept k after o (inl none) f r e = absurd (none_is_not r (sym none ∙ e))
+  still_kept k after o (inr same) f r e = f r (sym same ∙ e)
+
+  shows_state : (s : Standing State) (p : ids.Standing) (state : State) → Good state → (kept state ≡ None) ⊎ (kept state ≡ kept s.state) → Shows s p → Shows (record s { state = state }) p
+  shows_state s p state good same g =
+      record { up = g.up; down = g.down; left = g.left; keeps = still_kept (kept s.state) (kept state) p.kept same g.keeps; good = good; known = g.known; small = g.small }
+
+  -- any turns are some moves over the ids
+  abbrev IsShown : Standing State → ids.Standing → Type 0
+  IsShown s p = (ms : List ids.Move) × Shows s (moved ms p)
+
+  pub shown : (ts : List (Turn State)) (s : Standing State) (p : ids.Standing) → AreTurns ends Good kept ts s → Shows s p → IsShown (turned ends ts s) p
+  shown [] s p h g = ([], g)
+  shown (Asks ∷ ts) s p h g =
+      let r = shown ts (turns ends s Asks) (ids.moves p ids.Ask) h.1 (subst (λ l. Shows (asks s s.left) (ids.asks p l)) (sym g.left) (shows_asks s p s.left refl g)) in
+      (ids.Ask ∷ r.0, r.1)
+  shown (Comes ∷ ts) s p h g =
+      let r = shown ts (turns ends s Comes) (ids.moves p ids.Come) h.1 (subst (λ l. Shows (comes s s.down) (ids.comes p l)) (sym g.down) (shows_comes s p s.down refl g)) in
+      (ids.Come ∷ r.0, r.1)
+  shown (Foreign line ∷ ts) s p h g = shown ts (turns ends s (Foreign line)) p h.1 (shows_foreign s p line h.0 g)
+  shown (Reaches ∷ ts) s p h g =
+      let r = shown ts (turns ends s Reaches) (ids.moves p (ids.Reach true)) h.1 (subst (λ l. Shows (reaches ends s s.up) (ids.reaches p true l)) (sym g.up) (shows_reaches s p s.up refl g)) in
+      (ids.Reach true ∷ r.0, r.1)
+  shown (Up_lose k ∷ ts) s p h g =
+      let r = shown ts (turns ends s (Up_lose k)) (ids.moves p (ids.Up_lose k)) h.1 (shows_up s p (without k s.up) (without k p.up) (ap (without k) g.up ∙ map_without mark_up k s.up) (each_without IsKnown k s.up g.known) g) in
+      (ids.Up_lose k ∷ r.0, r.1)
+  shown (Up_repeat k ∷ ts) s p h g =
+      let r = shown ts (turns ends s (Up_repeat k)) (ids.moves p (ids.Up_repeat k)) h.1 (shows_up s p (doubled k s.up) (doubled k p.up) (ap (doubled k) g.up ∙ map_doubled mark_up k s.up) (each_doubled IsKnown k s.up g.known) g) in
+      (ids.Up_repeat k ∷ r.0, r.1)
+  shown (Down_lose k ∷ ts) s p h g =
+      let r = shown ts (turns ends s (Down_lose k)) (ids.moves p (ids.Down_lose k)) h.1 (shows_down s p (without k s.down) (without k p.down) (ap (without k) g.down ∙ map_without mark_down k s.down) g) in
+      (ids.Down_lose k ∷ r.0, r.1)
+  shown (Down_repeat k ∷ ts) s p h g =
+      let r = shown ts (turns ends s (Down_repeat k)) (ids.moves p (ids.Down_repeat k)) h.1 (shows_down s p (doubled k s.down) (doubled k p.down) (ap (doubled k) g.down ∙ map_doubled mark_down k s.down) g) in
+      (ids.Down_repeat k ∷ r.0, r.1)
+  shown (Anew ∷ ts) s p h g = shown ts (turns ends s Anew) p h.1 (shows_state s p (ends.restarted s.state) (is.starts_good s.state g.good) (is.starts s.state g.good) g)
+  shown (Changes state ∷ ts) s p h g = shown ts (turns ends s (Changes state)) p h.1 (shows_state s p state h.0.0 (inr h.0.1) g)
+
+  -- Its start.
+
+  abbrev kept_id : Option KeptReply → Option ℕ
+  kept_id None = None
+  kept_id (Some k) = Some k.id
+
+  -- what is under way, as ids
+  abbrev marks : UnderWay State → ids.Standing
+  marks u = record {
+    up = map (λ x. record { id = x.id; old = true }) u.up;
+    down = map (λ x. record { id = id_or (rule.heard x); old = true }) u.down;
+    kept = kept_id (kept u.state);
+    left = the_word;
+  }
+
+  up_marks : (xs : List Request) → aged (map (λ x. record { id = x.id; old = true }) xs) ≡ map mark_up (map (λ x. record { old = true; line = x }) xs)
+  up_marks [] = refl
+  up_marks (x ∷ xs) = ap (λ l. record { id = x.id; old = true } ∷ l) (up_marks xs)
+
+  down_marks : (xs : List (List ℕ)) → aged (map (λ x. record { id = id_or (rule.heard x); old = true }) xs) ≡ map mark_down (map (λ x. record { old = true; line = x }) xs)
+  down_marks [] = refl
+  down_marks (x ∷ xs) = ap (λ l. record { id = id_or (rule.heard x); old = true } ∷ l) (down_marks xs)
+
+  true_is_not : true ≡ false → ⊥
+  true_is_not e = cc
+
+  known_old : (xs : List Request) → Each (λ x. x.id < 8) xs → Each IsKnown (map (λ x. record { old = true; line = x }) xs)
+  known_old [] h = tt
+  known_old (x ∷ xs) h = ((h.0, (λ o. absurd (true_is_not o))), known_old xs h.1)
+
+  shows_begins : (u : UnderWay State) → AreLines Good u → Shows (begins u) (begun_anew the_word (marks u))
+  shows_begins u h = record {
+    up = up_marks u.up;
+    down = down_marks u.down;
+    left = refl;
+    keeps = λ k e. ap kept_id e;
+    good = h.good;
+    known = known_old u.up h.ids;
+    small = word_small;
+  }
+
+  -- Its words: a line without an id makes no difference.
+
+  ids_up : (xs : List Request) → ids_of (map (λ x. record { id = x.id; old = true }) xs) ≡ map (λ x. x.id) xs
+  ids_up [] = refl
+  ids_up (x ∷ xs) = ap (λ l. x.id ∷ l) (ids_up xs)
+
+  -- among the ids of lines, and any behind them
+  of_lines : (o : Option ℕ) (word ids : List ℕ) (others : List ℕ) → IsSmall word → ((w : List ℕ) → IsSmall w → IsSubsequence w ids → IsSubsequence w others) → IsSubsequence word (id_or o ∷ ids) → IsSubsequence word (cons_option o others)
+  of_lines o [] ids others s f h = tt
+  of_lines (Some id) (w ∷ word) ids others s f (inl h) = inl (h.0, f word s.1 h.1)
+  of_lines (Some id) (w ∷ word) ids others s f (inr h) = inr (f (w ∷ word) s h)
+  of_lines None (w ∷ word) ids others s f (inl h) = absurd (let low = s.0 in omega (arith, h.0, low))
+  of_lines None (w ∷ word) ids others s f (inr h) = f (w ∷ word) s h
+
+  to_lines : (o : Option ℕ) (word ids others : List ℕ) → ((w : List ℕ) → IsSubsequence w others → IsSubsequence w ids) → IsSubsequence word (cons_option o others) → IsSubsequence word (id_or o ∷ ids)
+  to_lines o [] ids others f h = tt
+  to_lines (Some id) (w ∷ word) ids others f (inl h) = inl (h.0, f word h.1)
+  to_lines (Some id) (w ∷ word) ids others f (inr h) = inr (f (w ∷ word) h)
+  to_lines None (w ∷ word) ids others f h = inr (f (w ∷ word) h)
+
+  marked_lines : (down : List (List ℕ)) (word up ups : List ℕ) → up ≡ ups → IsSmall word → IsSubsequence word (ids_of (map (λ x. record { id = id_or (rule.heard x); old = true }) down) ++ up) → IsSubsequence word (filter_map rule.heard down ++ ups)
+  marked_lines [] word up ups e s h = subst (IsSubsequence word) e h
+  marked_lines (x ∷ down) word up ups e s h =
+      split (rule.heard x) word (of_lines (rule.heard x) word (ids_of (map (λ x. record { id = id_or (rule.heard x); old = true }) down) ++ up) (filter_map rule.heard down ++ ups) s (λ w t g. marked_lines down w up ups e t g) h)
+    where
+      split : (o : Option ℕ) (word : List ℕ) → IsSubsequence word (cons_option o (filter_map rule.heard down ++ ups)) → IsSubsequence word (cons_option o (filter_map rule.heard down) ++ ups)
+      split None word h = h
+      split (Some id) word h = h
+
+  lines_marked : (down : List (Aged (List ℕ))) (word up ups : List ℕ) → up ≡ ups → IsSubsequence word (filter_map rule.heard (map (λ x. x.line) down) ++ up) → IsSubsequence word (ids_of (map mark_down down) ++ ups)
+  lines_marked [] word up ups e h = subst (IsSubsequence word) e h
+  lines_marked (x ∷ down) word up ups e h =
+      to_lines (rule.heard x.line) word (ids_of (map mark_down down) ++ ups) (filter_map rule.heard (map (λ x. x.line) down) ++ up) (λ w g. lines_marked down w up ups e g) (split (rule.heard x.line) word h)
+    where
+      split : (o : Option ℕ) (word : List ℕ) → IsSubsequence word (cons_option o (filter_map rule.heard (map (λ x. x.line) down)) ++ up) → IsSubsequence word (cons_option o (filter_map rule.heard (map (λ x. x.line) down) ++ up))
+      split None word h = h
+      split (Some id) word h = h
+
+  absent_marks : (u : UnderWay State) (word : List ℕ) → IsSmall word → (IsSubsequence word (ids_under_way u) → ⊥) → IsSubsequence word (under_way (marks u)) → ⊥
+  absent_marks u word s none h = none (marked_lines u.down word (ids_of (marks u).up) (map (λ x. x.id) u.up) (ids_up u.up) s h)
+
+  up_left : (xs : List (Aged Request)) → map (λ x. x.id) (map (λ x. x.line) xs) ≡ ids_of (map mark_up xs)
+  up_left [] = refl
+  up_left (x ∷ xs) = ap (λ l. x.line.id ∷ l) (up_left xs)
+
+  left_marks : (s : Standing State) (p : ids.Standing) (word : List ℕ) → Shows s p → IsSubsequence word (ids_under_way (leaves s)) → IsSubsequence word (under_way p)
+  left_marks s p word g h =
+      subst (λ l. IsSubsequence word (ids_of l ++ ids_of p.up)) (sym g.down)
+      (subst (λ l. IsSubsequence word (ids_of (map mark_down s.down) ++ ids_of l)) (sym g.up)
+      (lines_marked s.down word (map (λ x. x.id) (map (λ x. x.line) s.up)) (ids_of (map mark_up s.up)) (up_left s.up) h))
+
+  -- Its end.
+
+  heard_seven : (o : Option ℕ) → id_or o ≡ 7 → o ≡ Some 7
+  heard_seven None e = absurd (omega (arith, e))
+  heard_seven (Some id) e = ap Some e
+
+  request_is : (x : Request) → x.id ≡ 7 → x.call ≡ NullProc → x ≡ eighth
+  request_is x e f = ap₂ (λ (i : ℕ) (c : Call). record { id = i; call = c }) e f
+
+  clean_up : (xs : List (Aged Request)) → Each IsKnown xs → Each (λ x. (x.old ≡ false) × (x.id ≡ 7)) (map mark_up xs) → Each (λ x. (x.old ≡ false) × (x.line ≡ eighth)) xs
+  clean_up [] k h = tt
+  clean_up (x ∷ xs) k h = ((h.0.0, request_is x.line h.0.1 (k.0.1 h.0.0)), clean_up xs k.1 h.1)
+
+  clean_down : (xs : List (Aged (List ℕ))) → Each (λ x. (x.old ≡ false) × (x.id ≡ 7)) (map mark_down xs) → Each (λ x. (x.old ≡ false) × (rule.heard x.line ≡ Some 7)) xs
+  clean_down [] h = tt
+  clean_down (x ∷ xs) h = ((h.0.0, heard_seven (rule.heard x.line) h.0.1), clean_down xs h.1)
+
+  clean : (s : Standing State) (p : ids.Standing) → Shows s p → IsClean 7 p → HasBegunCleanly kept s
+  clean s p g c = record {
+    up = clean_up s.up g.known (subst (Each (λ x. (x.old ≡ false) × (x.id ≡ 7))) g.up c.up);
+    down = clean_down s.down (subst (Each (λ x. (x.old ≡ false) × (x.id ≡ 7))) g.down c.down);
+    keeps = λ k e. c.kept k.id (g.keeps k e);
+  }
+
+  pub begins_cleanly : (u : UnderWay State) (ts : List (Turn State)) → AreLines Good u → AreTurns ends Good kept ts (begins u) → (IsSubsequence the_word (ids_under_way u) → ⊥) → (turned ends ts (begins u)).left ≡ []
+      → HasBegunCleanly kept (turned ends ts (begins u))
+  begins_cleanly u ts lines possible none done =
+      let r = shown ts (begins u) (begun_anew the_word (marks u)) possible (shows_begins u lines) in
+      clean (turned ends ts (begins u)) (moved r.0 (begun_anew the_word (marks u))) r.1
+      (the_word_begins_cleanly (begun_anew the_word (marks u)) r.0 (begins_anew (marks u) (absent_marks u the_word word_small none)) (r.1.left ∙ done))
+
+  -- what a beginning that is killed leaves are lines, and no longer front of the word but by one id
+  pub left_lines : (u : UnderWay State) (ts : List (Turn State)) → AreLines Good u → AreTurns ends Good kept ts (begins u) → AreLines Good (leaves (turned ends ts (begins u)))
+  left_lines u ts lines possible =
+      let r = shown ts (begins u) (begun_anew the_word (marks u)) possible (shows_begins u lines) in
+      record { ids = each_to_map (λ x. x.id < 8) (λ x. x.line) (turned ends ts (begins u)).up (only (turned ends ts (begins u)).up r.1.known); good = r.1.good }
+    where
+      only : (xs : List (Aged Request)) → Each IsKnown xs → Each (λ x. x.line.id < 8) xs
+      only [] h = tt
+      only (x ∷ xs) h = (h.0.0, only xs h.1)
+
+  pub left_absent : (u : UnderWay State) (ts : List (Turn State)) (a b : ℕ) (more : List ℕ) (c : ℕ) (tail : List ℕ) → the_word ≡ a ∷ b ∷ (more ++ c ∷ tail) → AreLines Good u → AreTurns ends Good kept ts (begins u)
+      → (IsSubsequence (a ∷ b ∷ more) (ids_under_way u) → ⊥) → IsSubsequence (a ∷ b ∷ (more ++ c ∷ [])) (ids_under_way (leaves (turned ends ts (begins u)))) → ⊥
+  left_absent u ts a b more c tail e lines possible none h =
+      let r = shown ts (begins u) (begun_anew the_word (marks u)) possible (shows_begins u lines) in
+      let small : IsSmall (a ∷ b ∷ more) = each_front (λ i. i < 8) (a ∷ b ∷ more) (c ∷ tail) (subst IsSmall e word_small) in
+      behind_one (marks u) r.0 a b more c tail e (absent_marks u (a ∷ b ∷ more) small none)
+      (left_marks (turned ends ts (begins u)) (moved r.0 (begun_anew the_word (marks u))) (a ∷ b ∷ (more ++ c ∷ [])) r.1 h)

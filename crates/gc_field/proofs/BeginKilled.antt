@@ -1,0 +1,259 @@
+-- Beginnings that are killed: each makes the front of the word that stands in the line longer by one id at most.
+use Rattle.std.proofs.Common.{◌≡◌, ℕ, zero, ◌⊎◌, inl, inr, Bool, true, false, List, [], ◌∷◌, ◌++◌, nat_eq, refl, sym, ◌∙◌, ap, subst, append-nil}
+use Rattle.std.proofs.lemmas.Bool.{eqb-true}
+use Rattle.gc_client.specs.Beginning.{next_if, IsSubsequence, the_word}
+use Rattle.gc_field.proofs.BeginIds.{Sent, Standing, Move, heard, moved, aged, begun_anew, Pairs, AllDiffer, Begins, ids_of}
+use Rattle.gc_world.specs.Order.{Each}
+use Rattle.gc_world.specs.World.{without, doubled}
+use Rattle.gc_field.proofs.BeginLists.{each_more, each_both, each_append, each_back, each_without, each_doubled, pairs_front, pairs_back, goes_over}
+use Rattle.gc_field.proofs.BeginWords.{Has, stands_front, stands_each, never, word_differs}
+use Rattle.gc_field.proofs.BeginMoves.{Lasts, holds_moved}
+use Rattle.gc_field.proofs.BeginLines.{IsLine, IsOld, IsOwn, IsBefore, HasNone, Follows, AreOwn, old_if, olds, olds_all, olds_push, has_without, has_doubled, line_without, line_doubled, line_asked, line_came}
+use Rattle.gc_field.proofs.BeginSound.{sound_at_start}
+
+-- The invariant of one beginning.
+
+-- while only old ones answered: what answered stood at the start (in these ids) in front of what is left of the old ones
+pub record IsHearing (first done : List ℕ) (line : List Sent) : Type 0 where
+  pub from : Has (olds line) first
+  pub heard : (word : List ℕ) → AllDiffer (done ++ word) → IsSubsequence word (olds line) → IsSubsequence (done ++ word) first
+
+-- the id that is asked for now
+abbrev pub IsAsked : ℕ → List ℕ → Type 0
+IsAsked i [] = ⊥
+IsAsked i (asked ∷ later) = i ≡ asked
+
+-- this id, or the one that is asked for now
+abbrev pub IsNear : ℕ → List ℕ → ℕ → Type 0
+IsNear p left i = (i ≡ p) ⊎ IsAsked i left
+
+-- since an own one answered: all are own, and have two ids at most
+abbrev pub IsOver : List ℕ → List Sent → Type 0
+IsOver left line = (p : ℕ) × Each (λ x. IsOwn x × IsNear p left x.id) line
+
+pub record IsTrying (z : ℕ) (word first left : List ℕ) (line : List Sent) : Type 0 where
+  pub sound : IsLine z left line
+  pub done : List ℕ
+  pub split : word ≡ done ++ left
+  pub phase : IsHearing first done line ⊎ IsOver left line
+
+-- Old ones are lost or repeated.
+
+hearing_has : (first done : List ℕ) (line other : List Sent) → Has (olds other) (olds line) → IsHearing first done line → IsHearing first done other
+hearing_has first done line other has h =
+    record {
+      from = λ word d s. h.from word d (has word d s);
+      heard = λ word d s. h.heard word d (has word (pairs_back (λ i j. i ≡ j → ⊥) done word d) s);
+    }
+
+module _ (z : ℕ) (word first : List ℕ) where
+  trying_lost : (left : List ℕ) (k : ℕ) (line : List Sent) → IsTrying z word first left line → IsTrying z word first left (without k line)
+  trying_lost left k line h =
+      record {
+        sound = line_without z left k line h.sound;
+        done = h.done;
+        split = h.split;
+        phase =
+            elim h.phase [
+              | inl g ↦ inl (hearing_has first h.done line (without k line) (has_without k line) g)
+              | inr g ↦ inr (g.0, each_without (λ x. IsOwn x × IsNear g.0 left x.id) k line g.1)
+            ];
+      }
+
+  trying_twice : (left : List ℕ) (k : ℕ) (line : List Sent) → IsTrying z word first left line → IsTrying z word first left (doubled k line)
+  trying_twice left k line h =
+      record {
+        sound = line_doubled z left k line h.sound;
+        done = h.done;
+        split = h.split;
+        phase =
+            elim h.phase [
+              | inl g ↦ inl (hearing_has first h.done line (doubled k line) (has_doubled k line) g)
+              | inr g ↦ inr (g.0, each_doubled (λ x. IsOwn x × IsNear g.0 left x.id) k line g.1)
+            ];
+      }
+
+  trying_asked : (id : ℕ) (later : List ℕ) (line : List Sent) → IsTrying z word first (id ∷ later) line → IsTrying z word first (id ∷ later) (line ++ record { id = id; old = false } ∷ [])
+  trying_asked id later line h =
+      let new : Sent = record { id = id; old = false } in
+      record {
+        sound = line_asked z id later line h.sound;
+        done = h.done;
+        split = h.split;
+        phase =
+            elim h.phase [
+              | inl g ↦ inl (hearing_has first h.done line (line ++ new ∷ []) (λ v d s. subst (λ ids. IsSubsequence v ids) (olds_push id line) s) g)
+              | inr g ↦ inr (g.0, each_append (λ x. IsOwn x × IsNear g.0 (id ∷ later) x.id) line (new ∷ []) g.1 ((refl, inr refl), tt))
+            ];
+      }
+
+  -- one comes, and is the answer
+
+  old_stands : (b : Bool) (i id : ℕ) (ids v : List ℕ) → b ≡ true → i ≡ id → IsSubsequence v ids → IsSubsequence (id ∷ v) (old_if b i ids)
+  old_stands true i id ids v o e s = inl (sym e, s)
+  old_stands false i id ids v o e s = absurd (never o)
+
+  old_answers : (id : ℕ) (done : List ℕ) (x : Sent) (rest : List Sent) → IsOld x → x.id ≡ id → IsHearing first done (x ∷ rest) → IsHearing first (done ++ id ∷ []) rest
+  old_answers id done x rest o e h =
+      record {
+        from = λ v d s. h.from v d (has_without zero (x ∷ rest) v d s);
+        heard = λ v d s. subst (λ l. IsSubsequence l first) (sym (goes_over done id v))
+            (h.heard (id ∷ v) (subst AllDiffer (goes_over done id v) d) (old_stands x.old x.id id (olds rest) v o e s));
+      }
+
+  own_answers : (id : ℕ) (later : List ℕ) (x : Sent) (rest : List Sent) → IsLine z (id ∷ later) (x ∷ rest) → IsOwn x → x.id ≡ id → IsOver later rest
+  own_answers id later x rest h o e =
+      (id, each_both (IsBefore x) (Follows id x) (λ y. IsOwn y × IsNear id later y.id) (λ y f g. (f o, inl (g o e))) rest h.ordered.0 h.own.1.0)
+
+  phase_answered : (id : ℕ) (later done : List ℕ) (x : Sent) (rest : List Sent) (b : Bool) → x.old ≡ b → IsLine z (id ∷ later) (x ∷ rest) → x.id ≡ id
+      → IsHearing first done (x ∷ rest) ⊎ IsOver (id ∷ later) (x ∷ rest) → IsHearing first (done ++ id ∷ []) rest ⊎ IsOver later rest
+  phase_answered id later done x rest false o h e p = inr (own_answers id later x rest h o e)
+  phase_answered id later done x rest true o h e (inl g) = inl (old_answers id done x rest o e g)
+  phase_answered id later done x rest true o h e (inr g) = absurd (never (sym g.1.0.0 ∙ o))
+
+  trying_came : (left : List ℕ) (x : Sent) (rest : List Sent) → IsTrying z word first left (x ∷ rest) → IsTrying z word first (heard left x.id) rest
+  trying_came [] x rest h = trying_lost [] zero (x ∷ rest) h
+  trying_came (id ∷ later) x rest h = chosen (nat_eq x.id id) refl (line_came z (id ∷ later) x rest h.sound) where
+    chosen : (b : Bool) → nat_eq x.id id ≡ b → IsLine z (next_if (nat_eq x.id id) id later) rest → IsTrying z word first (next_if b id later) rest
+    chosen true e line =
+        record {
+          sound = subst (λ b. IsLine z (next_if b id later) rest) e line;
+          done = h.done ++ id ∷ [];
+          split = h.split ∙ sym (goes_over h.done id later);
+          phase = phase_answered id later h.done x rest x.old refl h.sound (eqb-true x.id id e) h.phase;
+        }
+    chosen false e line = trying_lost (id ∷ later) zero (x ∷ rest) h
+
+  trying_lasts : Lasts (IsTrying z word first)
+  trying_lasts = record { lost = trying_lost; twice = trying_twice; asked = trying_asked; came = trying_came }
+
+-- What can stand in the line meanwhile.
+
+-- of two splits of a word the front of one is in that of the other, or behind its next id
+fronts : (done left front : List ℕ) (c : ℕ) (tail : List ℕ) → done ++ left ≡ front ++ c ∷ tail
+    → ((more : List ℕ) × (done ≡ front ++ more)) ⊎ ((asked : ℕ) × (more : List ℕ) × (left ≡ asked ∷ (more ++ c ∷ tail)))
+fronts [] left [] c tail e = inl ([], refl)
+fronts [] left (a ∷ front) c tail e = inr (a, front, e)
+fronts (d ∷ done) left [] c tail e = inl (d ∷ done, refl)
+fronts (d ∷ done) left (a ∷ front) c tail e =
+    let same : d ≡ a = cc in
+    let rest : done ++ left ≡ front ++ c ∷ tail = cc in
+    elim (fronts done left front c tail rest) [
+      | inl h ↦ inl (h.0, (let all : d ∷ done ≡ a ∷ (front ++ h.0) = cons_is d a done (front ++ h.0) same h.1 in all))
+      | inr h ↦ inr h
+    ]
+  where
+    cons_is : (d a : ℕ) (xs ys : List ℕ) → d ≡ a → xs ≡ ys → d ∷ xs ≡ a ∷ ys
+    cons_is d a xs ys e f = cc
+
+-- a word whose last id no own one has stands in the old ones
+own_has_no : (front : List ℕ) (c : ℕ) (ids : List ℕ) → Each (λ i. c ≡ i → ⊥) ids → IsSubsequence (front ++ c ∷ []) ids → ⊥
+own_has_no front c ids h s = (each_back (λ i. c ≡ i → ⊥) front (c ∷ []) (stands_each (λ i. c ≡ i → ⊥) (front ++ c ∷ []) ids h s)).0 refl
+
+each_id : (P : ℕ → Type 0) (xs : List Sent) → Each (λ x. P x.id) xs → Each P (ids_of xs)
+each_id P [] h = tt
+each_id P (x ∷ xs) h = (h.0, each_id P xs h.1)
+
+in_old : (xs : List Sent) (front : List ℕ) (c : ℕ) → Pairs IsBefore xs → Each (λ x. IsOwn x → c ≡ x.id → ⊥) xs → IsSubsequence (front ++ c ∷ []) (ids_of xs) → IsSubsequence (front ++ c ∷ []) (olds xs)
+in_old [] front c before none s = s
+in_old (x ∷ xs) front c before none s = chosen x.old refl (λ f. in_old xs f c before.1 none.1) front s where
+  chosen : (b : Bool) → x.old ≡ b → ((f : List ℕ) → IsSubsequence (f ++ c ∷ []) (ids_of xs) → IsSubsequence (f ++ c ∷ []) (olds xs)) → (front : List ℕ) → IsSubsequence (front ++ c ∷ []) (x.id ∷ ids_of xs) → IsSubsequence (front ++ c ∷ []) (old_if b x.id (olds xs))
+  chosen true o f [] (inl s) = inl (s.0, tt)
+  chosen true o f [] (inr s) = inr (f [] s)
+  chosen true o f (a ∷ front) (inl s) = inl (s.0, f front s.1)
+  chosen true o f (a ∷ front) (inr s) = inr (f (a ∷ front) s)
+  chosen false o f front s =
+      absurd (own_has_no front c (x.id ∷ ids_of xs) (none.0 o, each_id (λ i. c ≡ i → ⊥) xs (each_both (IsBefore x) (λ y. IsOwn y → c ≡ y.id → ⊥) (λ y. c ≡ y.id → ⊥) (λ y g n. n (g o)) xs before.0 none.1)) s)
+
+-- three ids that differ are not of two
+same_asked : (left : List ℕ) (i j : ℕ) → IsAsked i left → IsAsked j left → i ≡ j
+same_asked [] i j a b = absurd a
+same_asked (asked ∷ later) i j a b = a ∙ sym b
+
+not_three : (p : ℕ) (left : List ℕ) (a b c : ℕ) → (a ≡ b → ⊥) → (a ≡ c → ⊥) → (b ≡ c → ⊥) → IsNear p left a → IsNear p left b → IsNear p left c → ⊥
+not_three p left a b c ab ac bc (inl x) (inl y) z = ab (x ∙ sym y)
+not_three p left a b c ab ac bc (inr x) (inr y) z = ab (same_asked left a b x y)
+not_three p left a b c ab ac bc (inl x) (inr y) (inl z) = ac (x ∙ sym z)
+not_three p left a b c ab ac bc (inl x) (inr y) (inr z) = bc (same_asked left b c y z)
+not_three p left a b c ab ac bc (inr x) (inl y) (inl z) = bc (y ∙ sym z)
+not_three p left a b c ab ac bc (inr x) (inl y) (inr z) = ac (same_asked left a c x z)
+
+over_short : (p : ℕ) (left word : List ℕ) (line : List Sent) (a b c : ℕ) → AllDiffer (a ∷ b ∷ c ∷ word) → Each (λ x. IsOwn x × IsNear p left x.id) line → IsSubsequence (a ∷ b ∷ c ∷ word) (ids_of line) → ⊥
+over_short p left word line a b c d h s =
+    let near = stands_each (IsNear p left) (a ∷ b ∷ c ∷ word) (ids_of line) (each_id (IsNear p left) line (each_more (λ x. IsOwn x × IsNear p left x.id) (λ x. IsNear p left x.id) (λ x g. g.1) line h)) s in
+    not_three p left a b c d.0.0 d.0.1.0 d.1.0.0 near.0 near.1.0 near.1.1.0
+
+-- a front of at least two ids that did not stand at the start stands now with no further one
+no_longer : (z : ℕ) (word first left : List ℕ) (line : List Sent) (a b : ℕ) (more : List ℕ) (c : ℕ) (tail : List ℕ) → word ≡ a ∷ b ∷ (more ++ c ∷ tail) → AllDiffer word
+    → (IsSubsequence (a ∷ b ∷ more) first → ⊥) → IsTrying z word first left line → IsSubsequence (a ∷ b ∷ (more ++ c ∷ [])) (ids_of line) → ⊥
+no_longer z word first left line a b more c tail e d none h s =
+    elim h.phase [
+      | inl g ↦ (
+          elim (fronts h.done left (a ∷ b ∷ more) c tail (sym h.split ∙ e)) [
+            | inl f ↦ none (stands_front (a ∷ b ∷ more) f.0 first (subst (λ l. IsSubsequence l first) (append-nil h.done ∙ f.1) (g.heard [] (subst AllDiffer (sym (append-nil h.done)) done_differs) tt)))
+            | inr f ↦ none (stands_front (a ∷ b ∷ more) (c ∷ []) first (g.from front front_differs (in_old line (a ∷ b ∷ more) c h.sound.ordered (own_none f.0 f.1 f.2) s)))
+          ])
+      | inr g ↦ third more front_differs s g.0 g.1
+    ]
+  where
+    front : List ℕ
+    front = a ∷ b ∷ (more ++ c ∷ [])
+
+    done_differs : AllDiffer h.done
+    done_differs = pairs_front (λ i j. i ≡ j → ⊥) h.done left (subst AllDiffer h.split d)
+
+    front_differs : AllDiffer (a ∷ b ∷ (more ++ c ∷ []))
+    front_differs = pairs_front (λ i j. i ≡ j → ⊥) (a ∷ b ∷ (more ++ c ∷ [])) tail (subst AllDiffer (e ∙ sym (ap (λ l. a ∷ b ∷ l) (goes_over more c tail))) d)
+
+    own_none : (asked : ℕ) (between : List ℕ) → left ≡ asked ∷ (between ++ c ∷ tail) → Each (λ x. IsOwn x → c ≡ x.id → ⊥) line
+    own_none asked between f =
+        each_more (HasNone (between ++ c ∷ tail)) (λ x. IsOwn x → c ≡ x.id → ⊥) (λ x g o. (each_back (λ i. i ≡ x.id → ⊥) between (c ∷ tail) (g o)).0) line
+        (subst (λ l. AreOwn z l line) f h.sound.own).0
+
+    third : (more : List ℕ) → AllDiffer (a ∷ b ∷ (more ++ c ∷ [])) → IsSubsequence (a ∷ b ∷ (more ++ c ∷ [])) (ids_of line) → (p : ℕ) → Each (λ x. IsOwn x × IsNear p left x.id) line → ⊥
+    third [] d s p g = over_short p left [] line a b c d g s
+    third (m ∷ more) d s p g = over_short p left (more ++ c ∷ []) line a b m d g s
+
+-- One beginning after the other.
+
+ids_aged : (xs : List Sent) → ids_of (aged xs) ≡ ids_of xs
+ids_aged [] = refl
+ids_aged (x ∷ xs) = ap (λ l. x.id ∷ l) (ids_aged xs)
+
+all_aged : (xs : List Sent) → Each IsOld (aged xs)
+all_aged [] = tt
+all_aged (x ∷ xs) = (refl, all_aged xs)
+
+ids_append : (xs ys : List Sent) → ids_of (xs ++ ys) ≡ ids_of xs ++ ids_of ys
+ids_append [] ys = refl
+ids_append (x ∷ xs) ys = ap (λ l. x.id ∷ l) (ids_append xs ys)
+
+abbrev pub under_way : Standing → List ℕ
+under_way s = ids_of s.down ++ ids_of s.up
+
+ids_anew : (s : Standing) → under_way (begun_anew the_word s) ≡ under_way s
+ids_anew s = ap (λ l. l ++ ids_of (aged s.up)) (ids_aged s.down) ∙ ap (λ l. ids_of s.down ++ l) (ids_aged s.up)
+
+pub begins_anew : (s : Standing) → (IsSubsequence the_word (under_way s) → ⊥) → Begins the_word (begun_anew the_word s)
+begins_anew s none = record { left = refl; up = all_aged s.up; down = all_aged s.down; absent = λ h. none (subst (λ ids. IsSubsequence the_word ids) (ids_anew s) h) }
+
+trying_at_start : (s : Standing) → Begins the_word s → IsTrying 7 the_word (under_way s) s.left (s.down ++ s.up)
+trying_at_start s h =
+    let same = olds_all s.down s.up h.down h.up in
+    record {
+      sound = (sound_at_start the_word s word_differs h).line;
+      done = [];
+      split = sym h.left;
+      phase = inl (record { from = λ v d g. subst (λ ids. IsSubsequence v ids) same g; heard = λ v d g. subst (λ ids. IsSubsequence v ids) same g });
+    }
+
+-- behind one beginning, killed anywhere
+pub behind_one : (s : Standing) (ms : List Move) (a b : ℕ) (more : List ℕ) (c : ℕ) (tail : List ℕ) → the_word ≡ a ∷ b ∷ (more ++ c ∷ tail) → (IsSubsequence (a ∷ b ∷ more) (under_way s) → ⊥) → IsSubsequence (a ∷ b ∷ (more ++ c ∷ [])) (under_way (moved ms (begun_anew the_word s))) → ⊥
+behind_one s ms a b more c tail e none h =
+    let anew : Standing = begun_anew the_word s in
+    let end : Standing = moved ms anew in
+    let begins : Begins the_word anew = begins_anew s (λ g. none (stands_front (a ∷ b ∷ more) (c ∷ tail) (under_way s) (subst (λ w. IsSubsequence w (under_way s)) e g))) in
+    let trying = holds_moved (IsTrying 7 the_word (under_way anew)) (trying_lasts 7 the_word (under_way anew)) ms anew (trying_at_start anew begins) in
+    no_longer 7 the_word (under_way anew) end.left (end.down ++ end.up) a b more c tail e word_differs
+    (λ g. none (subst (λ ids. IsSubsequence (a ∷ b ∷ more) ids) (ids_anew s) g)) trying
+    (subst (λ ids. IsSubsequence (a ∷ b ∷ (more ++ c ∷ [])) ids) (sym (ids_append end.down end.up)) h)

@@ -1,0 +1,203 @@
+-- The whole line, replies first: what holds of it from the beginning on, whatever it loses or repeats, and whatever comes.
+use Rattle.std.proofs.Common.{◌≡◌, ℕ, zero, suc, inl, Bool, true, false, List, [], ◌∷◌, ◌++◌, nat_eq, refl, sym, ◌∙◌, ap, subst}
+use Rattle.std.proofs.lemmas.Bool.{eqb-true}
+use Rattle.gc_client.specs.Beginning.{next_if, IsSubsequence}
+use Rattle.gc_field.proofs.BeginIds.{Sent, heard, Pairs, AllDiffer, ids_of, last}
+use Rattle.gc_world.specs.Order.{Each}
+use Rattle.gc_world.specs.World.{without, doubled}
+use Rattle.gc_field.proofs.BeginLists.{each_more, each_append, each_without, each_doubled, pairs_without, pairs_doubled, pairs_push, pairs_of_each}
+use Rattle.gc_field.proofs.BeginWords.{Has, has_behind, has_twice, stands_more, never, not_over}
+
+-- The invariant.
+
+abbrev pub IsOld : Sent → Type 0
+IsOld x = x.old ≡ true
+
+abbrev pub IsOwn : Sent → Type 0
+IsOwn x = x.old ≡ false
+
+-- the ids of the old ones
+abbrev pub old_if : Bool → ℕ → List ℕ → List ℕ
+old_if true i ids = i ∷ ids
+old_if false i ids = ids
+
+abbrev pub olds : List Sent → List ℕ
+olds [] = []
+olds (x ∷ xs) = old_if x.old x.id (olds xs)
+
+-- behind an own one there are only own ones
+abbrev pub IsBefore : Sent → Sent → Type 0
+IsBefore x y = IsOwn x → IsOwn y
+
+-- an own one has none of these ids
+abbrev pub HasNone : List ℕ → Sent → Type 0
+HasNone ids x = IsOwn x → Each (λ i. i ≡ x.id → ⊥) ids
+
+-- behind an own one with the id that is asked for now there are only such
+abbrev pub Follows : ℕ → Sent → Sent → Type 0
+Follows asked x y = IsOwn x → x.id ≡ asked → y.id ≡ asked
+
+-- the own ones: none has an id that will be asked for later; and once it has begun, each has the last one
+abbrev pub AreOwn : ℕ → List ℕ → List Sent → Type 0
+AreOwn z [] line = Each (λ x. IsOwn x → x.id ≡ z) line
+AreOwn z (asked ∷ later) line = Each (HasNone later) line × Pairs (Follows asked) line
+
+-- the line, where this is left of a word whose last id is z
+pub record IsLine (z : ℕ) (left : List ℕ) (line : List Sent) : Type 0 where
+  pub differ : AllDiffer left
+  pub ends : last z left ≡ z
+  pub ordered : Pairs IsBefore line
+  -- what is left stands in the old ones only if there are none, and it has begun
+  pub clear : IsSubsequence left (olds line) → olds line ≡ []
+  pub own : AreOwn z left line
+
+-- The ids of the old ones.
+
+neither : true ≡ false → ⊥
+neither e = cc
+
+none_if : (b : Bool) (i : ℕ) (ids : List ℕ) → b ≡ false → ids ≡ [] → old_if b i ids ≡ []
+none_if true i ids e f = absurd (neither e)
+none_if false i ids e f = f
+
+own_if : (b : Bool) (i : ℕ) (ids : List ℕ) → old_if b i ids ≡ [] → (b ≡ false) × (ids ≡ [])
+own_if true i ids e = absurd (not_over i ids e)
+own_if false i ids e = (refl, e)
+
+pub olds_none : (xs : List Sent) → Each IsOwn xs → olds xs ≡ []
+olds_none [] h = refl
+olds_none (x ∷ xs) h = none_if x.old x.id (olds xs) h.0 (olds_none xs h.1)
+
+pub each_own : (xs : List Sent) → olds xs ≡ [] → Each IsOwn xs
+each_own [] e = tt
+each_own (x ∷ xs) e = let h = own_if x.old x.id (olds xs) e in (h.0, each_own xs h.1)
+
+all_if : (b : Bool) (i : ℕ) (ids others : List ℕ) → b ≡ true → ids ≡ others → old_if b i ids ≡ i ∷ others
+all_if true i ids others e f = ap (λ l. i ∷ l) f
+all_if false i ids others e f = absurd (never e)
+
+pub olds_all : (xs ys : List Sent) → Each IsOld xs → Each IsOld ys → olds (xs ++ ys) ≡ ids_of xs ++ ids_of ys
+olds_all [] [] h g = refl
+olds_all [] (y ∷ ys) h g = all_if y.old y.id (olds ys) (ids_of ys) g.0 (olds_all [] ys tt g.1)
+olds_all (x ∷ xs) ys h g = all_if x.old x.id (olds (xs ++ ys)) (ids_of xs ++ ids_of ys) h.0 (olds_all xs ys h.1 g)
+
+pub olds_push : (i : ℕ) (xs : List Sent) → olds (xs ++ record { id = i; old = false } ∷ []) ≡ olds xs
+olds_push i [] = refl
+olds_push i (x ∷ xs) = ap (λ l. old_if x.old x.id l) (olds_push i xs)
+
+has_if : (b : Bool) (i : ℕ) (ids others : List ℕ) → Has ids others → Has (old_if b i ids) (old_if b i others)
+has_if true i ids others h = has_behind i ids others h
+has_if false i ids others h = h
+
+has_less_if : (b : Bool) (i : ℕ) (ids : List ℕ) → Has ids (old_if b i ids)
+has_less_if true i ids = λ word d h. stands_more word ids i h
+has_less_if false i ids = λ word d h. h
+
+has_twice_if : (b : Bool) (i : ℕ) (ids : List ℕ) → Has (old_if b i (old_if b i ids)) (old_if b i ids)
+has_twice_if true i ids = has_twice i ids
+has_twice_if false i ids = λ word d h. h
+
+pub has_without : (k : ℕ) (line : List Sent) → Has (olds (without k line)) (olds line)
+has_without k [] = λ word d h. h
+has_without zero (x ∷ xs) = has_less_if x.old x.id (olds xs)
+has_without (suc k) (x ∷ xs) = has_if x.old x.id (olds (without k xs)) (olds xs) (has_without k xs)
+
+pub has_doubled : (k : ℕ) (line : List Sent) → Has (olds (doubled k line)) (olds line)
+has_doubled k [] = λ word d h. h
+has_doubled zero (x ∷ xs) = has_twice_if x.old x.id (olds xs)
+has_doubled (suc k) (x ∷ xs) = has_if x.old x.id (olds (doubled k xs)) (olds xs) (has_doubled k xs)
+
+-- The line loses one, or repeats one.
+
+own_without : (z : ℕ) (left : List ℕ) (k : ℕ) (line : List Sent) → AreOwn z left line → AreOwn z left (without k line)
+own_without z [] k line h = each_without (λ x. IsOwn x → x.id ≡ z) k line h
+own_without z (asked ∷ later) k line h = (each_without (HasNone later) k line h.0, pairs_without (Follows asked) k line h.1)
+
+own_doubled : (z : ℕ) (left : List ℕ) (k : ℕ) (line : List Sent) → AreOwn z left line → AreOwn z left (doubled k line)
+own_doubled z [] k line h = each_doubled (λ x. IsOwn x → x.id ≡ z) k line h
+own_doubled z (asked ∷ later) k line h = (each_doubled (HasNone later) k line h.0, pairs_doubled (Follows asked) (λ x o e. e) k line h.1)
+
+pub line_without : (z : ℕ) (left : List ℕ) (k : ℕ) (line : List Sent) → IsLine z left line → IsLine z left (without k line)
+line_without z left k line h =
+    record {
+      differ = h.differ;
+      ends = h.ends;
+      ordered = pairs_without IsBefore k line h.ordered;
+      clear = λ s. olds_none (without k line) (each_without IsOwn k line (each_own line (h.clear (has_without k line left h.differ s))));
+      own = own_without z left k line h.own;
+    }
+
+pub line_doubled : (z : ℕ) (left : List ℕ) (k : ℕ) (line : List Sent) → IsLine z left line → IsLine z left (doubled k line)
+line_doubled z left k line h =
+    record {
+      differ = h.differ;
+      ends = h.ends;
+      ordered = pairs_doubled IsBefore (λ x o. o) k line h.ordered;
+      clear = λ s. olds_none (doubled k line) (each_doubled IsOwn k line (each_own line (h.clear (has_doubled k line left h.differ s))));
+      own = own_doubled z left k line h.own;
+    }
+
+-- A null procedure goes out.
+
+pub line_asked : (z asked : ℕ) (later : List ℕ) (line : List Sent) → IsLine z (asked ∷ later) line → IsLine z (asked ∷ later) (line ++ record { id = asked; old = false } ∷ [])
+line_asked z asked later line h =
+    let new : Sent = record { id = asked; old = false } in
+    record {
+      differ = h.differ;
+      ends = h.ends;
+      ordered = pairs_push IsBefore new (λ x o. refl) line h.ordered;
+      clear = λ s. olds_push asked line ∙ h.clear (subst (λ l. IsSubsequence (asked ∷ later) l) (olds_push asked line) s);
+      own = (
+        each_append (HasNone later) line (new ∷ []) h.own.0 ((λ o. each_more (λ i. asked ≡ i → ⊥) (λ i. i ≡ asked → ⊥) (λ i f e. f (sym e)) later h.differ.0), tt),
+        pairs_push (Follows asked) new (λ x o e. refl) line h.own.1,
+      );
+    }
+
+-- The front one comes.
+
+-- an old one can't be heard as the last that the old ones had to give
+no_old : (b : Bool) (i asked : ℕ) (ids word : List ℕ) → b ≡ true → i ≡ asked → (IsSubsequence (asked ∷ word) (old_if b i ids) → old_if b i ids ≡ []) → IsSubsequence word ids → ⊥
+no_old true i asked ids word o e f s = not_over i ids (f (inl (sym e, s)))
+no_old false i asked ids word o e f s = never o
+
+-- so whoever answers the last one is own
+pub is_own : (z asked : ℕ) (x : Sent) (rest : List Sent) → IsLine z (asked ∷ []) (x ∷ rest) → x.id ≡ asked → IsOwn x
+is_own z asked x rest h e = chosen x.old refl where
+  chosen : (b : Bool) → x.old ≡ b → x.old ≡ false
+  chosen true o = absurd (no_old x.old x.id asked (olds rest) [] o e h.clear tt)
+  chosen false o = o
+
+ends_behind : (z asked : ℕ) (later : List ℕ) → last asked later ≡ z → last z later ≡ z
+ends_behind z asked [] e = refl
+ends_behind z asked (i ∷ later) e = e
+
+own_answered : (z asked : ℕ) (later : List ℕ) (x : Sent) (rest : List Sent) → IsLine z (asked ∷ later) (x ∷ rest) → x.id ≡ asked → AreOwn z later rest
+own_answered z asked [] x rest h e =
+    each_more (Follows asked x) (λ y. IsOwn y → y.id ≡ z) (λ y f o. f (is_own z asked x rest h e) e ∙ h.ends) rest h.own.1.0
+own_answered z asked (i ∷ later) x rest h e = (
+  each_more (HasNone (i ∷ later)) (HasNone later) (λ y f o. (f o).1) rest h.own.0.1,
+  pairs_of_each (HasNone (i ∷ later)) (Follows i) (λ y w f o g. absurd ((f o).0 (sym g))) rest h.own.0.1,
+)
+
+clear_answered : (z asked : ℕ) (later : List ℕ) (x : Sent) (rest : List Sent) → IsLine z (asked ∷ later) (x ∷ rest) → x.id ≡ asked → IsSubsequence later (olds rest) → olds rest ≡ []
+clear_answered z asked later x rest h e s = chosen x.old refl where
+  chosen : (b : Bool) → x.old ≡ b → olds rest ≡ []
+  chosen true o = absurd (no_old x.old x.id asked (olds rest) later o e h.clear s)
+  chosen false o = olds_none rest (each_more (IsBefore x) IsOwn (λ y f. f o) rest h.ordered.0)
+
+line_answered : (z asked : ℕ) (later : List ℕ) (x : Sent) (rest : List Sent) → IsLine z (asked ∷ later) (x ∷ rest) → x.id ≡ asked → IsLine z later rest
+line_answered z asked later x rest h e =
+    record {
+      differ = h.differ.1;
+      ends = ends_behind z asked later h.ends;
+      ordered = h.ordered.1;
+      clear = clear_answered z asked later x rest h e;
+      own = own_answered z asked later x rest h e;
+    }
+
+pub line_came : (z : ℕ) (left : List ℕ) (x : Sent) (rest : List Sent) → IsLine z left (x ∷ rest) → IsLine z (heard left x.id) rest
+line_came z [] x rest h = line_without z [] zero (x ∷ rest) h
+line_came z (asked ∷ later) x rest h = chosen (nat_eq x.id asked) refl where
+  chosen : (b : Bool) → nat_eq x.id asked ≡ b → IsLine z (next_if b asked later) rest
+  chosen true e = line_answered z asked later x rest h (eqb-true x.id asked e)
+  chosen false e = line_without z (asked ∷ later) zero (x ∷ rest) h

@@ -1,0 +1,108 @@
+-- What holds of each element, and of each two, when one is lost, comes twice, or comes at the end; and where a queue's element stands in
+-- the whole line.
+use Rattle.std.proofs.Common.{◌≡◌, ℕ, zero, suc, ◌⊎◌, inl, inr, List, [], ◌∷◌, ◌++◌, refl, ap}
+use Rattle.gc_field.proofs.BeginIds.{Pairs}
+use Rattle.gc_world.specs.Order.{Each}
+use Rattle.gc_world.specs.World.{without, doubled}
+
+module _ {A : Type 0} where
+  pub each_more : (P Q : A → Type 0) → ((x : A) → P x → Q x) → (xs : List A) → Each P xs → Each Q xs
+  each_more P Q f [] h = tt
+  each_more P Q f (x ∷ xs) h = (f x h.0, each_more P Q f xs h.1)
+
+  pub each_append : (P : A → Type 0) (xs ys : List A) → Each P xs → Each P ys → Each P (xs ++ ys)
+  each_append P [] ys h g = g
+  each_append P (x ∷ xs) ys h g = (h.0, each_append P xs ys h.1 g)
+
+  pub each_front : (P : A → Type 0) (xs ys : List A) → Each P (xs ++ ys) → Each P xs
+  each_front P [] ys h = tt
+  each_front P (x ∷ xs) ys h = (h.0, each_front P xs ys h.1)
+
+  pub each_back : (P : A → Type 0) (xs ys : List A) → Each P (xs ++ ys) → Each P ys
+  each_back P [] ys h = h
+  each_back P (x ∷ xs) ys h = each_back P xs ys h.1
+
+  pub each_without : (P : A → Type 0) (k : ℕ) (xs : List A) → Each P xs → Each P (without k xs)
+  each_without P k [] h = tt
+  each_without P zero (x ∷ xs) h = h.1
+  each_without P (suc k) (x ∷ xs) h = (h.0, each_without P k xs h.1)
+
+  pub each_doubled : (P : A → Type 0) (k : ℕ) (xs : List A) → Each P xs → Each P (doubled k xs)
+  each_doubled P k [] h = tt
+  each_doubled P zero (x ∷ xs) h = (h.0, (h.0, h.1))
+  each_doubled P (suc k) (x ∷ xs) h = (h.0, each_doubled P k xs h.1)
+
+  pub each_both : (P Q R : A → Type 0) → ((x : A) → P x → Q x → R x) → (xs : List A) → Each P xs → Each Q xs → Each R xs
+  each_both P Q R f [] h g = tt
+  each_both P Q R f (x ∷ xs) h g = (f x h.0 g.0, each_both P Q R f xs h.1 g.1)
+
+  pub pairs_without : (R : A → A → Type 0) (k : ℕ) (xs : List A) → Pairs R xs → Pairs R (without k xs)
+  pairs_without R k [] h = tt
+  pairs_without R zero (x ∷ xs) h = h.1
+  pairs_without R (suc k) (x ∷ xs) h = (each_without (R x) k xs h.0, pairs_without R k xs h.1)
+
+  pub pairs_doubled : (R : A → A → Type 0) → ((x : A) → R x x) → (k : ℕ) (xs : List A) → Pairs R xs → Pairs R (doubled k xs)
+  pairs_doubled R same k [] h = tt
+  pairs_doubled R same zero (x ∷ xs) h = ((same x, h.0), (h.0, h.1))
+  pairs_doubled R same (suc k) (x ∷ xs) h = (each_doubled (R x) k xs h.0, pairs_doubled R same k xs h.1)
+
+  pub pairs_push : (R : A → A → Type 0) (y : A) → ((x : A) → R x y) → (xs : List A) → Pairs R xs → Pairs R (xs ++ y ∷ [])
+  pairs_push R y f [] h = (tt, tt)
+  pairs_push R y f (x ∷ xs) h = (each_append (R x) xs (y ∷ []) h.0 (f x, tt), pairs_push R y f xs h.1)
+
+  pub pairs_front : (R : A → A → Type 0) (xs ys : List A) → Pairs R (xs ++ ys) → Pairs R xs
+  pairs_front R [] ys h = tt
+  pairs_front R (x ∷ xs) ys h = (each_front (R x) xs ys h.0, pairs_front R xs ys h.1)
+
+  pub pairs_back : (R : A → A → Type 0) (xs ys : List A) → Pairs R (xs ++ ys) → Pairs R ys
+  pairs_back R [] ys h = h
+  pairs_back R (x ∷ xs) ys h = pairs_back R xs ys h.1
+
+  -- each element in front of this one
+  pub pairs_before : (R : A → A → Type 0) (xs : List A) (y : A) (ys : List A) → Pairs R (xs ++ y ∷ ys) → Each (λ x. R x y) xs
+  pairs_before R [] y ys h = tt
+  pairs_before R (x ∷ xs) y ys h = ((each_back (R x) xs (y ∷ ys) h.0).0, pairs_before R xs y ys h.1)
+
+  -- where each two go together that satisfy P
+  pub pairs_of_each : (P : A → Type 0) (R : A → A → Type 0) → ((x y : A) → P x → R x y) → (xs : List A) → Each P xs → Pairs R xs
+  pairs_of_each P R f [] h = tt
+  pairs_of_each P R f (x ∷ xs) h = (every xs, pairs_of_each P R f xs h.1) where
+    every : (ys : List A) → Each (R x) ys
+    every [] = tt
+    every (y ∷ ys) = (f x y h.0, every ys)
+
+  -- an element of the back queue, and of the front one, in both
+  pub lost_back : (k : ℕ) (xs ys : List A) → (j : ℕ) × (xs ++ without k ys ≡ without j (xs ++ ys))
+  lost_back k [] ys = (k, refl)
+  lost_back k (x ∷ xs) ys = let h = lost_back k xs ys in (suc h.0, ap (λ l. x ∷ l) h.1)
+
+  pub twice_back : (k : ℕ) (xs ys : List A) → (j : ℕ) × (xs ++ doubled k ys ≡ doubled j (xs ++ ys))
+  twice_back k [] ys = (k, refl)
+  twice_back k (x ∷ xs) ys = let h = twice_back k xs ys in (suc h.0, ap (λ l. x ∷ l) h.1)
+
+  pub lost_front : (k : ℕ) (xs ys : List A) → (without k xs ++ ys ≡ xs ++ ys) ⊎ (without k xs ++ ys ≡ without k (xs ++ ys))
+  lost_front k [] ys = inl refl
+  lost_front zero (x ∷ xs) ys = inr refl
+  lost_front (suc k) (x ∷ xs) ys =
+      elim (lost_front k xs ys) [
+        | inl e ↦ inl (ap (λ l. x ∷ l) e)
+        | inr e ↦ inr (ap (λ l. x ∷ l) e)
+      ]
+
+  pub twice_front : (k : ℕ) (xs ys : List A) → (doubled k xs ++ ys ≡ xs ++ ys) ⊎ (doubled k xs ++ ys ≡ doubled k (xs ++ ys))
+  twice_front k [] ys = inl refl
+  twice_front zero (x ∷ xs) ys = inr refl
+  twice_front (suc k) (x ∷ xs) ys =
+      elim (twice_front k xs ys) [
+        | inl e ↦ inl (ap (λ l. x ∷ l) e)
+        | inr e ↦ inr (ap (λ l. x ∷ l) e)
+      ]
+
+  -- the front of the back queue goes to the end of the front one
+  pub goes_over : (xs : List A) (y : A) (ys : List A) → (xs ++ y ∷ []) ++ ys ≡ xs ++ y ∷ ys
+  goes_over [] y ys = refl
+  goes_over (x ∷ xs) y ys = ap (λ l. x ∷ l) (goes_over xs y ys)
+
+  pub behind_both : (xs ys zs : List A) → xs ++ (ys ++ zs) ≡ (xs ++ ys) ++ zs
+  behind_both [] ys zs = refl
+  behind_both (x ∷ xs) ys zs = ap (λ l. x ∷ l) (behind_both xs ys zs)

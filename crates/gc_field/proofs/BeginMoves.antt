@@ -1,0 +1,63 @@
+-- What lasts over the four things that happen to the whole line, replies first, lasts over each move and each run.
+use Rattle.std.proofs.Common.{◌≡◌, ℕ, zero, inl, inr, Bool, true, false, List, [], ◌∷◌, ◌++◌, refl, sym, subst}
+use Rattle.gc_field.proofs.BeginIds.{Sent, Standing, Move, Ask, Reach, Come, Up_lose, Up_repeat, Down_lose, Down_repeat, Anew, heard, asks, reaches, comes, moves, moved}
+use Rattle.gc_world.specs.World.{without, doubled}
+use Rattle.gc_field.proofs.BeginLists.{lost_back, lost_front, twice_back, twice_front, goes_over, behind_both}
+
+-- I holds of what is left of the word, and of the line
+pub record Lasts (I : List ℕ → List Sent → Type 0) : Type 0 where
+  pub lost : (left : List ℕ) (k : ℕ) (line : List Sent) → I left line → I left (without k line)
+  pub twice : (left : List ℕ) (k : ℕ) (line : List Sent) → I left line → I left (doubled k line)
+  pub asked : (id : ℕ) (later : List ℕ) (line : List Sent) → I (id ∷ later) line → I (id ∷ later) (line ++ record { id = id; old = false } ∷ [])
+  pub came : (left : List ℕ) (x : Sent) (rest : List Sent) → I left (x ∷ rest) → I (heard left x.id) rest
+
+module _ (I : List ℕ → List Sent → Type 0) (lasts : Lasts I) where
+  -- it holds of a standing
+  abbrev pub Holds : Standing → Type 0
+  Holds s = I s.left (s.down ++ s.up)
+
+  holds_asks : (s : Standing) (left : List ℕ) → s.left ≡ left → Holds s → Holds (asks s left)
+  holds_asks s [] e h = h
+  holds_asks s (id ∷ later) e h =
+      let new : Sent = record { id = id; old = false } in
+      subst (λ l. I l (s.down ++ (s.up ++ new ∷ []))) (sym e)
+      (subst (λ q. I (id ∷ later) q) (sym (behind_both s.down s.up (new ∷ [])))
+      (lasts.asked id later (s.down ++ s.up) (subst (λ l. I l (s.down ++ s.up)) e h)))
+
+  holds_reaches : (s : Standing) (replies : Bool) (up : List Sent) → s.up ≡ up → Holds s → Holds (reaches s replies up)
+  holds_reaches s replies [] e h = h
+  holds_reaches s true (x ∷ rest) e h =
+      subst (λ q. I s.left q) (sym (goes_over s.down x rest)) (subst (λ q. I s.left (s.down ++ q)) e h)
+  holds_reaches s false (x ∷ rest) e h =
+      let lost = lost_back zero s.down (x ∷ rest) in
+      subst (λ q. I s.left q) (sym lost.1) (lasts.lost s.left lost.0 (s.down ++ x ∷ rest) (subst (λ q. I s.left (s.down ++ q)) e h))
+
+  holds_comes : (s : Standing) (down : List Sent) → s.down ≡ down → Holds s → Holds (comes s down)
+  holds_comes s [] e h = h
+  holds_comes s (x ∷ rest) e h = lasts.came s.left x (rest ++ s.up) (subst (λ q. I s.left (q ++ s.up)) e h)
+
+  pub holds_moves : (s : Standing) (m : Move) → Holds s → Holds (moves s m)
+  holds_moves s Ask h = holds_asks s s.left refl h
+  holds_moves s (Reach replies) h = holds_reaches s replies s.up refl h
+  holds_moves s Come h = holds_comes s s.down refl h
+  holds_moves s (Up_lose k) h =
+      let lost = lost_back k s.down s.up in
+      subst (λ q. I s.left q) (sym lost.1) (lasts.lost s.left lost.0 (s.down ++ s.up) h)
+  holds_moves s (Up_repeat k) h =
+      let twice = twice_back k s.down s.up in
+      subst (λ q. I s.left q) (sym twice.1) (lasts.twice s.left twice.0 (s.down ++ s.up) h)
+  holds_moves s (Down_lose k) h =
+      elim (lost_front k s.down s.up) [
+        | inl e ↦ subst (λ q. I s.left q) (sym e) h
+        | inr e ↦ subst (λ q. I s.left q) (sym e) (lasts.lost s.left k (s.down ++ s.up) h)
+      ]
+  holds_moves s (Down_repeat k) h =
+      elim (twice_front k s.down s.up) [
+        | inl e ↦ subst (λ q. I s.left q) (sym e) h
+        | inr e ↦ subst (λ q. I s.left q) (sym e) (lasts.twice s.left k (s.down ++ s.up) h)
+      ]
+  holds_moves s Anew h = h
+
+  pub holds_moved : (ms : List Move) (s : Standing) → Holds s → Holds (moved ms s)
+  holds_moved [] s h = h
+  holds_moved (m ∷ ms) s h = holds_moved ms (moves s m) (holds_moves s m h)

@@ -1,0 +1,62 @@
+-- Runs by computation.
+use Rattle.std.proofs.Common.{◌≤◌, [], ◌∷◌, refl, arith, lit<}
+use Rattle.std.specs.Prelude.{codes, take, drop}
+use Rattle.std.specs.Fmt.{digits}
+use Rattle.gc_lines.specs.Readers.{header_at, reply_at}
+use Rattle.gc_catalogue.specs.declared.call.Call.TheVariants.{InstrumentNo}
+use Rattle.gc_client.specs.declared.window.TheConstants.{WINDOW}
+use Rattle.gc_instrument.specs.Execution.{exec}
+use Rattle.gc_instrument.specs.Replying.{handed}
+use Rattle.gc_world.specs.Clients.{ends}
+use Rattle.gc_field.specs.Begun.{WasMadeOn}
+use Rattle.gc_field.specs.BeginWitness.{AreSomeRuns, IsBookedFromBefore, clean, next}
+use Rattle.gc_field.proofs.Witness.{fits}
+
+was_made : WasMadeOn WINDOW ends clean next.moves 8 InstrumentNo (codes "%R1P,0,0:0,123456")
+unfolding header_at reply_at handed exec digits
+was_made = record { front = take 3 next.moves; later = drop 4 next.moves; split = refl; id = 0; rest = record { number = 9; line = record { id = 1; call = InstrumentNo } } ∷ []; reaches = refl; executed = refl; reply = refl }
+
+pub some_runs : AreSomeRuns
+unfolding header_at reply_at handed exec digits
+some_runs =
+    let one : 1 ≤ 5 = omega arith in
+    let none : 0 ≤ 5 = omega arith in
+    record {
+      lines = record { ids = (lit< tt, (lit< tt, tt)); good = fits };
+      row = record { low = 7; numbers = 6 ∷ 7 ∷ 8 ∷ []; some = omega arith; rising = (omega arith, (omega arith, (omega arith, tt))); few = (omega arith, (omega arith, (omega arith, tt))); ids = refl };
+      runs = (
+        ((tt, (tt, (tt, tt))), refl),
+        (
+          (
+            (tt, (tt, (tt, (tt, (tt, (tt, (tt, (tt, (tt, (tt, (tt, (tt, (tt, (tt, (tt, (tt, (tt, (tt, (tt, (tt, (tt, (tt, (tt, (tt, (tt, (tt, (tt, (tt, (tt, (tt, (tt, (tt, (tt, (tt, (tt, (tt, tt)))))))))))))))))))))))))))))))))))),
+            (
+              tt,
+              (
+                tt,
+                (
+                  tt,
+                  (
+                    tt,
+                    (
+                      tt,
+                      (
+                        (7, record { number = 8; line = codes "%R1P,0,0:0,123456" } ∷ record { number = 9; line = codes "%R1P,0,1:0,123456" } ∷ [], refl),
+                        ((8, record { number = 9; line = codes "%R1P,0,1:0,123456" } ∷ [], refl), ((9, [], refl), tt)),
+                      ),
+                    ),
+                  ),
+                ),
+              ),
+            ),
+          ),
+          tt,
+        ),
+      );
+      few = (one, (none, tt));
+      settled = refl;
+      made_on = was_made;
+    }
+
+pub from_before : IsBookedFromBefore
+unfolding header_at reply_at handed exec digits
+from_before = record { begun = refl; possible = (tt, ((7, [], refl), tt)); settled = refl; executed = refl }

@@ -1,0 +1,227 @@
+-- Behind a beginning that has begun cleanly: the eight null procedures are requests that were settled, and what is under way is of the last.
+use Rattle.std.proofs.Common.{◌≡◌, ℕ, ◌+◌, ◌<◌, ◌≤◌, inl, inr, List, [], ◌∷◌, ◌++◌, map, Option, Some, None, refl, sym, ◌∙◌, ap, subst, arith, append_assoc}
+use Rattle.std.specs.Prelude.{slice_get}
+use Rattle.gc_catalogue.specs.declared.call.Call.{Call}
+use Rattle.gc_catalogue.specs.declared.call.Call.TheVariants.{NullProc}
+use Rattle.gc_catalogue.specs.Texts.{request_line}
+use Rattle.gc_client.specs.OneForOne.{Asked, Course, Step, Send, Hear, Expire, Restart, begun, course, goes, of_settled, of_pending, sent_on, settled_on}
+use Rattle.gc_client.specs.Rule.{ById, Answered, Late, Sending, Settled, Settlement, expires, fresh, heard, hears, restarts, sends}
+use Rattle.gc_client.proofs.OneForOne.{one_for_one}
+use Rattle.gc_instrument.specs.State.{KeptReply}
+use Rattle.gc_world.specs.Clients.{by_ids, by_numbers}
+use Rattle.gc_world.specs.Exchange.{IsExchange}
+use Rattle.gc_world.specs.Order.{Each, Rising, numbers}
+use Rattle.gc_world.specs.Record.{IsReplyTo}
+use Rattle.gc_world.specs.World.{Ends, Numbered, Request, Up_deliver, Wire}
+use Rattle.gc_world.proofs.Booked.{has_at}
+use Rattle.gc_world.proofs.Replay.{IsOf}
+use Rattle.gc_world.proofs.Settled.{of_sent}
+use Rattle.gc_world.proofs.Settled as settled
+use Rattle.gc_world.proofs.Sound.{IsGoing, IsComing, Sound}
+use Rattle.gc_field.specs.Begin.{UnderWay}
+use Rattle.gc_field.specs.Begun.{IsClean, IsFaithful, WasMadeOn, behind, eighth, ids_begun, numbers_begun, nulls, nulls_settled}
+use Rattle.gc_field.specs.Field.{Move, OnLine, ArePossible, moved, seen}
+use Rattle.gc_field.specs.Instrument.{IsAnInstrument}
+use Rattle.gc_field.proofs.Answered.{AllSo, IsSo, all_so_get}
+use Rattle.gc_field.proofs.Instruments.{exchange_of}
+use Rattle.gc_field.proofs.Moving.{Both, both_all, first_reply, Vouches, IsVouchedFor, AreOn, whole_all}
+use Rattle.gc_field.proofs.Possible.{possible_front}
+use Rattle.gc_field.proofs.Seen.{same_all}
+use Rattle.gc_field.proofs.Vouched.{IsVouched, KeptIs, True, Vouched}
+
+-- The course of a client, behind what was sent and settled before.
+
+record Behind (before : List Asked) (old : List Settlement) (x y : Course) : Type 0 where
+  sent : x.sent ≡ before ++ y.sent
+  settled : x.settlements ≡ old ++ y.settlements
+  client : x.client ≡ y.client
+
+behind_send : (before : List Asked) (old : List Settlement) (x y : Course) (target : ℕ) (call : Call) (o : Option (Sending ById)) → Behind before old x y → Behind before old (sent_on x target call o) (sent_on y target call o)
+behind_send before old x y target call None h = h
+behind_send before old x y target call (Some s) h =
+    record { sent = ap (λ l. l ++ record { target = target; call = call } ∷ []) h.sent ∙ append_assoc before y.sent (record { target = target; call = call } ∷ []); settled = h.settled; client = refl }
+
+behind_settled : (before : List Asked) (old : List Settlement) (x y : Course) (s : Settled ById) → Behind before old x y → Behind before old (settled_on x s) (settled_on y s)
+behind_settled before old x y s h = record { sent = h.sent; settled = ap (λ l. l ++ s.settlements) h.settled ∙ append_assoc old y.settlements s.settlements; client = refl }
+
+behind_step : (width : ℕ) (before : List Asked) (old : List Settlement) (x y : Course) (step : Step) → Behind before old x y → Behind before old (goes width x step) (goes width y step)
+behind_step width before old x y (Send target call deadline) h =
+    subst (λ c. Behind before old (sent_on x target call (sends width c target call deadline)) (sent_on y target call (sends width y.client target call deadline))) (sym h.client)
+    (behind_send before old x y target call (sends width y.client target call deadline) h)
+behind_step width before old x y (Hear line) h =
+    subst (λ c. Behind before old (settled_on x (hears c line (heard line))) (settled_on y (hears y.client line (heard line)))) (sym h.client)
+    (behind_settled before old x y (hears y.client line (heard line)) h)
+behind_step width before old x y (Expire now) h = record { sent = h.sent; settled = h.settled; client = ap (λ c. expires c now) h.client }
+behind_step width before old x y Restart h =
+    subst (λ c. Behind before old (settled_on x (restarts c)) (settled_on y (restarts y.client))) (sym h.client) (behind_settled before old x y (restarts y.client) h)
+
+behind_all : (width : ℕ) (before : List Asked) (old : List Settlement) (steps : List Step) (x y : Course) → Behind before old x y → Behind before old (course width x steps) (course width y steps)
+behind_all width before old [] x y h = h
+behind_all width before old (step ∷ steps) x y h = behind_all width before old steps _ _ (behind_step width before old x y step h)
+
+-- eight null procedures were sent and settled
+abbrev begun_course : Course
+begun_course = record { sent = map of_sent nulls; settlements = nulls_settled; client = fresh }
+
+begun_behind : Behind (map of_sent nulls) nulls_settled begun_course begun
+begun_behind = record { sent = refl; settled = refl; client = refl }
+
+-- Numbers.
+
+module _ {Line : Type 0} where
+  abbrev pub of_last : List Line → List (Numbered Line)
+  of_last xs = map (λ x. record { number = 7; line = x }) xs
+
+  rising_up : (xs : List Line) → Rising 8 (numbers (of_last xs))
+  rising_up [] = tt
+  rising_up (x ∷ xs) = (omega arith, rising_up xs)
+
+  each_last : (P : Numbered Line → Type 0) (Q : Line → Type 0) → ((x : Line) → Q x → P (record { number = 7; line = x })) → (xs : List Line) → Each Q xs → Each P (of_last xs)
+  each_last P Q f [] h = tt
+  each_last P Q f (x ∷ xs) h = (f x h.0, each_last P Q f xs h.1)
+
+rising_both : {A B : Type 0} (xs : List A) (ys : List B) → Rising 8 (numbers (of_last xs) ++ numbers (of_last ys))
+rising_both [] ys = rising_up ys
+rising_both (x ∷ xs) ys = (omega arith, rising_both xs ys)
+
+module _ {State : Type 0} (ends : Ends State) (Good : State → Type 0) (kept : State → Option KeptReply) (keeper : IsAnInstrument ends Good kept) (width : ℕ) (narrow : width ≤ 7) where
+  abbrev pub ex : IsExchange ends Good
+  ex = exchange_of ends Good kept keeper
+
+  module _ (u : UnderWay State) (clean : IsClean Good kept u) where
+    sound_begun : Sound width ends Good (numbers_begun u)
+    sound_begun =
+        let within : 8 ≤ 8 = omega arith in
+        let few : 8 ≤ 8 + width = omega arith in
+        let from : 0 ≤ 8 = omega arith in
+        record {
+          good = clean.good;
+          counted = refl;
+          booked = refl;
+          begun = from;
+          within = within;
+          few = few;
+          order = rising_both u.down u.up;
+          going = each_last (IsGoing 0 8) (λ x. x ≡ eighth) (λ x e. record { recent = omega arith; sent = omega arith; id = ap (λ (r : Request). r.id) e }) u.up clean.up;
+          coming = each_last (IsComing width ends Good 0 8) (λ line. heard line ≡ Some 7) (λ x e. record { recent = omega arith; sent = omega arith; id = keeper.hears x ∙ e }) u.down clean.down;
+        }
+
+    pub both_begun : Both width narrow ends Good ex kept (ids_begun u) (numbers_begun u)
+    both_begun = record { agree = record { wire = refl; client = record { window = refl; next = refl } }; sound = sound_begun }
+
+    module _ (M : ℕ → Call → List ℕ → Type 0) where
+      kept_begun : (k : Option KeptReply) → kept u.state ≡ k → KeptIs width narrow ends Good ex kept keeper 8 M (Vouched width narrow ends Good ex kept keeper 8 M nulls [] []) 0 8 k
+      kept_begun None e = tt
+      kept_begun (Some k) e = (omega arith, clean.keeps k e, inl (omega arith))
+
+      line_is : (x : Request) → x ≡ eighth → IsOf nulls (record { number = 7; line = x })
+      line_is x e = record {
+        request = record { target = 0; call = NullProc; line = request_line (Some 7) NullProc };
+        found = refl;
+        small = (let id : x.id ≡ 7 = ap (λ (r : Request). r.id) e in omega (arith, id));
+        call = sym (ap (λ (r : Request). r.call) e);
+        text = sym (ap (λ (r : Request). request_line (Some r.id) r.call) e);
+      }
+
+      never : (j n : ℕ) → slice_get [] j ≡ Some n → ⊥
+      never j n e = cc
+
+      true_begun : True width narrow ends Good ex kept keeper 8 M (numbers_begun u)
+      true_begun =
+          let within : 8 ≤ 8 = omega arith in
+          record {
+            top = 8;
+            counted = within;
+            within = within;
+            above = each_last (λ x. 8 ≤ x.number + 1) (λ x. x ≡ eighth) (λ x e. omega arith) u.up clean.up;
+            below = each_last (λ x. x.number < 8) (λ line. heard line ≡ Some 7) (λ x e. omega arith) u.down clean.down;
+            holds = kept_begun (kept u.state) refl;
+            lines = each_last (IsOf nulls) (λ x. x ≡ eighth) line_is u.up clean.up;
+            coming = each_last (λ x. Vouched width narrow ends Good ex kept keeper 8 M nulls [] [] x.number x.line) (λ line. heard line ≡ Some 7) (λ x e. inl (omega arith)) u.down clean.down;
+            answers = (tt, (tt, (tt, (tt, (tt, (tt, (tt, (tt, tt))))))));
+            order = record { order = λ i j m n lt a b. absurd (never j n b); below = tt };
+            once = λ keeps. record { once = λ i j m n lt run a b. absurd (never j n b); below = tt; idle = λ none. inl refl };
+          }
+
+    -- the line of a request that is executed was made on executing it: with the numbers the wire is the same
+    made_here : (ms : List (Move State)) → ArePossible ends Good kept (by_ids width ends) ms (ids_begun u) → AreOn width narrow ends Good ex kept keeper 8 (omega arith) (λ n call line. WasMadeOn width ends u ms n call line) ms (numbers_begun u)
+    made_here ms p front later e x rest q exe =
+        let p' = possible_front width ends Good kept front (OnLine Up_deliver ∷ later) (ids_begun u) (subst (λ l. ArePossible ends Good kept (by_ids width ends) l (ids_begun u)) e p) in
+        let same : (behind width ends u front).wire ≡ (moved ends (by_numbers width) front (numbers_begun u)).wire =
+        (both_all width narrow ends Good ex kept front (ids_begun u) (numbers_begun u) p' both_begun).agree.wire in
+        let stands : (behind width ends u front).wire.state ≡ (moved ends (by_numbers width) front (numbers_begun u)).wire.state = ap (λ (w : Wire State). w.state) same in
+        record {
+          front = front;
+          later = later;
+          split = e;
+          id = x.line.id;
+          rest = rest;
+          reaches = ap (λ (w : Wire State). w.up) same ∙ q;
+          executed = ap (λ t. (ends.handed t x.line.id x.line.call).executed) stands ∙ exe;
+          reply = ap (λ t. (ends.handed t x.line.id x.line.call).reply) (sym stands);
+        }
+
+    -- what is vouched for, of a request of the client
+    vouched_of : (M : ℕ → Call → List ℕ → Type 0) (w : Wire State) (m : ℕ) (s : Settlement) (line : List ℕ) → 8 ≤ m → AllSo (Vouches width narrow ends Good ex kept keeper 8 (omega arith) M w) 0 w.settled → slice_get w.settled m ≡ Some s → s.outcome ≡ Answered line
+        → IsVouched width narrow ends Good ex kept keeper 8 M w.sent w.executed w.made m line
+    vouched_of M w m s line ge all e answered =
+        let P = Vouches width narrow ends Good ex kept keeper 8 (omega arith) M w in
+        let i : 0 + m ≡ m = omega arith in
+        let so : P m line = subst (λ o. IsSo P m o) answered (subst (λ k. IsSo P k s.outcome) i (all_so_get P 0 w.settled m s all e)) in
+        elim so [
+          | inl l ↦ absurd (omega (arith, l, ge))
+          | inr v ↦ v
+        ]
+
+    late_of : (M : ℕ → Call → List ℕ → Type 0) (w : Wire State) (m : ℕ) (s : Settlement) → 8 ≤ m → AllSo (Vouches width narrow ends Good ex kept keeper 8 (omega arith) M w) 0 w.settled → slice_get w.settled m ≡ Some s → s.outcome ≡ Late
+        → (line : List ℕ) × IsVouched width narrow ends Good ex kept keeper 8 M w.sent w.executed w.made m line
+    late_of M w m s ge all e late =
+        let P = Vouches width narrow ends Good ex kept keeper 8 (omega arith) M w in
+        let i : 0 + m ≡ m = omega arith in
+        let so : (line : List ℕ) × P m line = subst (λ o. IsSo P m o) late (subst (λ k. IsSo P k s.outcome) i (all_so_get P 0 w.settled m s all e)) in
+        elim so.1 [
+          | inl l ↦ absurd (omega (arith, l, ge))
+          | inr v ↦ (so.0, v)
+        ]
+
+    pub faithful : (ms : List (Move State)) → ArePossible ends Good kept (by_ids width ends) ms (ids_begun u) → IsFaithful width ends u ms Good kept
+    faithful ms p =
+        let a = moved ends (by_ids width ends) ms (ids_begun u) in
+        let b = moved ends (by_numbers width) ms (numbers_begun u) in
+        let both = both_all width narrow ends Good ex kept ms (ids_begun u) (numbers_begun u) p both_begun in
+        let same : a.wire ≡ b.wire = both.agree.wire in
+        let one = same_all width ends keeper.hears Good kept ms begun_course (ids_begun u) p (record { sent = refl; settled = refl; client = refl }) in
+        let x = course width begun_course (seen ms) in
+        let y = course width begun (seen ms) in
+        let from = behind_all width (map of_sent nulls) nulls_settled (seen ms) begun_course begun begun_behind in
+        let settlements : a.wire.settled ≡ nulls_settled ++ y.settlements = sym one.settled ∙ from.settled in
+        let stands : y.client ≡ a.client = sym from.client ∙ one.client in
+        let parts : map of_settled a.wire.settled ++ map of_pending a.client.waiting ≡ map of_sent a.wire.sent =
+        ap (λ l. map of_settled l ++ map of_pending a.client.waiting) settlements
+        ∙ ap (λ (c : ById). map of_settled (nulls_settled ++ y.settlements) ++ map of_pending c.waiting) (sym stands)
+        ∙ ap (λ l. map of_sent nulls ++ l) (one_for_one width (seen ms)) ∙ sym from.sent ∙ one.sent in
+        let pairs = settled.one_for_one a.wire.settled a.client.waiting a.wire.sent parts in
+        let M : ℕ → Call → List ℕ → Type 0 = λ n call line. WasMadeOn width ends u ms n call line in
+        let all = subst (λ (w : Wire State). IsVouchedFor width narrow ends Good ex kept keeper 8 (omega arith) M w) (sym same)
+        (whole_all width narrow ends Good ex kept keeper 8 (omega arith) M ms (ids_begun u) (numbers_begun u) both_begun p (made_here ms p) (true_begun M)) in
+        record {
+          settled = settlements;
+          stands = stands;
+          accounted = parts;
+          one_for_one = pairs;
+          booked = λ m s ge e bytes answered.
+              let v = vouched_of M a.wire m s bytes ge all.answers e answered in
+              let right = (pairs.same m s v.answer.request e v.answer.found).1 in
+              (has_at _ a.wire.made v.among, subst (λ call. IsReplyTo ends Good call bytes) (sym right) v.answer.reply);
+          executed = λ m s bytes ge e answered. let v = vouched_of M a.wire m s bytes ge all.answers e answered in has_at m a.wire.executed v.acted;
+          made_on = λ m s bytes ge e answered.
+              let v = vouched_of M a.wire m s bytes ge all.answers e answered in
+              subst (λ call. M m call bytes) (sym (pairs.same m s v.answer.request e v.answer.found).1) v.on;
+          in_order = all.order;
+          late = λ m s ge e late.
+              let v = late_of M a.wire m s ge all.answers e late in
+              (v.0, subst (λ call. M m call v.0) (sym (pairs.same m s v.1.answer.request e v.1.answer.found).1) v.1.on);
+          once = all.once;
+          agrees = same;
+          first_reply = λ n line rest e le. first_reply width narrow ends Good ex kept a b n line rest both e le;
+        }

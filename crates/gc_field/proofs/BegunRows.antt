@@ -1,0 +1,130 @@
+-- What a client has under way, behind a beginning that has begun cleanly: numbers from the eighth null procedure on, whose ids go upward.
+use Rattle.std.proofs.Common.{◌≡◌, ℕ, ◌+◌, ◌-◌, ◌%◌, ◌<◌, ◌≤◌, Bool, true, false, List, [], ◌∷◌, ◌++◌, length, map, Option, Some, refl, sym, ◌∙◌, ap, subst, arith, ltb, eqb}
+use mathlib.Core.Path.{ap₂}
+use Rattle.std.specs.List.{filter_map, cons_option}
+use Rattle.std.proofs.lemmas.Bool.{ltb-false}
+use Rattle.std.proofs.lemmas.List.{map-append}
+use Rattle.gc_catalogue.specs.declared.call.Call.{Call}
+use Rattle.gc_client.specs.Beginning.{IsSubsequence, the_word}
+use Rattle.gc_client.specs.Rule as rule
+use Rattle.gc_client.specs.Rule.{ById, Sending}
+use Rattle.gc_instrument.specs.State.{KeptReply}
+use Rattle.gc_world.specs.Clients.{ByNumber, by_ids, by_numbers, number_reply, number_send}
+use Rattle.gc_world.specs.Order.{Each, numbers}
+use Rattle.gc_world.specs.World.{Ends, Numbered, Request, Step, Send, Up_deliver, Up_lose, Up_repeat, Down_deliver, Down_lose, Down_repeat, Expire, Restart_client, Restart_instrument, Nothing, Wire, World, happens, down_delivered, requested}
+use Rattle.gc_world.proofs.Rows.{each_more}
+use Rattle.gc_world.proofs.Sound.{IsComing, IsGoing, Sound, all_sent}
+use Rattle.gc_field.specs.Begin.{UnderWay, ids_under_way}
+use Rattle.gc_field.specs.Beginnings.{IsRow, on_line}
+use Rattle.gc_field.specs.Begun.{IsClean, behind, ids_begun, numbers_begun}
+use Rattle.gc_field.specs.Field.{Move, Sends, Tells, Comes, Foreign, OnLine, Anew, Changes, Joins, IsOfLine, ArePossible, moved}
+use Rattle.gc_field.specs.Instrument.{IsAnInstrument}
+use Rattle.gc_field.proofs.BeginWords.{none_within, three_within}
+use Rattle.gc_field.proofs.BegunFaithful.{both_begun, ex}
+use Rattle.gc_field.proofs.Moving.{both_all}
+
+-- A row has not the word, nor its first three.
+
+pub rows_have_not : {State : Type 0} (u : UnderWay State) → IsRow u → IsSubsequence the_word (ids_under_way u) → ⊥
+rows_have_not u h s = none_within h.low h.numbers h.some h.rising h.few (subst (IsSubsequence the_word) h.ids s)
+
+pub rows_have_not_three : {State : Type 0} (u : UnderWay State) → IsRow u → IsSubsequence (6 ∷ 5 ∷ 4 ∷ []) (ids_under_way u) → ⊥
+rows_have_not_three u h s = three_within h.low h.numbers h.some h.rising h.few (subst (IsSubsequence (6 ∷ 5 ∷ 4 ∷ [])) h.ids s)
+
+-- The client that is told the numbers never restarts, and what it settled doesn't become less.
+
+pub record IsBased (c : ByNumber) : Type 0 where
+  pub since : c.since ≡ 0
+  pub count : 8 ≤ c.count
+
+module _ {State : Type 0} (width : ℕ) (ends : Ends State) where
+  abbrev Based : World ByNumber State → Type 0
+  Based w = IsBased w.client
+
+  based_sent : (w : World ByNumber State) (target : ℕ) (call : Call) (deadline : ℕ) (full : Bool) → Based w → Based (requested w target call (number_send w.client target call deadline full))
+  based_sent w target call deadline true h = h
+  based_sent w target call deadline false h = record { since = h.since; count = h.count }
+
+  based_reply : (c : ByNumber) (x : Numbered (List ℕ)) (old : Bool) → ltb x.number c.count ≡ old → IsBased c → IsBased (number_reply c x old).client
+  based_reply c x true t h = h
+  based_reply c x false t h = record { since = h.since; count = (let ge : c.count ≤ x.number = ltb-false _ _ t in let low = h.count in omega (arith, ge, low)) }
+
+  based_down : (w : World ByNumber State) (q : List (Numbered (List ℕ))) → Based w → Based (down_delivered (by_numbers width) w q)
+  based_down w [] h = h
+  based_down w (x ∷ rest) h = based_reply w.client x (ltb x.number w.client.count) refl h
+
+  based_line : (w : World ByNumber State) (step : Step) → IsOfLine step → Based w → Based (happens ends (by_numbers width) w step)
+  based_line w (Send target call deadline) p h = absurd p
+  based_line w Up_deliver p h = h
+  based_line w (Up_lose k) p h = h
+  based_line w (Up_repeat k) p h = h
+  based_line w Down_deliver p h = absurd p
+  based_line w (Down_lose k) p h = h
+  based_line w (Down_repeat k) p h = h
+  based_line w (Expire now) p h = absurd p
+  based_line w Restart_client p h = absurd p
+  based_line w Restart_instrument p h = absurd p
+  based_line w Nothing p h = h
+
+  module _ (Good : State → Type 0) (kept : State → Option KeptReply) where
+    -- (these moves are possible for the client that knows ids, from where that stands)
+    based_all : (ms : List (Move State)) (a : World ById State) (w : World ByNumber State) → ArePossible ends Good kept (by_ids width ends) ms a → Based w → Based (moved ends (by_numbers width) ms w)
+    based_all [] a w p h = h
+    based_all (Sends target call deadline ∷ ms) a w p h = based_all ms _ _ p.1 (based_sent w target call deadline (eqb (length w.client.requests - w.client.count) width) h)
+    based_all (Tells now ∷ ms) a w p h = based_all ms _ _ p.1 (record { since = h.since; count = h.count })
+    based_all (Comes line ∷ ms) a w p h = based_all ms _ _ p.1 (based_down w w.wire.down h)
+    based_all (Foreign line ∷ ms) a w p h = based_all ms _ _ p.1 h
+    based_all (OnLine step ∷ ms) a w p h = based_all ms _ _ p.1 (based_line w step p.0 h)
+    based_all (Anew ∷ ms) a w p h = based_all ms _ _ p.1 h
+    based_all (Changes state ∷ ms) a w p h = based_all ms _ _ p.1 h
+    based_all (Joins line ∷ ms) a w p h = absurd p.0
+
+-- Its ids.
+
+abbrev ids_at : List ℕ → List ℕ
+ids_at ns = map (λ n. n % 8) ns
+
+ids_up : (since total : ℕ) (xs : List (Numbered Request)) → since ≡ 0 → Each (IsGoing since total) xs → map (λ x. x.id) (map (λ x. x.line) xs) ≡ ids_at (numbers xs)
+ids_up since total [] e h = refl
+ids_up since total (x ∷ xs) e h =
+    let plain : x.number - since ≡ x.number = omega (arith, e) in
+    ap₂ (λ i ids. i ∷ ids) (h.0.id ∙ ap (λ n. n % 8) plain) (ids_up since total xs e h.1)
+
+module _ {State : Type 0} (width : ℕ) (ends : Ends State) (Good : State → Type 0) (same_heard : (line : List ℕ) → ends.heard line ≡ rule.heard line) where
+  ids_down : (since total : ℕ) (xs : List (Numbered (List ℕ))) → since ≡ 0 → Each (IsComing width ends Good since total) xs → filter_map rule.heard (map (λ x. x.line) xs) ≡ ids_at (numbers xs)
+  ids_down since total [] e h = refl
+  ids_down since total (x ∷ xs) e h =
+      let plain : x.number - since ≡ x.number = omega (arith, e) in
+      ap₂ (λ o ids. cons_option o ids) (sym (same_heard x.line) ∙ h.0.id ∙ ap (λ n. Some (n % 8)) plain) (ids_down since total xs e h.1)
+
+  row : (c : ByNumber) (w : Wire State) (narrow : width ≤ 7) → IsBased c → Sound width ends Good (record { wire = w; client = c }) → IsRow (on_line w)
+  row c w narrow base s =
+      let total = length c.requests in
+      record {
+        low = c.count;
+        numbers = numbers w.down ++ numbers w.up;
+        some = (let low = base.count in omega (arith, low));
+        rising = s.order;
+        few =
+            each_more (λ n. n < total) (λ n. n < c.count + 7) (λ n l. omega (arith, l, s.few, narrow)) (numbers w.down ++ numbers w.up)
+            (all_sent width ends Good c.since total w.down w.up s.coming s.going);
+        ids = ap₂ (λ xs ys. xs ++ ys) (ids_down c.since total w.down base.since s.coming) (ids_up c.since total w.up base.since s.going) ∙ sym (map-append (λ n. n % 8) (numbers w.down) (numbers w.up));
+      }
+
+module _ {State : Type 0} (ends : Ends State) (Good : State → Type 0) (kept : State → Option KeptReply) (is : IsAnInstrument ends Good kept) (width : ℕ) (narrow : width ≤ 7) where
+  pub runs_leave_rows : (u : UnderWay State) → IsClean Good kept u → (ms : List (Move State)) → ArePossible ends Good kept (by_ids width ends) ms (ids_begun u) → IsRow (on_line (behind width ends u ms).wire)
+  runs_leave_rows u clean ms p =
+      let b = moved ends (by_numbers width) ms (numbers_begun u) in
+      let both = both_all width narrow ends Good (ex ends Good kept is width narrow) kept ms (ids_begun u) (numbers_begun u) p (both_begun ends Good kept is width narrow u clean) in
+      subst (λ (w : Wire State). IsRow (on_line w)) (sym both.agree.wire)
+      (row width ends Good is.hears b.client b.wire narrow (based_all width ends Good kept ms (ids_begun u) (numbers_begun u) p (record { since = refl; count = omega arith })) both.sound)
+
+  -- what it leaves are lines
+  pub runs_leave_good : (u : UnderWay State) → IsClean Good kept u → (ms : List (Move State)) → ArePossible ends Good kept (by_ids width ends) ms (ids_begun u) → Good (behind width ends u ms).wire.state × Each (λ x. x.id < 8) (map (λ x. x.line) (behind width ends u ms).wire.up)
+  runs_leave_good u clean ms p =
+      let both = both_all width narrow ends Good (ex ends Good kept is width narrow) kept ms (ids_begun u) (numbers_begun u) p (both_begun ends Good kept is width narrow u clean) in
+      subst (λ (w : Wire State). Good w.state × Each (λ x. x.id < 8) (map (λ x. x.line) w.up)) (sym both.agree.wire) (both.sound.good, small _ _ (moved ends (by_numbers width) ms (numbers_begun u)).wire.up both.sound.going)
+    where
+      small : (since total : ℕ) (xs : List (Numbered Request)) → Each (IsGoing since total) xs → Each (λ x. x.id < 8) (map (λ x. x.line) xs)
+      small since total [] h = tt
+      small since total (x ∷ xs) h = ((let id = h.0.id in omega (arith, id)), small since total xs h.1)

@@ -1,0 +1,89 @@
+-- One run after the other: each that is killed while it begins makes the front of the word that may be under way longer by one id at most.
+use Rattle.std.proofs.Common.{◌≡◌, ℕ, suc, ◌+◌, ◌≤◌, false, List, [], ◌∷◌, ◌++◌, length, map, Option, Some, refl, sym, ◌∙◌, ap, subst, arith}
+use Rattle.gc_client.specs.Beginning.{IsSubsequence, the_word}
+use Rattle.gc_client.specs.Rule.{heard}
+use Rattle.gc_instrument.specs.State.{KeptReply}
+use Rattle.gc_world.specs.Order.{Each}
+use Rattle.gc_world.specs.World.{Ends, Request}
+use Rattle.gc_field.specs.Begin.{Aged, AreLines, AreTurns, Standing, UnderWay, begins, ids_under_way, leaves}
+use Rattle.gc_field.specs.Beginnings.{AreFewKilled, AreOwn, AreRuns, ArePossibleIf, IsOwnIf, IsRow, Run, killed_if, left_by_run, left_if, on_line, stood}
+use Rattle.gc_field.specs.Begun.{HasBegunCleanly, IsClean, behind, eighth}
+use Rattle.gc_field.specs.Instrument.{IsAnInstrument}
+use Rattle.gc_field.proofs.BeginJoin.{begins_cleanly, left_absent, left_lines}
+use Rattle.gc_field.proofs.BeginLists.{goes_over}
+use Rattle.gc_field.proofs.BeginWords.{stands_front}
+use Rattle.gc_field.proofs.BegunFaithful.{faithful}
+use Rattle.gc_field.proofs.BegunRows.{rows_have_not_three, runs_leave_rows, runs_leave_good}
+
+-- behind so many that were killed in a row: a front of the word, with three ids and one more for each, isn't under way
+pub record IsShort {State : Type 0} (n : ℕ) (u : UnderWay State) : Type 0 where
+  pub more : List ℕ
+  pub tail : List ℕ
+  pub split : the_word ≡ 6 ∷ 5 ∷ (more ++ tail)
+  pub few : length tail + n ≡ 5
+  pub none : IsSubsequence (6 ∷ 5 ∷ more) (ids_under_way u) → ⊥
+
+short_row : {State : Type 0} (u : UnderWay State) → IsRow u → IsShort 0 u
+short_row u h = record { more = 4 ∷ []; tail = 3 ∷ 2 ∷ 1 ∷ 0 ∷ 7 ∷ []; split = refl; few = refl; none = rows_have_not_three u h }
+
+short_word : {State : Type 0} (n : ℕ) (u : UnderWay State) → IsShort n u → IsSubsequence the_word (ids_under_way u) → ⊥
+short_word n u h s = h.none (stands_front (6 ∷ 5 ∷ h.more) h.tail (ids_under_way u) (subst (λ w. IsSubsequence w (ids_under_way u)) h.split s))
+
+module _ {State : Type 0} (ends : Ends State) (Good : State → Type 0) (kept : State → Option KeptReply) (is : IsAnInstrument ends Good kept) (width : ℕ) (narrow : width ≤ 7) where
+  -- what has begun cleanly leaves clean lines
+  clean_up : (xs : List (Aged Request)) → Each (λ x. (x.old ≡ false) × (x.line ≡ eighth)) xs → Each (λ x. x ≡ eighth) (map (λ x. x.line) xs)
+  clean_up [] h = tt
+  clean_up (x ∷ xs) h = (h.0.1, clean_up xs h.1)
+
+  clean_down : (xs : List (Aged (List ℕ))) → Each (λ x. (x.old ≡ false) × (heard x.line ≡ Some 7)) xs → Each (λ line. heard line ≡ Some 7) (map (λ x. x.line) xs)
+  clean_down [] h = tt
+  clean_down (x ∷ xs) h = (h.0.1, clean_down xs h.1)
+
+  clean_lines : (s : Standing State) → Good s.state → HasBegunCleanly kept s → IsClean Good kept (leaves s)
+  clean_lines s good h = record { good = good; up = clean_up s.up h.up; down = clean_down s.down h.down; keeps = h.keeps }
+
+  -- a run that is killed while it begins
+  short_killed : (n : ℕ) (u : UnderWay State) (r : Run State) → AreLines Good u → AreTurns ends Good kept r.turns (begins u) → n + 1 ≤ 5 → (tail : List ℕ) → (h : IsShort n u) → h.tail ≡ tail → IsShort (n + 1) (leaves (stood width ends u r))
+  short_killed n u r lines turns few [] h e = absurd (let size = h.few in let none : length h.tail ≡ 0 = ap length e in omega (arith, size, none, few))
+  short_killed n u r lines turns few (c ∷ tail) h e =
+      let split : the_word ≡ 6 ∷ 5 ∷ (h.more ++ c ∷ tail) = h.split ∙ ap (λ l. 6 ∷ 5 ∷ (h.more ++ l)) e in
+      record {
+        more = h.more ++ c ∷ [];
+        tail = tail;
+        split = split ∙ sym (ap (λ l. 6 ∷ 5 ∷ l) (goes_over h.more c tail));
+        few = (let size = h.few in let one : length h.tail ≡ suc (length tail) = ap length e in omega (arith, size, one));
+        none = left_absent ends Good kept is u r.turns 6 5 h.more c tail split lines turns h.none;
+      }
+
+  -- one run
+  record Goes (n : ℕ) (u : UnderWay State) (r : Run State) (left : List ℕ) : Type 0 where
+    own : IsOwnIf width ends Good kept left (stood width ends u r) r.moves
+    lines : AreLines Good (left_if width ends left (stood width ends u r) r.moves)
+    short : IsShort (killed_if width ends left n) (left_if width ends left (stood width ends u r) r.moves)
+
+  goes : (n : ℕ) (u : UnderWay State) (r : Run State) (left : List ℕ) → (stood width ends u r).left ≡ left → AreLines Good u → IsShort n u → AreTurns ends Good kept r.turns (begins u)
+      → ArePossibleIf width ends Good kept left (stood width ends u r) r.moves → killed_if width ends left n ≤ 5 → Goes n u r left
+  goes n u r [] e lines short turns p few =
+      let s = stood width ends u r in
+      let clean = begins_cleanly ends Good kept is u r.turns lines turns (short_word n u short) e in
+      let good = (left_lines ends Good kept is u r.turns lines turns).good in
+      let after = runs_leave_good ends Good kept is width narrow (leaves s) (clean_lines s good clean) r.moves p in
+      record {
+        own = (clean, faithful ends Good kept is width narrow (leaves s) (clean_lines s good clean) r.moves p);
+        lines = record { ids = after.1; good = after.0 };
+        short = short_row (on_line (behind width ends (leaves s) r.moves).wire) (runs_leave_rows ends Good kept is width narrow (leaves s) (clean_lines s good clean) r.moves p);
+      }
+  goes n u r (asked ∷ rest) e lines short turns p few = record {
+    own = tt;
+    lines = left_lines ends Good kept is u r.turns lines turns;
+    short = short_killed n u r lines turns few short.tail short refl;
+  }
+
+  all_own : (rs : List (Run State)) (n : ℕ) (u : UnderWay State) → AreLines Good u → IsShort n u → AreRuns width ends Good kept u rs → AreFewKilled width ends n u rs → AreOwn width ends Good kept u rs
+  all_own [] n u lines short runs few = tt
+  all_own (r ∷ rs) n u lines short runs few =
+      let one = goes n u r (stood width ends u r).left refl lines short runs.0.0 runs.0.1 few.0 in
+      (one.own, all_own rs (killed_if width ends (stood width ends u r).left n) (left_by_run width ends u r) one.lines one.short runs.1 few.1)
+
+  pub runs_are_their_own : (u : UnderWay State) → AreLines Good u → IsRow u → (rs : List (Run State)) → AreRuns width ends Good kept u rs → AreFewKilled width ends 0 u rs → AreOwn width ends Good kept u rs
+  runs_are_their_own u lines row rs runs few = all_own rs 0 u lines (short_row u row) runs few

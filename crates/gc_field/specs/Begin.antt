@@ -1,0 +1,118 @@
+-- A beginning in the field, this project's own: a beginner, an instrument, and a line between them that keeps order, loses lines whole, and
+-- repeats one directly behind it. What is under way from before may be anything. A connection has no word in it, since a close is a loss of
+-- lines; a request that is cut is lost, since a line feed arrives behind its front; and the instrument may start anew at any moment.
+use Rattle.std.specs.Prelude.{◌≡◌, ℕ, ◌<◌, Bool, true, false, List, [], ◌∷◌, ◌++◌, map, Option, None}
+use Rattle.std.specs.List.{filter_map}
+use Rattle.gc_catalogue.specs.declared.call.Call.TheVariants.{NullProc}
+use Rattle.gc_client.specs.Beginning.{the_word, left_by}
+use Rattle.gc_client.specs.Rule.{heard}
+use Rattle.gc_client.specs.declared.window.TheConstants.{IDS}
+use Rattle.gc_instrument.specs.State.{KeptReply}
+use Rattle.gc_world.specs.Order.{Each}
+use Rattle.gc_world.specs.World.{Ends, Request, without, doubled}
+use Rattle.gc_field.specs.Instrument.{MayBecome}
+
+-- What is under way.
+
+-- the requests under way to an instrument, the replies under way from it, the front of each queue first; and the instrument
+pub record UnderWay (State : Type 0) : Type 0 where
+  pub up : List Request
+  pub down : List (List ℕ)
+  pub state : State
+
+-- the ids under way, in order: of the replies, then of the requests. The reply that the instrument keeps doesn't count, since it is sent only
+-- for a request; nor does a line without an id
+abbrev pub ids_under_way : {State : Type 0} → UnderWay State → List ℕ
+ids_under_way u = filter_map heard u.down ++ map (λ x. x.id) u.up
+
+-- the id of each request is one digit from 0 to 7, and the instrument is in a good state
+pub record AreLines {State : Type 0} (Good : State → Type 0) (u : UnderWay State) : Type 0 where
+  pub ids : Each (λ x. x.id < IDS) u.up
+  pub good : Good u.state
+
+-- The beginner.
+
+-- a request under way, or a reply: whether the request, or the one that the reply was sent for, is from before this beginning
+pub record Aged (Line : Type 0) : Type 0 where
+  pub old : Bool
+  pub line : Line
+
+-- all there is: what is under way, the instrument, and what isn't answered of the word
+pub record Standing (State : Type 0) : Type 0 where
+  pub up : List (Aged Request)
+  pub down : List (Aged (List ℕ))
+  pub state : State
+  pub left : List ℕ
+
+-- a beginning begins: all that is under way is from before
+abbrev pub begins : {State : Type 0} → UnderWay State → Standing State
+begins u = record { up = map (λ x. record { old = true; line = x }) u.up; down = map (λ x. record { old = true; line = x }) u.down; state = u.state; left = the_word }
+
+-- what it leaves under way
+abbrev pub leaves : {State : Type 0} → Standing State → UnderWay State
+leaves s = record { up = map (λ x. x.line) s.up; down = map (λ x. x.line) s.down; state = s.state }
+
+-- what may happen next
+pub data Turn (State : Type 0) : Type 0 where
+  -- the beginner's part: the null procedure that is asked for goes out, the first time or again, whole or in part; the reply in front comes; a
+  -- line comes that is no reply with an id
+  Asks : Turn State
+  Comes : Turn State
+  Foreign : (line : List ℕ) → Turn State
+  -- the line's part: the request in front reaches the instrument, whose reply goes out; a line is lost, or comes twice
+  Reaches : Turn State
+  Up_lose : (which : ℕ) → Turn State
+  Up_repeat : (which : ℕ) → Turn State
+  Down_lose : (which : ℕ) → Turn State
+  Down_repeat : (which : ℕ) → Turn State
+  -- the instrument starts anew, whatever is under way
+  Anew : Turn State
+  -- its state changes by itself, to this one
+  Changes : (state : State) → Turn State
+
+module _ {State : Type 0} where
+  -- the null procedure of the first id that isn't answered goes out; once it has begun, none does
+  abbrev pub asks : Standing State → List ℕ → Standing State
+  asks s [] = s
+  asks s (asked ∷ rest) = record s { up = s.up ++ record { old = false; line = record { id = asked; call = NullProc } } ∷ [] }
+
+  -- a reply that comes answers where it has that id, and else it is dropped
+  abbrev pub comes : Standing State → List (Aged (List ℕ)) → Standing State
+  comes s [] = s
+  comes s (x ∷ rest) = record s { down = rest; left = left_by s.left (heard x.line) }
+
+  -- the instrument is handed the request in front, and its reply is for that
+  abbrev pub reaches : Ends State → Standing State → List (Aged Request) → Standing State
+  reaches ends s [] = s
+  reaches ends s (x ∷ rest) =
+      let handed = ends.handed s.state x.line.id x.line.call in
+      record s { up = rest; down = s.down ++ record { old = x.old; line = handed.reply } ∷ []; state = handed.state }
+
+  -- what a turn does; one that isn't possible changes nothing
+  abbrev pub turns : Ends State → Standing State → Turn State → Standing State
+  turns ends s Asks = asks s s.left
+  turns ends s Comes = comes s s.down
+  turns ends s (Foreign line) = record s { left = left_by s.left (heard line) }
+  turns ends s Reaches = reaches ends s s.up
+  turns ends s (Up_lose k) = record s { up = without k s.up }
+  turns ends s (Up_repeat k) = record s { up = doubled k s.up }
+  turns ends s (Down_lose k) = record s { down = without k s.down }
+  turns ends s (Down_repeat k) = record s { down = doubled k s.down }
+  turns ends s Anew = record s { state = ends.restarted s.state }
+  turns ends s (Changes state) = record s { state = state }
+
+  -- a turn for each of the list, in order
+  abbrev pub turned : Ends State → List (Turn State) → Standing State → Standing State
+  turned ends [] s = s
+  turned ends (t ∷ ts) s = turned ends ts (turns ends s t)
+
+  -- a foreign line is no reply with an id: an echo, noise, or what is left of a line that was cut
+  abbrev pub IsTurn : (State → Type 0) → (State → Option KeptReply) → Standing State → Turn State → Type 0
+  IsTurn Good kept s (Foreign line) = heard line ≡ None
+  IsTurn Good kept s (Changes state) = MayBecome Good kept s.state state
+  IsTurn Good kept s _ = Unit {0}
+
+  -- each of the list is possible in its turn
+  abbrev pub AreTurns : Ends State → (State → Type 0) → (State → Option KeptReply) → List (Turn State) → Standing State → Type 0
+  AreTurns ends Good kept [] s = Unit {0}
+  AreTurns ends Good kept (t ∷ ts) s = IsTurn Good kept s t × AreTurns ends Good kept ts (turns ends s t)

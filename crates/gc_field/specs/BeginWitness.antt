@@ -1,0 +1,95 @@
+-- Some runs are such runs, and the premise on the word is needed: this project's own.
+use Rattle.std.specs.Prelude.{◌≡◌, List, [], ◌∷◌, ◌++◌, codes}
+use Rattle.gc_catalogue.specs.declared.call.Call.TheVariants.{InstrumentNo}
+use Rattle.gc_client.specs.declared.window.TheConstants.{WINDOW}
+use Rattle.gc_client.specs.Rule.{Answered}
+use Rattle.gc_instrument.specs.State.{State, IsFittingState, simulator_opening}
+use Rattle.gc_world.specs.Clients.{ends, by_ids}
+use Rattle.gc_world.specs.World.{Up_deliver}
+use Rattle.gc_field.specs.Begin.{AreLines, Turn, Asks, Comes, Reaches, Up_lose, Up_repeat, Anew, UnderWay, begins, leaves, turned}
+use Rattle.gc_field.specs.Beginnings.{AreFewKilled, AreRuns, IsRow, Run, left_by_run}
+use Rattle.gc_field.specs.Begun.{WasMadeOn, behind, ids_begun, nulls_settled}
+use Rattle.gc_field.specs.Field as field
+use Rattle.gc_field.specs.Field.{Move, Sends, OnLine, ArePossible}
+use Rattle.gc_field.specs.Laws.{kept_of}
+
+-- Some runs.
+
+-- under way are a reply with id 6 and two requests behind it, with ids 7 and 0
+abbrev pub before : UnderWay State
+before =
+    record {
+      up = record { id = 7; call = InstrumentNo } ∷ record { id = 0; call = InstrumentNo } ∷ [];
+      down = codes "%R1P,0,6:0,654321" ∷ [];
+      state = simulator_opening;
+    }
+
+-- a run begins, and hears the reply from before for its first null procedure; it is killed behind its second
+abbrev pub killed : Run State
+killed = record { turns = Asks ∷ Comes ∷ Asks ∷ []; moves = [] }
+
+-- the next one begins. The two requests are answered, and both replies dropped. Null procedures 6 and 5 of the run before answer two of its
+-- own, and then its own ones answer; the instrument starts anew, one is lost and goes out again, and the eighth comes twice. Two commands go
+-- out at once
+abbrev pub next : Run State
+next =
+    record {
+      turns =
+          Asks ∷ Reaches ∷ Reaches ∷ Reaches ∷ Comes ∷ Comes ∷ Comes ∷ Asks ∷ Reaches ∷ Comes
+          ∷ Asks ∷ Reaches ∷ Reaches ∷ Reaches ∷ Comes ∷ Comes ∷ Comes
+          ∷ Asks ∷ Reaches ∷ Comes ∷ Asks ∷ Anew ∷ Reaches ∷ Comes ∷ Asks ∷ Reaches ∷ Comes
+          ∷ Asks ∷ Up_lose 0 ∷ Asks ∷ Reaches ∷ Comes ∷ Asks ∷ Up_repeat 0 ∷ Reaches ∷ Comes ∷ [];
+      moves =
+          Sends 7 InstrumentNo 100
+          ∷ Sends 8 InstrumentNo 100
+          ∷ OnLine Up_deliver
+          ∷ OnLine Up_deliver
+          ∷ OnLine Up_deliver
+          ∷ field.Comes (codes "%R1P,0,7:0")
+          ∷ field.Comes (codes "%R1P,0,0:0,123456")
+          ∷ field.Comes (codes "%R1P,0,1:0,123456")
+          ∷ [];
+    }
+
+-- what the second one had under way when it had begun
+abbrev pub clean : UnderWay State
+clean = leaves (turned ends next.turns (begins (left_by_run WINDOW ends before killed)))
+
+-- they meet the premises of `simulators_runs_are_their_own`; both commands are answered, and the first answer was made on its request
+pub record AreSomeRuns : Type 0 where
+  pub lines : AreLines IsFittingState before
+  pub row : IsRow before
+  pub runs : AreRuns WINDOW ends IsFittingState kept_of before (killed ∷ next ∷ [])
+  pub few : AreFewKilled WINDOW ends 0 before (killed ∷ next ∷ [])
+  pub settled :
+      (behind WINDOW ends clean next.moves).wire.settled
+      ≡ nulls_settled ++ record { target = 7; call = InstrumentNo; outcome = Answered (codes "%R1P,0,0:0,123456") } ∷ record { target = 8; call = InstrumentNo; outcome = Answered (codes "%R1P,0,1:0,123456") } ∷ []
+  pub made_on : WasMadeOn WINDOW ends clean next.moves 8 InstrumentNo (codes "%R1P,0,0:0,123456")
+
+-- The word.
+
+-- where replies with the ids of the word are under way, and one with id 0 behind them
+abbrev pub with_the_word : UnderWay State
+with_the_word =
+    record {
+      up = [];
+      down =
+          codes "%R1P,0,6:0" ∷ codes "%R1P,0,5:0" ∷ codes "%R1P,0,4:0" ∷ codes "%R1P,0,3:0" ∷ codes "%R1P,0,2:0" ∷ codes "%R1P,0,1:0" ∷ codes "%R1P,0,0:0"
+          ∷ codes "%R1P,0,7:0" ∷ codes "%R1P,0,0:0,654321" ∷ [];
+      state = simulator_opening;
+    }
+
+abbrev pub eight_come : List (Turn State)
+eight_come = Comes ∷ Comes ∷ Comes ∷ Comes ∷ Comes ∷ Comes ∷ Comes ∷ Comes ∷ []
+
+abbrev pub one_more : List (Move State)
+one_more = Sends 7 InstrumentNo 100 ∷ field.Comes (codes "%R1P,0,0:0,654321") ∷ []
+
+-- they answer all of it, and that one is booked for the first command, with nothing executed
+pub record IsBookedFromBefore : Type 0 where
+  pub begun : (turned ends eight_come (begins with_the_word)).left ≡ []
+  pub possible : ArePossible ends IsFittingState kept_of (by_ids WINDOW ends) one_more (ids_begun (leaves (turned ends eight_come (begins with_the_word))))
+  pub settled :
+      (behind WINDOW ends (leaves (turned ends eight_come (begins with_the_word))) one_more).wire.settled
+      ≡ nulls_settled ++ record { target = 7; call = InstrumentNo; outcome = Answered (codes "%R1P,0,0:0,654321") } ∷ []
+  pub executed : (behind WINDOW ends (leaves (turned ends eight_come (begins with_the_word))) one_more).wire.executed ≡ []

@@ -1,0 +1,103 @@
+-- One run after the other over a line that outlives them, this project's own: each begins by its null procedures, then sends commands, and is
+-- killed at any moment, also while it begins; and one may begin anew within itself. No clock has a part in it.
+use Rattle.std.specs.Prelude.{◌≡◌, ℕ, ◌+◌, ◌%◌, ◌<◌, ◌≤◌, List, [], ◌∷◌, map, Option}
+use Rattle.gc_client.specs.Beginning.{IsSubsequence, the_word}
+use Rattle.gc_client.specs.declared.window.TheConstants.{WINDOW}
+use Rattle.gc_instrument.specs.State.{KeptReply, State, IsFittingState}
+use Rattle.gc_world.specs.Clients.{ends, by_ids}
+use Rattle.gc_world.specs.Order.{Each, Rising}
+use Rattle.gc_world.specs.World.{Ends, Wire}
+use Rattle.gc_field.specs.Begin.{AreLines, AreTurns, Standing, Turn, UnderWay, begins, ids_under_way, leaves, turned}
+use Rattle.gc_field.specs.Begun.{HasBegunCleanly, IsClean, IsFaithful, behind, ids_begun}
+use Rattle.gc_field.specs.Field.{Move, ArePossible}
+use Rattle.gc_field.specs.Instrument.{AnyState, IsAnInstrument}
+use Rattle.gc_field.specs.Laws.{kept_of}
+
+-- what is under way on a wire
+abbrev pub on_line : {State : Type 0} → Wire State → UnderWay State
+on_line w = record { up = map (λ x. x.line) w.up; down = map (λ x. x.line) w.down; state = w.state }
+
+-- what a run that measures may have under way, or nothing: numbers from one less than low on that never fall, of which no more than seven are
+-- unaccounted for, and whose ids go round at eight
+pub record IsRow {State : Type 0} (u : UnderWay State) : Type 0 where
+  pub low : ℕ
+  pub numbers : List ℕ
+  pub some : 0 < low
+  pub rising : Rising low numbers
+  pub few : Each (λ n. n < low + WINDOW) numbers
+  pub ids : ids_under_way u ≡ map (λ n. n % 8) numbers
+
+-- the word isn't in it: seven ids in a row upward and the repeat of the one before them have not even its first three
+abbrev pub RowsHaveNotTheWord : Type 0 → Type 0
+RowsHaveNotTheWord State = (u : UnderWay State) → IsRow u → IsSubsequence the_word (ids_under_way u) → ⊥
+
+-- behind a beginning that has begun cleanly there is such a row at any time
+abbrev pub RunsLeaveRows : Type 0 → Type 0
+RunsLeaveRows State =
+    (ends : Ends State) (kept : State → Option KeptReply) → IsAnInstrument ends AnyState kept →
+    (width : ℕ) → width ≤ WINDOW → (u : UnderWay State) → IsClean AnyState kept u →
+    (ms : List (Move State)) → ArePossible ends AnyState kept (by_ids width ends) ms (ids_begun u) → IsRow (on_line (behind width ends u ms).wire)
+
+-- Runs.
+
+-- a run: what happens while it begins, and once it has begun. A run that begins anew within itself is two
+pub record Run (State : Type 0) : Type 0 where
+  pub turns : List (Turn State)
+  pub moves : List (Move State)
+
+module _ {State : Type 0} (width : ℕ) (ends : Ends State) where
+  -- where its beginning stands when that is done, or killed
+  abbrev pub stood : UnderWay State → Run State → Standing State
+  stood u r = turned ends r.turns (begins u)
+
+  -- what is under way behind a run that had begun, where nothing was left of its word, or that was killed while it began
+  abbrev pub left_if : List ℕ → Standing State → List (Move State) → UnderWay State
+  left_if [] s ms = on_line (behind width ends (leaves s) ms).wire
+  left_if (asked ∷ rest) s ms = leaves s
+
+  abbrev pub left_by_run : UnderWay State → Run State → UnderWay State
+  left_by_run u r = left_if (stood u r).left (stood u r) r.moves
+
+  -- how many were killed in a row while they began, up to this one
+  abbrev pub killed_if : List ℕ → ℕ → ℕ
+  killed_if [] n = 0
+  killed_if (asked ∷ rest) n = n + 1
+
+  -- no more than five in a row, where so many were before
+  abbrev pub AreFewKilled : ℕ → UnderWay State → List (Run State) → Type 0
+  AreFewKilled n u [] = Unit {0}
+  AreFewKilled n u (r ∷ rs) = (killed_if (stood u r).left n ≤ 5) × AreFewKilled (killed_if (stood u r).left n) (left_by_run u r) rs
+
+  module _ (Good : State → Type 0) (kept : State → Option KeptReply) where
+    -- no command goes out before the eighth answer
+    abbrev pub ArePossibleIf : List ℕ → Standing State → List (Move State) → Type 0
+    ArePossibleIf [] s ms = ArePossible ends Good kept (by_ids width ends) ms (ids_begun (leaves s))
+    ArePossibleIf (asked ∷ rest) s ms = ms ≡ []
+
+    -- each run is possible, over what the one before it left
+    abbrev pub AreRuns : UnderWay State → List (Run State) → Type 0
+    AreRuns u [] = Unit {0}
+    AreRuns u (r ∷ rs) = (AreTurns ends Good kept r.turns (begins u) × ArePossibleIf (stood u r).left (stood u r) r.moves) × AreRuns (left_by_run u r) rs
+
+    -- where a run has begun, it has begun cleanly, and each answer of a command is its own
+    abbrev pub IsOwnIf : List ℕ → Standing State → List (Move State) → Type 0
+    IsOwnIf [] s ms = HasBegunCleanly kept s × IsFaithful width ends (leaves s) ms Good kept
+    IsOwnIf (asked ∷ rest) s ms = Unit {0}
+
+    abbrev pub AreOwn : UnderWay State → List (Run State) → Type 0
+    AreOwn u [] = Unit {0}
+    AreOwn u (r ∷ rs) = IsOwnIf (stood u r).left (stood u r) r.moves × AreOwn (left_by_run u r) rs
+
+-- for any instrument, behind a run that measured, or over a line with nothing under way: as long as fewer than six runs in a row end while they
+-- begin, each run that begins begins cleanly, and each of its answers is its own
+abbrev pub RunsAreTheirOwn : Type 0 → Type 0
+RunsAreTheirOwn State =
+    (ends : Ends State) (kept : State → Option KeptReply) → IsAnInstrument ends AnyState kept →
+    (width : ℕ) → width ≤ WINDOW → (u : UnderWay State) → AreLines AnyState u → IsRow u →
+    (rs : List (Run State)) → AreRuns width ends AnyState kept u rs → AreFewKilled width ends 0 u rs → AreOwn width ends AnyState kept u rs
+
+-- the same for the simulated instrument, in any state that fits
+abbrev pub SimulatorsRunsAreTheirOwn : Type 0
+SimulatorsRunsAreTheirOwn =
+    (width : ℕ) → width ≤ WINDOW → (u : UnderWay State) → AreLines IsFittingState u → IsRow u →
+    (rs : List (Run State)) → AreRuns width ends IsFittingState kept_of u rs → AreFewKilled width ends 0 u rs → AreOwn width ends IsFittingState kept_of u rs

@@ -1,0 +1,154 @@
+-- Once it has begun, this project's own: nothing from before is under way; and each answer of the client that sends then is its own, from its
+-- first request on.
+use Rattle.std.specs.Prelude.{◌≡◌, ℕ, ◌-◌, ◌≤◌, true, false, List, [], ◌∷◌, ◌++◌, length, map, Option, Some, slice_get}
+use Rattle.gc_catalogue.specs.declared.call.Call.{Call}
+use Rattle.gc_catalogue.specs.declared.call.Call.TheVariants.{NullProc}
+use Rattle.gc_catalogue.specs.Texts.{request_line}
+use Rattle.gc_client.specs.Beginning.{IsSubsequence, the_word}
+use Rattle.gc_client.specs.declared.pending.Pending.{Pending}
+use Rattle.gc_client.specs.declared.window.TheConstants.{WINDOW}
+use Rattle.gc_client.specs.OneForOne.{begun, course, of_settled, of_pending}
+use Rattle.gc_client.specs.Rule.{ById, Settlement, Answered, Late, Lost, fresh, heard, settle}
+use Rattle.gc_instrument.specs.State.{KeptReply, State, IsFittingState}
+use Rattle.gc_world.specs.Clients.{ByNumber, ends, by_ids, by_numbers}
+use Rattle.gc_world.specs.Order.{Each}
+use Rattle.gc_world.specs.Record.{IsBooked, IsOneForOne}
+use Rattle.gc_world.specs.World.{Ends, Numbered, Request, Sent, Up_deliver, Wire, World}
+use Rattle.gc_field.specs.Begin.{AreLines, AreTurns, Standing, Turn, UnderWay, begins, ids_under_way, turned}
+use Rattle.gc_field.specs.Field.{Move, Comes, OnLine, ArePossible, moved, moves, seen}
+use Rattle.gc_field.specs.Instrument.{AnyState, IsAnInstrument, KeepsItsReply}
+use Rattle.gc_field.specs.Laws.{WasExecuted, asked, kept_of}
+use Rattle.gc_field.specs.Once.{ActsOnce, IsInOrder}
+
+-- Clean.
+
+-- a request, and a line that is heard with this id
+abbrev pub eighth : Request
+eighth = record { id = 7; call = NullProc }
+
+abbrev pub IsOfEighth : {State : Type 0} → (State → Option KeptReply) → State → Type 0
+IsOfEighth kept state = (k : KeptReply) → kept state ≡ Some k → k.id ≡ 7
+
+-- a beginning has begun cleanly: under way are copies of its eighth null procedure, and replies to it; and what the instrument keeps, if it
+-- keeps anything, has its id. No request from before is among them, nor a reply to one, and none of the other null procedures
+pub record HasBegunCleanly {State : Type 0} (kept : State → Option KeptReply) (s : Standing State) : Type 0 where
+  pub up : Each (λ x. (x.old ≡ false) × (x.line ≡ eighth)) s.up
+  pub down : Each (λ x. (x.old ≡ false) × (heard x.line ≡ Some 7)) s.down
+  pub keeps : IsOfEighth kept s.state
+
+-- for any instrument: unless the word is a subsequence of the ids under way when a beginning begins, whatever is under way then, and whatever
+-- happens, once it has begun, it has begun cleanly
+abbrev pub BeginsCleanly : Type 0 → Type 0
+BeginsCleanly State =
+    (ends : Ends State) (kept : State → Option KeptReply) → IsAnInstrument ends AnyState kept →
+    (u : UnderWay State) (ts : List (Turn State)) → AreLines AnyState u → AreTurns ends AnyState kept ts (begins u) →
+    (IsSubsequence the_word (ids_under_way u) → ⊥) → (turned ends ts (begins u)).left ≡ [] → HasBegunCleanly kept (turned ends ts (begins u))
+
+-- The client behind it.
+
+-- what a beginning leaves that has begun cleanly
+pub record IsClean {State : Type 0} (Good : State → Type 0) (kept : State → Option KeptReply) (u : UnderWay State) : Type 0 where
+  pub good : Good u.state
+  pub up : Each (λ x. x ≡ eighth) u.up
+  pub down : Each (λ line. heard line ≡ Some 7) u.down
+  pub keeps : IsOfEighth kept u.state
+
+-- the null procedures of a beginning, as requests and as settlements: none of them is the client's
+abbrev pub nulls : List Sent
+nulls = map (λ id. record { target = 0; call = NullProc; line = request_line (Some id) NullProc }) the_word
+
+abbrev pub nulls_settled : List Settlement
+nulls_settled = map (λ id. record { target = 0; call = NullProc; outcome = Lost }) the_word
+
+-- requests 0 to 7 are the null procedures, which are settled, and a new client sends from request 8 on; what is under way is of request 7
+abbrev pub begun_wire : {State : Type 0} → UnderWay State → Wire State
+begun_wire u =
+    record {
+      sent = nulls;
+      executed = [];
+      made = [];
+      settled = nulls_settled;
+      starts = [];
+      up = map (λ x. record { number = 7; line = x }) u.up;
+      down = map (λ x. record { number = 7; line = x }) u.down;
+      state = u.state;
+      refused = 0;
+      idle = 0;
+    }
+
+abbrev pub ids_begun : {State : Type 0} → UnderWay State → World ById State
+ids_begun u = record { wire = begun_wire u; client = fresh }
+
+-- and the client that is told the numbers
+abbrev pub nulls_pending : List Pending
+nulls_pending = map (λ id. record { target = 0; call = NullProc; deadline = 0; given_up = false }) the_word
+
+abbrev pub numbers_begun : {State : Type 0} → UnderWay State → World ByNumber State
+numbers_begun u = record { wire = begun_wire u; client = record { count = 8; requests = nulls_pending; since = 0 } }
+
+module _ {State : Type 0} (width : ℕ) (ends : Ends State) (u : UnderWay State) where
+  -- the world behind the moves, with the client that knows ids, and with the one that is told the numbers
+  abbrev pub behind : List (Move State) → World ById State
+  behind ms = moved ends (by_ids width ends) ms (ids_begun u)
+
+  abbrev pub behind_by_numbers : List (Move State) → Wire State
+  behind_by_numbers ms = (moved ends (by_numbers width) ms (numbers_begun u)).wire
+
+  -- at one of these moves request m, with this call, reaches the instrument; it executes the call, in the state in which it is by then;
+  -- and this line is its reply
+  pub record WasMadeOn (ms : List (Move State)) (m : ℕ) (call : Call) (line : List ℕ) : Type 0 where
+    pub front : List (Move State)
+    pub later : List (Move State)
+    pub split : ms ≡ front ++ OnLine Up_deliver ∷ later
+    pub id : ℕ
+    pub rest : List (Numbered Request)
+    pub reaches : (behind front).wire.up ≡ record { number = m; line = record { id = id; call = call } } ∷ rest
+    pub executed : (ends.handed (behind front).wire.state id call).executed ≡ true
+    pub reply : line ≡ (ends.handed (behind front).wire.state id call).reply
+
+  -- what holds behind these moves, for an instrument whose states are good ones. Settlement 8 + n is the client's settlement n
+  pub record IsFaithful (ms : List (Move State)) (Good : State → Type 0) (kept : State → Option KeptReply) : Type 0 where
+    -- a client that takes these steps settles what the world's settled, and stands where that stands
+    pub settled : (behind ms).wire.settled ≡ nulls_settled ++ (course width begun (seen ms)).settlements
+    pub stands : (course width begun (seen ms)).client ≡ (behind ms).client
+    -- one for one: what was settled and what waits are the requests that were sent, in order, each once; so settlement m has the target and
+    -- the call of request m
+    pub accounted : map of_settled (behind ms).wire.settled ++ map of_pending (behind ms).client.waiting ≡ map asked (behind ms).wire.sent
+    pub one_for_one : IsOneForOne (behind ms).wire.sent (behind ms).wire.settled
+    -- its own, from the first request on: an answer is among the lines that the instrument made for that request, and is its reply to that
+    -- very call
+    pub booked : (m : ℕ) (s : Settlement) → 8 ≤ m → slice_get (behind ms).wire.settled m ≡ Some s → IsBooked ends Good (behind ms).wire.made m s
+    -- and it was executed here, and not before the client began
+    pub executed :
+        (m : ℕ) (s : Settlement) (line : List ℕ) → 8 ≤ m → slice_get (behind ms).wire.settled m ≡ Some s → s.outcome ≡ Answered line → WasExecuted (behind ms).wire.executed m
+    -- made on it: its line was made on executing request m. At one of these moves that request, with this call, reached the instrument,
+    -- which executed it, and this line was its reply
+    pub made_on :
+        (m : ℕ) (s : Settlement) (line : List ℕ) → 8 ≤ m → slice_get (behind ms).wire.settled m ≡ Some s → s.outcome ≡ Answered line → WasMadeOn ms m s.call line
+    -- in order: requests are executed in the order of sending, over starts too
+    pub in_order : IsInOrder (behind ms).wire.executed
+    -- late: the instrument dealt with the request, though its reply came too late
+    pub late :
+        (m : ℕ) (s : Settlement) → 8 ≤ m → slice_get (behind ms).wire.settled m ≡ Some s → s.outcome ≡ Late → (line : List ℕ) × WasMadeOn ms m s.call line
+    -- acts once: where the instrument keeps its reply, between two of its starts each request is executed at most once
+    pub once : KeepsItsReply ends Good kept → ActsOnce (behind ms).wire.executed (behind ms).wire.starts
+    -- agreement: all is as with a client that is told the number of each reply's request
+    pub agrees : (behind ms).wire ≡ behind_by_numbers ms
+    -- in time: a reply whose request isn't settled settles it, and those before it as lost; where it isn't given up, it is answered with
+    -- that line
+    pub first_reply :
+        (n : ℕ) (line : List ℕ) (rest : List (Numbered (List ℕ))) → (behind ms).wire.down ≡ record { number = n; line = line } ∷ rest → length (behind ms).wire.settled ≤ n →
+        (moves ends (by_ids width ends) (behind ms) (Comes line)).wire.settled ≡ (behind ms).wire.settled ++ settle (n - length (behind ms).wire.settled) line (behind ms).client.waiting
+
+-- for any instrument, behind any beginning that has begun cleanly, whenever the client sends; no request has to go out alone
+abbrev pub AnswersAreTheirOwnOnceBegun : Type 0 → Type 0
+AnswersAreTheirOwnOnceBegun State =
+    (ends : Ends State) (kept : State → Option KeptReply) → IsAnInstrument ends AnyState kept →
+    (width : ℕ) → width ≤ WINDOW → (u : UnderWay State) → IsClean AnyState kept u →
+    (ms : List (Move State)) → ArePossible ends AnyState kept (by_ids width ends) ms (ids_begun u) → IsFaithful width ends u ms AnyState kept
+
+-- the same for the simulated instrument, in any state that fits
+abbrev pub SimulatorsAnswersAreTheirOwnOnceBegun : Type 0
+SimulatorsAnswersAreTheirOwnOnceBegun =
+    (width : ℕ) → width ≤ WINDOW → (u : UnderWay State) → IsClean IsFittingState kept_of u →
+    (ms : List (Move State)) → ArePossible ends IsFittingState kept_of (by_ids width ends) ms (ids_begun u) → IsFaithful width ends u ms IsFittingState kept_of

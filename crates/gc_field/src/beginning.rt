@@ -1,0 +1,57 @@
+//! What is proved of a beginning by null procedures, whose ids alone tell what is from before. Each function does nothing: its
+//! contract is the law.
+
+ghost use Rattle.gc_field.specs.BeginWitness.{AreSomeRuns, IsBookedFromBefore};
+ghost use Rattle.gc_field.specs.Beginnings.{RowsHaveNotTheWord, RunsAreTheirOwn, RunsLeaveRows, SimulatorsRunsAreTheirOwn};
+ghost use Rattle.gc_field.specs.Begun.{AnswersAreTheirOwnOnceBegun, BeginsCleanly, SimulatorsAnswersAreTheirOwnOnceBegun};
+
+/// For any instrument, whatever the line loses or repeats, and whatever is under way when a beginning begins, unless the word
+/// 6 5 4 3 2 1 0 7 is a subsequence of the ids of that: once it has begun, no request from before is under way, nor a reply to one. At most
+/// copies of its eighth null procedure are, and of replies to that; and the instrument keeps a reply with its id, or nothing.
+pub fn begins_cleanly<State>()
+    ensures { BeginsCleanly State }
+{}
+
+/// Behind a beginning that has begun cleanly each answer that a new client settles was made on executing that very request, from its first
+/// request on, however many go out at once; and all else holds that `answers_are_their_own` says.
+pub fn answers_are_their_own_once_begun<State>()
+    ensures { AnswersAreTheirOwnOnceBegun State }
+{}
+
+/// The same of the simulator, in any state that fits.
+pub fn simulators_answers_are_their_own_once_begun()
+    ensures { SimulatorsAnswersAreTheirOwnOnceBegun }
+{}
+
+/// What a run that measures has under way has not the word: so a new beginning within a run, or behind one that had begun, has no premise.
+pub fn rows_have_not_the_word<State>()
+    ensures { RowsHaveNotTheWord State }
+{}
+
+/// Behind a beginning that has begun cleanly such a row is under way at any time.
+pub fn runs_leave_rows<State>()
+    ensures { RunsLeaveRows State }
+{}
+
+/// One run after the other, each killed at any moment: as long as fewer than six in a row end while they begin, each run that begins begins
+/// cleanly, and each answer of a command is its own.
+pub fn runs_are_their_own<State>()
+    ensures { RunsAreTheirOwn State }
+{}
+
+/// The same over the simulator, in any state that fits.
+pub fn simulators_runs_are_their_own()
+    ensures { SimulatorsRunsAreTheirOwn }
+{}
+
+/// Some runs are such runs: one is killed while it begins, and the next one begins among replies to it and to requests from before, and sends
+/// two commands at once, whose answers are their own.
+pub fn some_runs_are_their_own()
+    ensures { AreSomeRuns }
+{}
+
+/// Why the word may not be under way: replies from before would answer all of it, and one behind them would be booked for the first
+/// command, with nothing executed.
+pub fn the_word_under_way_is_booked_wrong()
+    ensures { IsBookedFromBefore }
+{}
