@@ -53,7 +53,10 @@ impl<'a, R: Files<File = File>> Sink for Followed<'a, R> {
     ghost failed = { λ f. has_failed f.rows };
 
     fn write(&mut self, bytes: &[u8]) -> Result<usize, PortFailed> {
-        self.rows.write(bytes)
+        match self.rows.write(bytes) {
+            Ok(n) => Ok(n),
+            Err(failed) => Err(failed),
+        }
     }
 
     fn has_failed(&self) -> bool {
@@ -66,8 +69,9 @@ impl<'a, R: Files<File = File>> Lasting for Followed<'a, R> {
 
     // What was written is kept in the file that took it, before the rows go on in another.
     fn keep(&mut self) -> Result<(), PortFailed> {
-        if let Err(failed) = self.rows.keep() {
-            return Err(failed);
+        match self.rows.keep() {
+            Ok(()) => {}
+            Err(failed) => return Err(failed),
         }
         let files = self.seen.get().files;
         if self.rows.file().is_at(self.rt, self.path) {
@@ -95,7 +99,10 @@ impl<'a, R: Files<File = File>> Lasting for Followed<'a, R> {
                     ..files
                 });
                 self.rows = rows;
-                self.rows.keep()
+                match self.rows.keep() {
+                    Ok(()) => Ok(()),
+                    Err(failed) => Err(failed),
+                }
             }
             Err(_) => {
                 self.note(FilesSeen {

@@ -1,6 +1,6 @@
 //! The log of a station: what was on its link, written into a file.
 
-ghost use Rattle.std.specs.Prelude.{◌≡◌, ◌≤◌, ◌⊎◌, ℕ, List, [], length, Bool, Some, None, Result, Ok, Err, IfOk};
+ghost use Rattle.std.specs.Prelude.{◌≡◌, ◌≤◌, ◌⊎◌, ℕ, List, [], Bool, Some, None, Result, Ok, Err, IfOk};
 ghost use Rattle.std.specs.Io.KnownBytes.{Consumes};
 ghost use Rattle.std.specs.Process.{exit_status};
 ghost use Rattle.gc_links.specs.Acts.{Act};
@@ -85,21 +85,6 @@ fn begins_log(front: &[u8]) -> bool {
     true
 }
 
-// Reads the first bytes of a file, as many as there are.
-fn read_front<F: Appending>(file: &F, front: &mut [u8]) -> Result<usize, PortFailed>
-    ensures { IfOk result (λ n. n ≤ length front.new) }
-{
-    let mut count = 0;
-    while count < front.len() {
-        match file.read_at(count as u64, &mut front[count..]) {
-            Ok(0) => return Ok(count),
-            Ok(n) => count += n,
-            Err(failed) => return Err(failed),
-        }
-    }
-    Ok(count)
-}
-
 // Opens the file of a log, and cuts off a torn last line. It is refused, and stays, where it is no regular file, begins as no log does, or
 // another program, or the records of this one, hold it. Where a file can't be held it is nobody's.
 fn open_log<R: Files<File = File>>(rt: &R, path: &str) -> Result<RowsFile<SystemFile>, Unfit> {
@@ -108,7 +93,7 @@ fn open_log<R: Files<File = File>>(rt: &R, path: &str) -> Result<RowsFile<System
         return Err(Unfit::Held);
     }
     let mut front = [0u8; FRONT];
-    let Ok(count) = read_front(&file, &mut front) else {
+    let Ok(count) = file.read_at(0, &mut front) else {
         return Err(Unfit::Failed);
     };
     if !begins_log(&front[..count]) {
@@ -267,20 +252,20 @@ fn measure_logged<L: Link, G: Sink, S: Source, K: Lasting, E: Write>(
     ensures bound { IfOk result.1 (λ status. exit_status status ≤ 1) }
 {
     let (mut streams, ended) = measure_over(alloc, logged, station, seen, streams);
-    let ended = tell_loss(ended, logged, &mut streams.messages);
+    let ended = tell_loss(ended, logged.has_lost_its_log(), &mut streams.messages);
     (streams, ended)
 }
 
 // Tells that a log was lost, where it was, behind how the run ended, whose status stays.
-fn tell_loss<L: Link, G: Sink, E: Write>(
+fn tell_loss<E: Write>(
     ended: io::Result<ExitCode>,
-    logged: &Logged<L, G>,
+    is_lost: bool,
     messages: &mut E,
 ) -> io::Result<ExitCode>
-    ensures told { IfOk result (λ status. (ended ≡ Ok status) × TellsLoss (G.failed (sink_of logged.now)) (E.contents messages.old) (E.contents messages.new)) }
+    ensures told { IfOk result (λ status. (ended ≡ Ok status) × TellsLoss is_lost (E.contents messages.old) (E.contents messages.new)) }
 {
     let status = ended?;
-    if logged.has_lost_its_log() {
+    if is_lost {
         writeln!(messages, "geocom: the log could not be written to its end")?;
     }
     Ok(status)

@@ -206,23 +206,6 @@ struct Records<'a, K, E> {
     messages: E,
 }
 
-impl<'a, K, E: Write> Records<'a, K, E> {
-    // Tells what became of the files, also where no signs of life are told.
-    fn tell_files(&mut self, moment: Moment) -> io::Result<()>
-        ensures sink { self.new.sink ≡ self.old.sink }
-        ensures layout { self.new.layout ≡ self.old.layout }
-        ensures named { self.new.named ≡ self.old.named }
-    {
-        match self.files.news(self.oddities.get().files, moment) {
-            Some(news) => {
-                self.signs.clear(&mut self.messages)?;
-                news.tell(&mut self.messages)
-            }
-            None => Ok(()),
-        }
-    }
-}
-
 impl<'a, K: Lasting, E: Write> Book for Records<'a, K, E> {
     ghost text = { λ book. text_in book.layout book.named.names.items };
 
@@ -273,7 +256,11 @@ impl<'a, K: Lasting, E: Write> Book for Records<'a, K, E> {
     fn sees(&mut self, sight: Sight, moment: Moment) {
         let _ = self.signs.see(sight, moment, &mut self.messages);
         let _ = self.signs.tell_odd(self.oddities.get(), &mut self.messages);
-        let _ = self.tell_files(moment);
+        // What became of the files is told also where no signs of life are.
+        if let Some(news) = self.files.news(self.oddities.get().files, moment) {
+            let _ = self.signs.clear(&mut self.messages);
+            let _ = news.tell(&mut self.messages);
+        }
     }
 
     // As signs of life are.
