@@ -112,7 +112,7 @@ fn open_records<R: Files<File = File>, E: Write>(
     station: Station,
     messages: &mut E,
 ) -> Result<(RowsFile<SystemFile>, io::Result<()>), Unfit>
-    ensures asked { IfOk result (λ opened. IsOpenedAs (head_text (form_of_rows station.layout.form)) (sign_text (form_of_rows station.layout.form)) recording.sync opened.0) }
+    ensures asked { IfOk result (λ opened. IsOpenedAs (head_text (form_of_rows station.layout.form)) (sign_text (form_of_rows station.layout.form)) recording.entry.sync opened.0) }
     ensures told { IfOk result (λ opened. OnOk opened.1 (Appends (E.contents messages.old) (E.contents messages.new) (torn_line (torn_in opened.0)))) }
     ensures untold { OnErr result (E.contents messages.new ≡ E.contents messages.old) }
 {
