@@ -105,6 +105,14 @@ fn open_log<R: Files<File = File>>(rt: &R, path: &str) -> Result<RowsFile<System
     }
 }
 
+// The same, where only whether it can be had counts.
+fn log_at<R: Files<File = File>>(rt: &R, path: &str) -> Option<RowsFile<SystemFile>> {
+    match open_log(rt, path) {
+        Ok(rows) => Some(rows),
+        Err(_) => None,
+    }
+}
+
 // How many more bytes a file may have.
 fn room_in<F: Appending>(file: &F, most: u64) -> u64 {
     match file.len() {
@@ -202,7 +210,7 @@ pub(crate) fn run_logged_at<
         (record { input = input_of S.Source result.0.input; acts = Some acts; taken = K.taken result.0.output; messages = E.contents between })) }
     ensures bound { IfOk result.1 (λ status. exit_status status ≤ 1) }
 {
-    let Ok(rows) = open_log(rt, log.path) else {
+    let Some(rows) = log_at(rt, log.path) else {
         let ended = tell_counts(Err(Stop::Run(RunFault::Log)), &mut streams.messages);
         return (streams, ended);
     };
