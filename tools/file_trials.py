@@ -3,16 +3,19 @@
 import os
 import re
 import tempfile
+from contextlib import contextmanager
 from functools import partial
 from pathlib import Path
 
 from far_end import CLOSES, good, standing
 from measuring import expect_each_once, finished, measuring
-from operating import REPLY, REQUEST, ask, call, ended, expect, expect_same, free_port, started, written_file
+from operating import REPLY, REQUEST, ask, call, ended, expect, expect_same, free_port, started, until, written_file
+from records import HEAD
 
 LINE = re.compile(rb"(\d{4}-\d\d-\d\dT\d\d:\d\d:\d\d\.\d{3}Z) (>|<|>\||<\||-) (.*)")
 ESCAPE = re.compile(rb"\\x([0-9a-f]{2})")
 TWO = b"7 5003\n8 5004\n"
+LOG_LINE = b"2026-11-24T20:00:40.000Z < %R1P,0,2:0,123456\n"
 SCENE = b"# the east pillar\nserial 71\nname EAST\ntarget 0.25 1.5 12.5\ntarget 4.0 1.5 48.25\n"
 SCENE_REPLIES = b'%R1P,0,1:0,71\r\n%R1P,0,2:0,"EAST"\r\n%R1P,0,3:0\r\n%R1P,0,4:0,0.25,1.5,12.5,2\r\n'
 SCENE_REQUESTS = b"%R1Q,5003,1:\r\n%R1Q,5004,2:\r\n%R1Q,9027,3:0.25,1.5,0,1,0\r\n%R1Q,17017,4:2\r\n"
@@ -75,7 +78,7 @@ def logs_each_byte(width, program):
 
 def expect_read_by_check(log, program):
     """`check --log` says of each line what its bytes are."""
-    said = {b"-": rb"(open|not open|ended|failed|closed)", b">": rb"request \d+ ok", b">|": rb"(cleared|part)",
+    said = {b"-": rb"(open|not open|ended|failed|closed|full: what went or came from here on is left out)", b">": rb"request \d+ ok", b">|": rb"(cleared|part)",
             b"<": rb"(reply 0 0|fault \d|overlong)", b"<|": rb"(cleared|part)"}
     status, written, told = ended(program, ["check", "--log"], log.read_bytes())
     expect_same((status, told), (0, ""), "status and messages of check --log")
@@ -94,22 +97,101 @@ def expect_appends(log, far, program):
     expect(log.read_bytes().startswith(before) and len(log.read_bytes()) > len(before), "the log was not appended to")
 
 
+@contextmanager
+def limited(program, port, log, words):
+    """A station whose files can't grow above 4096 bytes, with a log that has nearly as many."""
+    log.write_bytes(LOG_LINE * (4080 // len(LOG_LINE)))
+    limits = ["-c", "ulimit -f 4; trap '' XFSZ; exec \"$@\"", "bash", program, "station", str(port), "--csv", "--log", str(log)]
+    with started("/bin/bash", [*limits, *words.split()], given=TWO) as run:
+        yield run
+
+
 def measures_on_without_its_log(program):
     """Where the log can't be written the rows are the same, and that is told in the end."""
-    with standing() as far, measuring(program, far.port, "--log /dev/full --quiet 100 --deadline 100", TWO) as run:
-        expect_same(run.status(), 0, "the status")
-        told = run.told().splitlines()
-        expect_same(told[-1:], ["geocom: the log could not be written to its end"], "the last line")
-        expect_same(told[0], "answered 2 late 0 lost 0 skipped 0 unreadable 0 missed 0", "the counts")
-        expect_same(run.written(1).count(b",answered,"), 2, "how many rows")
+    with tempfile.TemporaryDirectory() as folder, standing() as far:
+        with limited(program, far.port, Path(folder, "log"), "--quiet 100 --deadline 100") as run:
+            expect_same(run.status(), 0, "the status")
+            told = run.told().splitlines()
+            expect_same(told[-1:], ["geocom: the log could not be written to its end"], "the last line")
+            expect_same(told[-2], "answered 2 late 0 lost 0 skipped 0 unreadable 0 missed 0", "the counts")
+            expect_same(run.written(1).count(b",answered,"), 2, "how many rows")
+
+
+def tells_at_once_that_its_log_is_lost(program):
+    """That the log can't be written is told while the station runs, once, also where it tells no signs of life."""
+    lost = "geocom: the log can't be written, and ends here: the station measures on\n"
+    for silent in "", "--silent":
+        with tempfile.TemporaryDirectory() as folder, standing() as far:
+            with limited(program, far.port, Path(folder, "log"), f"--quiet 100 --deadline 100 --every 2 --cycles 3 {silent}") as run:
+                until(lambda: lost in run.told(), "it isn't told")
+                expect(run.is_running(), "it is told at the end alone")
+                expect_same(run.status(9), 0, "the status")
+                expect_same(run.told().count(lost), 1, "how often it is told")
 
 
 def needs_its_log(program):
     """Where the log can't be opened nothing is sent."""
-    with standing() as far, measuring(program, far.port, "--log /nowhere/log --quiet 100", TWO) as run:
-        expect_same(run.status(), 1, "the status")
-        expect_same((run.told(), run.written(1)), ("geocom: fault 57\n", b""), "what was told, and written")
+    with standing() as far:
+        expect_refused_log("/nowhere/log", far, program)
+
+
+def expect_refused_log(path, far, program):
+    with measuring(program, far.port, f"--log {path} --quiet 100", TWO) as run:
+        expect_same(run.status(), 1, f"{path}: the status")
+        expect(run.told().startswith("geocom: fault 57\n"), f"{path}: {run.told()!r} was told")
+        expect_same(run.written(1), b"", "what was written")
         expect_same(far.came, [], "the connections")
+
+
+def refuses_what_is_no_log(program):
+    """A pipe without a reader, a folder, and files that aren't logs are refused, and stay."""
+    with tempfile.TemporaryDirectory() as folder, standing() as far:
+        pipe = Path(folder, "pipe")
+        os.mkfifo(pipe)
+        expect_refused_log(pipe, far, program)
+        expect_refused_log(folder, far, program)
+        for held in HEAD, b"7 5003\n", b"x", b"\n", b"2026-11-24 something else\n", LOG_LINE[1:], b"\n" + LOG_LINE:
+            path = Path(folder, "other")
+            path.write_bytes(held)
+            expect_refused_log(path, far, program)
+            expect_same(path.read_bytes(), held, "what stands in the file")
+
+
+def cuts_a_torn_line(program):
+    """A torn last line of a log is cut off, and told: no log has a line that neither went nor came."""
+    for torn in LOG_LINE[:-3], LOG_LINE[:30], LOG_LINE[:9], b"":
+        for whole in LOG_LINE * 2, b"":
+            with tempfile.TemporaryDirectory() as folder, standing() as far:
+                log = Path(folder, "log")
+                log.write_bytes(whole + torn)
+                with measuring(program, far.port, f"--log {log} --quiet 100 --deadline 100", TWO) as run:
+                    _, told = finished(run)
+                line = f"geocom: {len(torn)} bytes of a torn line of the log were cut off"
+                expect_same(line in told, torn != b"", f"{told} was told of {torn!r}")
+                expect(log.read_bytes().startswith(whole + b"20"), f"{log.read_bytes()[:200]!r}")
+                fresh = log.read_bytes()[len(whole) :]
+                expect_same(carried(fresh), (far.came, far.went), "what the log says")
+                expect_read_by_check(log, program)
+
+
+def bounds_its_log(program):
+    """A log has no more bytes than it may have, over several runs; its last line says that the rest is left out, and that is told."""
+    full = "geocom: the log is full: what went or came from here on is left out of it"
+    with tempfile.TemporaryDirectory() as folder, standing() as far:
+        log = Path(folder, "log")
+        for number in range(4):
+            with measuring(program, far.port, f"--log {log} --log-bytes 2000 --quiet 100 --deadline 100 --cycles 20", TWO) as run:
+                rows, told = finished(run, counts=-2)
+            expect_each_once(rows, 2, 20)
+            expect_same((told.count(full), told[-1]), (1, "geocom: the log could not be written to its end"), f"what run {number} told")
+            expect(len(log.read_bytes()) <= 2000, f"it has {len(log.read_bytes())} bytes")
+            if number == 0:
+                first = log.read_bytes()
+                expect(len(first) > 1500, f"it has {len(first)} bytes alone")
+                expect(first.endswith(b"Z - full: what went or came from here on is left out\n"), f"it ends with {first[-100:]!r}")
+            expect(log.read_bytes().startswith(first), "a later run changed it")
+            expect_read_by_check(log, program)
+        expect_same(ended(program, ["station", "1", "--log-bytes", "2000"])[0], 2, "the status without --log")
 
 
 def answers_from_a_scene(program):
@@ -172,6 +254,10 @@ def trials():
     for width in (1, 7):
         yield f"--log, each byte, width {width}", partial(logs_each_byte, width)
     yield "--log, a full disk", measures_on_without_its_log
+    yield "--log, a full disk, told at once", tells_at_once_that_its_log_is_lost
+    yield "--log, what is no log", refuses_what_is_no_log
+    yield "--log, a torn line", cuts_a_torn_line
+    yield "--log-bytes", bounds_its_log
     yield "--log, no such folder", needs_its_log
     yield "--scene of exec, drill and loop", answers_from_a_scene
     yield "--scene of serve", partial(serves_a_scene, [])

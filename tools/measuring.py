@@ -18,14 +18,15 @@ def measuring(program, port, words, given):
         yield run
 
 
-def finished(run, status=0, patience=PATIENCE):
-    """Its rows, and the lines that it told before its counts, once it has ended with this status."""
+def finished(run, status=0, patience=PATIENCE, counts=-1):
+    """Its rows, and the lines that it told beside its counts, once it has ended with this status. The counts stand on the last line, or on
+    that of this index."""
     expect_same(run.status(patience), status, f"the status, where {run.told()!r} was told")
     rows = rows_of(run.written(1))
     told = run.told().splitlines()
     if status == 0:
-        expect_same(told[-1:], [counts_of(rows)], "the last line")
-        told.pop()
+        expect_same(told[counts:][:1], [counts_of(rows)], "the line of the counts")
+        del told[counts]
     return rows, told
 
 

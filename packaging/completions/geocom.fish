@@ -34,3 +34,4 @@ complete -c geocom -n '__fish_seen_subcommand_from station' -l sync -d 'has each
 complete -c geocom -n '__fish_seen_subcommand_from station' -l unchained -d 'sends each command by itself'
 complete -c geocom -n '__fish_seen_subcommand_from station' -l silent -d 'leaves out the signs of life'
 complete -c geocom -n '__fish_seen_subcommand_from station' -l log -r -F -d 'appends what went and came to a file'
+complete -c geocom -n '__fish_seen_subcommand_from station' -l log-bytes -x -d 'how many bytes the log may have'

@@ -13,7 +13,7 @@ const ROW: &[u8] =
 
 /// Appends so many rows to the file of this path, and makes each last; the sum is of the rows that do.
 pub fn append<R: Files<File = File>>(rt: &R, path: &str, count: u32, sync: bool) -> u64 {
-    let Ok((mut rows, _)) = open_at(rt, path, HEAD, HEAD, sync) else {
+    let Ok(mut rows) = open_at(rt, path, HEAD, HEAD, sync) else {
         return 0;
     };
     let mut sum = 0u64;

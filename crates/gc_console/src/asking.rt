@@ -6,6 +6,7 @@ ghost use Rattle.gc_console.specs.Streams.{are_open, TellsClosed};
 
 use crate::ask::ask_place;
 use crate::looped::loop_port;
+use crate::oddity::Oddities;
 use crate::recording::{Recording, append_at, measure_at};
 use crate::standard::Standard;
 use crate::station::{Site, Station};
@@ -13,6 +14,7 @@ use crate::streams::Streams;
 use gc_lines::{Lasting, Source};
 use gc_links::Place;
 use std::alloc::Global;
+use std::cell::Cell;
 use std::fs::File;
 use std::io::{self, Write};
 use std::net::{Net, TcpListener, TcpStream};
@@ -90,7 +92,10 @@ pub(crate) fn run_asking<
         } => {
             let station = station.watched(standard.terminal);
             match recording {
-                None => measure_at(rt, alloc, site, station, streams),
+                None => {
+                    let seen = Cell::new(Oddities::none());
+                    measure_at(rt, alloc, site, station, &seen, streams)
+                }
                 Some(recording) => append_at(rt, alloc, site, station, recording, streams),
             }
         }

@@ -27,7 +27,7 @@ A fault is one line on standard error, `geocom: fault N`:
   54  a port could not be bound, a name not found, no connection made or accepted, or no device opened
   55  the settlements, the records, or this text, could not be written
   56  standard input, output or error is closed: `station`, `ask` and `loop` did nothing
-  57  the log could not be opened, or is held
+  57  the log could not be opened, is held, or is no log
   58  what has the path of a device is no terminal
   59  another program holds the device
   60  this program may not read and write the device

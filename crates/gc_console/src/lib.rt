@@ -9,6 +9,8 @@ mod choice;
 mod drill;
 mod ending;
 mod exec;
+mod files;
+mod following;
 mod help;
 mod layout;
 mod logging;
@@ -30,6 +32,7 @@ mod version;
 mod words;
 
 pub use choice::{Choice, Watch};
+pub use files::{FilesSeen, LogSeen};
 pub use gc_ask::{ask_at, ask_tcp, loop_tcp, run_ask, run_loop, serve_tcp};
 pub use gc_engines::{read_schedule, run_check, run_drill, run_drill_width, run_exec};
 pub use gc_instrument::{ServeFault, Served};

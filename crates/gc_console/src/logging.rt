@@ -1,43 +1,178 @@
 //! The log of a station: what was on its link, written into a file.
 
-ghost use Rattle.std.specs.Prelude.{◌≡◌, ◌≤◌, ◌⊎◌, ℕ, List, [], Bool, Some, Result, Ok, Err, IfOk};
+ghost use Rattle.std.specs.Prelude.{◌≡◌, ◌≤◌, ◌⊎◌, ℕ, List, [], Bool, Some, None, Result, Ok, Err, IfOk};
+ghost use Rattle.std.specs.Io.KnownBytes.{Consumes};
 ghost use Rattle.std.specs.Process.{exit_status};
 ghost use Rattle.gc_links.specs.Acts.{Act};
 ghost use Rattle.gc_station.specs.Runs.{FailsAtOutput};
 ghost use Rattle.gc_station.specs.declared.tally.Tally.{Tally};
 ghost use Rattle.gc_texts.specs.declared.fault.RunFault.{RunFault};
 ghost use Rattle.gc_console.specs.Logging.{TellsLoss};
-ghost use Rattle.gc_console.specs.Measuring.{begun_at, MeasuresBegun, IsMeasured, TellsCounts};
+ghost use Rattle.gc_console.specs.Measuring.{begun_at, Measures, MeasuresBegun, IsMeasured, TellsCounts};
+ghost use Rattle.gc_logs.specs.Bounds.{has_ended, sink_of};
 ghost use Rattle.gc_console.specs.Stops.{with_fault, IsLinkless};
 ghost use Rattle.gc_texts.specs.WholeTexts.{input_of};
 ghost use Rattle.gc_console.specs.declared.stop.Stop.{Stop};
 
+use crate::arguments::{Argument, FLAG, Takes};
+use crate::files::{FilesSeen, LogSeen};
 use crate::oddity::{Noticing, Oddities};
 use crate::station::{Station, link_at, measure_over, tell_counts};
 use crate::stop::Stop;
 use crate::streams::Streams;
-use gc_lines::{Lasting, Source, ToWriter};
-use gc_links::{Place, Telling};
-use gc_logs::Logged;
+use clap::ArgMatches;
+use gc_files::{Appending, RowsFile, SystemFile, Unfit, open_file, open_rows};
+use gc_lines::{Lasting, PortFailed, Sink, Source};
+use gc_links::{Link, Place, Telling};
+use gc_logs::{Bounded, Logged};
 use gc_texts::RunFault;
 use std::alloc::Global;
 use std::cell::Cell;
-use std::fs::{File, OpenOptions, TryLockError};
+use std::fs::File;
 use std::io::{self, Write};
 use std::net::{Net, TcpListener, TcpStream};
 use std::process::ExitCode;
 use std::rt::Files;
 use std::time::Clock;
 
-// The file of a log, unless another program, or the records of this one, hold it. Where a file can't be held it is nobody's.
-fn open_log<R: Files<File = File>>(rt: &R, path: &str) -> Option<File> {
-    let Ok(file) = OpenOptions::new().append(true).create(true).open(rt, path) else {
-        return None;
-    };
-    match file.try_lock() {
-        Err(TryLockError::WouldBlock) => None,
-        Ok(()) | Err(TryLockError::Error(_)) => Some(file),
+/// The bound of a log.
+pub(crate) const LOG_BYTES: Argument<'static> = Argument {
+    name: "log-bytes",
+    takes: Takes::Unsigned(1000, u64::MAX),
+    value_name: &["N"],
+    needs: &["log"],
+    help: "With --log: lets the file have at most so many bytes, 1000 or more; a last line says that the rest is left out",
+    ..FLAG
+};
+
+/// Where what was on the link is logged, and the most bytes that the file may have.
+#[derive(Clone, Copy)]
+pub(crate) struct LogPlace<'a> {
+    pub path: &'a str,
+    pub most: u64,
+}
+
+/// What the words of `station` say of its log.
+pub(crate) fn log_of<'a>(words: &ArgMatches<'a>) -> Option<LogPlace<'a>> {
+    match words.get_str("log") {
+        Some(path) => Some(LogPlace {
+            path,
+            most: words.get_one::<u64>("log-bytes").unwrap_or(u64::MAX),
+        }),
+        None => None,
     }
+}
+
+// How a line of a log begins: a moment, of which each 0 stands for a digit, and behind it one of these marks.
+const MOMENT: &[u8] = b"0000-00-00T00:00:00.000Z ";
+
+const MARKS: &[u8] = b"<>-";
+
+const FRONT: usize = 26;
+
+// Whether the first bytes of a file, at most as many as stand in front of a line's text, are those of a log. An empty file is one.
+fn begins_log(front: &[u8]) -> bool {
+    for (at, b) in front.iter().enumerate() {
+        let fits = match MOMENT.get(at) {
+            Some(b'0') => b.is_ascii_digit(),
+            Some(form) => b == form,
+            None => MARKS.contains(b),
+        };
+        if !fits {
+            return false;
+        }
+    }
+    true
+}
+
+// Opens the file of a log, and cuts off a torn last line. It is refused, and stays, where it is no regular file, begins as no log does, or
+// another program, or the records of this one, hold it. Where a file can't be held it is nobody's.
+fn open_log<R: Files<File = File>>(rt: &R, path: &str) -> Result<RowsFile<SystemFile>, Unfit> {
+    let file = open_file(rt, path)?;
+    if file.hold() == Err(Unfit::Held) {
+        return Err(Unfit::Held);
+    }
+    let mut front = [0u8; FRONT];
+    let Ok(count) = file.read_at(0, &mut front) else {
+        return Err(Unfit::Failed);
+    };
+    if !begins_log(&front[..count]) {
+        return Err(Unfit::Foreign);
+    }
+    match open_rows(file, b"", b"", false) {
+        Ok(rows) => Ok(rows),
+        Err((why, _)) => Err(why.into()),
+    }
+}
+
+// The same, where only whether it can be had counts.
+fn log_at<R: Files<File = File>>(rt: &R, path: &str) -> Option<RowsFile<SystemFile>> {
+    match open_log(rt, path) {
+        Ok(rows) => Some(rows),
+        Err(_) => None,
+    }
+}
+
+// How many more bytes a file may have.
+fn room_in<F: Appending>(file: &F, most: u64) -> u64 {
+    match file.len() {
+        Ok(len) => most.saturating_sub(len),
+        Err(_) => 0,
+    }
+}
+
+// A log that notes down when it ends before its time.
+#[derive(Drop)]
+struct Noted<'a, K> {
+    sink: Bounded<K>,
+    seen: &'a Cell<Oddities>,
+}
+
+impl<'a, K: Sink> Sink for Noted<'a, K> {
+    ghost taken = { λ _. None };
+
+    ghost failed = { λ n. has_ended n.sink };
+
+    fn write(&mut self, bytes: &[u8]) -> Result<usize, PortFailed> {
+        match self.sink.write(bytes) {
+            Ok(n) => Ok(n),
+            Err(failed) => {
+                let is_full = self.sink.is_full();
+                note_log(self.seen, is_full);
+                Err(failed)
+            }
+        }
+    }
+
+    fn has_failed(&self) -> bool {
+        self.sink.has_failed()
+    }
+}
+
+// Notes that the log ended, at its bound or since it couldn't be written.
+fn note_log(seen: &Cell<Oddities>, is_full: bool) {
+    let odd = seen.get();
+    let log = if is_full {
+        LogSeen::Full
+    } else {
+        LogSeen::Lost
+    };
+    seen.set(Oddities {
+        files: FilesSeen { log, ..odd.files },
+        ..odd
+    });
+}
+
+// Notes how many bytes of a torn line were cut off.
+fn note_torn(seen: &Cell<Oddities>, torn: u64) {
+    let odd = seen.get();
+    seen.set(Oddities {
+        files: FilesSeen {
+            log_torn: torn,
+            ..odd.files
+        },
+        ..odd
+    });
 }
 
 /// Measures at a place as without a log, and appends what was on the link to a file, which is opened before anything else is
@@ -52,8 +187,9 @@ pub(crate) fn run_logged_at<
     rt: &R,
     alloc: Global,
     place: Place<'_>,
-    path: &str,
+    log: LogPlace<'_>,
     station: Station,
+    seen: &Cell<Oddities>,
     mut streams: Streams<S, K, E>,
 ) -> (Streams<S, K, E>, io::Result<ExitCode>)
     // The status and the messages tell how it ended, as without a log, and behind that whether the log was lost; or that no
@@ -74,7 +210,7 @@ pub(crate) fn run_logged_at<
         (record { input = input_of S.Source result.0.input; acts = Some acts; taken = K.taken result.0.output; messages = E.contents between })) }
     ensures bound { IfOk result.1 (λ status. exit_status status ≤ 1) }
 {
-    let Some(file) = open_log(rt, path) else {
+    let Some(rows) = log_at(rt, log.path) else {
         let ended = tell_counts(Err(Stop::Run(RunFault::Log)), &mut streams.messages);
         return (streams, ended);
     };
@@ -86,11 +222,44 @@ pub(crate) fn run_logged_at<
         }
     };
     let station = station.begun(moment);
-    let seen = Cell::new(Oddities::none());
+    note_torn(seen, rows.torn());
+    let room = room_in(rows.file(), log.most);
+    let noted = Noted {
+        sink: Bounded::new(rows, room),
+        seen,
+    };
     let told = Telling::new(link);
-    let noticing = Noticing::new(told, &seen);
-    let mut logged = Logged::new(noticing, ToWriter::new(file), moment.utc);
-    let (mut streams, ended) = measure_over(alloc, &mut logged, station, &seen, streams);
+    let noticing = Noticing::new(told, seen);
+    let mut logged = Logged::new(noticing, noted, moment.utc);
+    measure_logged(alloc, &mut logged, station, seen, streams)
+}
+
+// Measures over a link with a log, and tells how it ended, and behind that whether the log was lost. The streams are handed back.
+fn measure_logged<L: Link, G: Sink, S: Source, K: Lasting, E: Write>(
+    alloc: Global,
+    logged: &mut Logged<L, G>,
+    station: Station,
+    seen: &Cell<Oddities>,
+    streams: Streams<S, K, E>,
+) -> (Streams<S, K, E>, io::Result<ExitCode>)
+    // As without a log; and the log was lost exactly where that is told.
+    ensures told { IfOk result.1 (λ status. (end : Result Tally Stop) × (between behind : E)
+        × ((given : List ℕ) × Consumes (S.remaining streams.input) (S.remaining result.0.input) given
+        × Measures given station 18446744073709551615
+        (record { input = input_of S.Source streams.input; acts = L.acts logged.old.link; taken = K.taken streams.output; messages = E.contents streams.messages })
+        (record { input = input_of S.Source result.0.input; acts = L.acts logged.new.link; taken = K.taken result.0.output; messages = E.contents between })
+        end)
+        × FailsAtOutput (K.failed streams.output) (K.failed result.0.output) (with_fault end)
+        × TellsCounts end (exit_status status) (E.contents between) (E.contents behind)
+        × TellsLoss (G.failed (sink_of logged.new)) (E.contents behind) (E.contents result.0.messages)) }
+
+    // Status 0 only where the source gave a text to its end, and the run over its commands is done.
+    ensures done { IfOk result.1 (λ status. exit_status status ≡ 0 → (between : E) × IsMeasured station
+        (record { input = input_of S.Source streams.input; acts = L.acts logged.old.link; taken = K.taken streams.output; messages = E.contents streams.messages })
+        (record { input = input_of S.Source result.0.input; acts = L.acts logged.new.link; taken = K.taken result.0.output; messages = E.contents between })) }
+    ensures bound { IfOk result.1 (λ status. exit_status status ≤ 1) }
+{
+    let (mut streams, ended) = measure_over(alloc, logged, station, seen, streams);
     let ended = tell_loss(ended, logged.has_lost_its_log(), &mut streams.messages);
     (streams, ended)
 }

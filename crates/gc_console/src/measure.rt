@@ -15,6 +15,7 @@ ghost use Rattle.gc_texts.specs.Texts.{end_reads};
 ghost use Rattle.gc_texts.specs.declared.text.TheConstants.{TEXT_LIMIT};
 
 use crate::choice::Choice;
+use crate::files::FilesTold;
 use crate::layout::Layout;
 use crate::oddity::Oddities;
 use crate::signs::Signs;
@@ -143,6 +144,7 @@ fn measure<L: Link, S, K: Lasting, E: Write>(
         named,
         oddities,
         signs: Signs::new(station.choice.watch),
+        files: FilesTold::new(),
         messages,
     };
     let end = run_station(link, &mut records, tasks.as_slice(), &plan, max_turns);
@@ -152,6 +154,7 @@ fn measure<L: Link, S, K: Lasting, E: Write>(
         named: _,
         oddities: _,
         mut signs,
+        files: _,
         mut messages,
     } = records;
     let _ = signs.clear(&mut messages);
@@ -198,6 +201,8 @@ struct Records<'a, K, E> {
     named: Tasks,
     oddities: &'a Cell<Oddities>,
     signs: Signs,
+    // What was told of the files of the station.
+    files: FilesTold,
     messages: E,
 }
 
@@ -251,6 +256,11 @@ impl<'a, K: Lasting, E: Write> Book for Records<'a, K, E> {
     fn sees(&mut self, sight: Sight, moment: Moment) {
         let _ = self.signs.see(sight, moment, &mut self.messages);
         let _ = self.signs.tell_odd(self.oddities.get(), &mut self.messages);
+        // What became of the files is told also where no signs of life are.
+        if let Some(news) = self.files.news(self.oddities.get().files, moment) {
+            let _ = self.signs.clear(&mut self.messages);
+            let _ = news.tell(&mut self.messages);
+        }
     }
 
     // As signs of life are.

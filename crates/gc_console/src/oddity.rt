@@ -1,18 +1,22 @@
-//! What is odd about a line, as what comes over it shows: it sends requests back, or it changes the ends of lines.
+//! What is odd about a line, as what comes over it shows: it sends requests back, or it changes the ends of lines. Beside it stands
+//! what became of the station's files.
 
 ghost use Rattle.std.specs.Prelude.{◌≡◌};
 
+use crate::files::FilesSeen;
 use gc_lines::PortFailed;
 use gc_links::{Came, Link, Moment};
 use std::cell::Cell;
 
-/// What was noticed of a line.
+/// What was noticed of a line, and of the files of who measures over it.
 #[derive(Clone, Copy, Debug, PartialEq, Eq)]
 pub struct Oddities {
     /// It sends back what goes out.
     pub echoes: bool,
     /// It changes CR to LF, or takes it away.
     pub bare: bool,
+    /// What became of the files.
+    pub files: FilesSeen,
 }
 
 impl Oddities {
@@ -21,6 +25,7 @@ impl Oddities {
         Oddities {
             echoes: false,
             bare: false,
+            files: FilesSeen::none(),
         }
     }
 }
@@ -70,11 +75,16 @@ impl<'a, L> Noticing<'a, L> {
 
     // Looks at a line that is at its end.
     fn judge(&self) {
-        let Oddities { echoes, bare } = self.seen.get();
+        let Oddities {
+            echoes,
+            bare,
+            files,
+        } = self.seen.get();
         if self.count == self.front.len() {
             self.seen.set(Oddities {
                 echoes: echoes || self.front == *b"%R1Q",
                 bare: bare || self.front == *b"%R1P" && self.last != b'\r',
+                files,
             });
         }
     }

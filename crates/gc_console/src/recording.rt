@@ -1,30 +1,34 @@
 //! Records in a file that outlasts the program: what the words say of it, and a station that appends to it.
 
-ghost use Rattle.std.specs.Prelude.{◌≡◌, ◌≤◌, ◌⊎◌, ℕ, Bool, List, [], Some, None, Result, Ok, Err, IfOk, OnOk};
+ghost use Rattle.std.specs.Prelude.{◌≡◌, ◌≤◌, ◌⊎◌, ℕ, Bool, List, [], Some, None, Result, Ok, Err, IfOk, OnOk, OnErr};
 ghost use Rattle.std.specs.Io.KnownBytes.{Appends};
 ghost use Rattle.std.specs.Process.{exit_status};
 ghost use Rattle.gc_console.specs.Logging.{TellsLoss};
-ghost use Rattle.gc_console.specs.Measuring.{appended, begun_at, MeasuresBegun, IsMeasured, TellsCounts};
+ghost use Rattle.gc_console.specs.Measuring.{appended, begun_at, form_of_rows, MeasuresBegun, IsMeasured, TellsCounts};
 ghost use Rattle.gc_console.specs.Recording.{fault_of_unfit, rotation_line, unfit_text, torn_line};
 ghost use Rattle.gc_console.specs.Stops.{with_fault, IsLinkless};
+ghost use Rattle.gc_texts.specs.Records.{head_text, sign_text};
 ghost use Rattle.gc_texts.specs.WholeTexts.{input_of};
 ghost use Rattle.gc_console.specs.declared.stop.Stop.{Stop};
-ghost use Rattle.gc_files.specs.Sinks.{asks_sync};
+ghost use Rattle.gc_files.specs.Sinks.{torn_in, IsOpenedAs};
 ghost use Rattle.gc_files.specs.declared.system.Unfit.{Unfit};
 ghost use Rattle.gc_links.specs.Acts.{Act};
 ghost use Rattle.gc_station.specs.Runs.{FailsAtOutput};
 ghost use Rattle.gc_station.specs.declared.tally.Tally.{Tally};
 ghost use Rattle.gc_texts.specs.declared.fault.RunFault.{RunFault};
 
+use crate::following::Followed;
 use crate::logging::run_logged_at;
+use crate::oddity::Oddities;
 use crate::station::{Site, Station, run_station_at, tell_counts};
 use crate::stop::Stop;
 use crate::streams::Streams;
 use clap::ArgMatches;
 use gc_files::{RowsFile, SystemFile, Unfit, open_at};
 use gc_lines::{Lasting, Source};
-use gc_texts::{Form, RunFault, head, sign};
+use gc_texts::{RunFault, head, sign};
 use std::alloc::Global;
+use std::cell::Cell;
 use std::fs::File;
 use std::io::{self, Write};
 use std::net::{Net, TcpListener, TcpStream};
@@ -100,16 +104,26 @@ fn write_rotation<E: Write>(why: Unfit, messages: &mut E) -> io::Result<()>
     }
 }
 
-// Opens the file of records in this form, which then syncs as it was asked to. It gives how many bytes of a torn row were cut off, too.
-fn open_records<R: Files<File = File>>(
+// Opens the file of records of a station, in the form of its rows, which then syncs as it was asked to, and tells how many bytes of a
+// torn row were cut off, where there were some. Whether that could be told stands beside the file.
+fn open_records<R: Files<File = File>, E: Write>(
     rt: &R,
-    path: &str,
-    form: Form,
-    sync: bool,
-) -> Result<(RowsFile<SystemFile>, u64), Unfit>
-    ensures sync { IfOk result (λ opened. asks_sync opened.0 ≡ sync) }
+    recording: Recording<'_>,
+    station: Station,
+    messages: &mut E,
+) -> Result<(RowsFile<SystemFile>, io::Result<()>), Unfit>
+    ensures asked { IfOk result (λ opened. IsOpenedAs (head_text (form_of_rows station.layout.form)) (sign_text (form_of_rows station.layout.form)) recording.entry.sync opened.0) }
+    ensures told { IfOk result (λ opened. OnOk opened.1 (Appends (E.contents messages.old) (E.contents messages.new) (torn_line (torn_in opened.0)))) }
+    ensures untold { OnErr result (E.contents messages.new ≡ E.contents messages.old) }
 {
-    open_at(rt, path, head(form), sign(form), sync)
+    let form = station.form_of_rows();
+    match open_at(rt, recording.path, head(form), sign(form), recording.sync) {
+        Ok(rows) => {
+            let told = tell_torn(rows.torn(), messages);
+            Ok((rows, told))
+        }
+        Err(why) => Err(why),
+    }
 }
 
 /// Measures at a site, and tells how it ended. The streams are handed back.
@@ -123,6 +137,7 @@ pub(crate) fn measure_at<
     alloc: Global,
     site: Site<'_>,
     station: Station,
+    seen: &Cell<Oddities>,
     streams: Streams<S, K, E>,
 ) -> (Streams<S, K, E>, io::Result<ExitCode>)
     // The status and the messages tell how it ended, and behind that whether a log was lost; or that no log, no link or no clock could
@@ -144,15 +159,16 @@ pub(crate) fn measure_at<
     ensures bound { IfOk result.1 (λ status. exit_status status ≤ 1) }
 {
     match site.log {
-        Some(path) => run_logged_at(rt, alloc, site.place, path, station, streams),
-        None => run_station_at(rt, alloc, site.place, station, streams),
+        Some(log) => run_logged_at(rt, alloc, site.place, log, station, seen, streams),
+        None => run_station_at(rt, alloc, site.place, station, seen, streams),
     }
 }
 
 /// Measures at a site, and appends the records as rows to a file, which is opened before anything else is done. Where it can't be had,
 /// nothing is read, and nothing is sent: `RecordsUnopened`, `RecordsHeld`, `RecordsForeign`, and `Output` where a call of the system
 /// failed. Of `RecordsForeign` it is told, too, how a file is rotated. What stood in it stays, but for half a row at its end, which is
-/// cut off and told. The streams are handed back.
+/// cut off and told. Where the path no longer leads to the file, rows go on in a new one there, if it can be had. The streams are handed
+/// back.
 pub(crate) fn append_at<
     R: Net<Listener = TcpListener, Stream = TcpStream> + Clock + Files<File = File>,
     S: Source,
@@ -189,12 +205,13 @@ pub(crate) fn append_at<
     ensures output { result.0.output ≡ streams.output }
     ensures bound { IfOk result.1 (λ status. exit_status status ≤ 1) }
 {
-    match open_records(rt, recording.path, station.form_of_rows(), recording.sync) {
-        Ok((rows, torn)) => {
-            // Where that can't be written the station measures all the same.
-            let _ = tell_torn(torn, &mut streams.messages);
-            let (filed, output) = streams.with_output(rows);
-            let (filed, ended) = measure_at(rt, alloc, site, station.appended(), filed);
+    match open_records(rt, recording, station, &mut streams.messages) {
+        // Where a torn row couldn't be told the station measures all the same.
+        Ok((rows, _)) => {
+            let seen = Cell::new(Oddities::none());
+            let followed = Followed::new(rt, recording.path, rows, &seen);
+            let (filed, output) = streams.with_output(followed);
+            let (filed, ended) = measure_at(rt, alloc, site, station.appended(), &seen, filed);
             let (streams, _) = filed.with_output(output);
             (streams, ended)
         }

@@ -17,6 +17,7 @@ use crate::asking::Asking;
 use crate::choice::{Choice, Watch};
 use crate::help::STATION;
 use crate::layout::Layout;
+use crate::logging::{LOG_BYTES, LogPlace, log_of};
 use crate::measure::run_station_text;
 use crate::oddity::{Noticing, Oddities};
 use crate::recording::recording_of;
@@ -48,7 +49,7 @@ pub struct Station {
 #[derive(Clone, Copy)]
 pub(crate) struct Site<'a> {
     pub place: Place<'a>,
-    pub log: Option<&'a str>,
+    pub log: Option<LogPlace<'a>>,
 }
 
 impl Station {
@@ -188,6 +189,7 @@ const ARGUMENTS: &[Argument<'static>] = &[
         help: "Appends each line that went or came to a file, with its moment; `check --log` reads it",
         ..FLAG
     },
+    LOG_BYTES,
 ];
 
 /// The words of `station`.
@@ -206,7 +208,7 @@ pub(crate) fn measured_at<'a>(place: Place<'a>, words: &ArgMatches<'a>) -> Askin
     Asking::Station {
         site: Site {
             place,
-            log: words.get_str("log"),
+            log: log_of(words),
         },
         station: station_of(words),
         recording: recording_of(words),
@@ -280,6 +282,7 @@ pub(crate) fn run_station_at<
     alloc: Global,
     place: Place<'_>,
     station: Station,
+    seen: &Cell<Oddities>,
     mut streams: Streams<S, K, E>,
 ) -> (Streams<S, K, E>, io::Result<ExitCode>)
     // The status and the messages tell how it ended: what the text was, and what of its commands was measured, by acts that the
@@ -307,10 +310,9 @@ pub(crate) fn run_station_at<
         }
     };
     let station = station.begun(moment);
-    let seen = Cell::new(Oddities::none());
     let told = Telling::new(link);
-    let mut link = Noticing::new(told, &seen);
-    measure_over(alloc, &mut link, station, &seen, streams)
+    let mut link = Noticing::new(told, seen);
+    measure_over(alloc, &mut link, station, seen, streams)
 }
 
 /// A link to a place, and the moment at which a run over it begins; or the fault where there is no link: what is wrong with the

@@ -25,6 +25,23 @@ has_failed sink = sink.broken
 abbrev pub asks_sync : {F : Type 0} {D : Ghosts F} → RowsFile F D → Bool
 asks_sync sink = sink.sync
 
+-- what it was opened with: what a new file gets first, and what such a file begins with
+abbrev pub head_in : {F : Type 0} {D : Ghosts F} → RowsFile F D → List ℕ
+head_in sink = sink.head.now
+
+abbrev pub sign_in : {F : Type 0} {D : Ghosts F} → RowsFile F D → List ℕ
+sign_in sink = sink.sign.now
+
+-- how many bytes of a torn row its opening cut off
+abbrev pub torn_in : {F : Type 0} {D : Ghosts F} → RowsFile F D → ℕ
+torn_in sink = sink.torn
+
+-- it was opened as it was asked to: with this head and this sign, and synced or not
+pub record IsOpenedAs {F : Type 0} {D : Ghosts F} (head sign : List ℕ) (sync : Bool) (sink : RowsFile F D) : Type 0 where
+  pub begins : head_in sink ≡ head
+  pub known : sign_in sink ≡ sign
+  pub kept : asks_sync sink ≡ sync
+
 -- what it took is on the disk, or needs not be
 abbrev pub lasts : {F : Type 0} {D : Ghosts F} → RowsFile F D → Bool
 lasts sink = if sink.sync then not sink.unkept else true

@@ -4,7 +4,8 @@
 //! Proved, over any file that meets [`Appending`]:
 //!
 //! - [`open_rows`] touches only a file that begins with the sign, or is a front of it. It cuts off a torn last row, and counts
-//!   its bytes. It writes the head where no whole row stands, and nowhere else.
+//!   its bytes. It writes the head where no whole row stands, and nowhere else. The sink says with which head and sign it was
+//!   opened, also where the file is one of the system.
 //! - What `write` acknowledged is in the file, in order. After [`RowsFile::keep`] a crash leaves it, where the file was opened
 //!   with `sync`.
 //! - Over any runs and crashes ([`laws::tables_last`]) the next opening makes of the file the table that was there before and,
@@ -20,7 +21,8 @@
 //! - What the file held before the first run is on the disk.
 //!
 //! Two things are outside of that. Behind a sync that failed the system may count bytes as written that aren't. A cut whose
-//! sync failed may be taken back by a later crash. No clause says when a file can be opened, and which path is refused.
+//! sync failed may be taken back by a later crash. No clause says when a file can be opened, which path is refused,
+//! and whether a path leads to a file.
 #![tactic(auto)]
 
 mod appending;
@@ -36,4 +38,4 @@ pub use appending::Appending;
 pub use memory_file::{Call, MemoryFile};
 pub use opening::{Refused, open_rows};
 pub use rows_file::RowsFile;
-pub use system::{SystemFile, Unfit, open_at};
+pub use system::{SystemFile, Unfit, open_at, open_file};

@@ -3,7 +3,7 @@
 
 ghost use Rattle.std.specs.Prelude.{◌≡◌, ◌<◌, ◌≤◌, ◌+◌, ◌-◌, ◌^◌, ◌++◌, [], List, ℕ, length, take, drop, true, false, Some, IfOk, IfErr, OnOk, OnErr, IsErrOf, IsTrue, IsFalse};
 ghost use Rattle.gc_files.specs.declared.opening.Refused.TheVariants.{Foreign};
-ghost use Rattle.gc_files.specs.Sinks.{life_in, has_failed, asks_sync};
+ghost use Rattle.gc_files.specs.Sinks.{life_in, has_failed, torn_in, IsOpenedAs};
 ghost use Rattle.gc_files.specs.Files.{Life, Step, content, Adds};
 ghost use Rattle.gc_files.specs.Rows.{whole, fits, start_of, mended, table, Mending, Opens, OpensInPart, PutsAll, IsFront};
 
@@ -203,23 +203,22 @@ fn prepare<F: Appending>(file: &mut F, head: &[u8], sign: &[u8]) -> Result<u64, 
 }
 
 /// Opens a file of rows: one that begins with `sign`, or that is a front of it, as an empty one is. It cuts off what stands
-/// behind the last line feed, and writes `head` into a file that is empty then. It returns the file, and how many bytes were
-/// cut off. An `Err` hands the file back.
+/// behind the last line feed, and writes `head` into a file that is empty then. An `Err` hands the file back.
 ///
 /// For a table, `head` and `sign` are its header. For rows without a header, `head` is empty, and `sign` is what each row
 /// begins with. With `sync` what is appended is on the disk after each [`RowsFile::keep`].
 pub fn open_rows<F: Appending>(
     mut file: F,
-    head: &[u8],
-    sign: &[u8],
+    head: &'static [u8],
+    sign: &'static [u8],
     sync: bool,
-) -> Result<(RowsFile<F>, u64), (Refused, F)>
+) -> Result<RowsFile<F>, (Refused, F)>
     // What was taken has the sign, is mended and has its head.
-    ensures opened { IfOk result (λ all. Opens head.now (F.life file) (life_in all.0)) }
+    ensures opened { IfOk result (λ rows. Opens head.now (F.life file) (life_in rows)) }
     ensures taken { OnOk result ((known : Life) → F.life file ≡ Some known → fits sign.now (content known) ≡ true) }
-    ensures torn { IfOk result (λ all. (known : Life) → F.life file ≡ Some known → length (content known) ≡ length (whole (content known)) + all.1) }
-    ensures sound { IfOk result (λ all. has_failed all.0 ≡ false) }
-    ensures sync { IfOk result (λ all. asks_sync all.0 ≡ sync) }
+    ensures torn { IfOk result (λ rows. (known : Life) → F.life file ≡ Some known → length (content known) ≡ length (whole (content known)) + torn_in rows) }
+    ensures sound { IfOk result (λ rows. has_failed rows ≡ false) }
+    ensures asked { IfOk result (λ rows. IsOpenedAs head.now sign.now sync rows) }
 
     // What hasn't the sign is refused, and only that; it was not touched.
     ensures foreign { IfErr result (λ why. why.0 ≡ Foreign → F.life why.1 ≡ F.life file) }
@@ -230,7 +229,7 @@ pub fn open_rows<F: Appending>(
     ensures untouched { IfErr result (λ why. (known : Life) → F.life file ≡ Some known → fits sign.now (content known) ≡ false → F.life why.1 ≡ F.life file) }
 {
     match prepare(&mut file, head, sign) {
-        Ok(torn) => Ok((RowsFile::new(file, sync), torn)),
+        Ok(torn) => Ok(RowsFile::new(file, head, sign, sync, torn)),
         Err(why) => Err((why, file)),
     }
 }

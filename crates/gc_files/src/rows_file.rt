@@ -13,8 +13,13 @@ use gc_lines::{Lasting, PortFailed, Sink};
 #[derive(Drop)]
 pub struct RowsFile<F: Appending> {
     file: F,
+    // What a new file of its rows gets first, and what each such file begins with.
+    head: &'static [u8],
+    sign: &'static [u8],
     // Whether what is appended is to be on the disk before `keep` ends.
     sync: bool,
+    // How many bytes of a torn last row the opening cut off.
+    torn: u64,
     // Whether something may not be on the disk.
     unkept: bool,
     broken: bool,
@@ -23,20 +28,58 @@ pub struct RowsFile<F: Appending> {
 }
 
 impl<F: Appending> RowsFile<F> {
-    ghost use Rattle.gc_files.specs.Sinks.{life_in, has_failed, asks_sync, lasts};
+    ghost use Rattle.gc_files.specs.Sinks.{life_in, has_failed, torn_in, asks_sync, lasts, head_in, sign_in, IsOpenedAs};
 
     // A sink over a file that ends in a whole row, or has none. What it holds may not be on the disk yet.
-    pub(crate) fn new(file: F, sync: bool) -> RowsFile<F>
+    pub(crate) fn new(
+        file: F,
+        head: &'static [u8],
+        sign: &'static [u8],
+        sync: bool,
+        torn: u64,
+    ) -> RowsFile<F>
         ensures life { life_in result ≡ F.life file }
         ensures failed { has_failed result ≡ false }
-        ensures sync { asks_sync result ≡ sync }
+        ensures torn { torn_in result ≡ torn }
+        ensures asked { IsOpenedAs head.now sign.now sync result }
     {
         RowsFile {
             file,
+            head,
+            sign,
             sync,
+            torn,
             unkept: true,
             broken: false,
         }
+    }
+
+    /// What a new file of its rows gets first: the names of the columns, or nothing.
+    pub fn head(&self) -> &'static [u8]
+        ensures { result.now ≡ head_in self.now }
+    {
+        self.head
+    }
+
+    /// What each file of its rows begins with.
+    pub fn sign(&self) -> &'static [u8]
+        ensures { result.now ≡ sign_in self.now }
+    {
+        self.sign
+    }
+
+    /// Whether each row is on the disk once it is kept.
+    pub fn is_synced(&self) -> bool
+        ensures { result ≡ asks_sync self.now }
+    {
+        self.sync
+    }
+
+    /// How many bytes of a torn last row were cut off as it was opened.
+    pub fn torn(&self) -> u64
+        ensures { result ≡ torn_in self.now }
+    {
+        self.torn
     }
 
     /// The file behind it. Where the sink lasts and was opened with `sync`, a crash leaves all that was taken.

@@ -1,7 +1,7 @@
 //! The files of the system: opened so that nothing is lost by it, and held against other programs.
 
 ghost use Rattle.std.specs.Prelude.{◌≡◌, None, false, IfOk};
-ghost use Rattle.gc_files.specs.Sinks.{asks_sync, has_failed};
+ghost use Rattle.gc_files.specs.Sinks.{has_failed, IsOpenedAs};
 
 use crate::appending::Appending;
 use crate::opening::{Refused, open_rows};
@@ -9,7 +9,7 @@ use crate::rows_file::RowsFile;
 use gc_lines::PortFailed;
 use std::fs::{self, File, OpenFile, OpenOptions, TryLockError};
 use std::io::{self, ErrorKind, Write};
-use std::os::unix::fs::FileExt;
+use std::os::unix::fs::{FileExt, MetadataExt};
 use std::path::Path;
 use std::rt::Files;
 
@@ -42,6 +42,26 @@ impl From<Refused> for Unfit {
 #[derive(Drop)]
 pub struct SystemFile {
     file: File,
+}
+
+impl SystemFile {
+    /// Locks it against other programs of this kind until it is dropped: `Held` where one of them has it, and `Failed` where its
+    /// file system has no locks.
+    pub fn hold(&self) -> Result<(), Unfit> {
+        match self.file.try_lock() {
+            Ok(()) => Ok(()),
+            Err(TryLockError::WouldBlock) => Err(Unfit::Held),
+            Err(TryLockError::Error(_)) => Err(Unfit::Failed),
+        }
+    }
+
+    /// Whether a path leads to this file now, and not to another one or to none.
+    pub fn is_at<R: Files<File = File>>(&self, rt: &R, path: &str) -> bool {
+        match (self.file.metadata(), fs::metadata(rt, path)) {
+            (Ok(own), Ok(found)) => own.dev() == found.dev() && own.ino() == found.ino(),
+            _ => false,
+        }
+    }
 }
 
 // Every error of the system is a failure of the file.
@@ -90,8 +110,9 @@ fn expect_file<R: Files<File = File>>(rt: &R, path: &str) -> Result<(), Unfit> {
     }
 }
 
-// Opens a regular file for reading and appending, and holds it.
-fn open_held<R: Files<File = File>>(rt: &R, path: &str) -> Result<File, Unfit> {
+/// Opens a regular file by its path for reading and appending. Where the path is free, it makes the file. What stands in it stays.
+pub fn open_file<R: Files<File = File>>(rt: &R, path: &str) -> Result<SystemFile, Unfit> {
+    expect_file(rt, path)?;
     let opened = OpenOptions::new()
         .read(true)
         .append(true)
@@ -101,14 +122,9 @@ fn open_held<R: Files<File = File>>(rt: &R, path: &str) -> Result<File, Unfit> {
         return Err(Unfit::Unopened);
     };
     match file.metadata() {
-        Ok(found) if found.is_file() => {}
-        Ok(_) => return Err(Unfit::Unopened),
-        Err(_) => return Err(Unfit::Failed),
-    }
-    match file.try_lock() {
-        Ok(()) => Ok(file),
-        Err(TryLockError::WouldBlock) => Err(Unfit::Held),
-        Err(TryLockError::Error(_)) => Err(Unfit::Failed),
+        Ok(found) if found.is_file() => Ok(SystemFile { file }),
+        Ok(_) => Err(Unfit::Unopened),
+        Err(_) => Err(Unfit::Failed),
     }
 }
 
@@ -127,28 +143,28 @@ fn sync_folder<R: Files<File = File>>(rt: &R, path: &str) -> Result<(), Unfit> {
     }
 }
 
-/// Opens a file of rows by its path, as [`open_rows`] does, and locks it against other programs of this kind until it is
-/// dropped. Where the path is free, it makes the file. It returns the file, and how many bytes of a torn last row were cut off.
+/// Opens a file of rows by its path, as [`open_rows`] does, and locks it against other programs of this kind until it is dropped.
+/// Where the path is free, it makes the file.
 ///
 /// With `sync` the file's name is on the disk, too, before anything is written into it. That holds also for a file that stood
 /// there, since who made it may not have synced its name.
 pub fn open_at<R: Files<File = File>>(
     rt: &R,
     path: &str,
-    head: &[u8],
-    sign: &[u8],
+    head: &'static [u8],
+    sign: &'static [u8],
     sync: bool,
-) -> Result<(RowsFile<SystemFile>, u64), Unfit>
-    ensures sync { IfOk result (λ all. asks_sync all.0 ≡ sync) }
-    ensures sound { IfOk result (λ all. has_failed all.0 ≡ false) }
+) -> Result<RowsFile<SystemFile>, Unfit>
+    ensures asked { IfOk result (λ rows. IsOpenedAs head.now sign.now sync rows) }
+    ensures sound { IfOk result (λ rows. has_failed rows ≡ false) }
 {
-    expect_file(rt, path)?;
-    let file = open_held(rt, path)?;
+    let file = open_file(rt, path)?;
+    file.hold()?;
     if sync {
         sync_folder(rt, path)?;
     }
-    match open_rows(SystemFile { file }, head, sign, sync) {
-        Ok(opened) => Ok(opened),
+    match open_rows(file, head, sign, sync) {
+        Ok(rows) => Ok(rows),
         Err((why, _)) => Err(why.into()),
     }
 }

@@ -14,9 +14,9 @@ fn opened(rt: &impl Abort, alloc: Global, held: &[u8], left: &[u8]) -> Result<u6
         panic!(rt; "memory");
     };
     match open_rows(file, HEAD, HEAD, false) {
-        Ok((rows, torn)) => {
+        Ok(rows) => {
             assert_eq!(rt; rows.file().bytes(), left);
-            Ok(torn)
+            Ok(rows.torn())
         }
         Err((why, file)) => {
             assert_eq!(rt; file.bytes(), left);
@@ -46,7 +46,7 @@ fn full_in_the_middle_of_a_row(rt: HostRuntime) {
     let Some(file) = MemoryFile::new(alloc, HEAD, 2) else {
         panic!(rt; "memory");
     };
-    let Ok((mut rows, _)) = open_rows(file, HEAD, HEAD, true) else {
+    let Ok(mut rows) = open_rows(file, HEAD, HEAD, true) else {
         panic!(rt; "refused");
     };
     assert_eq!(rt; rows.keep().is_ok(), true);

@@ -2,6 +2,7 @@
 
 ghost use Rattle.std.specs.Prelude.{◌≡◌, ◌<◌, [], ◌∷◌, length};
 ghost use Rattle.gc_links.specs.Acts.{Tells, Closed, told_as, came_as, put_as, opened_as, IsWithin, IsPart};
+ghost use Rattle.gc_logs.specs.Bounds.{sink_of};
 ghost use Rattle.gc_logs.specs.Logging.{Logs};
 
 use crate::logging::Log;
@@ -34,7 +35,7 @@ impl<L: Link, K: Sink> Logged<L, K> {
 
     /// Whether the log couldn't be written.
     pub fn has_lost_its_log(&self) -> bool
-        ensures { result ≡ K.failed self.now.log.sink }
+        ensures { result ≡ K.failed (sink_of self.now) }
     {
         self.log.sink.has_failed()
     }

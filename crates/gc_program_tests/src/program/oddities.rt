@@ -70,12 +70,9 @@ fn an_odd_line_is_told_once(rt: HostRuntime) -> Result<(), Fail> {
     let none = Oddities::none();
     let echoes = Oddities {
         echoes: true,
-        bare: false,
+        ..none
     };
-    let bare = Oddities {
-        echoes: false,
-        bare: true,
-    };
+    let bare = Oddities { bare: true, ..none };
     expect_told(&rt, alloc, "a good line", none, &[], 0, 0)?;
     expect_told(&rt, alloc, "an echo", echoes, &[], 1, 0)?;
     expect_told(&rt, alloc, "no CR", bare, &[], 0, 1)?;

@@ -10,7 +10,7 @@ returns-in-Ok-clause-told g c =
     IfOk-weaker c.measure_at-filed.result.1 _ _
     (λ status t. inr (
       t.0,
-      c.tell_torn.new.messages,
+      c.open_records.new.messages,
       t.1,
       t.2,
       t.3,
@@ -27,14 +27,14 @@ returns-in-Ok-clause-told g c =
 pub returns-in-Ok-clause-done : goal.returns-in-Ok-clause-done
 returns-in-Ok-clause-done g c =
     IfOk-weaker c.measure_at-filed.result.1 _ _
-    (λ status d zero. let r = d zero in (c.tell_torn.new.messages, r.0, r.1, r.2, r.3))
+    (λ status d zero. let r = d zero in (c.open_records.new.messages, r.0, r.1, r.2, r.3))
     (rw (c.appended.ensures, c.with_output-filed.ensures.input, c.with_output-filed.ensures.messages, sym c.with_output-streams.ensures.input) at c.measure_at-filed.ensures.done)
 
 pub returns-in-Err-clause-told : goal.returns-in-Err-clause-told
 returns-in-Err-clause-told g c =
     IfOk-weaker c.tell_rotation-ended.result _ _
     (λ status told.
-    let t = IfOk-at_ok _ told.0 c.tell_counts-ended.ensures.told in
+    let t = IfOk-at_ok _ told.0 (rw (c.in-Err.ensures.untold) at c.tell_counts-ended.ensures.told) in
     inl (
       c.in-Err.why,
       t.0,

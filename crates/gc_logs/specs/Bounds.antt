@@ -1,0 +1,40 @@
+-- A log with a bound: this project's own.
+use Rattle.std.specs.Prelude.{◌≡◌, ◌⊎◌, ℕ, ◌+◌, ◌≤◌, ◌<◌, min, Bool, true, false, List, ◌++◌, length, take, Option, Result, IfOk, codes}
+use Rattle.std.specs.Io.KnownBytes.{Appends}
+use Rattle.gc_lines.specs.Ports.{TakesBytes, TakesFront}
+use Rattle.gc_logs.specs.declared.bounded.Bounded.{Bounded}
+use Rattle.gc_logs.specs.declared.logged.Logged.{Logged}
+
+-- the line in place of the first one that has no room: that one's moment, and that the rest is left out
+abbrev pub full_line : List ℕ → List ℕ
+full_line line = take (min (length line) 24) line ++ codes " - full: what went or came from here on is left out\n"
+
+-- a sink took all of that line, or a front of it, and failed
+abbrev pub TakesFull : Option (List ℕ) → Option (List ℕ) → List ℕ → Type 0
+TakesFull old new line = Appends old new (full_line line) ⊎ ((n : ℕ) × TakesFront old new n (full_line line))
+
+-- what is seen of a sink with a bound: what the one below it took, how many more bytes have room, and whether it has ended
+pub record BoundSeen : Type 0 where
+  pub taken : Option (List ℕ)
+  pub left : ℕ
+  pub ended : Bool
+
+-- what has room goes to the sink below, and takes its room
+pub record Fits {E : Type 0} (old new : BoundSeen) (result : Result ℕ E) (bytes : List ℕ) : Type 0 where
+  pub took : TakesBytes old.taken new.taken result bytes
+  pub left : IfOk result (λ n. new.left + n ≡ old.left)
+
+-- a write to a sink with a bound: where it has ended nothing more is taken; what has room is taken; and in place of what has none comes the
+-- line that says so, as far as the sink below takes it, and that is the end
+pub record Bounds {E : Type 0} (old new : BoundSeen) (result : Result ℕ E) (bytes : List ℕ) : Type 0 where
+  pub ended : old.ended ≡ true → new.taken ≡ old.taken
+  pub fits : old.ended ≡ false → length bytes ≤ old.left → Fits old new result bytes
+  pub full : old.ended ≡ false → old.left < length bytes → TakesFull old.taken new.taken bytes
+
+-- a sink with a bound takes nothing more
+abbrev pub has_ended : {K : Type 0} → Bounded K → Bool
+has_ended bounded = bounded.is_ended
+
+-- where a link's log is written
+abbrev pub sink_of : {L K : Type 0} → Logged L K → K
+sink_of logged = logged.log.sink

@@ -1,0 +1,135 @@
+//! A sink with a bound: how many bytes a log may have, and the line that says that the rest is left out.
+
+ghost use Rattle.std.specs.Prelude.{◌≡◌, ◌+◌, ◌<◌, ◌≤◌, None, false, length, take, min, OnOk, IfErr};
+ghost use Rattle.std.specs.Io.KnownBytes.{Appends};
+ghost use Rattle.gc_lines.specs.Ports.{TakesBytes, TakesFront, Fails};
+ghost use Rattle.gc_logs.specs.Bounds.{full_line, TakesFull, Bounds};
+
+use arrayvec::ArrayVec;
+use gc_lines::{PortFailed, Sink, append, write_whole};
+
+// How many bytes of a line are its moment.
+const MOMENT: usize = 24;
+
+// How many bytes are kept free for the line that says that the rest is left out.
+const SPARE: u64 = 100;
+
+/// A sink that takes lines, each in one write, up to a bound. The first line that has no room is its end: in place of it comes a
+/// line with the same moment, which says that all from there on is left out. It has failed then. Where the sink below fails, that
+/// is its end, too.
+#[derive(Drop)]
+pub struct Bounded<K> {
+    sink: K,
+    // How many more bytes of lines it takes.
+    left: u64,
+    is_ended: bool,
+}
+
+impl<K: Sink> Bounded<K> {
+    /// A sink that adds at most so many bytes to what the one below has. Where not even the line has room that says that the rest
+    /// is left out, it has ended.
+    pub fn new(sink: K, room: u64) -> Bounded<K>
+        ensures sink { result.sink ≡ sink }
+        ensures few { result.is_ended ≡ false → result.left + 100 ≤ room }
+    {
+        if room < SPARE {
+            return Bounded {
+                sink,
+                left: 0,
+                is_ended: true,
+            };
+        }
+        Bounded {
+            sink,
+            left: room - SPARE,
+            is_ended: false,
+        }
+    }
+
+    /// Whether it has ended at its bound, and not since the sink below failed.
+    pub fn is_full(&self) -> bool {
+        self.is_ended && !self.sink.has_failed()
+    }
+
+    /// The sink below.
+    pub fn sink(&self) -> &K
+        ensures { result.now ≡ self.now.sink }
+    {
+        &self.sink
+    }
+}
+
+// The moment of a line.
+fn moment_of(line: &[u8]) -> &[u8]
+    ensures is { result.now ≡ take (min (length line.now) 24) line.now }
+    ensures short { length result.now ≤ 24 }
+{
+    &line[..line.len().min(MOMENT)]
+}
+
+// The line that stands in place of the first one that has no room.
+fn full_line(line: &[u8]) -> ArrayVec<u8, 100>
+    ensures { result.items ≡ full_line line.now }
+{
+    let mut text = ArrayVec::new();
+    append(&mut text, moment_of(line));
+    append(
+        &mut text,
+        b" - full: what went or came from here on is left out\n",
+    );
+    text
+}
+
+// Writes it. `Err(n)`: the sink took the first n bytes of it, which aren't all, and failed.
+fn put_full<K: Sink>(sink: &mut K, line: &[u8]) -> Result<(), usize>
+    ensures ok { OnOk result (Appends (K.taken sink.old) (K.taken sink.new) (full_line line.now)) }
+    ensures err { IfErr result (λ n. TakesFront (K.taken sink.old) (K.taken sink.new) n (full_line line.now)) }
+{
+    write_whole(sink, &full_line(line))
+}
+
+// Writes it, as far as the sink takes it: a front of it is cut off where the log is opened next.
+fn write_full<K: Sink>(sink: &mut K, line: &[u8])
+    ensures { TakesFull (K.taken sink.old) (K.taken sink.new) line.now }
+{
+    let _ = put_full(sink, line);
+}
+
+impl<K: Sink> Sink for Bounded<K> {
+    ghost taken = { λ _. None };
+
+    ghost failed = { λ b. b.is_ended };
+
+    fn write(&mut self, bytes: &[u8]) -> Result<usize, PortFailed>
+        requires { 0 < length bytes.now }
+        ensures bytes { TakesBytes None None result bytes.now }
+        ensures fails { Fails self.old.is_ended self.new.is_ended result }
+        ensures bounds { Bounds
+            (record { taken = K.taken self.old.sink; left = self.old.left; ended = self.old.is_ended })
+            (record { taken = K.taken self.new.sink; left = self.new.left; ended = self.new.is_ended })
+            result bytes.now }
+    {
+        if self.is_ended {
+            return Err(PortFailed);
+        }
+        if self.left < bytes.len() as u64 {
+            self.is_ended = true;
+            write_full(&mut self.sink, bytes);
+            return Err(PortFailed);
+        }
+        match self.sink.write(bytes) {
+            Ok(n) => {
+                self.left -= n as u64;
+                Ok(n)
+            }
+            Err(failed) => {
+                self.is_ended = true;
+                Err(failed)
+            }
+        }
+    }
+
+    fn has_failed(&self) -> bool {
+        self.is_ended
+    }
+}
