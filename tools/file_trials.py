@@ -132,13 +132,14 @@ def tells_at_once_that_its_log_is_lost(program):
 def needs_its_log(program):
     """Where the log can't be opened nothing is sent."""
     with standing() as far:
-        expect_refused_log("/nowhere/log", far, program)
+        expect_refused_log("/nowhere/log", far, program, "No such file or directory")
 
 
-def expect_refused_log(path, far, program):
+def expect_refused_log(path, far, program, why=""):
     with measuring(program, far.port, f"--log {path} --quiet 100", TWO) as run:
         expect_same(run.status(), 1, f"{path}: the status")
         expect(run.told().startswith("geocom: fault 57\n"), f"{path}: {run.told()!r} was told")
+        expect(why in run.told(), f"{path}: {run.told()!r} was told")
         expect_same(run.written(1), b"", "what was written")
         expect_same(far.came, [], "the connections")
 
@@ -247,7 +248,10 @@ def refuses_a_faulty_scene(program):
 def expect_refused(scene, message, program):
     for words in ["exec"], ["drill"], ["loop"], ["serve", str(free_port())], ["serve", str(free_port()), "--keep"]:
         found = ended(program, [*words, "--scene", scene], SCENE_COMMANDS)
-        expect_same(found, (1, b"", message), " ".join(words))
+        behind = f"geocom: of the scene in {scene}\n" if words[0] in ("loop", "serve") else ""
+        if behind and not os.path.exists(scene):
+            behind += f"geocom: {scene}: No such file or directory (os error 2)\n"
+        expect_same(found, (1, b"", message + behind), " ".join(words))
 
 
 def trials():

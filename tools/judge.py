@@ -21,6 +21,7 @@ import csv
 import re
 import sys
 
+from measuring import START
 from records import COLUMNS, MOMENT, OUTCOMES, moment
 from tagging import tagged
 
@@ -178,7 +179,11 @@ if quiet < deadline:
     if lines[:1] != [hasty]:
         faults.append(f"told first: {lines[:1]}")
     lines = lines[1:]
-kinds = [rf"geocom: (no connection) since {STAMP}", rf"geocom: (not quiet) since {STAMP}", rf"geocom: (nothing heard) since {STAMP}",
+# The line of the start.
+if not lines or not START.fullmatch(lines[0]):
+    faults.append(f"told at the start: {lines[:1]}")
+lines = lines[1:]
+kinds = [rf"geocom: (no connection) since {STAMP}", rf"geocom: (not quiet) since {STAMP}", rf"geocom: (no answer) since {STAMP}",
          r"geocom: (connected again)", r"geocom: (cycle) \d+ was not done when the next was due",
          rf"geocom: (commands skipped) since {STAMP}: \d+", rf"geocom: ({ECHOES}): a modem or the far end has its echo on"]
 found = [next(filter(None, (re.fullmatch(kind, line) for kind in kinds)), None) for line in lines]

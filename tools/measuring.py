@@ -3,6 +3,7 @@
 import collections
 import csv
 import io
+import re
 from contextlib import contextmanager
 
 from operating import PATIENCE, expect, expect_same, started
@@ -18,12 +19,16 @@ def measuring(program, port, words, given):
         yield run
 
 
+# The line that says at the start what a run has to do, where, and what it waits for.
+START = re.compile(r"geocom: \d+ commands? for .*: waits until the line is quiet for \d+ ms and a null procedure is answered")
+
+
 def finished(run, status=0, patience=PATIENCE, counts=-1):
-    """Its rows, and the lines that it told beside its counts, once it has ended with this status. The counts stand on the last line, or on
-    that of this index."""
+    """Its rows, and the lines that it told beside its counts and the one of its start, once it has ended with this status. The counts
+    stand on the last line, or on that of this index."""
     expect_same(run.status(patience), status, f"the status, where {run.told()!r} was told")
     rows = rows_of(run.written(1))
-    told = run.told().splitlines()
+    told = [line for line in run.told().splitlines() if not START.fullmatch(line)]
     if status == 0:
         expect_same(told[counts:][:1], [counts_of(rows)], "the line of the counts")
         del told[counts]

@@ -14,9 +14,9 @@ import tty
 from functools import partial
 from pathlib import Path
 
-from far_end import LOSES, good, standing
+from far_end import CLOSES, LOSES, good, standing
 from measuring import STAMP, expect_each_once, finished, measuring, utc_of
-from operating import expect, expect_same, until
+from operating import ended, expect, expect_same, until
 from records import moment
 
 TWO = b"7 5003\n8 5004\n"
@@ -157,6 +157,75 @@ def tells_signs(words, outages, signs, program):
         expect_signs([line for line in told if " was not done when " not in line], signs)
 
 
+def tells_that_no_answer_comes(answers, has_lost, program):
+    """Where nothing is answered that is told within a minute, since the first want of it, whatever becomes of connections; and that it
+    is connected again only once something was answered. An instrument is off behind a live port for 63 seconds."""
+    began = time.time()
+    with standing(lambda request: good(request) if time.time() > began + 63 else answers(request)) as far:
+        with measuring(program, far.port, "--quiet 500 --deadline 1000 --retries 0", TWO) as run:
+            until(lambda: "no answer since" in run.told(), f"no line within a minute, of {run.told()!r}", 61)
+            expect(time.time() < began + 61, "the line came late")
+            expect("connected again" not in run.told(), f"{run.told()!r} was told")
+            rows, told = finished(run, patience=90)
+    since = [moment(line[-24:]).timestamp() for line in told if "no answer" in line]
+    expect(all(began - 0.1 <= one <= began + 2 for one in since), f"{told} was told, and it began at {began:.3f}")
+    kinds = [re.sub(r" since .*", "", line.removeprefix("geocom: ")) for line in told]
+    expect_same((kinds[-1], kinds.count("connected again")), ("connected again", 1), f"the last sign, of {told}")
+    expect_same("no connection" in kinds, has_lost, f"whether a connection was missed, of {told}")
+
+
+def closes(_):
+    return CLOSES
+
+
+def loses(_):
+    return LOSES
+
+
+def says_what_it_waits_for(program):
+    """At its start a run says how many commands it has, where, and what it waits for; with --silent it doesn't."""
+    with standing() as far:
+        for words, count in ([], 1), (["--silent"], 0):
+            status, _, told = ended(program, ["station", str(far.port), "--quiet", "100", "--deadline", "100", *words], TWO)
+            start = f"geocom: 2 commands for 127.0.0.1:{far.port}: waits until the line is quiet for 100 ms and a null procedure is answered"
+            expect_same((status, told.splitlines().count(start)), (0, count), f"status and start, of {told!r}")
+
+
+def counts_what_was_skipped(program):
+    """The first line of skipped commands has all of the chain, and not the first of them."""
+    text = b"7 9027 0.5,1.5,0,1,0\n7 5003\n7 5004\n7 2011\n8 5003\n"
+    refuses = lambda request: request.reply(b"8704") if request.rpc == 9027 else good(request)
+    with standing(refuses) as far, measuring(program, far.port, "--quiet 200 --deadline 200", text) as run:
+        rows, told = finished(run)
+    expect_same([row["outcome"] for row in rows], ["answered", "skipped", "skipped", "skipped", "answered"], "the outcomes")
+    expect_signs(told, [f"geocom: commands skipped since {STAMP}: 3"])
+
+
+def fits_a_terminal(program):
+    """The line of a terminal has 79 columns at most, however much is to be counted."""
+    refuses = lambda request: request.reply(b"8704") if request.rpc == 9027 else LOSES if request.rpc == 5003 else good(request)
+    text = b"7 9027 0.5,1.5,0,1,0\n7 5004\n8 5003\n9 5003\n"
+    master, slave = pty.openpty()
+    tty.setraw(slave)
+    with standing(refuses) as far, tempfile.TemporaryFile() as given, open(master, "rb", buffering=0) as terminal:
+        given.write(text)
+        given.seek(0)
+        words = ["station", str(far.port), "--every", "1", "--cycles", "12", "--quiet", "300", "--deadline", "700"]
+        child = subprocess.Popen([program, *words], stdin=given, stdout=subprocess.DEVNULL, stderr=slave)
+        shown = b""
+        try:
+            end = time.monotonic() + 10
+            while time.monotonic() < end and select.select([terminal], [], [], max(0, end - time.monotonic()))[0]:
+                shown += terminal.read(4096)
+        finally:
+            child.kill()
+            child.wait()
+            os.close(slave)
+    lines = [line for part in shown.decode().split("\r\x1b[K") for line in part.split("\n") if line.startswith("cycle ")]
+    expect(lines and any(" lost " in line and " skipped " in line for line in lines), f"{lines} were shown")
+    expect(max(map(len, lines)) <= 79, f"{max(lines, key=len)!r} was shown")
+
+
 def tells_nothing_where_nothing_fails(program):
     """A connection that ends between cycles, and is made anew once the next is due, is no sign."""
     with standing() as far:
@@ -188,7 +257,11 @@ def shows_a_line_on_a_terminal(words, most, program):
             child.kill()
     *lines, last = shown.decode().split("\r\x1b[K")
     expect_same(last, "answered 8 late 0 lost 0 skipped 0 unreadable 0 missed 0\n", "the last line")
-    over = r"cycle \d: answered \d late 0 lost 0 skipped 0 unreadable 0 missed 0(, last answer \d s ago)?"
+    if lines:
+        start, over = re.match(r"(?s)(geocom: .*? is answered\n)?(.*)", lines[0]).groups()
+        expect(bool(start), f"{lines} were shown")
+        lines[0] = over
+    over = r"cycle \d: answered \d( \(last \d s ago\))?"
     expect(all(re.fullmatch(over, line) for line in lines) and bool(most) == bool(lines), f"{lines} were shown")
     expect(len(lines) <= most, f"{len(lines)} lines in four seconds")
 
@@ -211,7 +284,8 @@ def connects_on(program):
         with measuring(program, far.port, "--retries 10 --quiet 1 --deadline 500", TWO) as bounded:
             with measuring(program, far.port, "--retries 0 --quiet 1 --deadline 500", TWO) as run:
                 rows, told = finished(bounded, status=1)
-                expect_same((rows, told[-1]), ([], "geocom: fault 54"), "the rows and the fault of ten tries")
+                expect_same((rows, told[-2]), ([], "geocom: fault 54"), "the rows and the fault of ten tries")
+                expect(told[-1].startswith(f"geocom: 127.0.0.1:{far.port}: Connection refused"), f"{told} was told")
                 expect(run.is_running(), f"it ended: {run.told()!r}")
                 far.plug()
                 rows, told = finished(run, patience=15)
@@ -233,6 +307,13 @@ def trials():
     yield "the program is stopped, without --every", misses_none_without_a_grid
     yield "signs of life, an outage", partial(tells_signs, "", 1, [AWAY, AGAIN])
     yield "signs of life, three outages within a minute", partial(tells_signs, "", 3, [AWAY, AGAIN])
+    yield "signs of life, an instrument is off behind a live port", partial(
+        tells_that_no_answer_comes, loses, False)
+    yield "signs of life, a far end that closes each connection", partial(
+        tells_that_no_answer_comes, closes, True)
+    yield "signs of life, the start", says_what_it_waits_for
+    yield "signs of life, skipped commands", counts_what_was_skipped
+    yield "signs of life, the columns of a terminal", fits_a_terminal
     yield "signs of life, --silent", partial(tells_signs, "--silent", 1, [])
     yield "signs of life, none needed", tells_nothing_where_nothing_fails
     yield "signs of life, a terminal", partial(shows_a_line_on_a_terminal, [], 5)

@@ -19,7 +19,7 @@ from measuring import expect_each_once, finished, measuring
 from operating import COMMANDS, PATIENCE, REPLY, REQUEST, Failed, ended, expect, expect_same, free_port, started, until
 from terminals import joined, lead, terminal
 
-NO_PLACES = ["0", "65536", "word", ":4001", "host:0", "host:"]
+NO_PLACES = ["0", "65536", "word", ":4001", "host:0", "host:", "[fd00::5", "fd00::5", "[]:1", "[127.0.0.1]:1", "tcp://host:1"]
 NO_PLACE = "error: a place is a port from 1 to 65535, HOST:PORT, [ADDRESS]:PORT, or the path of a device, which has a /"
 NOT_SERVED = "error: a simulator is served on a port of 127.0.0.1, from 1 to 65535, or on the path of a device, which has a /"
 NO_TERMINAL, HELD, FORBIDDEN = 58, 59, 60
@@ -79,9 +79,11 @@ def reaches(listening, host, program):
 
 
 def finds_nobody(place, program):
-    """`ask` where nobody listens, or where no name is found."""
-    found = ended(program, ["ask", place], COMMANDS, patience=20)
-    expect_same(found, (1, b"", "geocom: fault 54\n"), f"ask {place}")
+    """`ask` where nobody listens, or where no name is found. A second line says where, and gives the system's reason."""
+    status, written, told = ended(program, ["ask", place], COMMANDS, patience=20)
+    first, *others = told.splitlines()
+    expect_same((status, written, first, len(others)), (1, b"", "geocom: fault 54", 1), f"ask {place}, {told!r}")
+    expect(others[0].startswith(f"geocom: {place.removesuffix(':4001')}: "), f"ask {place}: {told!r} was told")
 
 
 def measures_over_a_device(width, program):
@@ -173,8 +175,9 @@ def serves_a_device_again(program):
 def expect_refused(program, path, fault, commands=("station", "ask", "serve"), **so):
     """Nothing is done at this path, and that is told."""
     for command in commands:
-        found = ended(program, [command, str(path)], COMMANDS, **so)
-        expect_same(found, (1, b"", f"geocom: fault {fault}\n"), f"{command} {path}")
+        status, written, told = ended(program, [command, str(path)], COMMANDS, **so)
+        expect_same((status, written), (1, b""), f"{command} {path}")
+        expect(told.startswith(f"geocom: fault {fault}\ngeocom: {path}: ") and told.count("\n") <= 3, f"{command}: {told!r} was told")
 
 
 def refuses_what_is_no_device(program):

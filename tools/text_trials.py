@@ -2,12 +2,13 @@
 
 import select
 import socket
+import subprocess
 import time
 from functools import partial
 
 from far_end import LOSES, good, standing
 from measuring import expect_ends, expect_each_once, finished, measuring
-from operating import ended, expect, expect_same, started
+from operating import PATIENCE, ended, expect, expect_same, started, written_file
 
 # Texts that are refused, with the number of the first faulty line and what is said of it.
 FAULTY = [
@@ -25,6 +26,10 @@ FAULTY = [
     (b"deadline\n", 1, "deadline"),
     (b"name 7 \n", 1, "name"),
     (b"name 7 a,b\n", 1, "name"),
+    (b"name 7 =1+1\n", 1, "name"),
+    (b"7 5003\nname 7 +1\n", 2, "name"),
+    (b"name 7 -1\n", 1, "name"),
+    (b"name 7 @sum\n", 1, "name"),
     (b"name 7 " + 65 * b"a" + b"\n", 1, "name"),
     (b"name 7 pier\n7 5003\nname 7 pillar\n", 3, "name"),
     (b"".join(b"name %d pier\n" % target for target in range(65)), 65, "name"),
@@ -46,6 +51,60 @@ def says_what_is_faulty(text, line, trouble, program):
 def says_each(program):
     for text, line, trouble in FAULTY:
         says_what_is_faulty(text, line, trouble, program)
+
+
+def refuses_an_empty_text(program):
+    """A text without a command ends at once, and nothing is connected to; of `ask` and `loop` nothing is asked."""
+    with socket.create_server(("127.0.0.1", 0)) as listener:
+        port = str(listener.getsockname()[1])
+        told = "geocom: fault 50\ngeocom: the text has no command\n"
+        for text in b"", b"\n", b"# none\nname 7 pier\ndeadline 200\nunchained\n":
+            for words in [], ["--cycles", "0"], ["--csv", "--every", "1", "--cycles", "0", "--retries", "0"]:
+                expect_same(ended(program, ["station", port, *words], text), (1, b"", told), f"{words} of {text!r}")
+        expect(not select.select([listener], [], [], 0)[0], "it connected")
+    expect_same(ended(program, ["loop"], b""), (0, b"", ""), "loop")
+
+
+def draws_no_other_row(program):
+    """An answer with control bytes stands in one line of the records, as it stands in a row."""
+    evil = b'0,"\x1b[2K\r2026-11-25T00:00:00.000Z 0 7 answered %R1P,0,1:0\x7f\xe9\\"'
+
+    def answers(request):
+        return request.reply(b"0" if request.rpc == 0 else evil)
+
+    with standing(answers) as far:
+        words = ["station", str(far.port), "--quiet", "100", "--deadline", "300", "--silent"]
+        status, written, told = ended(program, words, b"7 5004\n7 5003\n")
+    expect_same(status, 0, f"the status, where {told!r} was told")
+    expect_same(len(written.splitlines()), 2, f"the lines of {written!r}")
+    expect(all(32 <= byte <= 126 or byte == 10 for byte in written), f"{written!r} was written")
+    expect(b"\\x1b[2K\\x0d2026" in written and b"\\x7f\\xe9\\x5c" in written, f"{written!r} was written")
+
+
+def says_how_a_text_is_given(program):
+    """A word for the text is refused, and it is told where it is read from."""
+    for words in ["station", "4001", "commands"], ["ask", "4001", "commands"], ["loop", "commands"]:
+        status, written, told = ended(program, words)
+        expect_same((status, written), (2, b""), f"status and output, where {told!r} was told")
+        expect("standard input" in told and "< FILE" in told, f"{told!r} was told")
+
+
+def says_which_of_two_texts(program):
+    """Where a scene is named a fault of a text says of which it is, and where the scene is."""
+    with written_file(b"target 0.25\n") as scene:
+        status, _, told = ended(program, ["loop", "--scene", scene], b"7 5003\n")
+        expect_same((status, told), (1, f"geocom: fault 51 line 1\ngeocom: of the scene in {scene}\n"), "the scene")
+    with written_file(b"serial 71\n") as scene:
+        status, _, told = ended(program, ["loop", "--scene", scene], b"7 5003 1\n")
+        expect_same((status, told), (1, "geocom: fault 51 line 1\ngeocom: of the commands of standard input\n"), "the commands")
+
+
+def measures_on_over_a_full_standard_error(program):
+    """A run with all its rows ends with status 0, also where no message can be written."""
+    with standing() as far, open("/dev/full", "wb") as full:
+        words = [program, "station", str(far.port), "--csv", "--quiet", "100", "--deadline", "300"]
+        run = subprocess.run(words, input=b"7 5003\n8 5004\n", stdout=subprocess.PIPE, stderr=full, timeout=PATIENCE, check=False)
+    expect_same((run.returncode, run.stdout.count(b",answered,")), (0, 2), "the status and the answers")
 
 
 def ask_refuses_them(program):
@@ -128,7 +187,7 @@ def gives_a_mute_line_up(mute, words, outcomes, program):
     """A line on which no reply comes is fault 46, and what was sent is lost."""
     with standing(mute()) as far, measuring(program, far.port, f"--deadline 200 --quiet 200 {words}", b"7 5003\n8 5004\n") as run:
         rows, told = finished(run, status=1, patience=15)
-        expect_same(told[-1:], ["geocom: fault 46"], "the last line")
+        expect_same(told[-2:], ["geocom: fault 46", f"geocom: 127.0.0.1:{far.port}: no reply came any more"], "the last lines")
         expect_same([row["outcome"] for row in rows], outcomes, "the outcomes")
 
 
@@ -157,6 +216,11 @@ def is_refused_by_the_command_line(program):
 def trials():
     yield "a faulty text, what is said of it", says_each
     yield "a station's lines in the texts of ask and loop", ask_refuses_them
+    yield "a text without a command", refuses_an_empty_text
+    yield "an answer with control bytes", draws_no_other_row
+    yield "a word for the text", says_how_a_text_is_given
+    yield "a fault of one of two texts", says_which_of_two_texts
+    yield "a full standard error", measures_on_over_a_full_standard_error
     yield "names of targets", names_targets
     yield "deadlines of the text", waits_as_the_text_says
     yield "an answer of three seconds from an earlier run", drains_what_an_earlier_run_left

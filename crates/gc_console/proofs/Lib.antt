@@ -2,3 +2,4 @@ mod Measured
 mod Linkless
 mod Played
 mod Started
+mod Wants

@@ -6,3 +6,4 @@ pub mod Refusals
 pub mod Stops
 pub mod Streams
 pub mod TaskTexts
+pub mod Wanted

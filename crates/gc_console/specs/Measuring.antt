@@ -11,7 +11,7 @@ use Rattle.gc_console.specs.TaskTexts.{GivesTasks, RefusesTasks}
 use Rattle.gc_console.specs.declared.layout.Layout.{Layout}
 use Rattle.gc_console.specs.declared.station.Station.{Station}
 use Rattle.gc_console.specs.declared.stop.Stop.{Stop}
-use Rattle.gc_console.specs.declared.stop.Stop.TheVariants.{Text, Line, Run}
+use Rattle.gc_console.specs.declared.stop.Stop.TheVariants.{Text, Empty, Line, Run}
 use Rattle.gc_lines.specs.Ports.{TakesFront}
 use Rattle.gc_links.specs.Acts.{Act}
 use Rattle.gc_station.specs.Records.{Record}
@@ -123,6 +123,7 @@ MeasuresBegun station old new result = (run : ℕ) × (given : List ℕ) × Cons
 -- where the text was refused nothing was done over the link, and nothing written
 abbrev pub IsUntouched : Places → Places → Result Tally Stop → Type 0
 IsUntouched old new (Err (Text fault)) = IsUnused old new
+IsUntouched old new (Err Empty) = IsUnused old new
 IsUntouched old new (Err (Line n trouble)) = IsUnused old new
 IsUntouched old new _ = Unit {0}
 

@@ -1,23 +1,26 @@
 -- Why a station that measures the commands of a text stopped before its end, and what the program tells of it: this project's own.
-use Rattle.std.specs.Prelude.{◌≡◌, ℕ, List, ◌++◌, Option, Some, None, Result, Ok, Err}
+use Rattle.std.specs.Prelude.{◌≡◌, ℕ, List, ◌++◌, Option, Some, None, Result, Ok, Err, codes}
 use Rattle.gc_ask.specs.Places.{fault_of_reason}
 use Rattle.gc_console.specs.declared.stop.Stop.{Stop}
-use Rattle.gc_console.specs.declared.stop.Stop.TheVariants.{Text, Line, Run}
+use Rattle.gc_console.specs.declared.stop.Stop.TheVariants.{Text, Empty, Line, Run}
 use Rattle.gc_links.specs.declared.device.Unusable.{Unusable}
 use Rattle.gc_texts.specs.Faults.{run_fault_text, fault_line}
 use Rattle.gc_texts.specs.Troubles.{trouble_line}
 use Rattle.gc_texts.specs.declared.fault.RunFault.{RunFault}
-use Rattle.gc_texts.specs.declared.fault.RunFault.TheVariants.{Schedule, Clock}
+use Rattle.gc_texts.specs.declared.fault.RunFault.TheVariants.{NoCommand, Schedule, Clock}
 
 -- the fault of a stop
 abbrev pub fault_of_stop : Stop → RunFault
 fault_of_stop (Text fault) = fault
+fault_of_stop Empty = NoCommand
 fault_of_stop (Line n trouble) = Schedule n
 fault_of_stop (Run fault) = fault
 
--- what is told of a stop: the fault's line, and behind that of a faulty line the line's trouble
+-- what is told of a stop: the fault's line, behind that of a text without a command that it has none, and behind that of a faulty line the
+-- line's trouble
 abbrev pub stop_text : Stop → List ℕ
 stop_text (Text fault) = fault_line (run_fault_text fault)
+stop_text Empty = fault_line (run_fault_text NoCommand) ++ codes "geocom: the text has no command\n"
 stop_text (Line n trouble) = fault_line (run_fault_text (Schedule n)) ++ trouble_line n trouble
 stop_text (Run fault) = fault_line (run_fault_text fault)
 

@@ -1,8 +1,8 @@
 -- A station's text that is read whole: this project's own.
-use Rattle.std.specs.Prelude.{◌≡◌, ℕ, List}
+use Rattle.std.specs.Prelude.{◌≡◌, ℕ, ◌<◌, ◌⊎◌, Bool, List, [], length}
 use Rattle.gc_console.specs.declared.choice.Choice.{Choice}
 use Rattle.gc_console.specs.declared.stop.Stop.{Stop}
-use Rattle.gc_console.specs.declared.stop.Stop.TheVariants.{Text, Line}
+use Rattle.gc_console.specs.declared.stop.Stop.TheVariants.{Text, Empty, Line}
 use Rattle.gc_texts.specs.LineForms.{line_at}
 use Rattle.gc_texts.specs.Tasks.{IsTasks, TaskFault}
 use Rattle.gc_texts.specs.Troubles.{IsTrouble}
@@ -18,11 +18,22 @@ abbrev pub IsRefusal : List ℕ → RunFault → Stop → Type 0
 IsRefusal text (Schedule n) stop = (trouble : Trouble) × IsTrouble (line_at text n) trouble × (stop ≡ Line n trouble)
 IsRefusal text fault stop = stop ≡ Text fault
 
--- the text that a source gave is no station's text, or wasn't read
-abbrev pub RefusesTasks : List ℕ → Input → Input → Stop → Type 0
-RefusesTasks given old new stop = (fault : RunFault) × RefusesText TaskFault given old new fault × IsRefusal given fault stop
+-- the text that a source gave is a station's text without a command
+pub record HasNoCommand (given : List ℕ) (old new : Input) (stop : Stop) : Type 0 where
+  pub read : WasRead given old new
+  pub deadline : ℕ
+  pub chained : Bool
+  pub names : List Name
+  pub are : IsTasks given deadline chained [] names
+  pub is : stop ≡ Empty
 
--- a source gave a station's text, with these tasks and names, where the deadline and the mode of this choice hold before any line
+-- the text that a source gave is no station's text, or wasn't read, or it has no command
+abbrev pub RefusesTasks : List ℕ → Input → Input → Stop → Type 0
+RefusesTasks given old new stop =
+    ((fault : RunFault) × RefusesText TaskFault given old new fault × IsRefusal given fault stop) ⊎ HasNoCommand given old new stop
+
+-- a source gave a station's text, with these tasks, of which there are some, and these names, where the deadline and the mode of this choice hold before any line
 pub record GivesTasks (given : List ℕ) (old new : Input) (choice : Choice) (tasks : List Task) (names : List Name) : Type 0 where
   pub read : WasRead given old new
   pub are : IsTasks given choice.deadline choice.chained tasks names
+  pub some : 0 < length tasks

@@ -6,6 +6,7 @@ ghost use Rattle.std.specs.Process.{exit_status};
 use crate::arguments::{Argument, PLACE, command_of};
 use crate::ending::end_of;
 use crate::help::COMMANDS;
+use crate::oddity::tell_place;
 use clap::Command;
 use gc_ask::ask_at;
 use gc_lines::{Sink, Source};
@@ -48,5 +49,11 @@ pub(crate) fn ask_place<
 ) -> io::Result<ExitCode>
     ensures { IfOk result (λ status. exit_status status ≤ 1) }
 {
-    end_of(ask_at(rt, alloc, place, source, sink, u32::MAX), messages)
+    let end = ask_at(rt, alloc, place, source, sink, u32::MAX);
+    let ended = end_of(end, messages);
+    if let Err(fault) = end {
+        // Where that can't be written the fault's line stands all the same.
+        let _ = tell_place(place, fault, messages);
+    }
+    ended
 }

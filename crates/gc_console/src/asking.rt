@@ -6,7 +6,9 @@ ghost use Rattle.gc_console.specs.Streams.{are_open, TellsClosed};
 
 use crate::ask::ask_place;
 use crate::looped::loop_port;
-use crate::oddity::Oddities;
+use crate::lossy::Lossy;
+use crate::noting::Noting;
+use crate::oddity::{Noticed, Spot};
 use crate::recording::{Recording, append_at, measure_at};
 use crate::standard::Standard;
 use crate::station::{Site, Station};
@@ -47,7 +49,7 @@ pub(crate) fn run_asking<
     K: Lasting + Drop,
     E: Write,
 >(
-    rt: &R,
+    rt: &Noting<'_, R>,
     alloc: Global,
     standard: Standard,
     asking: Asking<'_>,
@@ -91,13 +93,60 @@ pub(crate) fn run_asking<
             recording,
         } => {
             let station = station.watched(standard.terminal);
-            match recording {
-                None => {
-                    let seen = Cell::new(Oddities::none());
-                    measure_at(rt, alloc, site, station, &seen, streams)
-                }
-                Some(recording) => append_at(rt, alloc, site, station, recording, streams),
-            }
+            measure_site(rt, alloc, site, station, recording, streams)
         }
     }
+}
+
+// Measures at a site, and tells how it ended. Where a message can't be written it is lost, and the status stays. The streams are
+// handed back.
+fn measure_site<
+    R: Net<Listener = TcpListener, Stream = TcpStream> + Clock + Files<File = File>,
+    S: Source,
+    K: Lasting + Drop,
+    E: Write,
+>(
+    rt: &Noting<'_, R>,
+    alloc: Global,
+    site: Site<'_>,
+    station: Station,
+    recording: Option<Recording<'_>>,
+    streams: Streams<S, K, E>,
+) -> (Streams<S, K, E>, io::Result<ExitCode>)
+    ensures { IfOk result.1 (λ status. exit_status status ≤ 1) }
+{
+    let noticed = Cell::new(Noticed::nothing());
+    let spot = Spot {
+        place: site.place,
+        noticed: &noticed,
+    };
+    let Streams {
+        input,
+        output,
+        messages,
+    } = streams;
+    let lossy = Streams {
+        input,
+        output,
+        messages: Lossy { inner: messages },
+    };
+    let (lossy, ended) = match recording {
+        None => measure_at(rt, alloc, spot, site.log, station, lossy),
+        Some(recording) => append_at(rt, alloc, spot, site.log, station, recording, lossy),
+    };
+    let Streams {
+        input,
+        output,
+        mut messages,
+    } = lossy;
+    let _ = spot.tell(&mut messages);
+    if !spot.is_unreached() {
+        rt.forget();
+    }
+    let streams = Streams {
+        input,
+        output,
+        messages: messages.inner,
+    };
+    (streams, ended)
 }

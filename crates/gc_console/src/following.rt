@@ -4,7 +4,7 @@ ghost use Rattle.std.specs.Prelude.{◌≡◌, None};
 ghost use Rattle.gc_files.specs.Sinks.{has_failed, lasts};
 
 use crate::files::FilesSeen;
-use crate::oddity::Oddities;
+use crate::oddity::Noticed;
 use gc_files::{RowsFile, SystemFile, open_at};
 use gc_lines::{Lasting, PortFailed, Sink};
 use std::cell::Cell;
@@ -13,13 +13,13 @@ use std::rt::Files;
 
 /// A file of rows by its path. Between two rows it looks whether the path still leads to the file. Where it doesn't, and a file can
 /// be had there as at the start, the rows go on in that one, behind its head; else they go on in the old one. What became of it is
-/// noted in `seen`.
+/// noted in `noticed`.
 #[derive(Drop)]
 pub(crate) struct Followed<'a, R> {
     rt: &'a R,
     path: &'a str,
     rows: RowsFile<SystemFile>,
-    seen: &'a Cell<Oddities>,
+    noticed: &'a Cell<Noticed>,
 }
 
 impl<'a, R: Files<File = File>> Followed<'a, R> {
@@ -28,7 +28,7 @@ impl<'a, R: Files<File = File>> Followed<'a, R> {
         rt: &'a R,
         path: &'a str,
         rows: RowsFile<SystemFile>,
-        seen: &'a Cell<Oddities>,
+        noticed: &'a Cell<Noticed>,
     ) -> Followed<'a, R>
         ensures { result.rows ≡ rows }
     {
@@ -36,14 +36,14 @@ impl<'a, R: Files<File = File>> Followed<'a, R> {
             rt,
             path,
             rows,
-            seen,
+            noticed,
         }
     }
 
     // Notes what became of the file.
     fn note(&self, files: FilesSeen) {
-        let odd = self.seen.get();
-        self.seen.set(Oddities { files, ..odd });
+        let seen = self.noticed.get();
+        self.noticed.set(Noticed { files, ..seen });
     }
 }
 
@@ -73,7 +73,7 @@ impl<'a, R: Files<File = File>> Lasting for Followed<'a, R> {
             Ok(()) => {}
             Err(failed) => return Err(failed),
         }
-        let files = self.seen.get().files;
+        let files = self.noticed.get().files;
         if self.rows.file().is_at(self.rt, self.path) {
             if files.is_astray {
                 self.note(FilesSeen {

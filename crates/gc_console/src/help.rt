@@ -13,7 +13,7 @@ With --scene FILE it is the file's. A scene has a line for each thing; empty lin
 
 Exit status: 0 where it is done, 1 after a fault, 2 for a command line that doesn't parse.
 
-A fault is one line on standard error, `geocom: fault N`:
+A fault is one line on standard error, `geocom: fault N`. Of a place, a file, or a station's text a second line says what and why:
   41  a scene has more than 32 targets
   42  the input, the connection, or the file of a scene could not be read
   43  the output, or the connection, could not be written: R whole lines went out, and B bytes of the next
@@ -21,6 +21,7 @@ A fault is one line on standard error, `geocom: fault N`:
   45  the other end closed the connection before a request was settled
   46  no reply came any more, though the connection stood
   47  the clock could not be read, or stands before 1970
+  50  the text of `station` has no command
   51  a line of the schedule, of the commands, or of a scene has no form: `line L` says which, counted from 1
   52  no memory was found
   53  the schedule, the commands, or a scene have more than 65536 bytes
@@ -116,7 +117,7 @@ begin with # are skipped. Other lines say how the commands behind them go out, a
                 be answered well, with both codes 0 and values that read. Where it isn't, or the connection was closed since,
                 the rest of the chain is skipped
   unchained     each goes out by itself
-  name T TEXT   1 to 64 bytes, for all rows of target T
+  name T TEXT   1 to 64 bytes, for all rows of target T; the first is none of = + - @
 
 Each is asked once in each cycle, and each gets a line as it ends, which begins with the moment:
   answered      its reply came before its deadline
@@ -135,9 +136,10 @@ its last line feed, which a crash left, is cut off and told. A file that begins 
 is refused, and stays. With --columns a row has a column for each quantity of its answer, too, as hz_rad or serial; with --json
 it is an object of JSON, and a file of those is known by its first one.
 
-While it measures it tells on standard error, each at most once a minute, since when there is no connection, the line isn't
-quiet, nothing was heard or commands were skipped, and that a cycle is late. Where that is a terminal, and the output none, a
-line with the counts is written over, too. With --silent it tells nothing of that.
+At its start it tells on standard error how many commands it has, where, and what it waits for. While it measures it tells there,
+each at most once a minute, since when there is no connection, no answer, or no quiet on the line, that it is connected again
+(once something was answered), how many commands were skipped, and that a cycle is late. Where that is a terminal, and the
+output none, a line with the counts is written over, too. With --silent it tells nothing of that.
 
 Each answer is the reply to its own request, also by an instrument that keeps its last reply, where
   - the instrument answers in turn, one request at a time, each with its request's id, and what it sends again is its reply

@@ -16,14 +16,14 @@ ghost use Rattle.gc_console.specs.declared.stop.Stop.{Stop};
 
 use crate::arguments::{Argument, FLAG, Takes};
 use crate::files::{FilesSeen, LogSeen};
-use crate::oddity::{Noticing, Oddities};
+use crate::oddity::{Noticed, Noticing, Spot};
 use crate::station::{Station, link_at, measure_over, tell_counts};
 use crate::stop::Stop;
 use crate::streams::Streams;
 use clap::ArgMatches;
 use gc_files::{Appending, RowsFile, SystemFile, Unfit, open_file, open_rows};
 use gc_lines::{Lasting, PortFailed, Sink, Source};
-use gc_links::{Link, Place, Telling};
+use gc_links::{Link, Telling};
 use gc_logs::{Bounded, Logged};
 use gc_texts::RunFault;
 use std::alloc::Global;
@@ -125,7 +125,7 @@ fn room_in<F: Appending>(file: &F, most: u64) -> u64 {
 #[derive(Drop)]
 struct Noted<'a, K> {
     sink: Bounded<K>,
-    seen: &'a Cell<Oddities>,
+    noticed: &'a Cell<Noticed>,
 }
 
 impl<'a, K: Sink> Sink for Noted<'a, K> {
@@ -138,7 +138,7 @@ impl<'a, K: Sink> Sink for Noted<'a, K> {
             Ok(n) => Ok(n),
             Err(failed) => {
                 let is_full = self.sink.is_full();
-                note_log(self.seen, is_full);
+                note_log(self.noticed, is_full);
                 Err(failed)
             }
         }
@@ -150,28 +150,28 @@ impl<'a, K: Sink> Sink for Noted<'a, K> {
 }
 
 // Notes that the log ended, at its bound or since it couldn't be written.
-fn note_log(seen: &Cell<Oddities>, is_full: bool) {
-    let odd = seen.get();
+fn note_log(noticed: &Cell<Noticed>, is_full: bool) {
+    let seen = noticed.get();
     let log = if is_full {
         LogSeen::Full
     } else {
         LogSeen::Lost
     };
-    seen.set(Oddities {
-        files: FilesSeen { log, ..odd.files },
-        ..odd
+    noticed.set(Noticed {
+        files: FilesSeen { log, ..seen.files },
+        ..seen
     });
 }
 
 // Notes how many bytes of a torn line were cut off.
-fn note_torn(seen: &Cell<Oddities>, torn: u64) {
-    let odd = seen.get();
-    seen.set(Oddities {
+fn note_torn(noticed: &Cell<Noticed>, torn: u64) {
+    let seen = noticed.get();
+    noticed.set(Noticed {
         files: FilesSeen {
             log_torn: torn,
-            ..odd.files
+            ..seen.files
         },
-        ..odd
+        ..seen
     });
 }
 
@@ -186,10 +186,9 @@ pub(crate) fn run_logged_at<
 >(
     rt: &R,
     alloc: Global,
-    place: Place<'_>,
+    spot: Spot<'_>,
     log: LogPlace<'_>,
     station: Station,
-    seen: &Cell<Oddities>,
     mut streams: Streams<S, K, E>,
 ) -> (Streams<S, K, E>, io::Result<ExitCode>)
     // The status and the messages tell how it ended, as without a log, and behind that whether the log was lost; or that no
@@ -214,24 +213,25 @@ pub(crate) fn run_logged_at<
         let ended = tell_counts(Err(Stop::Run(RunFault::Log)), &mut streams.messages);
         return (streams, ended);
     };
-    let (link, moment) = match link_at(rt, place) {
+    let (link, moment) = match link_at(rt, spot.place) {
         Ok(found) => found,
         Err(fault) => {
+            spot.stop(fault);
             let ended = tell_counts(Err(Stop::Run(fault)), &mut streams.messages);
             return (streams, ended);
         }
     };
     let station = station.begun(moment);
-    note_torn(seen, rows.torn());
+    note_torn(spot.noticed, rows.torn());
     let room = room_in(rows.file(), log.most);
     let noted = Noted {
         sink: Bounded::new(rows, room),
-        seen,
+        noticed: spot.noticed,
     };
     let told = Telling::new(link);
-    let noticing = Noticing::new(told, seen);
+    let noticing = Noticing::new(told, spot.noticed);
     let mut logged = Logged::new(noticing, noted, moment.utc);
-    measure_logged(alloc, &mut logged, station, seen, streams)
+    measure_logged(alloc, &mut logged, station, spot, streams)
 }
 
 // Measures over a link with a log, and tells how it ended, and behind that whether the log was lost. The streams are handed back.
@@ -239,7 +239,7 @@ fn measure_logged<L: Link, G: Sink, S: Source, K: Lasting, E: Write>(
     alloc: Global,
     logged: &mut Logged<L, G>,
     station: Station,
-    seen: &Cell<Oddities>,
+    spot: Spot<'_>,
     streams: Streams<S, K, E>,
 ) -> (Streams<S, K, E>, io::Result<ExitCode>)
     // As without a log; and the log was lost exactly where that is told.
@@ -259,7 +259,7 @@ fn measure_logged<L: Link, G: Sink, S: Source, K: Lasting, E: Write>(
         (record { input = input_of S.Source result.0.input; acts = L.acts logged.new.link; taken = K.taken result.0.output; messages = E.contents between })) }
     ensures bound { IfOk result.1 (λ status. exit_status status ≤ 1) }
 {
-    let (mut streams, ended) = measure_over(alloc, logged, station, seen, streams);
+    let (mut streams, ended) = measure_over(alloc, logged, station, spot, streams);
     let ended = tell_loss(ended, logged.has_lost_its_log(), &mut streams.messages);
     (streams, ended)
 }

@@ -10,6 +10,7 @@ use crate::scene::instrument_of;
 use clap::Command;
 use gc_ask::loop_tcp_on;
 use gc_lines::{Sink, Source};
+use gc_texts::RunFault;
 use std::alloc::{AllocError, Global};
 use std::io::{self, Write};
 use std::net::{Net, TcpListener, TcpStream};
@@ -46,11 +47,34 @@ pub(crate) fn loop_port<
 ) -> io::Result<ExitCode>
     ensures { IfOk result (λ status. exit_status status ≤ 1) }
 {
-    match instrument_of(rt, alloc, scene) {
-        Ok(instrument) => end_of(
-            loop_tcp_on(rt, alloc, instrument, source, sink, u32::MAX),
-            messages,
-        ),
-        Err(fault) => end_of(Err(fault), messages),
+    let instrument = match instrument_of(rt, alloc, scene) {
+        Ok(instrument) => instrument,
+        Err(fault) => {
+            let ended = end_of(Err(fault), messages);
+            let _ = tell_scene(scene, messages);
+            return ended;
+        }
+    };
+    let end = loop_tcp_on(rt, alloc, instrument, source, sink, u32::MAX);
+    let ended = end_of(end, messages);
+    if let Err(RunFault::Schedule { .. } | RunFault::InputTooLong) = end {
+        let _ = tell_commands(scene, messages);
+    }
+    ended
+}
+
+/// Tells behind a fault that it is of the scene.
+pub(crate) fn tell_scene<E: Write>(scene: Option<&str>, messages: &mut E) -> io::Result<()> {
+    match scene {
+        Some(path) => writeln!(messages, "geocom: of the scene in {path}"),
+        None => Ok(()),
+    }
+}
+
+// Tells behind a fault of the commands that it isn't of the scene, where there is one.
+fn tell_commands<E: Write>(scene: Option<&str>, messages: &mut E) -> io::Result<()> {
+    match scene {
+        Some(_) => writeln!(messages, "geocom: of the commands of standard input"),
+        None => Ok(()),
     }
 }

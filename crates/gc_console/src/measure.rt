@@ -14,10 +14,10 @@ ghost use Rattle.gc_station.specs.Scopes.{AreReadings};
 ghost use Rattle.gc_texts.specs.Texts.{end_reads};
 ghost use Rattle.gc_texts.specs.declared.text.TheConstants.{TEXT_LIMIT};
 
-use crate::choice::Choice;
+use crate::choice::{Choice, Watch};
 use crate::files::FilesTold;
 use crate::layout::Layout;
-use crate::oddity::Oddities;
+use crate::oddity::{Noticed, Spot};
 use crate::signs::Signs;
 use crate::station::Station;
 use crate::stop::Stop;
@@ -36,18 +36,19 @@ use std::io::{self, Write};
 /// link as the station is told, in at most `max_turns` acts. The streams are handed back, with how the run ended.
 ///
 /// Before the link is used or anything is written, `Text` comes with `Read` where the input failed, with `InputTooLong` where it
-/// gave more than 65,536 bytes, and with `Memory` where a growth was refused, and `Line` at the first line without form. `Run`
+/// gave more than 65,536 bytes, and with `Memory` where a growth was refused, `Line` at the first line without form, and `Empty`
+/// where the text has no command. `Run`
 /// comes with the faults of [`run_station`], and with `Output` where the output failed: in front of the records, and then the link
 /// wasn't used, or at a record.
 ///
 /// What is odd of the choice and of the text is told on the messages at the start: each angle of a positioning that lies outside one
 /// turn, and a quiet time that is shorter than the longest deadline. So are signs of life, each at most once a minute, where the
-/// choice has them, and once what is noticed of the line in `oddities`. Where that can't be written the station measures on.
+/// choice has them, and once what is noticed of the line at the spot. Where that can't be written the station measures on.
 pub fn run_station_text<L: Link, S: Source, K: Lasting, E: Write>(
     alloc: Global,
     link: &mut L,
     station: Station,
-    oddities: &Cell<Oddities>,
+    spot: Spot<'_>,
     mut streams: Streams<S, K, E>,
     max_turns: u64,
 ) -> (Streams<S, K, E>, Result<Tally, Stop>)
@@ -95,7 +96,7 @@ pub fn run_station_text<L: Link, S: Source, K: Lasting, E: Write>(
         named,
         max_turns,
     };
-    let (streams, end) = measure(link, station, work, oddities, streams);
+    let (streams, end) = measure(link, station, work, spot, streams);
     match end {
         Ok(tally) => (streams, Ok(tally)),
         Err(fault) => (streams, Err(Stop::Run(fault))),
@@ -115,7 +116,7 @@ fn measure<L: Link, S, K: Lasting, E: Write>(
     link: &mut L,
     station: Station,
     work: Work,
-    oddities: &Cell<Oddities>,
+    spot: Spot<'_>,
     streams: Streams<S, K, E>,
 ) -> (Streams<S, K, E>, Result<Tally, RunFault>)
     ensures ran { (reads : Call → List ℕ → Reading) → AreReadings reads
@@ -138,11 +139,18 @@ fn measure<L: Link, S, K: Lasting, E: Write>(
     } = work;
     let plan = station.choice.plan(tasks.as_slice());
     let _ = warn(&station.choice, &plan, &mut messages);
+    let _ = tell_start(
+        spot,
+        tasks.len(),
+        &plan,
+        station.choice.watch,
+        &mut messages,
+    );
     let mut records = Records {
         sink: output,
         layout: station.layout,
         named,
-        oddities,
+        noticed: spot.noticed,
         signs: Signs::new(station.choice.watch),
         files: FilesTold::new(),
         messages,
@@ -152,12 +160,12 @@ fn measure<L: Link, S, K: Lasting, E: Write>(
         sink,
         layout: _,
         named: _,
-        oddities: _,
+        noticed: _,
         mut signs,
         files: _,
         mut messages,
     } = records;
-    let _ = signs.clear(&mut messages);
+    let _ = signs.end(&mut messages);
     let streams = Streams {
         input,
         output: sink,
@@ -180,6 +188,25 @@ fn warn<E: Write>(choice: &Choice, plan: &Plan, messages: &mut E) -> io::Result<
     }
 }
 
+// Tells at the start how many commands there are, where they are asked, and what the station waits for first.
+fn tell_start<E: Write>(
+    spot: Spot<'_>,
+    count: usize,
+    plan: &Plan,
+    watch: Watch,
+    messages: &mut E,
+) -> io::Result<()> {
+    if watch == Watch::Nobody {
+        return Ok(());
+    }
+    let commands = if count == 1 { "command" } else { "commands" };
+    let (place, quiet) = (spot.place, plan.quiet);
+    writeln!(
+        messages,
+        "geocom: {count} {commands} for {place}: waits until the line is quiet for {quiet} ms and a null procedure is answered"
+    )
+}
+
 // Writes what stands in front of the records, where it doesn't stand there.
 fn write_front<K: Lasting>(sink: &mut K, layout: Layout) -> Result<(), usize>
     ensures failed { FailsWith result (K.failed sink.old) (K.failed sink.new) }
@@ -199,7 +226,7 @@ struct Records<'a, K, E> {
     layout: Layout,
     // The names, beside no tasks.
     named: Tasks,
-    oddities: &'a Cell<Oddities>,
+    noticed: &'a Cell<Noticed>,
     signs: Signs,
     // What was told of the files of the station.
     files: FilesTold,
@@ -254,10 +281,16 @@ impl<'a, K: Lasting, E: Write> Book for Records<'a, K, E> {
 
     // Where that can't be written the station measures on: what it writes of each request doesn't depend on it.
     fn sees(&mut self, sight: Sight, moment: Moment) {
-        let _ = self.signs.see(sight, moment, &mut self.messages);
-        let _ = self.signs.tell_odd(self.oddities.get(), &mut self.messages);
+        let Noticed {
+            odd,
+            is_lost,
+            files,
+            ..
+        } = self.noticed.get();
+        let _ = self.signs.see(sight, is_lost, moment, &mut self.messages);
+        let _ = self.signs.tell_odd(odd, &mut self.messages);
         // What became of the files is told also where no signs of life are.
-        if let Some(news) = self.files.news(self.oddities.get().files, moment) {
+        if let Some(news) = self.files.news(files, moment) {
             let _ = self.signs.clear(&mut self.messages);
             let _ = news.tell(&mut self.messages);
         }

@@ -1,22 +1,22 @@
-//! What is odd about a line, as what comes over it shows: it sends requests back, or it changes the ends of lines. Beside it stands
-//! what became of the station's files.
+//! What is noticed of a line beside its replies: what is odd about it, as what comes over it shows (it sends requests back, or it changes
+//! the ends of lines), and whether its connection was lost. Beside it stands what became of the station's files.
 
 ghost use Rattle.std.specs.Prelude.{◌≡◌};
 
 use crate::files::FilesSeen;
 use gc_lines::PortFailed;
-use gc_links::{Came, Link, Moment};
+use gc_links::{Came, Link, Moment, Place};
+use gc_texts::RunFault;
 use std::cell::Cell;
+use std::io::{self, Write};
 
-/// What was noticed of a line, and of the files of who measures over it.
+/// What is odd about a line.
 #[derive(Clone, Copy, Debug, PartialEq, Eq)]
 pub struct Oddities {
     /// It sends back what goes out.
     pub echoes: bool,
     /// It changes CR to LF, or takes it away.
     pub bare: bool,
-    /// What became of the files.
-    pub files: FilesSeen,
 }
 
 impl Oddities {
@@ -25,16 +25,98 @@ impl Oddities {
         Oddities {
             echoes: false,
             bare: false,
+        }
+    }
+}
+
+/// What was noticed of a line, of its connection, and of the files of who measures over it.
+#[derive(Clone, Copy, Debug, PartialEq, Eq)]
+pub struct Noticed {
+    /// What is odd about the line.
+    pub odd: Oddities,
+    /// Whether the last connection ended or failed, or couldn't be made. One that the station closed did none of these.
+    pub is_lost: bool,
+    /// The fault for which the run stopped, where it did.
+    pub fault: Option<RunFault>,
+    /// What became of the files.
+    pub files: FilesSeen,
+}
+
+impl Noticed {
+    /// Nothing was noticed.
+    pub fn nothing() -> Noticed {
+        Noticed {
+            odd: Oddities::none(),
+            is_lost: false,
+            fault: None,
             files: FilesSeen::none(),
         }
     }
 }
 
-/// A link that notices what is odd about its line. Its acts are those of the link inside.
+/// Where a station measures, and what is noticed there.
+#[derive(Clone, Copy)]
+pub struct Spot<'a> {
+    pub place: Place<'a>,
+    pub noticed: &'a Cell<Noticed>,
+}
+
+impl<'a> Spot<'a> {
+    /// Notes for which fault the run stopped.
+    pub(crate) fn stop(self, fault: RunFault) {
+        let seen = self.noticed.get();
+        self.noticed.set(Noticed {
+            fault: Some(fault),
+            ..seen
+        });
+    }
+
+    /// Whether no run stopped, or one for a place that couldn't be had.
+    pub(crate) fn is_unreached(self) -> bool {
+        match self.noticed.get().fault {
+            None => true,
+            Some(fault) => matches!(
+                fault,
+                RunFault::Socket | RunFault::Forbidden | RunFault::NoTerminal
+            ),
+        }
+    }
+
+    /// Tells behind the fault's line where and why the run stopped, where no reason of the system's says so.
+    pub(crate) fn tell<E: Write>(self, messages: &mut E) -> io::Result<()> {
+        match self.noticed.get().fault {
+            Some(fault) => tell_place(self.place, fault, messages),
+            None => Ok(()),
+        }
+    }
+}
+
+/// Tells where something stopped for a fault, and why, where no reason of the system's says so.
+pub(crate) fn tell_place<E: Write>(
+    place: Place<'_>,
+    fault: RunFault,
+    messages: &mut E,
+) -> io::Result<()> {
+    let why = match fault {
+        RunFault::LinkClosed => "the connection ended",
+        RunFault::Mute => "no reply came any more",
+        RunFault::Write { .. } => "a write failed",
+        RunFault::NoTerminal => "it is no terminal",
+        RunFault::Held => "another program holds it",
+        _ => return Ok(()),
+    };
+    writeln!(messages, "geocom: {place}: {why}")
+}
+
+// The longest read of a link, in milliseconds: so often a station is looked at.
+const LOOK: u64 = 1_000;
+
+/// A link that notices what is odd about its line, and what becomes of its connection. Its acts are those of the link inside. A read
+/// of it lasts no longer than a second.
 #[derive(Drop)]
 pub(crate) struct Noticing<'a, L> {
     link: L,
-    seen: &'a Cell<Oddities>,
+    seen: &'a Cell<Noticed>,
     // The first bytes of the line that comes, how many there are, and its last byte so far.
     front: [u8; 4],
     count: usize,
@@ -43,7 +125,7 @@ pub(crate) struct Noticing<'a, L> {
 
 impl<'a, L: Link> Noticing<'a, L> {
     /// A link over which nothing came yet.
-    pub(crate) fn new(link: L, seen: &'a Cell<Oddities>) -> Noticing<'a, L>
+    pub(crate) fn new(link: L, seen: &'a Cell<Noticed>) -> Noticing<'a, L>
         ensures { result.link ≡ link }
     {
         Noticing {
@@ -75,18 +157,21 @@ impl<'a, L> Noticing<'a, L> {
 
     // Looks at a line that is at its end.
     fn judge(&self) {
-        let Oddities {
-            echoes,
-            bare,
-            files,
-        } = self.seen.get();
+        let seen = self.seen.get();
+        let odd = seen.odd;
         if self.count == self.front.len() {
-            self.seen.set(Oddities {
-                echoes: echoes || self.front == *b"%R1Q",
-                bare: bare || self.front == *b"%R1P" && self.last != b'\r',
-                files,
-            });
+            let odd = Oddities {
+                echoes: odd.echoes || self.front == *b"%R1Q",
+                bare: odd.bare || self.front == *b"%R1P" && self.last != b'\r',
+            };
+            self.seen.set(Noticed { odd, ..seen });
         }
+    }
+
+    // Notes whether the connection was lost, or couldn't be made.
+    fn note(&self, is_lost: bool) {
+        let seen = self.seen.get();
+        self.seen.set(Noticed { is_lost, ..seen });
     }
 }
 
@@ -98,15 +183,21 @@ impl<'a, L: Link> Link for Noticing<'a, L> {
     }
 
     fn read(&mut self, buf: &mut [u8], millis: u64) -> Came {
-        let came = self.link.read(buf, millis);
-        if let Came::Bytes(n, _) = came {
-            self.look(&buf[..n]);
+        let came = self.link.read(buf, millis.min(LOOK));
+        match came {
+            Came::Bytes(n, _) => self.look(&buf[..n]),
+            Came::End | Came::Failure => self.note(true),
+            Came::Silence(_) | Came::NoMoment => {}
         }
         came
     }
 
     fn put(&mut self, bytes: &[u8]) -> Result<(), usize> {
-        self.link.put(bytes)
+        let put = self.link.put(bytes);
+        if put.is_err() {
+            self.note(true);
+        }
+        put
     }
 
     fn close(&mut self) {
@@ -115,6 +206,8 @@ impl<'a, L: Link> Link for Noticing<'a, L> {
     }
 
     fn open(&mut self) -> Result<(), PortFailed> {
-        self.link.open()
+        let opened = self.link.open();
+        self.note(opened.is_err());
+        opened
     }
 }

@@ -9,8 +9,9 @@ ghost use Rattle.gc_texts.specs.Faults.{run_fault_text, fault_line};
 use crate::asking::run_asking;
 use crate::check::{check, check_log};
 use crate::drill::drill_scene;
-use crate::ending::refuse_place;
+use crate::ending::{refuse_numbers, refuse_place};
 use crate::exec::exec_scene;
+use crate::noting::Noting;
 use crate::serve::serve_filled;
 use crate::standard::Standard;
 use crate::streams::Streams;
@@ -54,7 +55,10 @@ pub fn run_program<
     };
     match subcommand_of(alloc, words.as_slice()) {
         Ok(subcommand) => run_subcommand(rt, alloc, standard, subcommand, streams),
-        Err(error) => answer(&error, &mut streams.output, &mut streams.messages),
+        Err(error) => {
+            let reads = reads_a_text(words.as_slice());
+            answer(&error, reads, &mut streams.output, &mut streams.messages)
+        }
     }
 }
 
@@ -79,6 +83,7 @@ fn run_subcommand<
         mut messages,
     } = streams;
     let mut sink = ToWriter::new(output);
+    let noting = Noting::new(rt);
     match subcommand {
         Subcommand::Exec { scene } => {
             let mut source = FromReader::new(ReadAhead::new(input));
@@ -96,15 +101,20 @@ fn run_subcommand<
             let mut source = FromReader::new(input);
             drill_scene(rt, alloc, drilling, &mut source, &mut sink, &mut messages)
         }
-        Subcommand::Serve(serving) => serve_filled(rt, alloc, standard, serving, &mut messages),
+        Subcommand::Serve(serving) => {
+            let ended = serve_filled(&noting, alloc, standard, serving, &mut messages);
+            noting.tell(standard, ended, &mut messages)
+        }
         Subcommand::Nowhere { serves } => refuse_place(serves, &mut messages),
+        Subcommand::Unnumbered => refuse_numbers(&mut messages),
         Subcommand::Asks(asking) => {
             let streams = Streams {
                 input: FromReader::new(input),
                 output: sink,
                 messages,
             };
-            run_asking(rt, alloc, standard, asking, streams).1
+            let (mut streams, ended) = run_asking(&noting, alloc, standard, asking, streams);
+            noting.tell(standard, ended, &mut streams.messages)
         }
     }
 }
@@ -112,6 +122,7 @@ fn run_subcommand<
 // Tells why words ask for no subcommand: memory was wanted, they don't parse, or they ask for the help or the version.
 fn answer<O: Write, E: Write>(
     error: &Error,
+    reads: bool,
     output: &mut O,
     messages: &mut E,
 ) -> io::Result<ExitCode>
@@ -121,7 +132,7 @@ fn answer<O: Write, E: Write>(
         return want_of_memory(messages);
     }
     if error.use_stderr() {
-        return refuse(error, messages);
+        return refuse(error, reads, messages);
     }
     show(error, output, messages)
 }
@@ -140,11 +151,25 @@ fn show<O: Write, E: Write>(text: &Error, output: &mut O, messages: &mut E) -> i
     }
 }
 
-// A command line that doesn't parse: why is told.
-fn refuse<E: Write>(error: &Error, messages: &mut E) -> io::Result<ExitCode>
+// Whether words ask for a subcommand that reads a text.
+fn reads_a_text(words: &[String]) -> bool {
+    match words.get(1) {
+        Some(word) => matches!(word.as_str(), "drill" | "loop" | "ask" | "station"),
+        None => false,
+    }
+}
+
+// A command line that doesn't parse: why is told, and of a subcommand that reads a text that no word names it.
+fn refuse<E: Write>(error: &Error, reads: bool, messages: &mut E) -> io::Result<ExitCode>
     ensures { IfOk result (λ status. exit_status status ≡ 2) }
 {
     write!(messages, "{error}")?;
+    if reads && error.kind() == ErrorKind::UnknownArgument {
+        writeln!(
+            messages,
+            "\ntip: the text is read from standard input, as by `geocom station WHERE < FILE`"
+        )?;
+    }
     Ok(ExitCode::from(2))
 }
 

@@ -18,9 +18,9 @@ ghost use Rattle.gc_station.specs.declared.tally.Tally.{Tally};
 ghost use Rattle.gc_texts.specs.declared.fault.RunFault.{RunFault};
 
 use crate::following::Followed;
-use crate::logging::run_logged_at;
-use crate::oddity::Oddities;
-use crate::station::{Site, Station, run_station_at, tell_counts};
+use crate::logging::{LogPlace, run_logged_at};
+use crate::oddity::Spot;
+use crate::station::{Station, run_station_at, tell_counts};
 use crate::stop::Stop;
 use crate::streams::Streams;
 use clap::ArgMatches;
@@ -135,9 +135,9 @@ pub(crate) fn measure_at<
 >(
     rt: &R,
     alloc: Global,
-    site: Site<'_>,
+    spot: Spot<'_>,
+    log: Option<LogPlace<'_>>,
     station: Station,
-    seen: &Cell<Oddities>,
     streams: Streams<S, K, E>,
 ) -> (Streams<S, K, E>, io::Result<ExitCode>)
     // The status and the messages tell how it ended, and behind that whether a log was lost; or that no log, no link or no clock could
@@ -158,9 +158,9 @@ pub(crate) fn measure_at<
         (record { input = input_of S.Source result.0.input; acts = Some acts; taken = K.taken result.0.output; messages = E.contents between })) }
     ensures bound { IfOk result.1 (λ status. exit_status status ≤ 1) }
 {
-    match site.log {
-        Some(log) => run_logged_at(rt, alloc, site.place, log, station, seen, streams),
-        None => run_station_at(rt, alloc, site.place, station, seen, streams),
+    match log {
+        Some(log) => run_logged_at(rt, alloc, spot, log, station, streams),
+        None => run_station_at(rt, alloc, spot, station, streams),
     }
 }
 
@@ -177,7 +177,8 @@ pub(crate) fn append_at<
 >(
     rt: &R,
     alloc: Global,
-    site: Site<'_>,
+    spot: Spot<'_>,
+    log: Option<LogPlace<'_>>,
     station: Station,
     recording: Recording<'_>,
     mut streams: Streams<S, K, E>,
@@ -208,10 +209,9 @@ pub(crate) fn append_at<
     match open_records(rt, recording, station, &mut streams.messages) {
         // Where a torn row couldn't be told the station measures all the same.
         Ok((rows, _)) => {
-            let seen = Cell::new(Oddities::none());
-            let followed = Followed::new(rt, recording.path, rows, &seen);
+            let followed = Followed::new(rt, recording.path, rows, spot.noticed);
             let (filed, output) = streams.with_output(followed);
-            let (filed, ended) = measure_at(rt, alloc, site, station.appended(), &seen, filed);
+            let (filed, ended) = measure_at(rt, alloc, spot, log, station.appended(), filed);
             let (streams, _) = filed.with_output(output);
             (streams, ended)
         }

@@ -6,6 +6,8 @@ ghost use Rattle.std.specs.Process.{exit_status};
 use crate::arguments::{Argument, FLAG, PLACE, SCENE, Takes, command_of};
 use crate::ending::{end_of, refuse_numbers, refuse_place};
 use crate::help::KEPT;
+use crate::looped::tell_scene;
+use crate::oddity::tell_place;
 use crate::scene::instrument_of;
 use crate::standard::Standard;
 use crate::words::named_place;
@@ -13,6 +15,7 @@ use clap::{ArgMatches, Command};
 use gc_ask::{Keeping, MOST_CONNECTIONS, keep_device, keep_tcp, serve_device, serve_tcp};
 use gc_instrument::Instrument;
 use gc_links::Place;
+use gc_texts::RunFault;
 use std::alloc::{AllocError, Global};
 use std::fs::File;
 use std::io::{self, Write};
@@ -132,7 +135,11 @@ pub(crate) fn serve_filled<
             ),
             Some(idle) => keep_place(rt, place, connections, idle, &mut instrument, messages),
         },
-        Err(fault) => end_of(Err(fault), messages),
+        Err(fault) => {
+            let ended = end_of(Err(fault), messages);
+            let _ = tell_scene(scene, messages);
+            ended
+        }
     };
     drop(places);
     ended
@@ -154,10 +161,10 @@ fn serve_place<
     match place {
         Place::Port(port) => serve_port(rt, port, connections, instrument, messages),
         Place::Device(_) if connections > MOST_CONNECTIONS => refuse_numbers(messages),
-        Place::Device(path) => end_of(
-            serve_device(rt, path, connections, instrument, u32::MAX),
-            messages,
-        ),
+        Place::Device(path) => {
+            let end = serve_device(rt, path, connections, instrument, u32::MAX);
+            tell_served(place, end, messages)
+        }
         Place::Host(_) => refuse_place(true, messages),
     }
 }
@@ -211,8 +218,24 @@ fn keep_place<
     };
     match kept {
         Ok(_) => Ok(ExitCode::SUCCESS),
-        Err(fault) => end_of(Err(fault), messages),
+        Err(fault) => tell_served(place, Err(fault), messages),
     }
+}
+
+// Tells how serving a place ended, and of a fault where and why.
+fn tell_served<E: Write>(
+    place: Place<'_>,
+    end: Result<(), RunFault>,
+    messages: &mut E,
+) -> io::Result<ExitCode>
+    ensures { IfOk result (λ status. exit_status status ≤ 1) }
+{
+    let ended = end_of(end, messages);
+    if let Err(fault) = end {
+        // Where that can't be written the fault's line stands all the same.
+        let _ = tell_place(place, fault, messages);
+    }
+    ended
 }
 
 // Whether so many connections may be asked for, where it is said how many.

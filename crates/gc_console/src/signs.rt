@@ -1,14 +1,22 @@
 //! Signs of life: what a station tells of itself while it runs. No record, and nothing that goes out, rests on it.
 
+use crate::bounded::Bounded;
 use crate::choice::Watch;
 use crate::oddity::Oddities;
+use crate::wanted::{Wanted, has_lasted};
 use gc_links::Moment;
 use gc_station::{Sight, Stamp, Tally};
 use gc_texts::{Ending, stamp_text};
 use std::io::{self, Write};
 
-// How far apart the lines of one kind are at least, and how long a trouble lasts before it is told, in milliseconds.
+// How far apart the lines of one kind are at least, in milliseconds.
 const MINUTE: u64 = 60_000;
+
+// How long a trouble lasts before it is told, in milliseconds. A station is looked at each second, so that the line comes within a minute.
+const LASTING: u64 = 59_000;
+
+// How many columns the line of a terminal has at most.
+const COLUMNS: usize = 79;
 
 // How far apart the line of a terminal is written over at least, in milliseconds.
 const SECOND: u64 = 1_000;
@@ -46,10 +54,15 @@ pub(crate) struct Signs {
     sight: Sight,
     since: Moment,
     elapsed: u64,
-    // Whether a connection was missed.
-    is_missed: bool,
-    // How many commands were skipped since that was told last, and since when, in milliseconds since 1970.
+    // Since when an answer is wanted.
+    wanted: Wanted,
+    // Whether a trouble was told, and whether a command was answered since.
+    is_troubled: bool,
+    is_answered: bool,
+    // How many commands were skipped since that was told last, how many of them before the last look, and since when, in milliseconds
+    // since 1970.
     skipped: u64,
+    skipped_before: u64,
     skipped_since: u64,
     // The cycle of the last record, how many ended how, and when the last answer was written.
     cycle: u64,
@@ -62,7 +75,7 @@ pub(crate) struct Signs {
     unconnected: Told,
     connected: Told,
     unquiet: Told,
-    unheard: Told,
+    unanswered: Told,
     late: Told,
     passed_over: Told,
     shown: Told,
@@ -73,11 +86,14 @@ impl Signs {
     pub(crate) fn new(watch: Watch) -> Signs {
         Signs {
             watch,
-            sight: Sight::Fine,
+            sight: Sight::Idle,
             since: Moment { elapsed: 0, utc: 0 },
             elapsed: 0,
-            is_missed: false,
+            wanted: Wanted::new(),
+            is_troubled: false,
+            is_answered: false,
             skipped: 0,
+            skipped_before: 0,
             skipped_since: 0,
             cycle: 0,
             counts: Tally {
@@ -94,7 +110,7 @@ impl Signs {
             unconnected: Told::new(),
             connected: Told::new(),
             unquiet: Told::new(),
-            unheard: Told::new(),
+            unanswered: Told::new(),
             late: Told::new(),
             passed_over: Told::new(),
             shown: Told::new(),
@@ -108,9 +124,12 @@ impl Signs {
         match ending {
             Ending::Answered(..) => {
                 counts.answered = counts.answered.saturating_add(1);
-                self.answered = Some(self.elapsed);
+                self.answer();
             }
-            Ending::Unreadable(_, _) => counts.unreadable = counts.unreadable.saturating_add(1),
+            Ending::Unreadable(_, _) => {
+                counts.unreadable = counts.unreadable.saturating_add(1);
+                self.answer();
+            }
             Ending::Late => counts.late = counts.late.saturating_add(1),
             Ending::Lost => counts.lost = counts.lost.saturating_add(1),
             Ending::Skipped => {
@@ -119,6 +138,13 @@ impl Signs {
             }
             Ending::Missed => counts.missed = counts.missed.saturating_add(1),
         }
+    }
+
+    // An answer came, whether its values read or not.
+    fn answer(&mut self) {
+        self.answered = Some(self.elapsed);
+        self.is_answered = true;
+        self.wanted.hear();
     }
 
     // Counts a command that was skipped, for the next line of those.
@@ -134,10 +160,11 @@ impl Signs {
         self.watch != Watch::Nobody && self.late.may(self.elapsed, MINUTE)
     }
 
-    /// Tells how things stand, where that is to be told.
+    /// Tells how things stand, where that is to be told. The last connection was lost or couldn't be made, or it wasn't.
     pub(crate) fn see<E: Write>(
         &mut self,
         sight: Sight,
+        is_lost: bool,
         moment: Moment,
         messages: &mut E,
     ) -> io::Result<()> {
@@ -151,8 +178,17 @@ impl Signs {
             self.since = moment;
         }
         self.elapsed = moment.elapsed;
-        self.tell_sight(before, messages)?;
-        self.tell_skipped(messages)?;
+        if moment.utc != 0 {
+            self.wanted.look(sight, moment);
+            self.tell_connection(before, is_lost, messages)?;
+            self.tell_unquiet(messages)?;
+            self.tell_unanswered(messages)?;
+            self.tell_again(messages)?;
+        }
+        if self.skipped == self.skipped_before {
+            self.tell_skipped(messages)?;
+        }
+        self.skipped_before = self.skipped;
         self.show(messages)
     }
 
@@ -179,51 +215,70 @@ impl Signs {
         Ok(())
     }
 
-    // Tells how things stand, and how they stood before.
-    fn tell_sight<E: Write>(&mut self, before: Sight, messages: &mut E) -> io::Result<()> {
-        let has_lasted = self.elapsed.saturating_sub(self.since.elapsed) >= MINUTE;
-        match self.sight {
-            // At the start, and as a cycle begins, a connection is made at once. It is missed where that fails. Since when is not known
-            // before the clock is read.
-            Sight::Unconnected if before == Sight::Fine || self.since.utc == 0 => Ok(()),
-            Sight::Unconnected => {
-                self.is_missed = true;
-                let may = self.unconnected.may(self.elapsed, MINUTE);
-                self.tell_since(may, "no connection", messages)
+    // Tells that there is no connection, where it was lost or couldn't be made, and one is wanted. As a cycle begins one is made at once.
+    fn tell_connection<E: Write>(
+        &mut self,
+        before: Sight,
+        is_lost: bool,
+        messages: &mut E,
+    ) -> io::Result<()> {
+        if self.sight != Sight::Unconnected {
+            return Ok(());
+        }
+        self.is_answered = false;
+        if !is_lost || before == Sight::Idle {
+            return Ok(());
+        }
+        let may = self.unconnected.may(self.elapsed, MINUTE);
+        self.tell_since(may, self.since.utc, "no connection", messages)
+    }
+
+    // Tells that a new connection isn't quiet, once that has lasted.
+    fn tell_unquiet<E: Write>(&mut self, messages: &mut E) -> io::Result<()> {
+        if self.sight != Sight::Unquiet || !has_lasted(self.since.elapsed, self.elapsed, LASTING) {
+            return Ok(());
+        }
+        let may = self.unquiet.may(self.elapsed, MINUTE);
+        self.tell_since(may, self.since.utc, "not quiet", messages)
+    }
+
+    // Tells that no answer came, once that has lasted, whatever became of connections meanwhile.
+    fn tell_unanswered<E: Write>(&mut self, messages: &mut E) -> io::Result<()> {
+        match self.wanted.lasting(self.elapsed, LASTING) {
+            Some(since) => {
+                self.wanted.told = true;
+                let may = self.unanswered.may(self.elapsed, MINUTE);
+                self.tell_since(may, since.utc, "no answer", messages)
             }
-            _ if self.is_missed => {
-                self.is_missed = false;
-                let may = self.connected.may(self.elapsed, MINUTE);
-                self.tell_connected(may, messages)
-            }
-            Sight::Unquiet if has_lasted => {
-                let may = self.unquiet.may(self.elapsed, MINUTE);
-                self.tell_since(may, "not quiet", messages)
-            }
-            Sight::Unheard if has_lasted => {
-                let may = self.unheard.may(self.elapsed, MINUTE);
-                self.tell_since(may, "nothing heard", messages)
-            }
-            _ => Ok(()),
+            None => Ok(()),
         }
     }
 
-    // Tells since when things stand so, where that may be told.
-    fn tell_since<E: Write>(&mut self, may: bool, what: &str, messages: &mut E) -> io::Result<()> {
+    // Tells since when things stand so, in milliseconds since 1970, where that may be told.
+    fn tell_since<E: Write>(
+        &mut self,
+        may: bool,
+        utc: u64,
+        what: &str,
+        messages: &mut E,
+    ) -> io::Result<()> {
         if !may {
             return Ok(());
         }
+        self.is_troubled = true;
+        self.is_answered = false;
         self.clear(messages)?;
-        let since = stamp_text(self.since.utc);
+        let since = stamp_text(utc);
         let since = str::from_utf8(&since).unwrap_or("");
         writeln!(messages, "geocom: {what} since {since}")
     }
 
-    // Tells that there is a connection again, where that may be told.
-    fn tell_connected<E: Write>(&mut self, may: bool, messages: &mut E) -> io::Result<()> {
-        if !may {
+    // Tells behind a trouble that a command was answered, where that may be told.
+    fn tell_again<E: Write>(&mut self, messages: &mut E) -> io::Result<()> {
+        if !self.is_troubled || !self.is_answered || !self.connected.may(self.elapsed, MINUTE) {
             return Ok(());
         }
+        self.is_troubled = false;
         self.clear(messages)?;
         writeln!(messages, "geocom: connected again")
     }
@@ -248,31 +303,40 @@ impl Signs {
         }
         self.clear(messages)?;
         self.is_shown = true;
-        self.show_counts(messages)?;
-        match self.answered {
-            Some(answered) => {
-                let age = self.elapsed.saturating_sub(answered) / SECOND;
-                write!(messages, ", last answer {age} s ago")
-            }
-            None => Ok(()),
-        }
+        let mut row: Bounded<COLUMNS> = Bounded::new();
+        self.show_counts(&mut row)?;
+        messages.write_all(row.bytes.as_slice())
     }
 
-    // The cycle, and how many commands ended how.
-    fn show_counts<E: Write>(&self, messages: &mut E) -> io::Result<()> {
-        let cycle = self.cycle;
-        let Tally {
-            answered,
-            late,
-            lost,
-            skipped,
-            unreadable,
-            missed,
-        } = self.counts;
-        write!(
-            messages,
-            "cycle {cycle}: answered {answered} late {late} lost {lost} skipped {skipped} unreadable {unreadable} missed {missed}"
-        )
+    // The cycle, how many commands were answered and how long ago the last one was, and how many ended otherwise, where there are some.
+    fn show_counts<E: Write>(&self, row: &mut E) -> io::Result<()> {
+        let (cycle, counts) = (self.cycle, self.counts);
+        let answered = counts.answered;
+        write!(row, "cycle {cycle}: answered {answered}")?;
+        if let Some(moment) = self.answered {
+            let age = self.elapsed.saturating_sub(moment) / SECOND;
+            write!(row, " (last {age} s ago)")?;
+        }
+        for (name, count) in [
+            ("late", counts.late),
+            ("lost", counts.lost),
+            ("skipped", counts.skipped),
+            ("unreadable", counts.unreadable),
+            ("missed", counts.missed),
+        ] {
+            if count > 0 {
+                write!(row, " {name} {count}")?;
+            }
+        }
+        Ok(())
+    }
+
+    /// Tells at the end of a run what wasn't told yet, and takes the line of a terminal away.
+    pub(crate) fn end<E: Write>(&mut self, messages: &mut E) -> io::Result<()> {
+        if self.watch != Watch::Nobody {
+            self.tell_skipped(messages)?;
+        }
+        self.clear(messages)
     }
 
     /// Takes the line of a terminal away.

@@ -19,7 +19,7 @@ use crate::help::STATION;
 use crate::layout::Layout;
 use crate::logging::{LOG_BYTES, LogPlace, log_of};
 use crate::measure::run_station_text;
-use crate::oddity::{Noticing, Oddities};
+use crate::oddity::{Noticing, Spot};
 use crate::recording::recording_of;
 use crate::stop::Stop;
 use crate::streams::Streams;
@@ -30,7 +30,6 @@ use gc_links::{Link, Moment, Place, PlacedLink, Telling, Unusable};
 use gc_station::Tally;
 use gc_texts::{Form, RunFault};
 use std::alloc::{AllocError, Global};
-use std::cell::Cell;
 use std::fs::File;
 use std::io::{self, Write};
 use std::net::{Net, TcpListener, TcpStream};
@@ -203,42 +202,42 @@ pub(crate) fn station_command<'a>(alloc: Global) -> Result<Command<'a>, AllocErr
     )
 }
 
-/// What the words of `station` ask for at a place, with its records and its log in files where they name them.
-pub(crate) fn measured_at<'a>(place: Place<'a>, words: &ArgMatches<'a>) -> Asking<'a> {
-    Asking::Station {
+/// What the words of `station` ask for at a place, with its records and its log in files where they name them. `None`: a number that
+/// has a default is missing, which no clause of clap's excludes.
+pub(crate) fn measured_at<'a>(place: Place<'a>, words: &ArgMatches<'a>) -> Option<Asking<'a>> {
+    Some(Asking::Station {
         site: Site {
             place,
             log: log_of(words),
         },
-        station: station_of(words),
+        station: station_of(words)?,
         recording: recording_of(words),
-    }
+    })
 }
 
-// What they say but of files. A default stands in its row alone: clap has filled it in, and the zeros here are never used.
-fn station_of(matches: &ArgMatches) -> Station {
-    let number = |name: &str| matches.get_one::<u64>(name).unwrap_or(0);
-    Station {
+// What they say but of files. A default stands in its row alone: clap has filled it in.
+fn station_of(matches: &ArgMatches) -> Option<Station> {
+    Some(Station {
         layout: Layout {
             form: form_of(matches),
             headed: false,
             run: 0,
         },
         choice: Choice {
-            width: matches.get_one::<u8>("width").unwrap_or(0),
-            deadline: number("deadline"),
+            width: matches.get_one::<u8>("width")?,
+            deadline: matches.get_one::<u64>("deadline")?,
             chained: !matches.get_flag("unchained"),
-            every: number("every").saturating_mul(1000),
-            cycles: cycles_of(number("cycles")),
+            every: matches.get_one::<u64>("every")?.saturating_mul(1000),
+            cycles: cycles_of(matches.get_one::<u64>("cycles")?),
             quiet: matches.get_one::<u64>("quiet"),
-            retries: retries_of(matches.get_one::<u32>("retries").unwrap_or(0)),
+            retries: retries_of(matches.get_one::<u32>("retries")?),
             watch: if matches.get_flag("silent") {
                 Watch::Nobody
             } else {
                 Watch::Lines
             },
         },
-    }
+    })
 }
 
 // How records are written.
@@ -280,9 +279,8 @@ pub(crate) fn run_station_at<
 >(
     rt: &R,
     alloc: Global,
-    place: Place<'_>,
+    spot: Spot<'_>,
     station: Station,
-    seen: &Cell<Oddities>,
     mut streams: Streams<S, K, E>,
 ) -> (Streams<S, K, E>, io::Result<ExitCode>)
     // The status and the messages tell how it ended: what the text was, and what of its commands was measured, by acts that the
@@ -302,17 +300,18 @@ pub(crate) fn run_station_at<
         (record { input = input_of S.Source result.0.input; acts = Some acts; taken = K.taken result.0.output; messages = E.contents between })) }
     ensures bound { IfOk result.1 (λ status. exit_status status ≤ 1) }
 {
-    let (link, moment) = match link_at(rt, place) {
+    let (link, moment) = match link_at(rt, spot.place) {
         Ok(found) => found,
         Err(fault) => {
+            spot.stop(fault);
             let ended = tell_counts(Err(Stop::Run(fault)), &mut streams.messages);
             return (streams, ended);
         }
     };
     let station = station.begun(moment);
     let told = Telling::new(link);
-    let mut link = Noticing::new(told, seen);
-    measure_over(alloc, &mut link, station, seen, streams)
+    let mut link = Noticing::new(told, spot.noticed);
+    measure_over(alloc, &mut link, station, spot, streams)
 }
 
 /// A link to a place, and the moment at which a run over it begins; or the fault where there is no link: what is wrong with the
@@ -348,7 +347,7 @@ pub(crate) fn measure_over<L: Link, S: Source, K: Lasting, E: Write>(
     alloc: Global,
     link: &mut L,
     station: Station,
-    oddities: &Cell<Oddities>,
+    spot: Spot<'_>,
     streams: Streams<S, K, E>,
 ) -> (Streams<S, K, E>, io::Result<ExitCode>)
     // What the text was, what of its commands was measured, and that the messages and the status tell how that ended.
@@ -367,9 +366,17 @@ pub(crate) fn measure_over<L: Link, S: Source, K: Lasting, E: Write>(
         (record { input = input_of S.Source result.0.input; acts = L.acts link.new; taken = K.taken result.0.output; messages = E.contents between })) }
     ensures bound { IfOk result.1 (λ status. exit_status status ≤ 1) }
 {
-    let (mut streams, end) = run_station_text(alloc, link, station, oddities, streams, u64::MAX);
+    let (mut streams, end) = run_station_text(alloc, link, station, spot, streams, u64::MAX);
+    note_stop(spot, end);
     let ended = tell_counts(end, &mut streams.messages);
     (streams, ended)
+}
+
+// Notes at its spot for which fault a run stopped, where it did.
+fn note_stop(spot: Spot<'_>, end: Result<Tally, Stop>) {
+    if let Err(stop) = end {
+        spot.stop(stop.fault());
+    }
 }
 
 /// Tells how a run ended: the status, and the counts, or why it stopped.

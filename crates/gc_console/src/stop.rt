@@ -12,6 +12,8 @@ use std::io::{self, Write};
 pub enum Stop {
     /// The text was refused, for this fault, before anything was done.
     Text(RunFault),
+    /// The text has no command. Nothing was done.
+    Empty,
     /// The line of the text with this number, counted from 1, is the first faulty one, with this trouble. Nothing was done.
     Line(u32, Trouble),
     /// The run over its commands ended for this fault, or what stands in front of the records couldn't be written.
@@ -25,21 +27,31 @@ impl Stop {
     {
         match self {
             Stop::Text(fault) => fault,
+            Stop::Empty => RunFault::NoCommand,
             Stop::Line(line, _) => RunFault::Schedule { line },
             Stop::Run(fault) => fault,
         }
     }
 
-    /// Writes the fault's line, and behind that of a faulty line the line's trouble.
+    /// Writes the fault's line, behind that of a text without a command that it has none, and behind that of a faulty line its trouble.
     pub fn tell<E: Write>(self, messages: &mut E) -> io::Result<()>
         ensures { OnOk result (Appends (E.contents messages.old) (E.contents messages.new) (stop_text self)) }
     {
         match self {
             Stop::Text(fault) => fault.tell(messages),
+            Stop::Empty => tell_empty(messages),
             Stop::Line(line, trouble) => tell_line(line, trouble, messages),
             Stop::Run(fault) => fault.tell(messages),
         }
     }
+}
+
+// Writes the line of an empty text's fault, and what it lacks.
+fn tell_empty<E: Write>(messages: &mut E) -> io::Result<()>
+    ensures { OnOk result (Appends (E.contents messages.old) (E.contents messages.new) (stop_text Stop.Empty)) }
+{
+    RunFault::NoCommand.tell(messages)?;
+    writeln!(messages, "geocom: the text has no command")
 }
 
 // Writes the line of a faulty line's fault, and of its trouble.

@@ -14,8 +14,8 @@ use gc_texts::{RunFault, Tasks, line_at, read_tasks, read_text, trouble_of};
 use std::alloc::Global;
 
 /// Reads the whole text of a station from a source, and hands over what it gives, with the text itself. Until a line says otherwise the commands have the deadline that was chosen, and are
-/// chained or not, as was chosen. The faults are those of `read_tasks`, and `Read` where a read failed; of a faulty line
-/// the trouble is told, too.
+/// chained or not, as was chosen. The faults are those of `read_tasks`, `Read` where a read failed, and `NoCommand` where
+/// the text has none; of a faulty line the trouble is told, too.
 pub(crate) fn read_task_text<S: Source>(
     alloc: Global,
     source: &mut S,
@@ -40,7 +40,12 @@ pub(crate) fn read_task_text<S: Source>(
         Err(fault) => return Err(Stop::Text(fault)),
     };
     match read_tasks(alloc, text.as_slice(), choice.deadline, choice.chained) {
-        Ok(tasks) => Ok((tasks, text)),
+        Ok(tasks) => {
+            if tasks.tasks.is_empty() {
+                return Err(Stop::Empty);
+            }
+            Ok((tasks, text))
+        }
         Err(fault) => Err(refusal(text.as_slice(), fault)),
     }
 }

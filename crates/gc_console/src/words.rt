@@ -24,6 +24,8 @@ pub(crate) enum Subcommand<'a> {
     Asks(Asking<'a>),
     // A word that is to name a place names none, of a simulator or of an instrument.
     Nowhere { serves: bool },
+    // A number is missing that has a default.
+    Unnumbered,
 }
 
 // The subcommands by their names.
@@ -120,7 +122,10 @@ fn asked_for<'a>(matches: &ArgMatches<'a>) -> Subcommand<'a> {
     }
     if let Some(station) = matches.subcommand_matches("station") {
         return match named_place(station) {
-            Some(place) => Subcommand::Asks(measured_at(place, station)),
+            Some(place) => match measured_at(place, station) {
+                Some(asking) => Subcommand::Asks(asking),
+                None => Subcommand::Unnumbered,
+            },
             None => Subcommand::Nowhere { serves: false },
         };
     }

@@ -5,26 +5,41 @@ ghost use Rattle.gc_links.specs.Places.{IsPort, IsPlace};
 
 use gc_values::read_whole;
 use memchr::{memchr, memrchr};
+use std::fmt::{self, Display, Formatter};
 
 /// Where an instrument stands.
 #[derive(Clone, Copy, Debug, PartialEq, Eq)]
 pub enum Place<'a> {
     /// A port of 127.0.0.1.
     Port(u16),
-    /// An address or a name, and its port: `HOST:PORT` or `[ADDRESS]:PORT`.
+    /// An address or a name, and its port: `HOST:PORT`, or `[ADDRESS]:PORT` where colons stand in the address.
     Host(&'a str),
     /// The path of a device.
     Device(&'a str),
 }
 
+impl<'a> Display for Place<'a> {
+    fn fmt<W: fmt::Write>(&self, f: &mut Formatter<W>) -> fmt::Result {
+        match self {
+            Place::Port(port) => write!(f, "127.0.0.1:{port}"),
+            Place::Host(word) | Place::Device(word) => write!(f, "{word}"),
+        }
+    }
+}
+
 /// The place that a word names: a port from 1 to 65535, `HOST:PORT` with such a port, or the path of a device, which has a
-/// slash. `None`: it is none of the three.
+/// slash, and no `://` as the address of another protocol has. An address with colons stands in brackets, and nothing else does.
+/// `None`: it is none of the three.
 pub fn place_of(word: &str) -> Option<Place<'_>>
     ensures { IfSome result (λ place. IsPlace word.now place) }
 {
     let bytes = word.as_bytes();
     if memchr(b'/', bytes).is_some() {
-        return Some(Place::Device(word));
+        return if is_url(bytes) {
+            None
+        } else {
+            Some(Place::Device(word))
+        };
     }
     match memrchr(b':', bytes) {
         None => match port_of(bytes) {
@@ -32,11 +47,38 @@ pub fn place_of(word: &str) -> Option<Place<'_>>
             None => None,
         },
         Some(0) => None,
+        Some(at) if !is_host(&bytes[..at]) => None,
         Some(at) => match port_of(&bytes[at + 1..]) {
             Some(_) => Some(Place::Host(word)),
             None => None,
         },
     }
+}
+
+// Whether `://` stands in a word.
+fn is_url(word: &[u8]) -> bool {
+    word.windows(3).any(|part| part == b"://".as_slice())
+}
+
+// Whether this names a host: an address with colons in brackets, or something without colons and brackets.
+fn is_host(host: &[u8]) -> bool {
+    match within_brackets(host) {
+        Some(address) => has_colon(address) && !has_bracket(address),
+        None => !has_colon(host) && !has_bracket(host),
+    }
+}
+
+// What stands in the brackets of a host that begins and ends with them.
+fn within_brackets(host: &[u8]) -> Option<&[u8]> {
+    host.strip_prefix(b"[")?.strip_suffix(b"]")
+}
+
+fn has_colon(text: &[u8]) -> bool {
+    memchr(b':', text).is_some()
+}
+
+fn has_bracket(text: &[u8]) -> bool {
+    text.iter().any(|b| matches!(*b, b'[' | b']'))
 }
 
 // The port that digits write, from 1 on.

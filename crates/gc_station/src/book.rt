@@ -25,11 +25,13 @@ pub struct Stamp {
 /// How things stand before an act, for who watches.
 #[derive(Clone, Copy, Debug, PartialEq, Eq)]
 pub enum Sight {
-    /// Requests go out and are answered, or all that is left is to wait for the next cycle.
+    /// Requests go out and are answered.
     Fine,
+    /// All that is left is to wait for the next cycle.
+    Idle,
     /// There is no connection, though one is wanted.
     Unconnected,
-    /// A connection was made, and isn't quiet yet.
+    /// A connection was made, and no request went out over it yet: it isn't quiet, or it was just now.
     Unquiet,
     /// A request went out, and no reply line came since.
     Unheard,

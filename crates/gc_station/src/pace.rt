@@ -126,12 +126,18 @@ impl Station {
     // How things stand.
     fn sight(&self, plan: &Plan) -> Sight {
         match self.progress.phase {
-            Phase::Down | Phase::Pausing if self.progress.is_idle(plan) => Sight::Fine,
+            Phase::Down | Phase::Pausing if self.progress.is_idle(plan) => Sight::Idle,
             Phase::Down | Phase::Pausing => Sight::Unconnected,
-            Phase::Clearing | Phase::Draining => Sight::Unquiet,
+            Phase::Clearing | Phase::Draining | Phase::Probing => Sight::Unquiet,
             _ if self.progress.asked => Sight::Unheard,
+            Phase::Ready if self.is_done() => Sight::Idle,
             _ => Sight::Fine,
         }
+    }
+
+    // Whether each command of the cycle is settled.
+    fn is_done(&self) -> bool {
+        self.progress.unsent == 0 && self.commands() == 0
     }
 
     // Tells a book how things stand, and that the cycle that began last wasn't done when the next was due, once. The cycle that

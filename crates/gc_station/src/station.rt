@@ -87,7 +87,7 @@ impl Station {
     }
 
     // How many of them are commands.
-    fn commands(&self) -> usize
+    pub(crate) fn commands(&self) -> usize
         ensures { result ≡ commands_in self.now.marks.items }
     {
         commands_in(self.marks.as_slice())

@@ -1,5 +1,5 @@
 -- Names of targets: this project's own.
-use Rattle.std.specs.Prelude.{ℕ, ◌==◌, ◌&&◌, ◌||◌, Bool, not, nat_lt, List, [], ◌∷◌, length, if◌then◌else◌}
+use Rattle.std.specs.Prelude.{ℕ, ◌==◌, ◌&&◌, ◌||◌, Bool, false, not, nat_lt, List, [], ◌∷◌, length, if◌then◌else◌}
 use Rattle.std.specs.List.{list_any}
 use Rattle.gc_texts.specs.declared.name.Name.{Name}
 
@@ -7,9 +7,14 @@ use Rattle.gc_texts.specs.declared.name.Name.{Name}
 abbrev pub is_foreign : ℕ → Bool
 is_foreign b = nat_lt b 32 || nat_lt 126 b || (b == 44) || (b == 34)
 
--- a name: 1 to 64 bytes, and none that stands in no name
+-- a text that a spreadsheet takes for a formula: it begins with `=`, `+`, `-` or `@`
+abbrev pub is_formula : List ℕ → Bool
+is_formula [] = false
+is_formula (b ∷ bs) = (b == 61) || (b == 43) || (b == 45) || (b == 64)
+
+-- a name: 1 to 64 bytes, none of which stands in no name, and no formula
 abbrev pub is_name : List ℕ → Bool
-is_name text = nat_lt 0 (length text) && nat_lt (length text) 65 && not (list_any is_foreign text)
+is_name text = nat_lt 0 (length text) && nat_lt (length text) 65 && not (is_formula text) && not (list_any is_foreign text)
 
 -- whether a target has a name among these
 abbrev pub is_named : ℕ → List Name → Bool

@@ -9,13 +9,15 @@ use Rattle.gc_texts.specs.declared.record.Form.TheVariants.{Lines, Csv, Columns,
 use Rattle.gc_texts.specs.declared.when.When.{When}
 use Rattle.gc_texts.specs.Endings.{End, Answered, Unreadable, Late, Lost, Skipped, Missed}
 use Rattle.gc_texts.specs.JsonLines.{json_line, json_members, quantity_name}
+use Rattle.gc_texts.specs.Logs.{escaped}
 use Rattle.gc_texts.specs.Rows.{row_of, row_fields}
 use Rattle.gc_texts.specs.Stamps.{stamp_text}
 
--- how a command ended, in words: behind `answered` the line of the reply, and behind `unreadable` its fault's number and the line
+-- how a command ended, in words: behind `answered` the line of the reply, and behind `unreadable` its fault's number and the line. Its bytes
+-- stand as in a row, so that no reply draws itself as another record
 abbrev pub ending_text : End → List ℕ
-ending_text (Answered answer line) = codes " answered " ++ line
-ending_text (Unreadable line fault) = codes " unreadable " ++ decimal (fault_number fault) ++ codes " " ++ line
+ending_text (Answered answer line) = codes " answered " ++ escaped line
+ending_text (Unreadable line fault) = codes " unreadable " ++ decimal (fault_number fault) ++ codes " " ++ escaped line
 ending_text Late = codes " late"
 ending_text Lost = codes " lost"
 ending_text Skipped = codes " skipped"

@@ -32,6 +32,9 @@ pub enum RunFault {
     /// The clock can't be read, or stands before 1970.
     #[error("fault {}", self.number())]
     Clock,
+    /// The text has no command.
+    #[error("fault {}", self.number())]
+    NoCommand,
     /// A line of the text, counted from 1, has no form.
     #[error("fault {} line {line}", self.number())]
     Schedule { line: u32 },
@@ -74,7 +77,7 @@ pub enum RunFault {
 }
 
 impl RunFault {
-    /// The number of the fault, 41 to 60 and 64 to 66. This project's own.
+    /// The number of the fault, 41 to 47, 50 to 60 and 64 to 66. This project's own.
     pub fn number(self) -> u8
         ensures { result ≡ run_fault_number self }
     {
@@ -86,6 +89,7 @@ impl RunFault {
             RunFault::LinkClosed => 45,
             RunFault::Mute => 46,
             RunFault::Clock => 47,
+            RunFault::NoCommand => 50,
             RunFault::Schedule { .. } => 51,
             RunFault::Memory => 52,
             RunFault::InputTooLong => 53,

@@ -2,7 +2,7 @@
 
 ghost use Rattle.std.specs.Prelude.{◌≡◌, ◌≤◌, length};
 ghost use Rattle.std.specs.List.{list_any};
-ghost use Rattle.gc_texts.specs.Names.{is_foreign, is_name, is_named, name_text};
+ghost use Rattle.gc_texts.specs.Names.{is_foreign, is_formula, is_name, is_named, name_text};
 
 use arrayvec::ArrayVec;
 use gc_lines::append;
@@ -15,7 +15,7 @@ pub const NAME_ROOM: usize = 64;
 pub struct Name {
     /// Whose name it is.
     pub target: u32,
-    /// The name: 1 to 64 bytes, each printable ASCII other than a comma and a double quote.
+    /// The name: 1 to 64 bytes, each printable ASCII other than a comma and a double quote, and the first none of `=`, `+`, `-` and `@`.
     pub text: ArrayVec<u8, NAME_ROOM>,
 }
 
@@ -27,11 +27,21 @@ fn is_foreign(text: &[u8]) -> bool
         .any(|b| *b < 32 || *b > 126 || *b == b',' || *b == b'"')
 }
 
-/// Whether a text is a name: 1 to 64 bytes, and none that stands in no name.
+// Whether a spreadsheet takes a text for a formula, by its first byte.
+fn is_formula(text: &[u8]) -> bool
+    ensures { result ≡ is_formula text.now }
+{
+    match text.first() {
+        Some(b) => matches!(*b, b'=' | b'+' | b'-' | b'@'),
+        None => false,
+    }
+}
+
+/// Whether a text is a name: 1 to 64 bytes, none of which stands in no name, and no formula.
 pub(crate) fn is_name(text: &[u8]) -> bool
     ensures { result ≡ is_name text.now }
 {
-    !text.is_empty() && text.len() <= NAME_ROOM && !is_foreign(text)
+    !text.is_empty() && text.len() <= NAME_ROOM && !is_formula(text) && !is_foreign(text)
 }
 
 /// The name of these bytes for a target.

@@ -9,6 +9,7 @@ ghost use Rattle.gc_texts.specs.Records.{ending_text, record_line, record_text, 
 use crate::commands::Command;
 use crate::ending::Ending;
 use crate::json_line::json_line;
+use crate::log_line::append_escaped;
 use crate::row::csv_row;
 use crate::stamp::stamp_text;
 use crate::when::When;
@@ -19,7 +20,7 @@ use itoa::Buffer;
 /// How records are written.
 #[derive(Clone, Copy, Debug, PartialEq, Eq)]
 pub enum Form {
-    /// Each a line: the moment, the place, the target, and how the command ended.
+    /// Each a line: the moment, the place, the target, and how the command ended, with the bytes of the reply as in a row.
     Lines,
     /// Each a row of comma-separated values, quoted as RFC 4180 has it, with the names of the columns in front of all.
     Csv,
@@ -88,8 +89,11 @@ pub fn write_record<K: Sink>(
     }
 }
 
+// The most bytes of how a command ended: the words, and the reply's line, each byte of which may stand as four.
+const ENDING_ROOM: usize = 16 + 4 * 512;
+
 // The most bytes of a record's line: a moment, a place and a target, the words, and the reply's line.
-const LINE_ROOM: usize = 40 + 1 + 20 + 1 + 10 + 528 + 1;
+const LINE_ROOM: usize = 40 + 1 + 20 + 1 + 10 + ENDING_ROOM + 1;
 
 // The line of a record: the moment, the place, the target, and how the command ended.
 fn record_line(when: &When, command: &Command, ending: Ending<'_>) -> ArrayVec<u8, LINE_ROOM>
@@ -107,21 +111,21 @@ fn record_line(when: &When, command: &Command, ending: Ending<'_>) -> ArrayVec<u
     line
 }
 
-// How a command ended, in words, and behind them the line of the reply.
-fn ending_text(ending: Ending<'_>) -> ArrayVec<u8, 528>
+// How a command ended, in words, and behind them the line of the reply, as it stands in a row.
+fn ending_text(ending: Ending<'_>) -> ArrayVec<u8, ENDING_ROOM>
     ensures { result.items ≡ ending_text (ending_seen ending.entry) }
 {
     let mut text = ArrayVec::new();
     match ending {
         Ending::Answered(_, line) => {
             append(&mut text, b" answered ");
-            append(&mut text, line);
+            append_escaped(&mut text, line);
         }
         Ending::Unreadable(line, fault) => {
             append(&mut text, b" unreadable ");
             append(&mut text, Buffer::new().format(fault.number()).as_bytes());
             append(&mut text, b" ");
-            append(&mut text, line);
+            append_escaped(&mut text, line);
         }
         Ending::Late => append(&mut text, b" late"),
         Ending::Lost => append(&mut text, b" lost"),

@@ -92,12 +92,20 @@ fn all_else_goes_on_where_a_stream_is_closed(rt: HostRuntime) -> Result<(), Fail
     let port = format!(in alloc; "{port}")?;
     for bits in 0..8 {
         let open = with_open(bits);
-        let (read, in_use) = ("geocom: fault 42\n", "geocom: fault 54\n");
+        let read = "geocom: fault 42\n";
         for engine in ["exec", "check", "drill"] {
             expect_told(&rt, alloc, open, &["geocom", engine], 1, read)?;
         }
         let serve = ["geocom", "serve", port.as_str()];
-        expect_told(&rt, alloc, open, &serve, 1, in_use)?;
+        let in_use = format!(in alloc;
+            "geocom: fault 54\ngeocom: 127.0.0.1:{port}: Address already in use (os error 98)\n"
+        )?;
+        let told = if open.messages {
+            in_use.as_str()
+        } else {
+            "geocom: fault 54\n"
+        };
+        expect_told(&rt, alloc, open, &serve, 1, told)?;
     }
     drop(listener);
     Ok(())
@@ -145,7 +153,13 @@ fn expect_asked(
 fn nothing_is_served_where_a_place_stays_empty(rt: HostRuntime) -> Result<(), Fail> {
     for bits in 0..7 {
         let open = with_open(bits);
-        expect_asked(&rt, rt.alloc(), open, refusal(open), "/dev/null\n")?;
+        let told = if open.messages {
+            "geocom: fault 56\ngeocom: /dev/null: entity not found\n"
+        } else {
+            refusal(open)
+        };
+        expect_asked(&rt, rt.alloc(), open, told, "/dev/null\n")?;
     }
-    expect_asked(&rt, rt.alloc(), with_open(7), "geocom: fault 54\n", "")
+    let unbound = "geocom: fault 54\ngeocom: 127.0.0.1:4001: unsupported\n";
+    expect_asked(&rt, rt.alloc(), with_open(7), unbound, "")
 }

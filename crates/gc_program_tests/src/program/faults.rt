@@ -55,15 +55,21 @@ fn an_ask_ends_with_its_fault(rt: HostRuntime) -> Result<(), Fail> {
     expect_fault(&rt, alloc, &words, Broken, "geocom: fault 42\n")?;
     expect_run(&rt, alloc, &words, b"# none\n", 0, "", "")?;
     drop(listener);
-    expect_port_fault(&rt, alloc, "ask", port, COMMANDS, "geocom: fault 54\n")
+    let refused = format!(in alloc;
+        "geocom: fault 54\ngeocom: 127.0.0.1:{port}: Connection refused (os error 111)\n"
+    )?;
+    expect_port_fault(&rt, alloc, "ask", port, COMMANDS, refused.as_str())
 }
 
 #[test]
 fn a_port_is_in_use(rt: HostRuntime) -> Result<(), Fail> {
     let listener = TcpListener::bind(&rt, SocketAddr::from(([127, 0, 0, 1], 0)))?;
     let port = listener.local_addr()?.port();
-    let fault = "geocom: fault 54\n";
-    expect_port_fault(&rt, rt.alloc(), "serve", port, b"", fault)?;
+    let alloc = rt.alloc();
+    let in_use = format!(in alloc;
+        "geocom: fault 54\ngeocom: 127.0.0.1:{port}: Address already in use (os error 98)\n"
+    )?;
+    expect_port_fault(&rt, alloc, "serve", port, b"", in_use.as_str())?;
     drop(listener);
     Ok(())
 }

@@ -33,18 +33,13 @@ fn the_words_of_a_kept_port(rt: HostRuntime) -> Result<(), Fail> {
     let listener = TcpListener::bind(&rt, SocketAddr::from(([127, 0, 0, 1], 0)))?;
     let port = listener.local_addr()?.port();
     let port = format!(in alloc; "{port}")?;
+    let in_use = format!(in alloc;
+        "geocom: fault 54\ngeocom: 127.0.0.1:{port}: Address already in use (os error 98)\n"
+    )?;
     for options in TAKEN {
         let mut words = Vec::from_slice(alloc, &["geocom", "serve", port.as_str()])?;
         words.extend_from_slice(options)?;
-        expect_run(
-            &rt,
-            alloc,
-            words.as_slice(),
-            b"",
-            1,
-            "",
-            "geocom: fault 54\n",
-        )?;
+        expect_run(&rt, alloc, words.as_slice(), b"", 1, "", in_use.as_str())?;
     }
     for options in REFUSED {
         let mut words = Vec::from_slice(alloc, &["geocom", "serve", port.as_str()])?;

@@ -1,8 +1,8 @@
 //! A text of commands that is measured over a link in one thread: in both forms, and with each read and each write failing.
 
 use gc_console::{
-    Choice, Form, Layout, Link, Oddities, RunFault, Station, Stop, Streams, Tally, Trouble, Watch,
-    run_station_text,
+    Choice, Form, Layout, Link, Noticed, Place, RunFault, Spot, Station, Stop, Streams, Tally,
+    Trouble, Watch, run_station_text,
 };
 use gc_lines::{Lasting, PortFailed, Sink};
 use gc_links::{Came, Moment};
@@ -119,6 +119,14 @@ fn station_with(form: Form, headed: bool) -> Station {
     }
 }
 
+// A port, and what is noticed of it.
+fn spot_of(noticed: &Cell<Noticed>) -> Spot<'_> {
+    Spot {
+        place: Place::Port(4001),
+        noticed,
+    }
+}
+
 // A link with these replies, at which nothing was sent yet.
 fn link_with(replies: Replies) -> Answering {
     Answering {
@@ -147,9 +155,10 @@ fn expect_measured(
         output: PieceSink::new(alloc, 1, writes),
         messages: Vec::new(alloc),
     };
-    let seen = Cell::new(Oddities::none());
+    let noticed = Cell::new(Noticed::nothing());
+    let spot = spot_of(&noticed);
     let station = station_with(form, false);
-    let (streams, result) = run_station_text(alloc, &mut link, station, &seen, streams, 60);
+    let (streams, result) = run_station_text(alloc, &mut link, station, spot, streams, 60);
     assert_eq!(rt; result, end, "reads {reads}, writes {writes}");
     assert_eq!(rt; link.sent, sent, "reads {reads}, writes {writes}");
     assert_eq!(rt;
@@ -228,9 +237,10 @@ fn expect_records(
             output: PieceSink::new(alloc, 1, u64::MAX),
             messages: Vec::new(alloc),
         };
-        let seen = Cell::new(Oddities::none());
+        let noticed = Cell::new(Noticed::nothing());
+        let spot = spot_of(&noticed);
         let station = station_with(form, false);
-        let (streams, end) = run_station_text(alloc, &mut link, station, &seen, streams, 60);
+        let (streams, end) = run_station_text(alloc, &mut link, station, spot, streams, 60);
         assert!(rt; end.is_ok(), "{form:?}");
         assert_eq!(rt; link.sent, sent, "{form:?}");
         assert_eq!(rt; streams.output.taken(), output, "{form:?}");
@@ -278,9 +288,10 @@ fn a_faulty_line_has_its_trouble(rt: HostRuntime) {
         output: PieceSink::new(alloc, 1, u64::MAX),
         messages: Vec::new(alloc),
     };
-    let seen = Cell::new(Oddities::none());
+    let noticed = Cell::new(Noticed::nothing());
+    let spot = spot_of(&noticed);
     let station = station_with(Form::Csv, false);
-    let (streams, end) = run_station_text(alloc, &mut link, station, &seen, streams, 60);
+    let (streams, end) = run_station_text(alloc, &mut link, station, spot, streams, 60);
     assert_eq!(rt; end, Err(Stop::Line(2, Trouble::NoProcedure(5002))));
     assert_eq!(rt; link.sent, 0);
     assert!(rt; streams.output.taken().is_empty());
@@ -349,9 +360,10 @@ fn each_keep_fails(rt: HostRuntime) {
             },
             messages: Vec::new(alloc),
         };
-        let seen = Cell::new(Oddities::none());
+        let noticed = Cell::new(Noticed::nothing());
+        let spot = spot_of(&noticed);
         let station = station_with(Form::Csv, true);
-        let (streams, end) = run_station_text(alloc, &mut link, station, &seen, streams, 60);
+        let (streams, end) = run_station_text(alloc, &mut link, station, spot, streams, 60);
         let rows = streams.output.bytes.as_slice();
         if end.is_ok() {
             assert_eq!(rt; rows, both);

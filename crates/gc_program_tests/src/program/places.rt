@@ -12,7 +12,17 @@ const UNSERVED: &str =
 #[test]
 fn a_word_names_no_place(rt: HostRuntime) -> Result<(), Fail> {
     let alloc = rt.alloc();
-    for word in ["0", "65536", "totalstation", ":4001", "localhost:0"] {
+    for word in [
+        "0",
+        "totalstation",
+        ":4001",
+        "localhost:0",
+        "[]:1",
+        "[127.0.0.1]:1",
+        "[fd00::5",
+        "fd00::5",
+        "tcp://host:1",
+    ] {
         for engine in ["ask", "station"] {
             let words = ["geocom", engine, word];
             expect_run(&rt, alloc, &words, ONE_COMMAND, 2, "", NOWHERE)?;
@@ -33,11 +43,12 @@ fn a_word_names_no_place(rt: HostRuntime) -> Result<(), Fail> {
 #[test]
 fn what_is_no_terminal_is_no_device(rt: HostRuntime) -> Result<(), Fail> {
     let alloc = rt.alloc();
-    let told = "geocom: fault 58\n";
+    let told = "geocom: fault 58\ngeocom: /dev/null: it is no terminal\n";
     for engine in ["ask", "station", "serve"] {
         let words = ["geocom", engine, "/dev/null"];
         expect_run(&rt, alloc, &words, ONE_COMMAND, 1, "", told)?;
     }
     let words = ["geocom", "ask", "./line"];
-    expect_run(&rt, alloc, &words, ONE_COMMAND, 1, "", "geocom: fault 54\n")
+    let told = "geocom: fault 54\ngeocom: ./line: No such file or directory (os error 2)\n";
+    expect_run(&rt, alloc, &words, ONE_COMMAND, 1, "", told)
 }

@@ -90,7 +90,7 @@ fn the_simulator_has_the_targets_that_are_told(rt: HostRuntime) -> Result<(), Fa
     expect_on(&rt, alloc, exec, "told.scene", TOLD, MEASURED, DISTANCES)
 }
 
-// Serves a port that is in use with this scene, once and kept, and expects these messages.
+// Serves a port that is in use with this scene, once and kept, and expects these messages, or else those of such a port.
 fn expect_unserved(
     rt: &(impl Abort
         + Net<Listener = TcpListener, Stream = TcpStream>
@@ -98,11 +98,15 @@ fn expect_unserved(
         + Files<File = File>),
     alloc: Global,
     path: &str,
-    messages: &str,
+    messages: Option<&str>,
 ) -> Result<(), Fail> {
     let listener = TcpListener::bind(rt, SocketAddr::from(([127, 0, 0, 1], 0)))?;
     let port = listener.local_addr()?.port();
     let port = format!(in alloc; "{port}")?;
+    let in_use = format!(in alloc;
+        "geocom: fault 54\ngeocom: 127.0.0.1:{port}: Address already in use (os error 98)\n"
+    )?;
+    let messages = messages.unwrap_or(in_use.as_str());
     let serve = ["geocom", "serve", port.as_str(), "--scene", path];
     expect_fault(rt, alloc, &serve, Broken, messages)?;
     let keep = ["geocom", "serve", port.as_str(), "--keep", "--scene", path];
@@ -112,7 +116,7 @@ fn expect_unserved(
 }
 
 // Runs each subcommand with a scene that is refused, over an input of which each read fails, or with a port that is in use.
-// Expects these messages.
+// Expects these messages, and behind them of `loop` and `serve` that they are of the scene, and these words.
 fn expect_refused(
     rt: &(impl Abort
         + Net<Listener = TcpListener, Stream = TcpStream>
@@ -121,29 +125,34 @@ fn expect_refused(
     alloc: Global,
     path: &str,
     messages: &str,
+    words: &str,
 ) -> Result<(), Fail> {
-    for engine in ["exec", "drill", "loop"] {
+    for engine in ["exec", "drill"] {
         let words = ["geocom", engine, "--scene", path];
         expect_fault(rt, alloc, &words, Broken, messages)?;
     }
-    expect_unserved(rt, alloc, path, messages)
+    let whole = format!(in alloc; "{messages}geocom: of the scene in {path}\n{words}")?;
+    let looped = ["geocom", "loop", "--scene", path];
+    expect_fault(rt, alloc, &looped, Broken, whole.as_str())?;
+    expect_unserved(rt, alloc, path, Some(whole.as_str()))
 }
 
 #[test]
 fn a_scene_is_read_before_anything_else(rt: HostRuntime) -> Result<(), Fail> {
     let alloc = rt.alloc();
-    expect_refused(&rt, alloc, "no.scene", "geocom: fault 42\n")?;
+    let none = "geocom: no.scene: No such file or directory (os error 2)\n";
+    expect_refused(&rt, alloc, "no.scene", "geocom: fault 42\n", none)?;
     let path = "refused.scene";
     fs::write(&rt, path, b"serial 71\ntarget 1 1.5\n".as_slice())?;
-    expect_refused(&rt, alloc, path, "geocom: fault 51 line 2\n")?;
+    expect_refused(&rt, alloc, path, "geocom: fault 51 line 2\n", "")?;
     fs::write(&rt, path, [b'\n'; 65537].as_slice())?;
-    expect_refused(&rt, alloc, path, "geocom: fault 53\n")?;
+    expect_refused(&rt, alloc, path, "geocom: fault 53\n", "")?;
     let mut text = Vec::new(alloc);
     for _ in 0..33 {
         text.extend_from_slice(b"target 1 1.5 20\n")?;
     }
     fs::write(&rt, path, text.as_slice())?;
-    expect_refused(&rt, alloc, path, "geocom: fault 41\n")?;
+    expect_refused(&rt, alloc, path, "geocom: fault 41\n", "")?;
     fs::remove_file(&rt, path)?;
     Ok(())
 }
@@ -152,7 +161,7 @@ fn a_scene_is_read_before_anything_else(rt: HostRuntime) -> Result<(), Fail> {
 fn a_good_scene_leaves_a_port_that_is_in_use(rt: HostRuntime) -> Result<(), Fail> {
     let path = "serve.scene";
     fs::write(&rt, path, EAST)?;
-    expect_unserved(&rt, rt.alloc(), path, "geocom: fault 54\n")?;
+    expect_unserved(&rt, rt.alloc(), path, None)?;
     fs::remove_file(&rt, path)?;
     Ok(())
 }

@@ -106,7 +106,14 @@ fn expect_fault(
 fn nobody_answers_a_station(rt: HostRuntime) -> Result<(), Fail> {
     let listener = TcpListener::bind(&rt, any_port())?;
     let port = listener.local_addr()?.port();
-    expect_fault(&rt, rt.alloc(), port, b"geocom: fault 46\n")?;
+    let alloc = rt.alloc();
+    let mute = format!(in alloc;
+        "geocom: fault 46\ngeocom: 127.0.0.1:{port}: no reply came any more\n"
+    )?;
+    expect_fault(&rt, alloc, port, mute.as_bytes())?;
     drop(listener);
-    expect_fault(&rt, rt.alloc(), port, b"geocom: fault 54\n")
+    let refused = format!(in alloc;
+        "geocom: fault 54\ngeocom: 127.0.0.1:{port}: Connection refused (os error 111)\n"
+    )?;
+    expect_fault(&rt, alloc, port, refused.as_bytes())
 }

@@ -1,0 +1,89 @@
+//! Since when a station wants an answer that doesn't come. It counts over connections: neither a new one nor a closed one is an answer.
+
+ghost use Rattle.std.specs.Prelude.{◌≡◌};
+ghost use Rattle.gc_console.specs.Wanted.{behind_answer, behind_look, behind_cycle, wanted_from, lasting, has_lasted};
+
+use gc_links::Moment;
+use gc_station::Sight;
+
+/// Since when an answer is wanted.
+#[derive(Clone, Copy)]
+pub(crate) struct Wanted {
+    // Since when, where one is.
+    pub since: Option<Moment>,
+    // Whether there was an answer since nothing was left to be asked.
+    pub heard: bool,
+    // Whether that want was told.
+    pub told: bool,
+}
+
+impl Wanted {
+    /// None is wanted yet.
+    pub(crate) fn new() -> Wanted {
+        Wanted {
+            since: None,
+            heard: false,
+            told: false,
+        }
+    }
+
+    /// A command was answered.
+    pub(crate) fn hear(&mut self)
+        ensures { self.new ≡ behind_answer self.old }
+    {
+        self.since = None;
+        self.heard = true;
+        self.told = false;
+    }
+
+    /// Things stand so at this moment.
+    pub(crate) fn look(&mut self, sight: Sight, moment: Moment)
+        ensures { self.new ≡ behind_look sight moment self.old }
+    {
+        match sight {
+            Sight::Fine => {}
+            Sight::Idle => self.end_cycle(),
+            Sight::Unconnected => self.want(moment),
+            Sight::Unquiet => self.want(moment),
+            Sight::Unheard => self.want(moment),
+        }
+    }
+
+    // Nothing is left to be asked in this cycle. Where it had answers, and the last ones were lost, none is wanted before the next
+    // cycle, unless that was told: then it stays until one comes.
+    fn end_cycle(&mut self)
+        ensures { self.new ≡ behind_cycle self.old }
+    {
+        if self.heard && !self.told {
+            self.since = None;
+        }
+        self.heard = false;
+    }
+
+    // One is wanted from this moment on, unless one was wanted already.
+    fn want(&mut self, moment: Moment)
+        ensures { self.new ≡ record self.old { since = wanted_from self.old.since moment } }
+    {
+        self.since = match self.since {
+            Some(since) => Some(since),
+            None => Some(moment),
+        };
+    }
+
+    /// Since when one is wanted, where that has lasted for so many milliseconds.
+    pub(crate) fn lasting(&self, elapsed: u64, least: u64) -> Option<Moment>
+        ensures { result ≡ lasting elapsed least self.now.since }
+    {
+        match self.since {
+            Some(since) if has_lasted(since.elapsed, elapsed, least) => Some(since),
+            _ => None,
+        }
+    }
+}
+
+/// Whether so many milliseconds lie between two moments.
+pub(crate) fn has_lasted(from: u64, elapsed: u64, least: u64) -> bool
+    ensures { result ≡ has_lasted from elapsed least }
+{
+    elapsed.saturating_sub(from) >= least
+}
