@@ -158,6 +158,18 @@ def refuses_what_is_no_log(program):
             expect_same(path.read_bytes(), held, "what stands in the file")
 
 
+def refuses_a_held_log(program):
+    """While a station has a log no second one writes into it, and the first goes on."""
+    with tempfile.TemporaryDirectory() as folder, standing() as far, standing() as other:
+        log = Path(folder, "log")
+        with measuring(program, far.port, f"--log {log} --quiet 100 --cycles 0 --every 1", TWO) as run:
+            until(lambda: log.exists() and log.read_bytes(), "the first one logs nothing")
+            expect_refused_log(log, other, program)
+            before = len(log.read_bytes())
+            until(lambda: len(log.read_bytes()) > before, "the first one logs no more")
+            expect(run.is_running(), "the first one ended")
+
+
 def cuts_a_torn_line(program):
     """A torn last line of a log is cut off, and told: no log has a line that neither went nor came."""
     for torn in LOG_LINE[:-3], LOG_LINE[:30], LOG_LINE[:9], b"":
@@ -260,6 +272,7 @@ def trials():
     yield "--log, a full disk", measures_on_without_its_log
     yield "--log, a full disk, told at once", tells_at_once_that_its_log_is_lost
     yield "--log, what is no log", refuses_what_is_no_log
+    yield "--log, held by another station", refuses_a_held_log
     yield "--log, a torn line", cuts_a_torn_line
     yield "--log-bytes", bounds_its_log
     yield "--log, no such folder", needs_its_log

@@ -1,8 +1,6 @@
-//! What no clause says: asking over ports that fail or end, a loop over two pipes, and real connections.
+//! What no clause says: asking over real connections.
 
 mod keeping;
-mod links;
-mod loops;
 mod places;
 mod ports;
 mod sockets;

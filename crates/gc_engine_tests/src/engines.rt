@@ -1,10 +1,4 @@
-//! What no clause says of the engines: outside values, and the faults of their ports. The worked schedules and streams are
-//! files of `examples/`, and `gc_examples` plays them.
+//! What no clause says of both ends. The engines, their worked schedules and streams and the faults of their ports are cases and
+//! examples, which `gc_examples` plays.
 
 mod check;
-mod check_log;
-mod drill;
-mod exec;
-mod failing;
-mod scenes;
-mod writes;

@@ -2,14 +2,17 @@
 //! and each schedule through `drill --totals`, whole, in single bytes, and cut in two at every place, and what is written
 //! must be the file of the expected output each time. The folder it runs in is read whole, so that no example is forgotten.
 //! Then each is played once more, and with the word `once` nothing else is done: that run can be refused memory.
+//! Behind them the cases of the folder `cases` are played.
 #![tactic(auto)]
 
+mod cases;
 mod client;
 mod example;
 mod links;
 mod once;
 mod outcome;
 
+use cases::play_cases;
 use example::Example;
 use once::play_once;
 use std::process::ExitCode;
@@ -50,5 +53,6 @@ fn main(rt: HostRuntime) -> io::Result<ExitCode> {
     let is_once = words.get(1).is_some_and(|word| word.as_str() == "once");
     let are_cut = is_once || play_cuts(&rt, names.as_slice())?;
     let are_right = play_once(&rt, names.as_slice())?;
-    Ok(ExitCode::from(u8::from(!(are_cut && are_right))))
+    let are_cases = is_once || play_cases(&rt, "cases")?;
+    Ok(ExitCode::from(u8::from(!(are_cut && are_right && are_cases))))
 }

@@ -31,8 +31,6 @@ mod memory_file;
 mod opening;
 mod rows_file;
 mod system;
-#[cfg(test)]
-mod tests;
 
 pub use appending::Appending;
 pub use memory_file::{Call, MemoryFile};

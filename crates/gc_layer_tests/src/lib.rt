@@ -1,14 +1,12 @@
-//! Tests of the lines, the values, the catalogue and the client, through their public calls alone. They stand apart, so that each of
-//! those crates is proved once.
+//! Tests of the layers up to the world that no case of `gc_examples` can hold: generic functions, each once at a type of the tests, and
+//! the functions that `docs/CLIENT.md` and `docs/INSTRUMENT.md` show.
 #![tactic(auto)]
 
 #[cfg(test)]
-mod beginning;
-#[cfg(test)]
-mod catalogue;
-#[cfg(test)]
-mod client;
+mod embedded;
 #[cfg(test)]
 mod lines;
 #[cfg(test)]
-mod values;
+mod measuring;
+#[cfg(test)]
+mod window;

@@ -1,80 +1,13 @@
-//! Outside values of the line grammar, and each port once over a reader and a writer of std.
+//! Each port once over a reader and a writer of std.
 
 ghost use Rattle.std.specs.Prelude.{None};
 
-use arrayvec::ArrayVec;
 use gc_lines::{
-    Assembler, FromReader, Lent, Line, PortFailed, ReadAhead, Sink, Source, ToWriter,
-    begin_request, is_plain, push_reply, push_request, read_reply, read_request, write_line,
-    write_reply, write_request, write_whole,
+    FromReader, Line, PortFailed, ReadAhead, Sink, Source, ToWriter, begin_request, write_line,
+    write_whole,
 };
 use std::cell::Cell;
 use std::io::{self, ErrorKind, Read};
-use std::test::Fail;
-
-// The number of a request's fault, or 0 where it is read.
-fn request_fault(line: &[u8]) -> u8 {
-    match read_request(line) {
-        Ok(_) => 0,
-        Err(fault) => fault.number(),
-    }
-}
-
-// The number of a reply's fault, or 0 where it is read.
-fn reply_fault(line: &[u8]) -> u8 {
-    match read_reply(line) {
-        Ok(_) => 0,
-        Err(fault) => fault.number(),
-    }
-}
-
-#[test]
-fn prefixes_of_a_request(rt: HostRuntime) {
-    let line = b"%R1Q,5008,2:";
-    let faults = [1, 1, 1, 1, 1, 2, 4, 4, 4, 4, 3, 4, 0];
-    for (len, want) in faults.iter().enumerate() {
-        let prefix = line.get(..len).unwrap_or(b"");
-        assert_eq!(rt; request_fault(prefix), *want, "of the first {len} bytes");
-    }
-}
-
-#[test]
-fn headers_refused(rt: HostRuntime) {
-    for (line, want) in [
-        ("%r1q,0,0:", 1),
-        ("%R1Q, 0:", 2),
-        ("%R1Q,000000:", 2),
-        ("%R1Q,0,:", 3),
-        ("%R1Q,0,07:", 3),
-        ("%R1Q,5003,8:", 3),
-        ("%R1Q,5003,12:", 3),
-        ("%R1Q,0", 4),
-    ] {
-        assert_eq!(rt; request_fault(line.as_bytes()), want, "{line}");
-    }
-    for (line, want) in [
-        ("%R1P,0,0:", 5),
-        ("%R1P,0,0:65536", 5),
-        ("%R1P,0,0:0;1", 5),
-        ("%R1P,0,0:1 ", 5),
-        ("%R1P,00000,0:00000,", 0),
-    ] {
-        assert_eq!(rt; reply_fault(line.as_bytes()), want, "{line}");
-    }
-}
-
-#[test]
-fn lines_are_written_again(rt: HostRuntime) -> Result<(), Fail> {
-    let reply = read_reply(b"%R1P,00000,0:00000,")?;
-    assert!(rt; reply.params.is_empty());
-    let written: Line = write_reply(&reply)?;
-    assert_eq!(rt; written.as_slice(), b"%R1P,0,0:0".as_slice());
-    let request = read_request(b"%R1Q,02003,7:1,'0f'")?;
-    assert!(rt; is_plain(request.params));
-    let written: Line = write_request(&request)?;
-    assert_eq!(rt; written.as_slice(), b"%R1Q,2003,7:1,'0f'".as_slice());
-    Ok(())
-}
 
 // A reader that gives two bytes and then is interrupted, time and again.
 #[derive(Drop)]
@@ -243,28 +176,4 @@ fn a_line_written_whole(rt: HostRuntime) {
     assert_eq!(rt; write_line(&mut sink, &line), Err(0));
     drop(sink);
     assert_eq!(rt; room.as_slice(), b"%R1Q,0,1:\r\n%R1Q,".as_slice());
-}
-
-#[test]
-fn a_line_whole_and_cut(rt: HostRuntime) {
-    let mut assembler = Assembler::new();
-    let mut cut = Line::new();
-    let piece = b"one\r\ntw".as_slice();
-    assert_eq!(rt; assembler.next(piece, &mut cut), (5, Lent::Line(b"one")));
-    assert_eq!(rt; assembler.next(b"tw", &mut cut), (2, Lent::More));
-    assert_eq!(rt; assembler.next(b"o\r\n", &mut cut), (3, Lent::Line(b"two")));
-    assert_eq!(rt; assembler.next(b"lone\n", &mut cut), (5, Lent::Cleared));
-    assert!(rt; assembler.at_start());
-}
-
-#[test]
-fn lines_appended(rt: HostRuntime) {
-    let mut text = ArrayVec::<u8, 49>::new();
-    push_reply(&mut text, 0, 7, 0);
-    push_reply(&mut text, 3081, 0, 65535);
-    push_request(&mut text, 17036, None);
-    assert_eq!(rt;
-        text.as_slice(),
-        b"%R1P,0,7:0%R1P,3081,0:65535%R1Q,17036:".as_slice()
-    );
 }

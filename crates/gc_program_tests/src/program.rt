@@ -1,17 +1,5 @@
-//! What no clause says of the program: what a command line means, its printed texts, and a station over its ports.
+//! What no clause says of the program, and what needs a link or a sink of the tests. What a command line means, its printed texts and
+//! a station at a far end are cases, which `gc_examples` plays.
 
-mod chains;
-mod closed;
-mod far_end;
-mod far_files;
-mod faults;
-mod keeping;
 mod measure;
-mod oddities;
-mod options;
-mod places;
-mod scenes;
-mod signs;
 mod station;
-mod turns;
-mod words;

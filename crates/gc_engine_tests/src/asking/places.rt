@@ -1,41 +1,12 @@
-//! Where an instrument stands: each form of a word, addresses, and what is no device.
+//! Where an instrument stands: addresses, and what is no device.
 
 use gc_ask::{Keeping, ask_at, keep_device, serve_device};
 use gc_instrument::Instrument;
-use gc_links::{Place, place_of};
+use gc_links::Place;
 use gc_probes::{PieceSink, PieceSource};
 use gc_texts::RunFault;
 use std::net::{Ipv6Addr, SocketAddr, TcpListener};
 use std::test::Fail;
-
-#[test]
-fn each_form_of_a_place(rt: HostRuntime) {
-    let rows = [
-        ("1", Some(Place::Port(1))),
-        ("4001", Some(Place::Port(4001))),
-        ("65535", Some(Place::Port(65535))),
-        ("localhost:4001", Some(Place::Host("localhost:4001"))),
-        ("10.0.0.5:1", Some(Place::Host("10.0.0.5:1"))),
-        ("[::1]:65535", Some(Place::Host("[::1]:65535"))),
-        ("/dev/ttyUSB0", Some(Place::Device("/dev/ttyUSB0"))),
-        ("./line:1", Some(Place::Device("./line:1"))),
-        ("", None),
-        ("0", None),
-        ("65536", None),
-        ("99999999999999999999", None),
-        ("+4001", None),
-        ("4001 ", None),
-        ("totalstation", None),
-        (":4001", None),
-        ("host:", None),
-        ("host:0", None),
-        ("host:65536", None),
-        ("host:4001x", None),
-    ];
-    for (word, place) in rows {
-        assert_eq!(rt; place_of(word), place, "{word}");
-    }
-}
 
 #[test]
 fn addresses_and_names_are_connected_to(rt: HostRuntime) -> Result<(), Fail> {

@@ -1,0 +1,48 @@
+//! A case, and the cases of a text.
+
+/// One case.
+#[derive(Clone, Copy)]
+pub struct Case<'a> {
+    /// What it is called.
+    pub name: &'a str,
+    lines: &'a str,
+}
+
+impl<'a> Case<'a> {
+    /// The value of the first line with this key, and an empty one where there is none.
+    pub fn value(&self, key: &str) -> &'a str {
+        self.value_at(key, 0).unwrap_or("")
+    }
+
+    /// The value of a line with this key, by its place among these, counted from 0; none behind the last one.
+    pub fn value_at(&self, key: &str, place: usize) -> Option<&'a str> {
+        let mut left = place;
+        for line in self.lines.lines() {
+            if let Some(value) = value_of(line, key) {
+                if left == 0 {
+                    return Some(value);
+                }
+                left = left.saturating_sub(1);
+            }
+        }
+        None
+    }
+}
+
+// The value of a line that has this key.
+fn value_of<'a>(line: &'a str, key: &str) -> Option<&'a str> {
+    let rest = line.strip_prefix(key)?;
+    if rest.is_empty() {
+        return Some(rest);
+    }
+    rest.strip_prefix(' ')
+}
+
+/// The first case of a text, and the text behind it; none where there is no case.
+pub fn cut_case(text: &str) -> Option<(Case<'_>, &str)> {
+    let (_, cases) = text.split_once("== ")?;
+    let (name, behind) = cases.split_once('\n').unwrap_or((cases, ""));
+    let lines = behind.split_once("\n== ").map_or(behind, |cut| cut.0);
+    let rest = behind.get(lines.len()..).unwrap_or("");
+    Some((Case { name, lines }, rest))
+}

@@ -1,0 +1,75 @@
+//! Bytes as a value of a case spells them.
+
+use std::alloc::{AllocError, Global};
+
+/// The bytes that a value stands for.
+pub fn bytes_of(alloc: Global, value: &str) -> Result<Vec<u8>, AllocError> {
+    let mut bytes = Vec::new(alloc);
+    let mut rest = value.as_bytes();
+    for _ in 0..value.len() {
+        let Some((byte, behind)) = next_byte(rest) else {
+            break;
+        };
+        bytes.push(byte)?;
+        rest = behind;
+    }
+    Ok(bytes)
+}
+
+// The first byte that a value stands for, and what follows.
+fn next_byte(value: &[u8]) -> Option<(u8, &[u8])> {
+    let (byte, behind) = value.split_first()?;
+    if *byte == b'\\' {
+        return Some(escape_of(behind));
+    }
+    Some((*byte, behind))
+}
+
+// The byte that stands behind a backslash, and what follows.
+fn escape_of(rest: &[u8]) -> (u8, &[u8]) {
+    match rest {
+        [b'n', behind @ ..] => (b'\n', behind),
+        [b'r', behind @ ..] => (b'\r', behind),
+        [b't', behind @ ..] => (b'\t', behind),
+        [b'x', high, low, behind @ ..] => (
+            digit_of(*high)
+                .wrapping_mul(16)
+                .wrapping_add(digit_of(*low)),
+            behind,
+        ),
+        [other, behind @ ..] => (*other, behind),
+        [] => (b'\\', rest),
+    }
+}
+
+fn digit_of(digit: u8) -> u8 {
+    match digit {
+        b'0'..=b'9' => digit - b'0',
+        b'a'..=b'f' => digit - b'a' + 10,
+        _ => 0,
+    }
+}
+
+/// A value that stands for these bytes.
+pub fn text_of(alloc: Global, bytes: &[u8]) -> Result<String, AllocError> {
+    let mut text = String::new(alloc);
+    for byte in bytes {
+        match *byte {
+            b'\n' => text.push_str("\\n")?,
+            b'\r' => text.push_str("\\r")?,
+            b'\t' => text.push_str("\\t")?,
+            b'\\' => text.push_str("\\\\")?,
+            b' '..=b'~' => text.push(char::from(*byte))?,
+            _ => {
+                text.push_str("\\x")?;
+                text.push(hex_of(*byte / 16))?;
+                text.push(hex_of(*byte % 16))?;
+            }
+        }
+    }
+    Ok(text)
+}
+
+fn hex_of(digit: u8) -> char {
+    char::from(*b"0123456789abcdef".get(usize::from(digit)).unwrap_or(&b'?'))
+}

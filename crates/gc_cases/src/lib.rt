@@ -1,0 +1,15 @@
+//! Cases of tests that are data: a text of cases, what one has under a key, and whether what came is what it expects.
+//!
+//! A line `== NAME` begins a case, up to the next one. Each other line is a key and, behind a space, its value. A line that is empty or
+//! begins with `#` says nothing. In a value `\n`, `\r`, `\t`, `\\` and `\xHH` (two digits, 0 to 9 and a to f) stand for bytes.
+#![tactic(auto)]
+
+mod case;
+mod escapes;
+mod playing;
+mod rows;
+
+pub use case::{Case, cut_case};
+pub use escapes::{bytes_of, text_of};
+pub use playing::{Player, play_folder};
+pub use rows::{Rows, cut_word, play_rows, push_bytes};

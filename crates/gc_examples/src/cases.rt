@@ -1,0 +1,35 @@
+//! The cases, played: tests that are data. Each file of a folder is played by the player of its ending.
+
+mod engines;
+mod failing;
+mod far_end;
+mod far_files;
+mod outcome;
+mod program;
+mod records;
+mod said;
+mod setup;
+mod single_bytes;
+mod sink;
+mod texts;
+mod world;
+
+use engines::Engines;
+use failing::Failing;
+use gc_cases::play_folder;
+use program::Program;
+use records::Records;
+use std::io;
+use texts::Texts;
+use world::World;
+
+/// Plays the cases of a folder, and says whether each came to what it expects.
+pub fn play_cases(rt: &HostRuntime, folder: &str) -> io::Result<bool> {
+    let mut are_right = play_folder(rt, folder, &Engines)?;
+    are_right &= play_folder(rt, folder, &Failing)?;
+    are_right &= play_folder(rt, folder, &Program)?;
+    are_right &= play_folder(rt, folder, &Texts)?;
+    are_right &= play_folder(rt, folder, &Records)?;
+    are_right &= play_folder(rt, folder, &World)?;
+    Ok(are_right)
+}

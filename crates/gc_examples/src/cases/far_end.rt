@@ -1,0 +1,204 @@
+//! The far end of a case: a connection of one process, at which a simulator answers while the station waits, and a clock that
+//! goes only as it waits. So no case waits, and each moment is known.
+
+use gc_console::{Oddities, run_exec};
+use gc_lines::{FromReader, ToWriter};
+use std::alloc::Global;
+use std::cell::RefCell;
+use std::io::{self, ErrorKind, Read, Write};
+use std::net::{Net, SocketAddr, TcpListener, TcpStream};
+use std::os::fd::OwnedFd;
+use std::os::unix::net::UnixStream;
+use std::time::{Clock, Duration};
+
+// 2026-11-22T23:08:00Z, where the clock begins, in milliseconds since 1970.
+const BEGIN: u64 = 1_795_388_880_000;
+
+// A wait of no more milliseconds is none: the link's own second look. The system may round it up to 10.
+const NO_WAIT: u64 = 10;
+
+// What the far end saw.
+#[derive(Drop)]
+pub struct Seen {
+    // How many milliseconds have passed.
+    pub elapsed: u64,
+    // How many connections were made.
+    pub opened: u32,
+    // What came, with a `>` wherever the station waited behind it.
+    pub heard: Vec<u8>,
+    // The paths of the files that were to be opened, a line each. None is there.
+    pub files: Vec<u8>,
+}
+
+impl Seen {
+    pub fn new(alloc: Global) -> Seen {
+        Seen {
+            elapsed: 0,
+            opened: 0,
+            heard: Vec::new(alloc),
+            files: Vec::new(alloc),
+        }
+    }
+
+    // So much time passes.
+    fn pass(&mut self, millis: u64) {
+        self.elapsed = self.elapsed.saturating_add(millis);
+    }
+}
+
+// Both ends of a connection, the station's first. It is a pair of Unix sockets, since what goes into one has come at the other.
+pub fn both_ends(net: &impl Net) -> io::Result<(TcpStream, TcpStream)> {
+    let (near, far) = UnixStream::pair(net)?;
+    near.set_nonblocking(true)?;
+    far.set_nonblocking(true)?;
+    Ok((
+        TcpStream::from(OwnedFd::from(near)),
+        TcpStream::from(OwnedFd::from(far)),
+    ))
+}
+
+// A net with this connection alone, and its clock.
+#[derive(Drop)]
+pub struct FarEnd<'a, 'b> {
+    pub ends: &'a (TcpStream, TcpStream),
+    pub seen: &'b RefCell<Seen>,
+    // How many milliseconds an answer takes: less than the station waits for it. None: there is none.
+    pub answer: Option<u64>,
+    // Behind so many milliseconds the clock can't be read any more.
+    pub until: u64,
+    // The first so many connections are refused.
+    pub refused: u64,
+    // Behind so many milliseconds nothing is answered any more.
+    pub silent: u64,
+    // What the line does to what is sent over it.
+    pub odd: Oddities,
+}
+
+impl<'a, 'b> FarEnd<'a, 'b> {
+    // How long the station may have waited since this was asked last, in milliseconds.
+    fn patience(&self) -> io::Result<u64> {
+        let Some(wait) = self.ends.0.read_timeout()? else {
+            return Ok(0);
+        };
+        Ok(u64::try_from(wait.as_millis()).unwrap_or(u64::MAX))
+    }
+
+    // Answers the requests of a piece, and says whether there were any.
+    fn answers(&self, piece: &[u8]) -> bool {
+        let mut far = &self.ends.1;
+        if self.odd.echoes && far.write_all(piece).is_err() {
+            return false;
+        }
+        let mut source = FromReader::new(piece);
+        let mut sink = ToWriter::new(Changing {
+            stream: &self.ends.1,
+            bare: self.odd.bare,
+        });
+        match run_exec(&mut source, &mut sink, u32::MAX) {
+            Ok(served) => served.replies > 0,
+            Err(_) => false,
+        }
+    }
+
+    // The station waits: what came is noted down and answered, and time passes until then, or until the wait is over.
+    fn wait(&self, seen: &mut Seen, millis: u64) -> io::Result<()> {
+        let mut buf = [0; 256];
+        let mut far = &self.ends.1;
+        let Ok(n) = far.read(&mut buf) else {
+            seen.pass(millis);
+            return Ok(());
+        };
+        let piece = &buf[..n];
+        seen.heard.extend_from_slice(piece)?;
+        seen.heard.push(b'>')?;
+        match self.answer {
+            Some(answer) if seen.elapsed <= self.silent && self.answers(piece) => seen.pass(answer),
+            _ => seen.pass(millis),
+        }
+        Ok(())
+    }
+}
+
+// A line that changes each CR to LF, where it is bare.
+#[derive(Drop)]
+struct Changing<'a> {
+    stream: &'a TcpStream,
+    bare: bool,
+}
+
+impl<'a> Write for Changing<'a> {
+    fn write(&mut self, buf: &[u8]) -> io::Result<usize> {
+        let mut stream = self.stream;
+        for b in buf {
+            let changed = if self.bare && *b == b'\r' { b'\n' } else { *b };
+            stream.write_all(&[changed])?;
+        }
+        Ok(buf.len())
+    }
+
+    fn flush(&mut self) -> io::Result<()> {
+        Ok(())
+    }
+}
+
+pub fn in_use() -> io::Error {
+    io::Error::from(ErrorKind::ResourceBusy)
+}
+
+impl<'a, 'b> Clock for FarEnd<'a, 'b> {
+    fn monotonic(&self) -> io::Result<Duration> {
+        let Ok(mut seen) = self.seen.try_borrow_mut() else {
+            return Err(in_use());
+        };
+        let patience = self.patience()?;
+        if patience > NO_WAIT {
+            self.wait(&mut seen, patience)?;
+        }
+        if seen.elapsed > self.until {
+            return Err(in_use());
+        }
+        Ok(Duration::from_millis(seen.elapsed))
+    }
+
+    fn since_1970(&self) -> io::Result<Duration> {
+        let Ok(seen) = self.seen.try_borrow() else {
+            return Err(in_use());
+        };
+        Ok(Duration::from_millis(BEGIN.saturating_add(seen.elapsed)))
+    }
+
+    fn sleep(&self, duration: Duration) {
+        if let Ok(mut seen) = self.seen.try_borrow_mut() {
+            seen.pass(u64::try_from(duration.as_millis()).unwrap_or(u64::MAX));
+        }
+    }
+}
+
+impl<'a, 'b> Net for FarEnd<'a, 'b> {
+    type Stream = TcpStream;
+
+    type Listener = TcpListener;
+
+    fn bind(&self, _addr: SocketAddr) -> io::Result<TcpListener> {
+        Err(io::Error::from(ErrorKind::Unsupported))
+    }
+
+    fn connect(&self, _addr: SocketAddr) -> io::Result<TcpStream> {
+        let Ok(mut seen) = self.seen.try_borrow_mut() else {
+            return Err(in_use());
+        };
+        seen.opened = seen.opened.saturating_add(1);
+        Err(io::Error::from(ErrorKind::Unsupported))
+    }
+
+    fn connect_timeout(&self, _addr: SocketAddr, _timeout: Duration) -> io::Result<TcpStream> {
+        let Ok(mut seen) = self.seen.try_borrow_mut() else {
+            return Err(in_use());
+        };
+        seen.opened = seen.opened.saturating_add(1);
+        if u64::from(seen.opened) <= self.refused {
+            return Err(io::Error::from(ErrorKind::ConnectionRefused));
+        }
+        self.ends.0.try_clone()
+    }
+}

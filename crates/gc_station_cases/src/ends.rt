@@ -1,0 +1,90 @@
+//! A book that keeps a letter for each outcome.
+
+use arrayvec::ArrayVec;
+use gc_lines::PortFailed;
+use gc_links::Moment;
+use gc_station::{Book, Sight, Stamp};
+use gc_texts::{Command, Ending};
+
+/// A book that keeps a letter for each outcome behind cycle and place, and the values of an answer behind it, and fails at
+/// one of its writes.
+#[derive(Drop)]
+pub struct Ends {
+    /// What it kept.
+    pub text: ArrayVec<u8, 256>,
+    writes: u64,
+    fails: u64,
+}
+
+impl Ends {
+    /// A book that fails at this write, counted from 1; 0: at none.
+    pub fn new(fails: u64) -> Ends {
+        Ends {
+            text: ArrayVec::new(),
+            writes: 0,
+            fails,
+        }
+    }
+
+    fn note(&mut self, text: &[u8]) {
+        let _ = self.text.try_extend_from_slice(text);
+    }
+
+    fn note_values(&mut self, letter: &[u8], line: &[u8]) {
+        self.note(letter);
+        if line.len() > 11 {
+            self.note(&line[11..]);
+        }
+    }
+
+    fn digit(&mut self, n: u64) {
+        let _ = self.text.try_push(b'0'.wrapping_add((n % 10) as u8));
+    }
+}
+
+impl Book for Ends {
+    ghost use Rattle.std.specs.Prelude.{None, [], ◌∷◌, true};
+
+    ghost text = { λ _ _. 0 ∷ [] };
+
+    ghost taken = { λ _. None };
+
+    ghost failed = { λ _. true };
+
+    ghost lasts = { λ _. true };
+
+    fn write(
+        &mut self,
+        stamp: Stamp,
+        command: &Command,
+        ending: Ending<'_>,
+    ) -> Result<(), PortFailed> {
+        self.writes = self.writes.saturating_add(1);
+        if self.writes == self.fails {
+            return Err(PortFailed);
+        }
+        self.digit(stamp.cycle);
+        self.digit(stamp.place as u64);
+        match ending {
+            Ending::Answered(_, line) => self.note_values(b"a", line),
+            Ending::Unreadable(line, _) => self.note_values(b"u", line),
+            Ending::Late => self.note(b"l"),
+            Ending::Lost => self.note(b"x"),
+            Ending::Skipped => self.note(b"s"),
+            Ending::Missed => self.note(b"m"),
+        }
+        self.note(b" ");
+        Ok(())
+    }
+
+    fn keep(&mut self) -> Result<(), PortFailed> {
+        Ok(())
+    }
+
+    fn sees(&mut self, _sight: Sight, _moment: Moment) {}
+
+    fn overran(&mut self, cycle: u64) {
+        self.digit(cycle);
+        self.note(b"! ");
+    }
+}

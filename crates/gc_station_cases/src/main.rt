@@ -1,0 +1,20 @@
+//! Runs of a station, played: tests that are data, and no part of the product.
+#![tactic(auto)]
+
+mod ends;
+mod logs;
+mod running;
+mod script;
+mod setting;
+mod stations;
+mod words;
+
+use gc_cases::play_folder;
+use stations::Stations;
+use std::io;
+use std::process::ExitCode;
+
+fn main(rt: HostRuntime) -> io::Result<ExitCode> {
+    let are_right = play_folder(&rt, ".", &Stations)?;
+    Ok(ExitCode::from(u8::from(!are_right)))
+}

@@ -1,0 +1,280 @@
+//! A link that plays steps, and keeps what is put as text.
+
+ghost use Rattle.gc_links.specs.Acts.{IsWithin};
+
+use crate::setting::Setting;
+use arrayvec::ArrayVec;
+use gc_lines::PortFailed;
+use gc_links::{Came, Link, Moment};
+
+/// What a read comes to, so many milliseconds after it began.
+#[derive(Clone, Copy)]
+pub enum Step<'a> {
+    /// These bytes come.
+    Line(&'a [u8], u64),
+    /// The reply of a null procedure comes whose id is this digit.
+    Id(u8, u64),
+    /// Nothing comes.
+    Silence(u64),
+    /// The reply to the last request that went out, with its number among all of them, counted from 0; its last digit.
+    Reply(u64),
+    /// The clock goes back.
+    Back(u64),
+    /// Nothing comes any more, until the connection is closed.
+    Dead,
+    /// A line that is no reply comes each 5 milliseconds, until the connection is closed.
+    Noise,
+    /// From now on the last request that went out on this connection is answered, if it isn't yet.
+    Answers,
+    /// The other end closes.
+    End,
+    /// The read fails.
+    Failure,
+    /// The clock can't be read behind it.
+    NoMoment,
+}
+
+// When the clock of a link starts.
+const START: u64 = 1000;
+
+/// A link that plays steps, and then is silent for as long as it is asked to wait. What is put is kept as text.
+#[derive(Drop)]
+pub struct Script<'a> {
+    steps: &'a [Step<'a>],
+    at: usize,
+    // So many opens fail from now on.
+    shut: u64,
+    // The call of `put` that is cut, counted from 1, and how many bytes of it go out.
+    cut: u64,
+    kept: usize,
+    puts: u64,
+    // How many requests went out, the id of the last, which has no parameters, and how many had when it was answered.
+    requests: u8,
+    id: u8,
+    answered: u8,
+    // The call that fails, counted from 0; `close` isn't counted.
+    failing: u64,
+    calls: u64,
+    clock: u64,
+    // Whether there is a connection.
+    up: bool,
+    // Whether the clock can't be read.
+    blind: bool,
+    // Whether each call is kept with its time since the start, and of a request its id alone.
+    timed: bool,
+    /// How many bytes went out of the put that was cut.
+    pub gone: usize,
+    /// The calls.
+    pub text: ArrayVec<u8, 1024>,
+}
+
+impl<'a> Script<'a> {
+    /// A link that is set so, of which no call was made yet.
+    pub fn new(steps: &'a [Step<'a>], setting: &Setting) -> Script<'a> {
+        Script {
+            steps,
+            at: 0,
+            shut: setting.shut,
+            cut: setting.cut,
+            kept: usize::try_from(setting.kept).unwrap_or(usize::MAX),
+            puts: 0,
+            requests: 0,
+            id: b'0',
+            answered: 0,
+            failing: setting.failing,
+            calls: 0,
+            clock: START,
+            up: false,
+            blind: setting.blind,
+            timed: setting.timed,
+            gone: 0,
+            text: ArrayVec::new(),
+        }
+    }
+
+    fn note(&mut self, text: &[u8]) {
+        let _ = self.text.try_extend_from_slice(text);
+    }
+
+    // Keeps a word, and when it was.
+    fn note_now(&mut self, word: &[u8]) {
+        self.note(word);
+        if self.timed {
+            self.note(b"@");
+            let mut digits = itoa::Buffer::new();
+            let since = self.clock.saturating_sub(START);
+            self.note(digits.format(since).as_bytes());
+        }
+        self.note(b" ");
+    }
+
+    // Keeps what is put: a request without its line end.
+    fn note_put(&mut self, bytes: &[u8]) {
+        if bytes == b"\n".as_slice() {
+            self.note_now(b"lf");
+            return;
+        }
+        let request = bytes.strip_suffix(b"\r\n").unwrap_or(bytes);
+        if self.timed {
+            let id = [b'#', id_of(request).unwrap_or(b'?')];
+            self.note_now(&id);
+        } else {
+            self.note_now(request);
+        }
+    }
+
+    // Counts a call, and says whether it fails.
+    fn is_failing(&mut self) -> bool {
+        let call = self.calls;
+        self.calls = self.calls.saturating_add(1);
+        call == self.failing
+    }
+
+    fn moment(&mut self, later: u64) -> Moment {
+        self.clock = self.clock.saturating_add(later);
+        Moment {
+            elapsed: self.clock,
+            utc: self.clock,
+        }
+    }
+
+    // These bytes come, if there are any.
+    fn bring(&mut self, buf: &mut [u8], line: &[u8], later: u64) -> Came
+        ensures { IsWithin result buf.new }
+    {
+        let moment = self.moment(later);
+        let mut n: usize = 0;
+        for (place, byte) in buf.iter_mut().zip(line) {
+            *place = *byte;
+            n = n.saturating_add(1);
+        }
+        if n == 0 || n > buf.len() {
+            return Came::Silence(moment);
+        }
+        Came::Bytes(n, moment)
+    }
+
+    // The reply of a null procedure comes.
+    fn bring_id(&mut self, buf: &mut [u8], id: u8, later: u64) -> Came
+        ensures { IsWithin result buf.new }
+    {
+        let mut line = *b"%R1P,0,0:0\r\n";
+        line[7] = id;
+        self.bring(buf, &line, later)
+    }
+
+    // The reply to the last request comes.
+    fn reply(&mut self, buf: &mut [u8], later: u64) -> Came
+        ensures { IsWithin result buf.new }
+    {
+        self.answered = self.requests;
+        let mut line = *b"%R1P,0,0:0,0\r\n";
+        line[7] = self.id;
+        line[11] = b'0'.wrapping_add(self.requests.wrapping_sub(1) % 10);
+        self.bring(buf, &line, later)
+    }
+
+    // The last request is answered, if it isn't yet.
+    fn answer(&mut self, buf: &mut [u8], millis: u64) -> Came
+        ensures { IsWithin result buf.new }
+    {
+        if self.answered == self.requests || !self.up {
+            return Came::Silence(self.moment(millis));
+        }
+        self.reply(buf, millis.min(5))
+    }
+
+    // The step of the next read, where there is one. One that lasts is the step of the read behind it, too.
+    fn next(&mut self) -> Option<Step<'a>> {
+        let step = self.steps.get(self.at).copied()?;
+        if !matches!(step, Step::Dead | Step::Noise | Step::Answers) {
+            self.at = self.at.saturating_add(1);
+        }
+        Some(step)
+    }
+}
+
+// The digit of a request's id: what stands before its parameters, of which it has none or digits and commas.
+fn id_of(request: &[u8]) -> Option<u8> {
+    let end = request.iter().position(|byte| *byte == b':')?;
+    request.get(end.checked_sub(1)?).copied()
+}
+
+impl<'a> Link for Script<'a> {
+    ghost use Rattle.std.specs.Prelude.{None};
+
+    ghost acts = { λ _. None };
+
+    fn now(&mut self) -> Result<Moment, PortFailed> {
+        if self.is_failing() || self.blind {
+            return Err(PortFailed);
+        }
+        Ok(self.moment(0))
+    }
+
+    fn read(&mut self, buf: &mut [u8], millis: u64) -> Came {
+        if self.is_failing() {
+            return Came::Failure;
+        }
+        let Some(step) = self.next() else {
+            return Came::Silence(self.moment(millis));
+        };
+        match step {
+            Step::Line(line, later) => self.bring(buf, line, later),
+            Step::Id(id, later) => self.bring_id(buf, id, later),
+            Step::Reply(later) => self.reply(buf, later),
+            Step::Silence(later) => Came::Silence(self.moment(later)),
+            Step::Dead => Came::Silence(self.moment(millis)),
+            Step::Noise => self.bring(buf, b"noise\r\n", millis.min(5)),
+            Step::Answers => self.answer(buf, millis),
+            Step::Back(earlier) => {
+                self.clock = self.clock.saturating_sub(earlier);
+                Came::Silence(self.moment(0))
+            }
+            Step::End => Came::End,
+            Step::Failure => Came::Failure,
+            Step::NoMoment => Came::NoMoment,
+        }
+    }
+
+    fn put(&mut self, bytes: &[u8]) -> Result<(), usize> {
+        self.puts = self.puts.saturating_add(1);
+        if self.is_failing() || self.puts == self.cut {
+            self.note(b"cut:");
+            self.note_put(bytes);
+            let n = self.kept.min(bytes.len().saturating_sub(1));
+            self.gone = n;
+            return Err(n);
+        }
+        self.note_put(bytes);
+        if bytes != b"\n".as_slice() {
+            self.requests = self.requests.wrapping_add(1);
+            self.id = id_of(bytes).unwrap_or(self.id);
+        }
+        Ok(())
+    }
+
+    fn close(&mut self) {
+        self.note_now(b"close");
+        self.up = false;
+        self.answered = self.requests;
+        if let Some(Step::Dead | Step::Noise) = self.steps.get(self.at).copied() {
+            self.at = self.at.saturating_add(1);
+        }
+    }
+
+    fn open(&mut self) -> Result<(), PortFailed> {
+        if self.is_failing() {
+            self.note_now(b"shut");
+            return Err(PortFailed);
+        }
+        if self.shut > 0 {
+            self.shut = self.shut.saturating_sub(1);
+            self.note_now(b"shut");
+            return Err(PortFailed);
+        }
+        self.note_now(b"open");
+        self.up = true;
+        Ok(())
+    }
+}

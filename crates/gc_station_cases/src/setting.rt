@@ -1,0 +1,114 @@
+//! How a case's run is set, by words.
+
+use crate::words::{cut_word, number};
+use gc_station::Plan;
+
+/// How a run is set.
+#[derive(Clone, Copy)]
+pub struct Setting {
+    /// The plan.
+    pub plan: Plan,
+    /// How many turns the run may take.
+    pub turns: u64,
+    /// The first so many opens fail.
+    pub shut: u64,
+    /// The put that is cut, counted from 1; 0: none.
+    pub cut: u64,
+    /// How many bytes of it go out.
+    pub kept: u64,
+    /// The call of the link that fails, counted from 0; `close` isn't counted.
+    pub failing: u64,
+    /// The write of the book that fails, counted from 1; 0: none.
+    pub fails: u64,
+    /// How many writes the sink of the log takes.
+    pub writes: u64,
+    /// How many of the steps are made before those of `then`.
+    pub first: u64,
+    /// Behind how many bytes the line of a step `<<` comes in two.
+    pub split: u64,
+    /// Whether the clock can't be read.
+    pub blind: bool,
+    /// Whether what is put is told with its time since the start, and of a request its id alone.
+    pub timed: bool,
+}
+
+impl Setting {
+    /// One at a time, given up after 100 milliseconds, quiet after 10, and one new try, so that a line is dead after 210. Nothing fails.
+    pub fn new() -> Setting {
+        Setting {
+            plan: Plan {
+                width: 1,
+                deadline: 100,
+                every: 0,
+                cycles: 1,
+                quiet: 10,
+                retries: 1,
+            },
+            turns: 300,
+            shut: 0,
+            cut: 0,
+            kept: 0,
+            failing: u64::MAX,
+            fails: 0,
+            writes: u64::MAX,
+            first: u64::MAX,
+            split: 0,
+            blind: false,
+            timed: false,
+        }
+    }
+
+    /// Sets what these words say, and says whether each is known: `WORD=NUMBER`, or a word alone.
+    pub fn set_all(&mut self, words: &str) -> bool {
+        let mut rest = words;
+        let mut are_known = true;
+        for _ in 0..words.len() {
+            if rest.is_empty() {
+                break;
+            }
+            let (word, behind) = cut_word(rest);
+            are_known &= self.set_word(word);
+            rest = behind;
+        }
+        are_known
+    }
+
+    fn set_word(&mut self, word: &str) -> bool {
+        let (key, digits) = word.split_once('=').unwrap_or((word, "1"));
+        let Some(value) = number(digits) else {
+            return false;
+        };
+        self.set_plan(key, value) || self.set_link(key, value)
+    }
+
+    fn set_plan(&mut self, key: &str, value: u64) -> bool {
+        match key {
+            "width" => self.plan.width = u8::try_from(value).unwrap_or(u8::MAX),
+            "deadline" => self.plan.deadline = value,
+            "every" => self.plan.every = value,
+            "cycles" => self.plan.cycles = value,
+            "quiet" => self.plan.quiet = value,
+            "retries" => self.plan.retries = u32::try_from(value).unwrap_or(u32::MAX),
+            _ => return false,
+        }
+        true
+    }
+
+    fn set_link(&mut self, key: &str, value: u64) -> bool {
+        match key {
+            "turns" => self.turns = value,
+            "shut" => self.shut = value,
+            "cut" => self.cut = value,
+            "kept" => self.kept = value,
+            "failing" => self.failing = value,
+            "fails" => self.fails = value,
+            "writes" => self.writes = value,
+            "first" => self.first = value,
+            "split" => self.split = value,
+            "blind" => self.blind = true,
+            "timed" => self.timed = true,
+            _ => return false,
+        }
+        true
+    }
+}

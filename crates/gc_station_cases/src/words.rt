@@ -1,0 +1,128 @@
+//! The words of steps. Milliseconds stand behind `@`, and are 5 where none do.
+//!
+//!     BEGUN              the beginning is answered: the line is quiet, and the null procedure's reply comes
+//!     QUIET              nothing comes for the quiet time
+//!     GIVEN_UP           nothing comes until a deadline
+//!     #3@30              the reply of a null procedure with this id comes
+//!     <%R1P,0,1:\r@99    these bytes come
+//!     <<%R1P,0,1:0\r\n   these bytes come in two pieces, where `split` says
+//!     silence@70         nothing comes for so long
+//!     reply@1            the reply to the request that went out last comes, with its number among all of them
+//!     back@500           the clock goes back
+//!     dead, noise        nothing comes any more, or lines that are no replies, until the connection is closed
+//!     answers            from now on the request that went out last is answered, if it isn't yet
+//!     end, failure, no_moment
+
+use crate::script::Step;
+use gc_texts::number_of;
+use std::alloc::AllocError;
+
+// What a named step stands for, in the words of others.
+fn meaning_of(word: &str) -> Option<&'static str> {
+    match word {
+        "BEGUN" => Some("silence@10 #0"),
+        "QUIET" => Some("silence@10"),
+        "GIVEN_UP" => Some("silence@100"),
+        _ => None,
+    }
+}
+
+/// Adds the steps of words, and says whether each is known.
+pub fn push_all<'a>(
+    steps: &mut Vec<Step<'a>>,
+    words: &'a str,
+    split: u64,
+) -> Result<bool, AllocError> {
+    let mut rest = words;
+    let mut are_known = true;
+    for _ in 0..words.len() {
+        if rest.is_empty() {
+            break;
+        }
+        let (word, behind) = cut_word(rest);
+        are_known &= match meaning_of(word) {
+            Some(meaning) => push_named(steps, meaning)?,
+            None => push_word(steps, word, split)?,
+        };
+        rest = behind;
+    }
+    Ok(are_known)
+}
+
+// Adds the steps that a named one stands for.
+fn push_named(steps: &mut Vec<Step<'_>>, meaning: &'static str) -> Result<bool, AllocError> {
+    let mut rest = meaning;
+    let mut are_known = true;
+    for _ in 0..meaning.len() {
+        if rest.is_empty() {
+            break;
+        }
+        let (word, behind) = cut_word(rest);
+        are_known &= push_word(steps, word, 0)?;
+        rest = behind;
+    }
+    Ok(are_known)
+}
+
+fn push_word<'a>(steps: &mut Vec<Step<'a>>, word: &'a str, split: u64) -> Result<bool, AllocError> {
+    let (what, digits) = word.split_once('@').unwrap_or((word, "5"));
+    let Some(millis) = number(digits) else {
+        return Ok(false);
+    };
+    if let Some(line) = what.strip_prefix("<<") {
+        let (front, back) = cut_line(line.as_bytes(), split);
+        steps.push(Step::Line(front, millis))?;
+        steps.push(Step::Line(back, millis))?;
+        return Ok(true);
+    }
+    let Some(step) = step_of(what, millis) else {
+        return Ok(false);
+    };
+    steps.push(step)?;
+    Ok(true)
+}
+
+// A line, cut behind so many bytes.
+fn cut_line(line: &[u8], split: u64) -> (&[u8], &[u8]) {
+    let at = usize::try_from(split).unwrap_or(usize::MAX).min(line.len());
+    line.split_at(at)
+}
+
+fn step_of<'a>(what: &'a str, millis: u64) -> Option<Step<'a>> {
+    if let Some(line) = what.strip_prefix('<') {
+        return Some(Step::Line(line.as_bytes(), millis));
+    }
+    if let Some(id) = what.strip_prefix('#') {
+        return Some(Step::Id(id_of(id)?, millis));
+    }
+    match what {
+        "silence" => Some(Step::Silence(millis)),
+        "reply" => Some(Step::Reply(millis)),
+        "back" => Some(Step::Back(millis)),
+        "dead" => Some(Step::Dead),
+        "noise" => Some(Step::Noise),
+        "answers" => Some(Step::Answers),
+        "end" => Some(Step::End),
+        "failure" => Some(Step::Failure),
+        "no_moment" => Some(Step::NoMoment),
+        _ => None,
+    }
+}
+
+// The digit of an id.
+fn id_of(id: &str) -> Option<u8> {
+    match id.as_bytes() {
+        [digit] => Some(*digit),
+        _ => None,
+    }
+}
+
+/// The first word, and what stands behind the blank that ends it.
+pub fn cut_word(words: &str) -> (&str, &str) {
+    words.split_once(' ').unwrap_or((words, ""))
+}
+
+/// The number that digits write.
+pub fn number(digits: &str) -> Option<u64> {
+    number_of(digits.as_bytes(), u64::MAX)
+}
