@@ -8,11 +8,11 @@
  * A target is a number of your own, and its horizontal direction and vertical angle in radians. It is measured by a chain of
  * three commands: the telescope is pointed, a distance is measured, and both are read. Each goes out only once the one before it
  * was answered with a value. The positioning has target recognition mode 1, so that the instrument aims at the prism: with mode 0
- * the angles that are read only repeat the command. So DEADLINE_MS is 20000 to 30000, and the line is drained as long.
+ * the angles that are read only repeat the command. So DEADLINE_MS is 20000 to 30000.
  *
- * At its start it sends a line feed, discards what comes until the line is quiet, and has a null procedure answered alone. A
- * request that timed out holds up no other, and a null procedure settles what timed out at the end. Where the connection
- * fails, or all that may wait have timed out and nothing comes, it writes what was lost and ends.
+ * At its start it sends a line feed, and has the eight null procedures of a beginning answered, one after the other; each goes out
+ * again where nothing came in time. A request that timed out holds up no other, and a null procedure settles what timed out at the
+ * end. Where the connection fails, or all that may wait have timed out and nothing comes, it writes what was lost and ends.
  */
 #define _POSIX_C_SOURCE 200809L
 #include <fcntl.h>
@@ -61,14 +61,20 @@ static int write_all(int fd, const uint8_t *bytes, size_t length) {
     return 0;
 }
 
-/* Discards what comes until nothing came for so many milliseconds, behind a line feed: -1 the connection failed. */
-static int drain(int fd, uint64_t quiet) {
-    uint8_t bytes[256];
+/* Begins, behind a line feed: 1 done, 0 nothing came seven times, -1 the connection failed. */
+static int begin(geocom_client *client, int fd, uint64_t patience) {
+    uint8_t bytes[256], line[GEOCOM_LINE_ROOM];
     struct pollfd ready = {fd, POLLIN, 0};
+    ssize_t came = 0;
     if (write_all(fd, (const uint8_t *)"\n", 1) < 0) return -1;
-    while (poll(&ready, 1, (int)quiet) > 0)
-        if (read(fd, bytes, sizeof bytes) <= 0) return -1;
-    return 1;
+    for (int silent = 0; silent < 7; silent = came > 0 ? 0 : silent + 1) {
+        geocom_beginning begun = geocom_client_begin(client, bytes, (size_t)came, line, sizeof line);
+        if (begun.fault != 0 || write_all(fd, line, begun.count) < 0) return -1;
+        if (begun.has_begun) return 1;
+        came = 0;
+        if (poll(&ready, 1, (int)patience) > 0 && (came = read(fd, bytes, sizeof bytes)) <= 0) return -1;
+    }
+    return 0;
 }
 
 /* Asks a target: 1 done, 0 as many wait as may, -1 the connection failed. */
@@ -162,9 +168,7 @@ int main(int count, char **words) {
     geocom_client client;
     if (geocom_version() != GEOCOM_VERSION || geocom_client_init(&client, GEOCOM_WINDOW) != 0) return 1;
     uint64_t patience = strtoull(words[2], NULL, 10);
-    int going = drain(fd, patience);
-    if (going > 0) going = ask(&client, fd, 0, now() + patience, 0, "");
-    while (going > 0 && geocom_client_waiting(&client).count > 0) going = hear(&client, fd, patience);
+    int going = begin(&client, fd, patience);
     for (int k = 3; going > 0 && k < count; k++) going = measure(&client, fd, words[k], patience);
     while (going > 0 && geocom_client_waiting(&client).count > 0) {
         if (!geocom_client_next_deadline(&client).is_set) going = ask(&client, fd, 0, now() + patience, 0, "");

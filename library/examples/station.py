@@ -10,8 +10,9 @@ was answered with a value, over the same connection; otherwise the rest of the c
 target recognition mode 1, so that the instrument aims at the prism: with mode 0 the angles that are read only repeat the command.
 
 Ids go on over connections. A new one is made where the port fails or is dead: half a line is discarded, the line rests, a
-line feed goes out, and what comes is discarded until the line is quiet. At its start, and where seven requests have timed out
-and the line is quiet, it begins anew, with a null procedure that is answered alone. `docs/PROMISE.md` has the premises.
+line feed is sent, and what comes is discarded until the line is quiet. At its start, and where seven requests have all timed out,
+it begins anew: eight null procedures are answered, one after the other, before a command goes out, and no quiet time is needed.
+`docs/PROMISE.md` has the premises.
 """
 
 import argparse
@@ -47,8 +48,8 @@ class Station:
         self.client = geocom.Client()
         # What waits, in order: its deadline, and whether it is a null procedure.
         self.waiting = collections.deque()
-        # When something came last or was given up, and when a reply did or the first request behind it.
-        self.moment = self.last = self.alive = now()
+        # The moment behind the last read, and when a reply came last or the first request behind it went out.
+        self.moment = self.alive = now()
         self.replies = 0
         self.asked = False
         # How many connections were made, and whether the last command that ended was answered with a value.
@@ -75,36 +76,31 @@ class Station:
         try:
             self.port.write(line)
         except (OSError, serial.SerialException):
-            self.connect()
+            self.connect(self.quiet)
 
     def hear(self) -> None:
         """Takes what comes, no longer than a second, or until the next deadline."""
         try:
             data = self.read(min(now() + 1000, self.client.next_deadline() or now() + 1000))
         except (OSError, serial.SerialException):
-            self.connect()
+            self.connect(self.quiet)
             return
         self.moment = now()
-        if self.client.expire(self.moment) or data:
-            self.last = self.moment
+        self.client.expire(self.moment)
         self.tell(self.client.feed(data))
         replies = self.client.counts[geocom.Kind.SETTLED] + self.client.counts[geocom.Kind.STRAY]
         if replies != self.replies:
             self.alive, self.asked, self.replies = self.moment, False, replies
-        if self.waiting and self.moment - self.alive >= 2 * self.deadline + self.quiet:
-            self.connect()
-
-    def is_silent(self) -> bool:
-        """All that wait are given up, and the line is quiet."""
-        return not self.under_way() and now() - self.last >= self.quiet
+        if self.waiting and self.moment - self.alive >= 2 * self.deadline:
+            self.connect(self.quiet)
 
     def read(self, until: int) -> bytes:
         self.port.timeout = max(0, until - now()) / 1000
         data = self.port.read(1)
         return data + self.port.read(self.port.in_waiting)
 
-    def connect(self, quiets: int = 1) -> None:
-        """Makes the connection anew, and drops what comes until nothing came for so many quiet times."""
+    def connect(self, quiet: int) -> None:
+        """Makes the connection anew, and discards what comes until nothing came for so long."""
         while True:
             if self.port is not None:
                 self.port.close()
@@ -113,10 +109,10 @@ class Station:
             try:
                 self.port = serial.serial_for_url(**self.settings)
                 self.port.write(b"\n")
-                end = now() + quiets * self.quiet
+                end = now() + quiet
                 while now() < end:
                     if self.read(end):
-                        end = now() + quiets * self.quiet
+                        end = now() + quiet
                 break
             except (OSError, serial.SerialException) as failed:
                 print(f"station: {failed}", file=sys.stderr)
@@ -128,21 +124,30 @@ class Station:
         self.alive, self.asked = now(), False
 
     def begin(self) -> None:
-        """Begins anew: what waits is lost, and no command goes out before a null procedure is answered."""
-        quiets = max(1, len(self.waiting))
-        while True:
-            self.tell(self.client.restart())
-            self.connect(quiets)
-            self.ask(0, *NULL)
-            while self.waiting and not self.is_silent():
-                self.hear()
-            if not self.waiting:
-                return
+        """Begins anew: what waits is lost, and no command goes out before eight null procedures are answered."""
+        self.tell(self.client.restart())
+        if self.port is None:
+            self.connect(0)
+        data, alive, until = b"", now(), now()
+        while not self.client.has_begun:
+            try:
+                if line := self.client.begin(data):
+                    self.port.write(line)
+                    alive, until = now() if data else alive, now() + self.deadline
+                data = b"" if self.client.has_begun else self.read(until)
+                is_dead = not data and now() - alive >= 2 * self.deadline
+            except (OSError, serial.SerialException):
+                is_dead = True
+            if is_dead and not self.client.has_begun:
+                # It goes on with the null procedure that it was at.
+                self.connect(0)
+                data, alive = b"", now()
+        self.alive, self.asked = now(), False
 
     def wait(self) -> None:
         """Hears, and begins anew where nothing else helps."""
         self.hear()
-        if len(self.waiting) == geocom.WINDOW and self.is_silent():
+        if len(self.waiting) == geocom.WINDOW and not self.under_way():
             self.begin()
 
     def is_done(self, target: int, procedure: int, params: str) -> bool:
@@ -192,13 +197,12 @@ def main() -> None:
     options.add_argument("--targets", type=target, nargs="+", required=True, help="NUMBER:HZ,V, angles in radians")
     options.add_argument("--every", type=float, default=60, help="seconds between two rounds")
     options.add_argument("--deadline", type=float, default=10, help="seconds for an answer: 20 to 30 where it aims")
-    options.add_argument("--quiet", type=float, help="seconds after which nothing from before comes any more: the deadline")
+    options.add_argument("--quiet", type=float, default=2, help="seconds that a line rests, and is quiet, on a new connection")
     options.add_argument("--baud", type=int, default=19200)
     options.add_argument("--rounds", type=int, default=0, help="stop after so many; 0 goes on")
     given = options.parse_args()
 
-    quiet = given.deadline if given.quiet is None else given.quiet
-    station = Station(given.port, given.baud, int(given.deadline * 1000), int(quiet * 1000), sys.stdout)
+    station = Station(given.port, given.baud, int(given.deadline * 1000), int(given.quiet * 1000), sys.stdout)
     station.begin()
     done = 0
     while given.rounds == 0 or done < given.rounds:

@@ -7,13 +7,16 @@
  *
  * The order of calls:
  *   1. geocom_client_init, once, with the width: how many requests may wait at a time, 1 to 7.
- *   2. geocom_client_send for a request; write the line that it gives on the connection.
- *   3. Read, waiting no longer than until geocom_client_next_deadline.
- *   4. geocom_client_expire with the moment after the read, then geocom_client_feed with the bytes until all are used.
- *   5. Where the connection fails or is dead: close it, let the line rest, open it anew, send a lone line feed, drop what
- *      comes until the line is quiet, and feed a lone line feed, which drops half a line. Ids go on, and so does what waits.
- *   6. At the start, and where seven wait that were all given up and nothing comes: the same, but drained longer, and then
- *      geocom_client_restart, and a null procedure, alone, until it is answered.
+ *   2. geocom_client_begin until it has begun: write a line feed on the new connection, then the line of each null procedure that
+ *      it gives, and hand it what comes. Where nothing came by a deadline of yours, call it without bytes: it gives the same
+ *      line again. So nothing that is in flight from before is taken for the answer to a request.
+ *   3. geocom_client_send for a request; write the line that it gives on the connection.
+ *   4. Read, waiting no longer than until geocom_client_next_deadline.
+ *   5. geocom_client_expire with the moment after the read, then geocom_client_feed with the bytes until all are used.
+ *   6. Where the connection fails or is dead: close it, open it anew, send a lone line feed, and feed a lone line feed, which
+ *      drops half a line (while it begins, hand it to geocom_client_begin). Ids go on, and so does what waits.
+ *   7. Where as many wait as may, and all were given up: geocom_client_restart, and 2 without a line feed. No quiet time is
+ *      needed.
  *
  * What the caller vouches for: every pointer is valid for the length behind it and not null, also where the length is 0;
  * what two pointers of one call point at does not overlap; and one call at a time is made for each state. Calls for
@@ -30,6 +33,7 @@
  *   61        the width is not 1 to 7
  *   62        less room than the call asks for
  *   63        the state is no client's: it was never made by geocom_client_init, or was written over
+ *   67        the client hasn't begun: geocom_client_begin comes first, and again behind each restart
  */
 #ifndef GEOCOM_H
 #define GEOCOM_H
@@ -41,7 +45,7 @@
 extern "C" {
 #endif
 
-#define GEOCOM_VERSION 1
+#define GEOCOM_VERSION 2
 
 /* How many requests wait at most, and so how many records a call writes at most. */
 #define GEOCOM_WINDOW 7
@@ -74,6 +78,7 @@ typedef struct geocom_client {
     uint8_t width;
     uint8_t next;
     uint8_t waiting;
+    uint8_t answered; /* how many null procedures of its beginning, of eight */
 } geocom_client;
 
 /* Where an item stands in the text of a feed. */
@@ -120,6 +125,14 @@ typedef struct geocom_deadline {
     uint32_t is_set;
 } geocom_deadline;
 
+/* What came of a beginning; beside a fault all else is 0. */
+typedef struct geocom_beginning {
+    uint32_t fault;     /* 0, 62 or 63 */
+    uint32_t count;     /* how many bytes of the line are to be written; 0: none, read on */
+    uint32_t answered;  /* how many null procedures are answered, of eight */
+    uint32_t has_begun; /* 1 once all are; else 0 */
+} geocom_beginning;
+
 /* What bytes ended: no line feed came yet; a line that settled; a reply that no request waits for; a line that is no reply;
  * a line feed without a CR before it, which drops what stood before it; a line of more than 512 bytes, which is dropped. */
 enum geocom_kind {
@@ -143,12 +156,19 @@ typedef struct geocom_heard {
 /* The library's version of these calls and structures: GEOCOM_VERSION, or the header is another library's. */
 uint32_t geocom_version(void);
 
-/* Makes a client that has sent nothing, and lets `width` requests wait. Answers 0, or 61 for a width that is not 1 to 7. */
+/* Makes a client that hasn't begun, and lets `width` requests wait. Answers 0, or 61 for a width that is not 1 to 7. */
 uint32_t geocom_client_init(geocom_client *state, uint8_t width);
+
+/* Begins: takes what came, all of it, and writes the line of the null procedure that is to go out next, with CR LF, `count` bytes.
+ * Eight are asked, one after the other, with ids 6, 5, 4, 3, 2, 1, 0 and 7; a reply with the id of the one that is asked answers it,
+ * whatever it says, and all else is dropped. Call it with length 0 for the first line, and again where nothing came in time: it
+ * gives the same line again. Where bytes came that answered nothing, count is 0. Once has_begun is 1, it gives no line, and bytes
+ * go to geocom_client_feed. Faults: 62 (line_room below GEOCOM_LINE_ROOM), 63. */
+geocom_beginning geocom_client_begin(geocom_client *state, const uint8_t *bytes, size_t length, uint8_t *line, size_t line_room);
 
 /* Sends a request for a target, a number of the caller's own that comes back with the settlement, to be answered before the
  * deadline. The parameters are a text with commas between them, as "5000,1". Writes the request's line with CR LF into
- * `line`, `count` bytes. Faults: 62 (line_room below GEOCOM_LINE_ROOM), 63, 21, 11 to 15, 31. */
+ * `line`, `count` bytes. Faults: 62 (line_room below GEOCOM_LINE_ROOM), 63, 67, 21, 11 to 15, 31. */
 geocom_count geocom_client_send(geocom_client *state, uint32_t target, uint64_t deadline, uint16_t procedure,
                                 const uint8_t *params, size_t params_length, uint8_t *line, size_t line_room);
 
@@ -166,9 +186,10 @@ geocom_count geocom_client_expire(geocom_client *state, uint64_t now, uint32_t *
 /* The earliest deadline of the requests that wait and aren't given up. Fault: 63. */
 geocom_deadline geocom_client_next_deadline(const geocom_client *state);
 
-/* Settles all that wait as lost, and begins anew at id 0 and at the start of a line; the width stays. The caller vouches
- * that no byte is under way in either direction, and that the instrument starts anew too, or keeps no replies, or that a
- * null procedure is sent next, and nothing else until it is answered. Writes `count` records, the oldest request's first. Faults: 62 (settlements_room below GEOCOM_WINDOW), 63. */
+/* Settles all that wait as lost, and drops half a line; ids begin at 0 again, and the width stays. A client that had begun begins
+ * anew: geocom_client_begin comes next. One that hadn't goes on with the null procedure that it was at. What is in flight by
+ * then may stay so: nothing has to be vouched for. For another instrument or line make a new client. Writes `count` records, the
+ * oldest request's first. Faults: 62 (settlements_room below GEOCOM_WINDOW), 63. */
 geocom_count geocom_client_restart(geocom_client *state, geocom_settlement *settlements, size_t settlements_room);
 
 /* How many requests wait, those that were given up among them. Fault: 63. */

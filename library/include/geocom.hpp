@@ -47,6 +47,20 @@ class client {
 public:
     explicit client(std::uint8_t width = GEOCOM_WINDOW) { check(geocom_client_init(&state_, width)); }
 
+    // Begins: takes what came, and gives the line to write on the connection; an empty one where none goes out now. Without bytes it is
+    // the first line, or, where nothing came in time, the same again. Requests go out once it has begun.
+    std::string begin(std::string_view bytes = "") {
+        std::array<std::uint8_t, GEOCOM_LINE_ROOM> line;
+        const char *text = bytes.empty() ? "" : bytes.data();
+        const geocom_beginning begun =
+            geocom_client_begin(&state_, reinterpret_cast<const std::uint8_t *>(text), bytes.size(), line.data(), line.size());
+        check(begun.fault);
+        has_begun_ = begun.has_begun != 0;
+        return std::string(line.begin(), line.begin() + begun.count);
+    }
+
+    bool has_begun() const { return has_begun_; }
+
     // The line to write on the connection.
     std::string send(std::uint32_t target, std::uint64_t deadline, std::uint16_t procedure, std::string_view params = "") {
         std::array<std::uint8_t, GEOCOM_LINE_ROOM> line;
@@ -86,10 +100,11 @@ public:
         return next.is_set ? std::optional<std::uint64_t>(next.deadline) : std::nullopt;
     }
 
-    // The settlements of all that wait, as lost. See geocom.h for what the caller vouches for.
+    // The settlements of all that wait, as lost. `begin` comes next.
     std::vector<settlement> restart() {
         const geocom_count lost = geocom_client_restart(&state_, records_.data(), records_.size());
         check(lost.fault);
+        has_begun_ = false;
         std::vector<settlement> all;
         append(all, lost.count, nullptr);
         return all;
@@ -121,6 +136,7 @@ private:
     }
 
     geocom_client state_;
+    bool has_begun_ = false;
     std::array<geocom_settlement, GEOCOM_WINDOW> records_;
     std::array<std::uint64_t, GEOCOM_OVERLONG + 1> kinds_{};
 };

@@ -5,35 +5,32 @@ This sends one request, and prints how it ended (quickstart.py of the library's 
     import sys, time
     import geocom, serial
 
-    PATIENCE = 10_000  # milliseconds: longer than the instrument's slowest answer
+    PATIENCE = 10  # seconds: longer than the instrument's slowest answer
 
     def now():
         return time.monotonic_ns() // 1_000_000
 
     def ask(target, procedure, parameters=""):
-        port.write(client.send(target, now() + PATIENCE, procedure, parameters))
+        port.write(client.send(target, now() + PATIENCE * 1000, procedure, parameters))
         settled = []
         while client.next_deadline() is not None:  # until it is answered or times out
-            data = port.read(256)
+            data = port.read_until()  # a line, or what came of one in time
             client.expire(now())
             settled += client.feed(data)
         return settled or sys.exit(f"target {target}: no answer in time")
 
     client = geocom.Client()
-    port = serial.Serial(sys.argv[1], 19200, timeout=0.1, exclusive=True)
-    port.write(b"\n")  # clears half a request of an earlier run
-    heard = now()
-    while now() - heard < PATIENCE:  # discards its replies until the line is quiet
-        if port.read(256):
-            heard = now()
-    ask(0, 0)  # the null procedure; nothing else goes out before it is answered
+    port = serial.Serial(sys.argv[1], 19200, timeout=PATIENCE, exclusive=True)
+    port.write(b"\n" + client.begin())  # clears half a request of an earlier run
+    while not client.has_begun:  # discards its replies; asks again where nothing came
+        port.write(client.begin(port.read_until()))
     for settlement in ask(int(sys.argv[2]), int(sys.argv[3]), *sys.argv[4:]):
         print(settlement.target, settlement.outcome, settlement.reading, settlement.items)
 
 A client settles each request once, in the order of sending: answered, late or lost. It reads no clock and opens no port:
 deadlines and moments are any count of yours, as milliseconds since the start. After each read call `expire` with the moment, and
-then `feed` with the bytes: only so is a reply past its deadline late. A client starts on a quiet line, with a null procedure that is
-answered alone: otherwise an old reply could be taken for the answer to its first request. `geocom.h`, beside this file, says what
+then `feed` with the bytes: only so is a reply past its deadline late. A client sends nothing before it has begun: `begin` asks eight null
+procedures, one after the other, by whose ids each old reply is known and discarded, however long the line held it. `geocom.h`, beside this file, says what
 each call does, and what its caller vouches for.
 """
 
@@ -49,7 +46,7 @@ import subprocess
 import threading
 from dataclasses import dataclass
 
-VERSION = 1
+VERSION = 2
 WINDOW = 7
 LINE_ROOM = 514
 TEXT_ROOM = 1024
@@ -77,6 +74,7 @@ class _Client(ctypes.Structure):
         ("width", ctypes.c_uint8),
         ("next", ctypes.c_uint8),
         ("waiting", ctypes.c_uint8),
+        ("answered", ctypes.c_uint8),
     ]
 
 
@@ -105,6 +103,15 @@ class _Deadline(ctypes.Structure):
     _fields_ = [("deadline", ctypes.c_uint64), ("fault", ctypes.c_uint32), ("is_set", ctypes.c_uint32)]
 
 
+class _Beginning(ctypes.Structure):
+    _fields_ = [
+        ("fault", ctypes.c_uint32),
+        ("count", ctypes.c_uint32),
+        ("answered", ctypes.c_uint32),
+        ("has_begun", ctypes.c_uint32),
+    ]
+
+
 class _Heard(ctypes.Structure):
     _fields_ = [
         ("used", ctypes.c_size_t),
@@ -123,6 +130,7 @@ STRUCTURES = {
     "geocom_settlement": _Settlement,
     "geocom_count": _Count,
     "geocom_deadline": _Deadline,
+    "geocom_beginning": _Beginning,
     "geocom_heard": _Heard,
 }
 
@@ -137,6 +145,7 @@ def _load() -> ctypes.CDLL:
     for name, result, arguments in [
         ("geocom_version", ctypes.c_uint32, []),
         ("geocom_client_init", ctypes.c_uint32, [state, ctypes.c_uint8]),
+        ("geocom_client_begin", _Beginning, [state, ctypes.c_char_p, size, ctypes.c_char_p, size]),
         (
             "geocom_client_send",
             _Count,
@@ -204,7 +213,13 @@ class NoClient(Fault):
     text = "the state is no client's"
 
 
-_FAULTS = {21: UnknownProcedure, 31: WindowFull, 61: BadWidth, 62: NoRoom, 63: NoClient} | {
+class NotBegun(Fault):
+    """67: the client hasn't begun."""
+
+    text = "the client hasn't begun"
+
+
+_FAULTS = {21: UnknownProcedure, 31: WindowFull, 61: BadWidth, 62: NoRoom, 63: NoClient, 67: NotBegun} | {
     number: BadParameters for number in range(11, 16)
 }
 
@@ -277,13 +292,33 @@ class Client:
         self.counts: collections.Counter[Kind] = collections.Counter()
         #: how many lines that are no replies had which first faulty field, 1 to 5
         self.line_faults: collections.Counter[int] = collections.Counter()
+        self._has_begun = False
         _check(_library.geocom_client_init(self._state, width if 0 <= width < 256 else 0))
+
+    def begin(self, data: bytes = b"") -> bytes:
+        """Takes what came, and gives the line to write on the connection, with its CR LF; nothing where none goes out now.
+
+        Eight null procedures are asked, one after the other, and all that came and answers none is discarded. Call it without data
+        for the first line, and where nothing came in time: it gives the same line again. Once `has_begun`, requests go out.
+        """
+        came = bytes(data)
+        with self._lock:
+            line = ctypes.create_string_buffer(LINE_ROOM)
+            begun = _library.geocom_client_begin(self._state, came, len(came), line, LINE_ROOM)
+            _check(begun.fault)
+            self._has_begun = begun.has_begun == 1
+            return line.raw[: begun.count]
+
+    @property
+    def has_begun(self) -> bool:
+        """Whether all eight null procedures were answered, so that requests go out."""
+        return self._has_begun
 
     def send(self, target: int, deadline: int, procedure: int, params: str | bytes = b"") -> bytes:
         """Sends a request, and gives the line to write on the connection, with its CR LF.
 
         The target is a number of your own below 2 ** 32, and comes back with the settlement. Parameters have commas
-        between them, as "5000,1". Raises UnknownProcedure, BadParameters or WindowFull, and then nothing has changed.
+        between them, as "5000,1". Raises NotBegun, UnknownProcedure, BadParameters or WindowFull, and then nothing has changed.
         """
         text = params.encode("latin-1") if isinstance(params, str) else bytes(params)
         _within(target, 32)
@@ -333,14 +368,15 @@ class Client:
         return earliest.deadline if earliest.is_set else None
 
     def restart(self) -> list[Settlement]:
-        """Settles all that wait as lost, and begins anew at id 0.
+        """Settles all that wait as lost. A client that had begun begins anew: `begin` comes next.
 
-        You vouch that no byte is under way in either direction, and that a null procedure is sent next, and nothing else
-        until it is answered (or that the instrument starts anew too, or keeps no replies).
+        One that hadn't goes on with the null procedure that it was at. Nothing has to be vouched for: what is in flight may stay
+        so. For another instrument or line make a new client.
         """
         with self._lock:
             lost = _library.geocom_client_restart(self._state, self._records, WINDOW)
             _check(lost.fault)
+            self._has_begun = False
             return self._settled(lost.count)
 
     @property
@@ -376,7 +412,7 @@ def _within(number: int, bits: int) -> None:
 
 
 class Instrument:
-    """The simulated instrument of `geocom exec`, as a port for tests: `write`, `read` and `close`, as a serial port has."""
+    """The simulated instrument of `geocom exec`, as a port for tests: `write`, `read`, `read_until` and `close`, as a serial port has."""
 
     def __init__(self, program: str | os.PathLike[str] = "geocom", timeout: float = 1.0):
         self.timeout = timeout
@@ -394,6 +430,13 @@ class Instrument:
         """What came, at most so many bytes; nothing where nothing comes within the timeout."""
         ready, _, _ = select.select([self._output], [], [], self.timeout)
         return os.read(self._output.fileno(), size) if ready else b""
+
+    def read_until(self, expected: bytes = b"\n") -> bytes:
+        """What came through the first line feed, or as far as it came within the timeout."""
+        came = b""
+        while not came.endswith(expected) and (more := self.read(1)):
+            came += more
+        return came
 
     def close(self) -> None:
         self._input.close()

@@ -1,6 +1,7 @@
 /* The client's worked examples through the library, in pieces of a given size: examples PIECE < STEPS. A step is a line:
  * `send TARGET DEADLINE PROCEDURE [PARAMS]`, `feed TEXT` (with CR LF behind it), `hex BYTES`, `init`, `cleared TEXT` (with LF), `expire NOW`,
- * `restart`, `next`. For each step what came of it is written as a line. */
+ * `restart`, `next`, `new` and `begin [TEXT]`. For each step what came of it is written as a line. At the start, and behind `init` and
+ * `restart`, the client is begun; `new` makes one that isn't. */
 #include <stdio.h>
 #include <stdlib.h>
 #include <string.h>
@@ -33,6 +34,21 @@ static void feed(geocom_client *client, const uint8_t *bytes, size_t length, siz
     }
 }
 
+/* The line that goes out, where one does. */
+static void begin(geocom_client *client, const uint8_t *bytes, size_t length) {
+    uint8_t line[GEOCOM_LINE_ROOM];
+    geocom_beginning begun = geocom_client_begin(client, bytes, length, line, sizeof line);
+    if (begun.fault != 0) printf(" fault %u", begun.fault);
+    if (begun.count != 0) printf(" %.*s", (int)begun.count - 2, (const char *)line);
+}
+
+static int make(geocom_client *client, uint8_t width) {
+    static const char answers[] = "%R1P,0,6:0\r\n%R1P,0,5:0\r\n%R1P,0,4:0\r\n%R1P,0,3:0\r\n%R1P,0,2:0\r\n%R1P,0,1:0\r\n%R1P,0,0:0\r\n%R1P,0,7:0\r\n";
+    if (width != 0 && geocom_client_init(client, width) != 0) return 0;
+    begin(client, (const uint8_t *)answers, sizeof answers - 1);
+    return 1;
+}
+
 /* Settlements alone. */
 static void feed_quietly(geocom_client *client, const uint8_t *bytes, size_t length) {
     geocom_settlement settlements[GEOCOM_WINDOW];
@@ -51,7 +67,7 @@ int main(int count, char **words) {
     geocom_client client;
     geocom_settlement settlements[GEOCOM_WINDOW];
     char step[4096];
-    if (geocom_client_init(&client, width) != 0) return 1;
+    if (!make(&client, width)) return 1;
     while (fgets(step, sizeof step, stdin) != NULL) {
         size_t length = strcspn(step, "\n");
         step[length] = '\0';
@@ -76,12 +92,21 @@ int main(int count, char **words) {
             for (const char *at = step + 4; at[0] != '\0' && at[1] != '\0' && sscanf(at, "%2hhx", &bytes[size]) == 1; at += 2) size++;
             feed_quietly(&client, bytes, size);
         } else if (strncmp(step, "init ", 5) == 0) {
-            if (geocom_client_init(&client, (uint8_t)atoi(step + 5)) != 0) return 1;
+            if (!make(&client, (uint8_t)atoi(step + 5))) return 1;
+        } else if (strncmp(step, "new ", 4) == 0) {
+            if (geocom_client_init(&client, (uint8_t)atoi(step + 4)) != 0) return 1;
+        } else if (strcmp(step, "begin") == 0) {
+            begin(&client, (const uint8_t *)step, 0);
+        } else if (strncmp(step, "begin ", 6) == 0) {
+            memcpy(step + length, "\r\n", 2);
+            for (size_t at = 0; at < length - 6 + 2; at += piece)
+                begin(&client, (const uint8_t *)step + 6 + at, at + piece < length - 6 + 2 ? piece : length - 6 + 2 - at);
         } else if (strncmp(step, "cleared ", 8) == 0) {
             step[length] = '\n';
             feed(&client, (const uint8_t *)step + 8, length - 8 + 1, piece);
         } else if (sscanf(step, "%15s", name) == 1 && strcmp(name, "restart") == 0) {
             tell(settlements, geocom_client_restart(&client, settlements, GEOCOM_WINDOW).count, NULL);
+            make(&client, 0);
         } else if (strcmp(name, "next") == 0) {
             geocom_deadline next = geocom_client_next_deadline(&client);
             if (next.is_set) printf(" %llu", (unsigned long long)next.deadline);

@@ -14,6 +14,16 @@ int main() {
         SEE(f.number == 61)
     }
     geocom::client client(2);
+    SEE(!client.has_begun() && client.begin() == "%R1Q,0,6:\r\n" && client.begin("%R1P,0,0:0,654321\r\n").empty())
+    try {
+        client.send(1, 10, 5003);
+        return 1;
+    } catch (const geocom::fault &f) {
+        SEE(f.number == 67)
+    }
+    for (const int id : {6, 5, 4, 3, 2, 1, 0, 7})
+        SEE(client.begin("%R1P,0," + std::to_string(id) + ":0\r\n").empty() == (id == 7))
+    SEE(client.has_begun())
     SEE(client.send(1, 10, 5003) == "%R1Q,5003,0:\r\n")
     SEE(client.next_deadline() == 10)
     SEE(client.expire(10).size() == 1 && !client.next_deadline())
@@ -36,6 +46,7 @@ int main() {
     client.send(4, 30, 5003);
     const auto lost = client.restart();
     SEE(lost.size() == 1 && lost[0].target == 4 && lost[0].outcome == geocom::outcome::lost)
+    SEE(!client.has_begun() && client.begin() == "%R1Q,0,6:\r\n")
     std::printf("C++: the examples hold\n");
     return 0;
 }

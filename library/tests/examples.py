@@ -5,6 +5,18 @@ import sys
 import geocom
 
 
+ANSWERS = b"".join(b"%%R1P,0,%d:0\r\n" % id for id in (6, 5, 4, 3, 2, 1, 0, 7))
+
+
+def begun(client):
+    client.begin(ANSWERS)
+    return client
+
+
+def line_of(line):
+    return f" {line.decode('latin-1')[:-2]}" if line else ""
+
+
 def told(settlements):
     return "".join(
         f" [{s.target} {s.procedure} {s.outcome} {int(s.reading)} {s.code} {s.line or ''}" + "".join(f" <{i}>" for i in s.items) + "]"
@@ -29,7 +41,7 @@ def feed(client, data, piece):
 
 def main():
     piece, width = int(sys.argv[1]), int(sys.argv[2])
-    client = geocom.Client(width)
+    client = begun(geocom.Client(width))
     for step in sys.stdin.read().splitlines():
         name, _, rest = step.partition(" ")
         if name == "send":
@@ -49,6 +61,16 @@ def main():
             text = "".join(f" {target}" for target in client.expire(int(rest)))
         elif name == "restart":
             text = told(client.restart())
+            begun(client)
+        elif name == "new":
+            client, text = geocom.Client(int(rest)), ""
+        elif name == "init":
+            client, text = begun(geocom.Client(int(rest))), ""
+        elif step == "begin":
+            text = line_of(client.begin())
+        elif name == "begin":
+            data = rest.encode("latin-1") + b"\r\n"
+            text = "".join(line_of(client.begin(data[at : at + piece])) for at in range(0, len(data), piece))
         else:
             next_deadline = client.next_deadline()
             text = " none" if next_deadline is None else f" {next_deadline}"

@@ -19,7 +19,16 @@ int main(void) {
     SEE(geocom_client_init(&a.client, 0) == 61 && geocom_client_init(&a.client, 8) == 61)
     SEE(a.client.width == 0xa5)
     SEE(geocom_client_init(&a.client, 5) == 0)
-    SEE(a.client.width == 5 && a.client.next == 0 && a.client.waiting == 0 && a.client.rest.length == 0)
+    SEE(a.client.width == 5 && a.client.next == 0 && a.client.waiting == 0 && a.client.answered == 0 && a.client.rest.length == 0)
+    SEE(geocom_client_send(&a.client, 1, 1, 0, line, 0, line, sizeof line).fault == 67)
+    SEE(geocom_client_begin(&a.client, line, 0, line, 513).fault == 62)
+    geocom_beginning begun = geocom_client_begin(&a.client, line, 0, line, sizeof line);
+    SEE(begun.fault == 0 && begun.count == 11 && begun.answered == 0 && begun.has_begun == 0 && memcmp(line, "%R1Q,0,6:\r\n", 11) == 0)
+    static const uint8_t answers[] = "%R1P,0,6:0\r\n%R1P,0,5:0\r\n%R1P,0,4:0\r\n%R1P,0,3:0\r\n%R1P,0,2:0\r\n%R1P,0,1:0\r\n%R1P,0,0:0\r\n%R1P,0,7:0\r\n";
+    begun = geocom_client_begin(&a.client, answers, 12, line, sizeof line);
+    SEE(begun.count == 11 && begun.answered == 1 && a.client.answered == 1 && memcmp(line, "%R1Q,0,5:\r\n", 11) == 0)
+    begun = geocom_client_begin(&a.client, answers + 12, sizeof answers - 1 - 12, line, sizeof line);
+    SEE(begun.fault == 0 && begun.count == 0 && begun.answered == 8 && begun.has_begun == 1 && a.client.answered == 8)
     for (int k = 0; k < 3; k++) {
         static const uint8_t params[] = "5000,1";
         geocom_count sent = geocom_client_send(&a.client, 0x01020304u + k, 0x1112131415161718u + k, 2108, params, 6, line, sizeof line);
@@ -53,7 +62,7 @@ int main(void) {
     SEE(heard.kind == GEOCOM_UNREAD && heard.line_fault == 3 && heard.used == 8 && a.client.rest.length == 0)
     geocom_count lost = geocom_client_restart(&a.client, b.settlements, GEOCOM_WINDOW);
     SEE(lost.fault == 0 && lost.count == 1 && s[0].target == 0x01020306u && s[0].outcome == GEOCOM_LOST)
-    SEE(a.client.width == 5 && a.client.next == 0 && geocom_client_waiting(&a.client).count == 0)
+    SEE(a.client.width == 5 && a.client.next == 0 && a.client.answered == 0 && geocom_client_waiting(&a.client).count == 0)
     SEE(memcmp(a.behind, mark, 64) == 0 && memcmp(b.behind, mark, 64) == 0)
     printf("fields: all where the header has them\n");
     return 0;

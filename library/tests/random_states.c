@@ -30,6 +30,7 @@ int main(int count, char **words) {
         } else {
             memset(client, 0, sizeof *client);
             geocom_client_init(client, (uint8_t)(1 + draw() % 7));
+            client->answered = (uint8_t)(draw() % 4 == 0 ? draw() % 9 : 8);
             for (uint32_t k = draw() % 8; k > 0; k--)
                 geocom_client_send(client, draw(), draw(), 2108, (const uint8_t *)"5000,1", 6, line, GEOCOM_LINE_ROOM);
             for (uint32_t k = draw() % 4; k > 0; k--) ((uint8_t *)client)[draw() % sizeof *client] = (uint8_t)draw();
@@ -41,6 +42,9 @@ int main(int count, char **words) {
         geocom_count sent = geocom_client_send(client, draw(), draw(), 0, bytes, 0, line, GEOCOM_LINE_ROOM);
         if (sent.fault != 0 && memcmp(&before, client, sizeof before) != 0) return 1;
         if (sent.count > GEOCOM_LINE_ROOM) return 1;
+        geocom_client copy = *client;
+        geocom_beginning begun = geocom_client_begin(&copy, bytes, length, line, GEOCOM_LINE_ROOM);
+        if (begun.count > GEOCOM_LINE_ROOM || begun.answered > 8 || (begun.fault != 0 && memcmp(&copy, client, sizeof copy) != 0)) return 1;
         geocom_heard heard = geocom_client_feed(client, bytes, length, settlements, GEOCOM_WINDOW, text, GEOCOM_TEXT_ROOM);
         if (heard.used > length || heard.count > GEOCOM_WINDOW) return 1;
         if (heard.fault == 0 && length > 0 && heard.used == 0) return 1;

@@ -46,10 +46,14 @@ class Queue:
             self.lines.insert(k + 1, self.lines[k])
 
 
+ANSWERS = b"".join(b"%%R1P,0,%d:0\r\n" % id for id in (6, 5, 4, 3, 2, 1, 0, 7))
+
+
 class World:
     def __init__(self, program, steps, expected):
         self.program, self.steps, self.expected = program, steps, expected
         self.client, self.instrument = geocom.Client(), geocom.Instrument(program, timeout=5)
+        self.client.begin(ANSWERS)
         self.up, self.down, self.cut, self.settled = Queue(), Queue(), b"", []
         self.step("init 7", None)
 
@@ -100,7 +104,9 @@ class World:
             case "restart":
                 if not self.up.lines and not self.down.lines:
                     if words[1] == "client":
-                        self.step("restart", self.tell(self.client.restart()))
+                        told = self.tell(self.client.restart())
+                        self.client.begin(ANSWERS)
+                        self.step("restart", told)
                     self.instrument.close()
                     self.instrument = geocom.Instrument(self.program, timeout=5)
             case way:

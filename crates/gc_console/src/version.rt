@@ -2,4 +2,4 @@
 
 /// What `geocom --version` says behind the name. The first number is that of the library's calls, `GEOCOM_VERSION` of `geocom.h`,
 /// and of its soname.
-pub const VERSION: &str = "1.0.0";
+pub const VERSION: &str = "2.0.0";

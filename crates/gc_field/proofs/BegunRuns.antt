@@ -23,10 +23,10 @@ pub record IsShort {State : Type 0} (n : ℕ) (u : UnderWay State) : Type 0 wher
   pub few : length tail + n ≡ 5
   pub none : IsSubsequence (6 ∷ 5 ∷ more) (ids_under_way u) → ⊥
 
-short_row : {State : Type 0} (u : UnderWay State) → IsRow u → IsShort 0 u
+pub short_row : {State : Type 0} (u : UnderWay State) → IsRow u → IsShort 0 u
 short_row u h = record { more = 4 ∷ []; tail = 3 ∷ 2 ∷ 1 ∷ 0 ∷ 7 ∷ []; split = refl; few = refl; none = rows_have_not_three u h }
 
-short_word : {State : Type 0} (n : ℕ) (u : UnderWay State) → IsShort n u → IsSubsequence the_word (ids_under_way u) → ⊥
+pub short_word : {State : Type 0} (n : ℕ) (u : UnderWay State) → IsShort n u → IsSubsequence the_word (ids_under_way u) → ⊥
 short_word n u h s = h.none (stands_front (6 ∷ 5 ∷ h.more) h.tail (ids_under_way u) (subst (λ w. IsSubsequence w (ids_under_way u)) h.split s))
 
 module _ {State : Type 0} (ends : Ends State) (Good : State → Type 0) (kept : State → Option KeptReply) (is : IsAnInstrument ends Good kept) (width : ℕ) (narrow : width ≤ 7) where
@@ -56,12 +56,12 @@ module _ {State : Type 0} (ends : Ends State) (Good : State → Type 0) (kept : 
       }
 
   -- one run
-  record Goes (n : ℕ) (u : UnderWay State) (r : Run State) (left : List ℕ) : Type 0 where
-    own : IsOwnIf width ends Good kept left (stood width ends u r) r.moves
-    lines : AreLines Good (left_if width ends left (stood width ends u r) r.moves)
-    short : IsShort (killed_if width ends left n) (left_if width ends left (stood width ends u r) r.moves)
+  pub record Goes (n : ℕ) (u : UnderWay State) (r : Run State) (left : List ℕ) : Type 0 where
+    pub own : IsOwnIf width ends Good kept left (stood width ends u r) r.moves
+    pub lines : AreLines Good (left_if width ends left (stood width ends u r) r.moves)
+    pub short : IsShort (killed_if width ends left n) (left_if width ends left (stood width ends u r) r.moves)
 
-  goes : (n : ℕ) (u : UnderWay State) (r : Run State) (left : List ℕ) → (stood width ends u r).left ≡ left → AreLines Good u → IsShort n u → AreTurns ends Good kept r.turns (begins u)
+  pub goes : (n : ℕ) (u : UnderWay State) (r : Run State) (left : List ℕ) → (stood width ends u r).left ≡ left → AreLines Good u → IsShort n u → AreTurns ends Good kept r.turns (begins u)
       → ArePossibleIf width ends Good kept left (stood width ends u r) r.moves → killed_if width ends left n ≤ 5 → Goes n u r left
   goes n u r [] e lines short turns p few =
       let s = stood width ends u r in

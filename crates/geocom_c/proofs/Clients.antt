@@ -6,7 +6,7 @@ use Rattle.gc_catalogue.specs.CallFault.{refusal_number}
 use Rattle.gc_catalogue.specs.declared.fault.CallFault.{CallFault}
 use Rattle.gc_catalogue.specs.declared.fault.CallFault.TheVariants.{Unknown, Parameters}
 use Rattle.gc_client.specs.Rule.{Windowed}
-use Rattle.geocom_c.specs.declared.header.TheConstants.{WINDOW_FULL, NO_CLIENT}
+use Rattle.geocom_c.specs.declared.header.TheConstants.{WINDOW_FULL, NO_CLIENT, NOT_BEGUN}
 
 -- a client of the same width
 pub same_width : (c d : Windowed) → d.width ≡ c.width → d ≡ record c { ids = d.ids }
@@ -30,6 +30,10 @@ refusal_below (Parameters Count) = omega arith
 
 pub no_refusal_astray : (e : CallFault) → refusal_number e ≡ NO_CLIENT → ⊥
 no_refusal_astray e f = absurd (omega (arith, f, refusal_below e))
+
+-- nor is a client that hasn't begun none
+pub other : NOT_BEGUN ≡ NO_CLIENT → ⊥
+other e = absurd (omega (arith, e))
 
 pub never_ok : {A E : Type 0} (e : E) (x : A) → Err e ≡ Ok x → ⊥
 never_ok e x f = cc

@@ -1,68 +1,208 @@
--- A course over calls is one over the steps that they are.
-use Rattle.std.proofs.Common.{◌≡◌, ℕ, List, [], ◌∷◌, ◌++◌, map, refl, sym, ap, subst, ◌∙◌, inl, inr}
+-- What calls come to is what a client comes to over the steps among the events that they are.
+use Rattle.std.proofs.Common.{◌≡◌, ℕ, List, [], ◌∷◌, ◌++◌, map, Option, Some, None, refl, sym, ap, subst, ◌∙◌, inl, inr, append_assoc, arith}
+use Rattle.std.proofs.lemmas.Bool.{le-ltb}
+use Rattle.std.proofs.lemmas.List.{append-nil}
 use Rattle.gc_lines.specs.Frames.{rest_behind}
 use Rattle.gc_catalogue.proofs.CallLaws.{one_call}
-use Rattle.gc_client.specs.OneForOne.{Course, goes, course, begun, IsOneForOne}
+use Rattle.gc_client.specs.Beginning.{the_word, left_by}
+use Rattle.gc_client.specs.OneForOne.{Course, goes, course, begun, settled_on, IsOneForOne}
 use Rattle.gc_client.specs.OneForOne as one
+use Rattle.gc_client.specs.Rule.{ById, Settled, expires, fresh, heard, hears, id_settled, place_in, restarts}
 use Rattle.gc_client.proofs.OneForOne.{one_for_one}
-use Rattle.geocom_c.specs.Following.{Follows, hearing, lines_behind}
-use Rattle.geocom_c.specs.Steps.{AreSteps, IsOverSteps}
+use Rattle.geocom_c.specs.Beginning.{anew, given, left_behind, left_by_all}
+use Rattle.geocom_c.specs.Following.{Follows, Stage, hearing, opened}
+use Rattle.geocom_c.specs.Rest.{lines_behind}
+use Rattle.geocom_c.specs.Steps.{Event, Came, Went, AreEvents, AreInTurn, IsOverEvents, asked_by, begins_by, goes_by, left_among, steps_among}
 use Rattle.geocom_c.specs.declared.following.Step.{Step}
-use Rattle.geocom_c.specs.declared.following.Step.TheVariants.{Send, Feed, Expire, Restart}
+use Rattle.geocom_c.specs.declared.following.Step.TheVariants.{Send, Begin, Feed, Expire, Restart}
 
-course_then : (width : ℕ) (x : Course) (ss ts : List one.Step) → course width x (ss ++ ts) ≡ course width (course width x ss) ts
-course_then width x [] ts = refl
-course_then width x (s ∷ ss) ts = course_then width (goes width x s) ss ts
+-- These events lead from one course to another, and from what isn't answered to what isn't answered behind them.
+record Leads (width : ℕ) (x y : Course) (left after : List ℕ) (front : List Event) : Type 0 where
+  turns : (es : List Event) → AreInTurn after es → AreInTurn left (front ++ es)
+  reached : (es : List Event) → course width x (steps_among (front ++ es)) ≡ course width y (steps_among es)
+  behind : (es : List Event) → left_among left (front ++ es) ≡ left_among after es
 
--- the steps of the client that calls are
-as_steps : (width : ℕ) (x : Course) (rest : List ℕ) (calls : List Step) (y : Course) (left : List ℕ) → Follows width x rest calls y left → (steps : List one.Step) × AreSteps rest calls steps × (y ≡ course width x steps)
-as_steps width x rest [] y left f = ([], refl, f.0)
-as_steps width x rest (Send target deadline procedure params ∷ calls) y left (inl f) =
-    let more = as_steps width (goes width x (one.Send target f.0 deadline)) rest calls y left f.2 in
-    (one.Send target f.0 deadline ∷ more.0, inl (f.0, more.0, f.1, refl, more.1), more.2)
-as_steps width x rest (Send target deadline procedure params ∷ calls) y left (inr f) =
-    let more = as_steps width x rest calls y left f.1 in
-    (more.0, inr (f.0, more.1), more.2)
-as_steps width x rest (Feed bytes ∷ calls) y left f =
-    let heard = map one.Hear (lines_behind rest bytes.now) in
-    let more = as_steps width (hearing width x rest bytes.now) (rest_behind rest bytes.now) calls y left f in
-    (heard ++ more.0, (more.0, refl, more.1), more.2 ∙ sym (course_then width x heard more.0))
-as_steps width x rest (Expire now ∷ calls) y left f =
-    let more = as_steps width (goes width x (one.Expire now)) rest calls y left f in
-    (one.Expire now ∷ more.0, (more.0, refl, more.1), more.2)
-as_steps width x rest (Restart ∷ calls) y left f =
-    let more = as_steps width (goes width x one.Restart) [] calls y left f in
-    (one.Restart ∷ more.0, (more.0, refl, more.1), more.2)
+leads_none : (width : ℕ) (x : Course) (left : List ℕ) → Leads width x x left left []
+leads_none width x left = record { turns = λ es h. h; reached = λ es. refl; behind = λ es. refl }
+
+leads_came : (width : ℕ) (x : Course) (lines : List (List ℕ)) (left : List ℕ) → Leads width x x left (left_by_all left lines) (map Came lines)
+leads_came width x [] left = leads_none width x left
+leads_came width x (line ∷ lines) left =
+    let more = leads_came width x lines (left_by left (heard line)) in
+    record { turns = more.turns; reached = more.reached; behind = more.behind }
+
+leads_asked : (width : ℕ) (x : Course) (left : List ℕ) (o : Option (List ℕ)) → Leads width x x left left (asked_by o)
+leads_asked width x left None = leads_none width x left
+leads_asked width x left (Some line) = record { turns = λ es h. h; reached = λ es. refl; behind = λ es. refl }
+
+leads_both : (width : ℕ) (x y z : Course) (left between after : List ℕ) (front later : List Event) → Leads width x y left between front → Leads width y z between after later → Leads width x z left after (front ++ later)
+leads_both width x y z left between after front later f g =
+    record {
+      turns = λ es h. subst (λ l. AreInTurn left l) (sym (append_assoc front later es)) (f.turns (later ++ es) (g.turns es h));
+      reached = λ es. ap (λ l. course width x (steps_among l)) (append_assoc front later es) ∙ f.reached (later ++ es) ∙ g.reached es;
+      behind = λ es. ap (λ l. left_among left l) (append_assoc front later es) ∙ f.behind (later ++ es) ∙ g.behind es;
+    }
+
+-- once it has begun, it has
+stays_begun : (lines : List (List ℕ)) → left_by_all [] lines ≡ []
+stays_begun [] = refl
+stays_begun (line ∷ lines) = stays_begun lines
+
+leads_begin : (width : ℕ) (x : Course) (left rest bytes : List ℕ) → Leads width x x left (left_behind left rest bytes) (begins_by left rest bytes)
+leads_begin width x [] rest bytes = subst (λ l. Leads width x x [] l []) (sym (stays_begun (lines_behind rest bytes))) (leads_none width x [])
+leads_begin width x (asked ∷ later) rest bytes =
+    let left = asked ∷ later in
+    let after = left_behind left rest bytes in
+    leads_both width x x x left after after (map Came (lines_behind rest bytes)) (asked_by (given bytes left after)) (leads_came width x (lines_behind rest bytes) left) (leads_asked width x after (given bytes left after))
+
+-- A client that hasn't begun has nothing that waits, so a line, a moment or a restart is nothing to it.
+
+none_fits : (id : ℕ) (line : List ℕ) → hears fresh line (Some id) ≡ record { settlements = []; client = fresh }
+none_fits id line = ap (id_settled fresh line (place_in fresh id)) (le-ltb (place_in fresh id) 0 (omega arith))
+
+none_settled : (line : List ℕ) (o : Option ℕ) → hears fresh line o ≡ record { settlements = []; client = fresh }
+none_settled line None = refl
+none_settled line (Some id) = none_fits id line
+
+stays_idle : (x : Course) (s : Settled ById) → x.client ≡ fresh → s ≡ record { settlements = []; client = fresh } → settled_on x s ≡ x
+stays_idle x s idle e =
+    ap (settled_on x) e
+    ∙ ap (λ l. let y : Course = record { sent = x.sent; settlements = l; client = fresh } in y) (append-nil x.settlements)
+    ∙ ap (λ c. let y : Course = record { sent = x.sent; settlements = x.settlements; client = c } in y) (sym idle)
+
+idle_line : (width : ℕ) (x : Course) (line : List ℕ) → x.client ≡ fresh → goes width x (one.Hear line) ≡ x
+idle_line width x line idle = stays_idle x (hears x.client line (heard line)) idle (ap (λ c. hears c line (heard line)) idle ∙ none_settled line (heard line))
+
+idle_restart : (width : ℕ) (x : Course) → x.client ≡ fresh → goes width x one.Restart ≡ x
+idle_restart width x idle = stays_idle x (restarts x.client) idle (ap restarts idle)
+
+idle_moment : (width : ℕ) (x : Course) (now : ℕ) → x.client ≡ fresh → goes width x (one.Expire now) ≡ x
+idle_moment width x now idle = ap (λ c. let y : Course = record { sent = x.sent; settlements = x.settlements; client = c } in y) (ap (λ c. expires c now) idle ∙ sym idle)
+
+idle_lines : (width : ℕ) (x : Course) (lines : List (List ℕ)) → x.client ≡ fresh → course width x (map one.Hear lines) ≡ x
+idle_lines width x [] idle = refl
+idle_lines width x (line ∷ lines) idle = ap (λ y. course width y (map one.Hear lines)) (idle_line width x line idle) ∙ idle_lines width x lines idle
+
+-- so while it begins its steps are no events, and lead nowhere
+leads_idle : (width : ℕ) (x y : Course) (left : List ℕ) → y ≡ x → Leads width x y left left []
+leads_idle width x y left same = subst (λ (z : Course). Leads width x z left left []) (sym same) (leads_none width x left)
+
+never_left : (asked : ℕ) (later : List ℕ) → asked ∷ later ≡ [] → ⊥
+never_left asked later e = cc
+
+-- where it hasn't begun
+abbrev IsIdle : Course → List ℕ → Type 0
+IsIdle x left = (left ≡ [] → ⊥) → x.client ≡ fresh
+
+leads_heard : (width : ℕ) (x : Course) (lines : List (List ℕ)) → Leads width x (course width x (map one.Hear lines)) [] [] (map Went (map one.Hear lines))
+leads_heard width x [] = leads_none width x []
+leads_heard width x (line ∷ lines) =
+    let more = leads_heard width (goes width x (one.Hear line)) lines in
+    record { turns = λ es h. (refl, more.turns es h); reached = more.reached; behind = more.behind }
+
+leads_feed : (width : ℕ) (x : Course) (left : List ℕ) (lines : List (List ℕ)) → IsIdle x left → Leads width x (course width x (map one.Hear lines)) left left (goes_by left (map one.Hear lines))
+leads_feed width x [] lines idle = leads_heard width x lines
+leads_feed width x (asked ∷ later) lines idle = leads_idle width x _ (asked ∷ later) (idle_lines width x lines (idle (never_left asked later)))
+
+leads_expire : (width : ℕ) (x : Course) (left : List ℕ) (now : ℕ) → IsIdle x left → Leads width x (goes width x (one.Expire now)) left left (goes_by left (one.Expire now ∷ []))
+leads_expire width x [] now idle = record { turns = λ es h. (refl, h); reached = λ es. refl; behind = λ es. refl }
+leads_expire width x (asked ∷ later) now idle = leads_idle width x _ (asked ∷ later) (idle_moment width x now (idle (never_left asked later)))
+
+leads_restart : (width : ℕ) (x : Course) (left : List ℕ) → IsIdle x left → Leads width x (goes width x one.Restart) left (anew left) (goes_by left (one.Restart ∷ []))
+leads_restart width x [] idle = record { turns = λ es h. (refl, h); reached = λ es. refl; behind = λ es. refl }
+leads_restart width x (asked ∷ later) idle = leads_idle width x _ (asked ∷ later) (idle_restart width x (idle (never_left asked later)))
+
+-- The events that calls are.
+
+record Over (width : ℕ) (s : Stage) (calls : List Step) (t : Stage) : Type 0 where
+  events : List Event
+  are : AreEvents s.left s.rest calls events
+  turns : AreInTurn s.left events
+  reached : t.reached ≡ course width s.reached (steps_among events)
+  left : t.left ≡ left_among s.left events
+
+as_events : (width : ℕ) (s : Stage) (calls : List Step) (t : Stage) → IsIdle s.reached s.left → Follows width s calls t → Over width s calls t
+as_events width s [] t idle f = record { events = []; are = refl; turns = tt; reached = ap (λ (x : Stage). x.reached) f; left = ap (λ (x : Stage). x.left) f }
+as_events width s (Send target deadline procedure params ∷ calls) t idle (inl f) =
+    let more = as_events width (record s { reached = goes width s.reached (one.Send target f.0 deadline) }) calls t (λ no. absurd (no f.1)) f.3 in
+    record {
+      events = Went (one.Send target f.0 deadline) ∷ more.events;
+      are = inl (f.0, more.events, f.1, f.2, refl, more.are);
+      turns = (f.1, subst (λ l. AreInTurn l more.events) f.1 more.turns);
+      reached = more.reached;
+      left = more.left ∙ ap (λ l. left_among l more.events) f.1;
+    }
+as_events width s (Send target deadline procedure params ∷ calls) t idle (inr f) =
+    let more = as_events width s calls t idle f.1 in
+    record { events = more.events; are = inr (f.0, more.are); turns = more.turns; reached = more.reached; left = more.left }
+as_events width s (Begin bytes ∷ calls) t idle f =
+    let lines = lines_behind s.rest bytes.now in
+    let l = leads_begin width s.reached s.left s.rest bytes.now in
+    let more = as_events width (record s { rest = rest_behind s.rest bytes.now; left = left_behind s.left s.rest bytes.now }) calls t (λ no. idle (λ e. no (ap (λ a. left_by_all a lines) e ∙ stays_begun lines))) f in
+    record {
+      events = begins_by s.left s.rest bytes.now ++ more.events;
+      are = (more.events, refl, more.are);
+      turns = l.turns more.events more.turns;
+      reached = more.reached ∙ sym (l.reached more.events);
+      left = more.left ∙ sym (l.behind more.events);
+    }
+as_events width s (Feed bytes ∷ calls) t idle f =
+    let lines = lines_behind s.rest bytes.now in
+    let l = leads_feed width s.reached s.left lines idle in
+    let more = as_events width (record s { reached = hearing width s.reached s.rest bytes.now; rest = rest_behind s.rest bytes.now }) calls t (λ no. ap (λ (x : Course). x.client) (idle_lines width s.reached lines (idle no)) ∙ idle no) f in
+    record {
+      events = goes_by s.left (map one.Hear lines) ++ more.events;
+      are = (more.events, refl, more.are);
+      turns = l.turns more.events more.turns;
+      reached = more.reached ∙ sym (l.reached more.events);
+      left = more.left ∙ sym (l.behind more.events);
+    }
+as_events width s (Expire now ∷ calls) t idle f =
+    let l = leads_expire width s.reached s.left now idle in
+    let more = as_events width (record s { reached = goes width s.reached (one.Expire now) }) calls t (λ no. ap (λ (x : Course). x.client) (idle_moment width s.reached now (idle no)) ∙ idle no) f in
+    record {
+      events = goes_by s.left (one.Expire now ∷ []) ++ more.events;
+      are = (more.events, refl, more.are);
+      turns = l.turns more.events more.turns;
+      reached = more.reached ∙ sym (l.reached more.events);
+      left = more.left ∙ sym (l.behind more.events);
+    }
+as_events width s (Restart ∷ calls) t idle f =
+    let l = leads_restart width s.reached s.left idle in
+    let more = as_events width (record { reached = goes width s.reached one.Restart; rest = []; left = anew s.left }) calls t (λ no. refl) f in
+    record {
+      events = goes_by s.left (one.Restart ∷ []) ++ more.events;
+      are = (more.events, refl, more.are);
+      turns = l.turns more.events more.turns;
+      reached = more.reached ∙ sym (l.reached more.events);
+      left = more.left ∙ sym (l.behind more.events);
+    }
 
 -- they are these alone
-only_steps : (rest : List ℕ) (calls : List Step) (ss ts : List one.Step) → AreSteps rest calls ss → AreSteps rest calls ts → ss ≡ ts
-only_steps rest [] ss ts f g = f ∙ sym g
-only_steps rest (Send target deadline procedure params ∷ calls) ss ts (inl f) (inl g) =
-    f.3
-    ∙ ap (λ call. one.Send target call deadline ∷ f.1) (one_call procedure params.now f.0 g.0 f.2 g.2)
-    ∙ ap (λ later. one.Send target g.0 deadline ∷ later) (only_steps rest calls f.1 g.1 f.4 g.4)
-    ∙ sym g.3
-only_steps rest (Send target deadline procedure params ∷ calls) ss ts (inl f) (inr g) = absurd (g.0 f.0 f.2)
-only_steps rest (Send target deadline procedure params ∷ calls) ss ts (inr f) (inl g) = absurd (f.0 g.0 g.2)
-only_steps rest (Send target deadline procedure params ∷ calls) ss ts (inr f) (inr g) = only_steps rest calls ss ts f.1 g.1
-only_steps rest (Feed bytes ∷ calls) ss ts f g =
-    f.1 ∙ ap (λ later. map one.Hear (lines_behind rest bytes.now) ++ later) (only_steps (rest_behind rest bytes.now) calls f.0 g.0 f.2 g.2) ∙ sym g.1
-only_steps rest (Expire now ∷ calls) ss ts f g = f.1 ∙ ap (λ later. one.Expire now ∷ later) (only_steps rest calls f.0 g.0 f.2 g.2) ∙ sym g.1
-only_steps rest (Restart ∷ calls) ss ts f g = f.1 ∙ ap (λ later. one.Restart ∷ later) (only_steps [] calls f.0 g.0 f.2 g.2) ∙ sym g.1
+only_events : (left rest : List ℕ) (calls : List Step) (es fs : List Event) → AreEvents left rest calls es → AreEvents left rest calls fs → es ≡ fs
+only_events left rest [] es fs f g = f ∙ sym g
+only_events left rest (Send target deadline procedure params ∷ calls) es fs (inl f) (inl g) =
+    f.4
+    ∙ ap (λ call. Went (one.Send target call deadline) ∷ f.1) (one_call procedure params.now f.0 g.0 f.3 g.3)
+    ∙ ap (λ later. Went (one.Send target g.0 deadline) ∷ later) (only_events left rest calls f.1 g.1 f.5 g.5)
+    ∙ sym g.4
+only_events left rest (Send target deadline procedure params ∷ calls) es fs (inl f) (inr g) = absurd (g.0 f.2 f.0 f.3)
+only_events left rest (Send target deadline procedure params ∷ calls) es fs (inr f) (inl g) = absurd (f.0 g.2 g.0 g.3)
+only_events left rest (Send target deadline procedure params ∷ calls) es fs (inr f) (inr g) = only_events left rest calls es fs f.1 g.1
+only_events left rest (Begin bytes ∷ calls) es fs f g =
+    f.1 ∙ ap (λ later. begins_by left rest bytes.now ++ later) (only_events (left_behind left rest bytes.now) (rest_behind rest bytes.now) calls f.0 g.0 f.2 g.2) ∙ sym g.1
+only_events left rest (Feed bytes ∷ calls) es fs f g =
+    f.1 ∙ ap (λ later. goes_by left (map one.Hear (lines_behind rest bytes.now)) ++ later) (only_events left (rest_behind rest bytes.now) calls f.0 g.0 f.2 g.2) ∙ sym g.1
+only_events left rest (Expire now ∷ calls) es fs f g = f.1 ∙ ap (λ later. goes_by left (one.Expire now ∷ []) ++ later) (only_events left rest calls f.0 g.0 f.2 g.2) ∙ sym g.1
+only_events left rest (Restart ∷ calls) es fs f g = f.1 ∙ ap (λ later. goes_by left (one.Restart ∷ []) ++ later) (only_events (anew left) [] calls f.0 g.0 f.2 g.2) ∙ sym g.1
 
-pub over_steps : (width : ℕ) (calls : List Step) (x : Course) (rest : List ℕ) → Follows width begun [] calls x rest → IsOverSteps width calls x
-over_steps width calls x rest f =
-    let it = as_steps width begun [] calls x rest f in
-    record { steps = it.0; are = it.1; only = λ others are. only_steps [] calls others it.0 are it.1; reached = it.2 }
-
--- what calls come to is the course of any steps that they are
-pub reached_by : (width : ℕ) (calls : List Step) (x : Course) (rest : List ℕ) (steps : List one.Step) → Follows width begun [] calls x rest → AreSteps [] calls steps → x ≡ course width begun steps
-reached_by width calls x rest steps f are =
-    let it = over_steps width calls x rest f in
-    it.reached ∙ ap (course width begun) (sym (it.only steps are))
+pub over_events : (width : ℕ) (calls : List Step) (t : Stage) → Follows width opened calls t → IsOverEvents width calls t
+over_events width calls t f =
+    let it = as_events width opened calls t (λ no. refl) f in
+    record { events = it.events; are = it.are; only = λ others are. only_events the_word [] calls others it.events are it.are; turns = it.turns; reached = it.reached; left = it.left }
 
 -- so what was settled and what waits are the sends that weren't refused
-pub follows_one_for_one : (width : ℕ) (steps : List Step) (y : Course) (left : List ℕ) → Follows width begun [] steps y left → IsOneForOne y
-follows_one_for_one width steps y left f =
-    let it = as_steps width begun [] steps y left f in
-    subst (λ (c : Course). IsOneForOne c) (sym it.2) (one_for_one width it.0)
+pub follows_one_for_one : (width : ℕ) (steps : List Step) (t : Stage) → Follows width opened steps t → IsOneForOne t.reached
+follows_one_for_one width steps t f =
+    let it = over_events width steps t f in
+    subst (λ (c : Course). IsOneForOne c) (sym it.reached) (one_for_one width (steps_among it.events))

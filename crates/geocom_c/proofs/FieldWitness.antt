@@ -1,10 +1,10 @@
 -- Calls of which the laws speak, computed.
-use Rattle.std.proofs.Common.{[], None, inl, refl, lit≤}
+use Rattle.std.proofs.Common.{◌≡◌, ◌⊎◌, ℕ, [], ◌∷◌, None, inl, inr, refl, lit≤, arith}
 use Rattle.std.specs.Prelude.{codes, take, drop}
 use Rattle.std.specs.Fmt.{digits}
 use Rattle.gc_lines.specs.Readers.{header_at, reply_at}
 use Rattle.gc_catalogue.specs.Calls.{IsCall}
-use Rattle.gc_catalogue.specs.declared.call.Call.TheVariants.{NullProc, InstrumentNo}
+use Rattle.gc_catalogue.specs.declared.call.Call.TheVariants.{InstrumentNo}
 use Rattle.gc_instrument.specs.Execution.{exec}
 use Rattle.gc_instrument.specs.Replying.{handed}
 use Rattle.gc_instrument.specs.State.{IsFittingState, simulator_opening}
@@ -17,36 +17,78 @@ use Rattle.gc_field.proofs.Instruments.{simulator}
 use Rattle.gc_field.proofs.Witness.{fits}
 use Rattle.geocom_c.specs.FieldWitness.{AreInField, SomeCallsAreInField, moves}
 
-null : IsCall 0 [] NullProc
-null = record { number = refl; values = record { items = []; split = (0, refl); read = tt } }
-
 number : IsCall 5003 [] InstrumentNo
 number = record { number = refl; values = record { items = []; split = (0, refl); read = tt } }
 
-any : AreInField counting AnyState kept_by (record { count = 27; keeps = None }) (record { count = 29; keeps = None }) (codes "%R1P,0,0:0,28") (codes "%R1P,0,1:0,29")
+-- a reply with id 0 alone isn't the word
+not_alone : {A : Type 0} → (◌≡◌ {A = ℕ} 6 0 × A) ⊎ ⊥ → ⊥
+not_alone (inl f) = absurd (omega (arith, f.0))
+not_alone (inr f) = f
+
+any :
+    AreInField counting AnyState kept_by (record { count = 27; keeps = None })
+    (codes "%R1P,0,6:0,28" ∷ codes "%R1P,0,5:0,29" ∷ codes "%R1P,0,4:0,30" ∷ codes "%R1P,0,3:0,31" ∷ codes "%R1P,0,2:0,32" ∷ codes "%R1P,0,1:0,33" ∷ codes "%R1P,0,0:0,34" ∷ codes "%R1P,0,7:0,35" ∷ [])
+    (codes "%R1P,0,0:0,36") (codes "%R1P,0,1:0,37")
 unfolding header_at reply_at digits
 any =
     record {
       is = counted.is;
       width = (lit≤ tt, lit≤ tt);
-      follows = inl (NullProc, null, inl (InstrumentNo, number, inl (NullProc, null, (refl, refl))));
-      are = inl (NullProc, _, null, refl, (_, refl, inl (InstrumentNo, _, number, refl, (_, refl, (_, refl, (_, refl, inl (NullProc, _, null, refl, refl)))))));
-      possible = ((tt, record { possible = (tt, (tt, ((0, [], refl), (tt, (tt, (tt, ((1, [], refl), tt))))))); alone = tt }), ((tt, record { possible = (tt, (tt, tt)); alone = tt }), tt));
+      follows = inl (InstrumentNo, refl, number, inl (InstrumentNo, refl, number, refl));
+      lines = record { ids = tt; good = tt };
+      may = not_alone;
+      are = (_, refl, (_, refl, (_, refl, (_, refl, (_, refl, (_, refl, (_, refl, (_, refl, (_, refl, (_, refl, inl (InstrumentNo, _, refl, number, refl, inl (InstrumentNo, _, refl, number, refl, (_, refl, (_, refl, (_, refl, (_, refl, refl))))))))))))))));
+      possible = (
+        (
+          (tt, (tt, (tt, (tt, (tt, (tt, (tt, (tt, (tt, (tt, (tt, (tt, (tt, (tt, (tt, (tt, (tt, (tt, (tt, (tt, (tt, (tt, (tt, (tt, (tt, tt))))))))))))))))))))))))),
+          (tt, (tt, (tt, (tt, (tt, ((8, record { number = 9; line = codes "%R1P,0,1:0,37" } ∷ [], refl), ((9, [], refl), tt))))))),
+        ),
+        (((tt, tt), tt), tt),
+      );
       settlements = refl;
-      made_on = record { front = take 5 (moves (codes "%R1P,0,0:0,28") (codes "%R1P,0,1:0,29")); later = drop 6 (moves (codes "%R1P,0,0:0,28") (codes "%R1P,0,1:0,29")); split = refl; id = 1; rest = []; reaches = refl; executed = refl; reply = refl };
+      made_on = record {
+        front = take 3 (moves (codes "%R1P,0,0:0,36") (codes "%R1P,0,1:0,37"));
+        later = drop 4 (moves (codes "%R1P,0,0:0,36") (codes "%R1P,0,1:0,37"));
+        split = refl;
+        id = 0;
+        rest = record { number = 9; line = record { id = 1; call = InstrumentNo } } ∷ [];
+        reaches = refl;
+        executed = refl;
+        reply = refl;
+      };
     }
 
-over_simulator : AreInField ends IsFittingState kept_of simulator_opening simulator_opening (codes "%R1P,0,0:0") (codes "%R1P,0,1:0,123456")
+over_simulator :
+    AreInField ends IsFittingState kept_of simulator_opening
+    (codes "%R1P,0,6:0" ∷ codes "%R1P,0,5:0" ∷ codes "%R1P,0,4:0" ∷ codes "%R1P,0,3:0" ∷ codes "%R1P,0,2:0" ∷ codes "%R1P,0,1:0" ∷ codes "%R1P,0,0:0" ∷ codes "%R1P,0,7:0" ∷ [])
+    (codes "%R1P,0,0:0,123456") (codes "%R1P,0,1:0,123456")
 unfolding header_at reply_at handed exec digits
 over_simulator =
     record {
       is = simulator.is;
       width = (lit≤ tt, lit≤ tt);
-      follows = inl (NullProc, null, inl (InstrumentNo, number, inl (NullProc, null, (refl, refl))));
-      are = inl (NullProc, _, null, refl, (_, refl, inl (InstrumentNo, _, number, refl, (_, refl, (_, refl, (_, refl, inl (NullProc, _, null, refl, refl)))))));
-      possible = ((fits, record { possible = (tt, (tt, ((0, [], refl), (tt, (tt, (tt, ((1, [], refl), tt))))))); alone = tt }), ((fits, record { possible = (tt, (tt, tt)); alone = tt }), tt));
+      follows = inl (InstrumentNo, refl, number, inl (InstrumentNo, refl, number, refl));
+      lines = record { ids = tt; good = fits };
+      may = not_alone;
+      are = (_, refl, (_, refl, (_, refl, (_, refl, (_, refl, (_, refl, (_, refl, (_, refl, (_, refl, (_, refl, inl (InstrumentNo, _, refl, number, refl, inl (InstrumentNo, _, refl, number, refl, (_, refl, (_, refl, (_, refl, (_, refl, refl))))))))))))))));
+      possible = (
+        (
+          (tt, (tt, (tt, (tt, (tt, (tt, (tt, (tt, (tt, (tt, (tt, (tt, (tt, (tt, (tt, (tt, (tt, (tt, (tt, (tt, (tt, (tt, (tt, (tt, (tt, tt))))))))))))))))))))))))),
+          (tt, (tt, (tt, (tt, (tt, ((8, record { number = 9; line = codes "%R1P,0,1:0,123456" } ∷ [], refl), ((9, [], refl), tt))))))),
+        ),
+        (((tt, tt), tt), tt),
+      );
       settlements = refl;
-      made_on = record { front = take 5 (moves (codes "%R1P,0,0:0") (codes "%R1P,0,1:0,123456")); later = drop 6 (moves (codes "%R1P,0,0:0") (codes "%R1P,0,1:0,123456")); split = refl; id = 1; rest = []; reaches = refl; executed = refl; reply = refl };
+      made_on = record {
+        front = take 3 (moves (codes "%R1P,0,0:0,123456") (codes "%R1P,0,1:0,123456"));
+        later = drop 4 (moves (codes "%R1P,0,0:0,123456") (codes "%R1P,0,1:0,123456"));
+        split = refl;
+        id = 0;
+        rest = record { number = 9; line = record { id = 1; call = InstrumentNo } } ∷ [];
+        reaches = refl;
+        executed = refl;
+        reply = refl;
+      };
     }
 
 pub in_field : SomeCallsAreInField

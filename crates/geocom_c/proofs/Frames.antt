@@ -29,7 +29,7 @@ with_rest s r c old new is rest =
       width = is.width;
       next = is.next;
       waiting = is.waiting;
-      head = record { width = is.head.width; digit = is.head.digit; few = is.head.few };
+      head = record { width = is.head.width; digit = is.head.digit; few = is.head.few; part = is.head.part };
       places = is.places;
       under_way = rest;
     }

@@ -6,7 +6,10 @@ mod Items
 mod Records
 mod Frames
 mod Hearings
+mod Answering
 mod Courses
 mod Lines
 mod Owning
+mod Parting
+mod Killed
 mod FieldWitness

@@ -1,62 +1,94 @@
--- Some calls are such that the laws speak of them, this project's own: a null procedure and a command, both answered, a moment told between,
--- and a restart.
-use Rattle.std.specs.Prelude.{◌≡◌, ℕ, List, [], ◌∷◌, codes, Option, None}
+-- Some calls are such that the laws speak of them, this project's own. An old reply is under way, with the id that the first command has. It is
+-- dropped, the eight null procedures are answered, two commands go out at once, and a moment is told; both are answered. Then the client
+-- restarts, and begins anew.
+use Rattle.std.specs.Prelude.{◌≡◌, ℕ, List, [], ◌∷◌, ◌++◌, codes, Option, None}
 use Rattle.gc_lines.specs.Lines.{with_end}
-use Rattle.gc_catalogue.specs.declared.call.Call.TheVariants.{NullProc, InstrumentNo}
+use Rattle.gc_catalogue.specs.declared.call.Call.TheVariants.{InstrumentNo}
+use Rattle.gc_client.specs.Beginning.{the_word}
 use Rattle.gc_client.specs.declared.window.TheConstants.{WINDOW}
-use Rattle.gc_client.specs.OneForOne.{Course, begun, course}
+use Rattle.gc_client.specs.OneForOne.{begun, course}
 use Rattle.gc_client.specs.Rule.{IsWidth, Answered}
 use Rattle.gc_instrument.specs.State.{KeptReply, IsFittingState, simulator_opening}
 use Rattle.gc_world.specs.Clients.{ends}
 use Rattle.gc_world.specs.World.{Ends, Up_deliver}
+use Rattle.gc_field.specs.Begin.{AreLines, Turn, Asks, Comes, Reaches, UnderWay, begins, leaves, turned}
+use Rattle.gc_field.specs.Beginnings.{Run}
+use Rattle.gc_field.specs.Begun.{WasMadeOn}
 use Rattle.gc_field.specs.CountingChain.{counting, kept_by}
-use Rattle.gc_field.specs.Field.{Move, Sends, Tells, Comes, OnLine}
+use Rattle.gc_field.specs.Field.{Move, Sends, Tells, OnLine}
+use Rattle.gc_field.specs.Field as field
 use Rattle.gc_field.specs.Instrument.{IsAnInstrument, AnyState}
 use Rattle.gc_field.specs.Laws.{kept_of}
-use Rattle.gc_field.specs.Made.{WasMadeOn}
-use Rattle.gc_field.specs.Stretches.{Stretch, steps_over, ArePossible}
-use Rattle.geocom_c.specs.Following.{Follows}
-use Rattle.geocom_c.specs.Steps.{AreSteps}
+use Rattle.geocom_c.specs.Following.{Follows, Stage, opened}
+use Rattle.geocom_c.specs.Laws.{MayBegin}
+use Rattle.geocom_c.specs.Runs.{ArePossibleRuns, events_over}
+use Rattle.geocom_c.specs.Steps.{AreEvents, steps_among}
 use Rattle.geocom_c.specs.declared.following.Step.{Step}
-use Rattle.geocom_c.specs.declared.following.Step.TheVariants.{Send, Feed, Expire, Restart}
+use Rattle.geocom_c.specs.declared.following.Step.TheVariants.{Send, Begin, Feed, Expire, Restart}
 
--- these are fed as the replies to the first two requests; the third one waits
-abbrev pub calls : List ℕ → List ℕ → List Step
-calls reply answer =
-    Send 0 9 0 (record { ref_ptr = (0, 0); now = [] })
-    ∷ Feed (record { ref_ptr = (0, 0); now = with_end reply })
-    ∷ Send 7 9 5003 (record { ref_ptr = (0, 0); now = [] })
+-- a reply from before is under way, and nothing else
+abbrev pub old : List ℕ
+old = codes "%R1P,0,0:0,654321"
+
+abbrev pub before : {State : Type 0} → State → UnderWay State
+before state = record { up = []; down = old ∷ []; state = state }
+
+-- these are handed to the beginning as the replies to its null procedures, and then these calls are made
+abbrev pub begin_calls : List (List ℕ) → List Step → List Step
+begin_calls [] later = later
+begin_calls (reply ∷ replies) later = Begin (record { ref_ptr = (0, 0); now = with_end reply }) ∷ begin_calls replies later
+
+-- two commands go out at once, a moment is told, and these are fed as the replies to both
+abbrev pub calls : List (List ℕ) → List ℕ → List ℕ → List Step
+calls replies one other =
+    Begin (record { ref_ptr = (0, 0); now = [] })
+    ∷ begin_calls (old ∷ replies)
+    (Send 7 9 5003 (record { ref_ptr = (0, 0); now = [] })
+    ∷ Send 8 9 5003 (record { ref_ptr = (0, 0); now = [] })
     ∷ Expire 5
-    ∷ Feed (record { ref_ptr = (0, 0); now = with_end answer })
+    ∷ Feed (record { ref_ptr = (0, 0); now = with_end one ++ with_end other })
     ∷ Restart
-    ∷ Send 0 9 0 (record { ref_ptr = (0, 0); now = [] })
-    ∷ []
+    ∷ Begin (record { ref_ptr = (0, 0); now = [] })
+    ∷ [])
 
--- each request reaches the instrument, and these replies come
+-- each null procedure reaches the instrument, and its reply comes
+abbrev pub beginning : {State : Type 0} → List (Turn State)
+beginning =
+    Asks ∷ Comes ∷ Reaches ∷ Comes ∷ Asks ∷ Reaches ∷ Comes ∷ Asks ∷ Reaches ∷ Comes ∷ Asks ∷ Reaches ∷ Comes ∷ Asks ∷ Reaches ∷ Comes
+    ∷ Asks ∷ Reaches ∷ Comes ∷ Asks ∷ Reaches ∷ Comes ∷ Asks ∷ Reaches ∷ Comes ∷ []
+
+-- each command does, and these come
 abbrev pub moves : {State : Type 0} → List ℕ → List ℕ → List (Move State)
-moves reply answer = Sends 0 NullProc 9 ∷ OnLine Up_deliver ∷ Comes reply ∷ Sends 7 InstrumentNo 9 ∷ Tells 5 ∷ OnLine Up_deliver ∷ Comes answer ∷ []
+moves one other = Sends 7 InstrumentNo 9 ∷ Sends 8 InstrumentNo 9 ∷ Tells 5 ∷ OnLine Up_deliver ∷ OnLine Up_deliver ∷ field.Comes one ∷ field.Comes other ∷ []
 
--- behind the restart the instrument is whatever it is by then
-abbrev pub stretches : {State : Type 0} → State → State → List ℕ → List ℕ → List (Stretch State)
-stretches state next reply answer = record { state = state; moves = moves reply answer } ∷ record { state = next; moves = Sends 0 NullProc 9 ∷ OnLine Up_deliver ∷ [] } ∷ []
+abbrev pub runs : {State : Type 0} → List ℕ → List ℕ → List (Run State)
+runs one other = record { turns = beginning; moves = moves one other } ∷ record { turns = Asks ∷ []; moves = [] } ∷ []
 
--- what a client comes to over these steps
-abbrev pub reached : {State : Type 0} → List (Stretch State) → Course
-reached stretches = course WINDOW begun (steps_over stretches)
+-- what the calls come to
+abbrev pub reached : {State : Type 0} → Ends State → State → List ℕ → List ℕ → Stage
+reached ends state one other = record { reached = course WINDOW begun (steps_among (events_over WINDOW ends (before state) (runs one other))); rest = []; left = the_word }
 
--- all premises of the laws hold of these calls at once; both requests are answered, and the second answer was made on executing its request
-pub record AreInField {State : Type 0} (ends : Ends State) (Good : State → Type 0) (kept : State → Option KeptReply) (state next : State) (reply answer : List ℕ) : Type 0 where
+-- all premises of the laws hold of these calls at once; both commands are answered, and the first answer was made on executing its request
+pub record AreInField {State : Type 0} (ends : Ends State) (Good : State → Type 0) (kept : State → Option KeptReply) (state : State) (replies : List (List ℕ)) (one other : List ℕ) : Type 0 where
   pub is : IsAnInstrument ends Good kept
   pub width : IsWidth WINDOW
-  pub follows : Follows WINDOW begun [] (calls reply answer) (reached (stretches state next reply answer)) []
-  pub are : AreSteps [] (calls reply answer) (steps_over (stretches state next reply answer))
-  pub possible : ArePossible WINDOW ends Good kept (stretches state next reply answer)
+  pub follows : Follows WINDOW opened (calls replies one other) (reached ends state one other)
+  pub lines : AreLines Good (before state)
+  pub may : MayBegin (before state)
+  pub are : AreEvents the_word [] (calls replies one other) (events_over WINDOW ends (before state) (runs one other))
+  pub possible : ArePossibleRuns WINDOW ends Good kept (before state) (runs one other)
   pub settlements :
-      (reached (stretches state next reply answer)).settlements
-      ≡ record { target = 0; call = NullProc; outcome = Answered reply } ∷ record { target = 7; call = InstrumentNo; outcome = Answered answer } ∷ []
-  pub made_on : WasMadeOn WINDOW ends state (moves reply answer) 1 InstrumentNo answer
+      (reached ends state one other).reached.settlements
+      ≡ record { target = 7; call = InstrumentNo; outcome = Answered one } ∷ record { target = 8; call = InstrumentNo; outcome = Answered other } ∷ []
+  pub made_on : WasMadeOn WINDOW ends (leaves (turned ends beginning (begins (before state)))) (moves one other) 8 InstrumentNo one
 
 -- there are such calls over an instrument that counts, each state of which is a good one, and over the simulator as it is at the start
 pub record SomeCallsAreInField : Type 0 where
-  pub any : AreInField counting AnyState kept_by (record { count = 27; keeps = None }) (record { count = 29; keeps = None }) (codes "%R1P,0,0:0,28") (codes "%R1P,0,1:0,29")
-  pub simulator : AreInField ends IsFittingState kept_of simulator_opening simulator_opening (codes "%R1P,0,0:0") (codes "%R1P,0,1:0,123456")
+  pub any :
+      AreInField counting AnyState kept_by (record { count = 27; keeps = None })
+      (codes "%R1P,0,6:0,28" ∷ codes "%R1P,0,5:0,29" ∷ codes "%R1P,0,4:0,30" ∷ codes "%R1P,0,3:0,31" ∷ codes "%R1P,0,2:0,32" ∷ codes "%R1P,0,1:0,33" ∷ codes "%R1P,0,0:0,34" ∷ codes "%R1P,0,7:0,35" ∷ [])
+      (codes "%R1P,0,0:0,36") (codes "%R1P,0,1:0,37")
+  pub simulator :
+      AreInField ends IsFittingState kept_of simulator_opening
+      (codes "%R1P,0,6:0" ∷ codes "%R1P,0,5:0" ∷ codes "%R1P,0,4:0" ∷ codes "%R1P,0,3:0" ∷ codes "%R1P,0,2:0" ∷ codes "%R1P,0,1:0" ∷ codes "%R1P,0,0:0" ∷ codes "%R1P,0,7:0" ∷ [])
+      (codes "%R1P,0,0:0,123456") (codes "%R1P,0,1:0,123456")

@@ -1,19 +1,17 @@
 -- Any sequence of calls, this project's own: what a client does over the calls that a caller makes on a state.
 use Rattle.std.specs.Prelude.{◌≡◌, ◌⊎◌, ℕ, List, [], ◌∷◌, map}
-use Rattle.std.specs.List.{filter_map}
-use Rattle.gc_lines.specs.Frames.{frame_of, line_in, pieces_behind, rest_behind}
+use Rattle.gc_lines.specs.Frames.{rest_behind}
 use Rattle.gc_catalogue.specs.declared.call.Call.{Call}
 use Rattle.gc_catalogue.specs.Calls.{IsCall}
-use Rattle.gc_client.specs.OneForOne.{Course, goes, course}
+use Rattle.gc_client.specs.Beginning.{the_word}
+use Rattle.gc_client.specs.OneForOne.{Course, begun, goes, course}
 use Rattle.gc_client.specs.OneForOne as one
-use Rattle.geocom_c.specs.State.{StandsFor}
+use Rattle.geocom_c.specs.Beginning.{anew, left_behind}
+use Rattle.geocom_c.specs.Rest.{lines_behind}
+use Rattle.geocom_c.specs.State.{StandsFor, left_of}
 use Rattle.geocom_c.specs.declared.state.GeocomClient.{GeocomClient}
 use Rattle.geocom_c.specs.declared.following.Step.{Step}
-use Rattle.geocom_c.specs.declared.following.Step.TheVariants.{Send, Feed, Expire, Restart}
-
--- the lines that bytes end, behind those since the last line feed
-abbrev pub lines_behind : List ℕ → List ℕ → List (List ℕ)
-lines_behind rest bytes = filter_map line_in (map frame_of (pieces_behind rest bytes))
+use Rattle.geocom_c.specs.declared.following.Step.TheVariants.{Send, Begin, Feed, Expire, Restart}
 
 -- the client hears each line that bytes end, in order
 abbrev pub hearing : ℕ → Course → List ℕ → List ℕ → Course
@@ -28,19 +26,35 @@ pub record FedTo (width : ℕ) (x : Course) (rest bytes : List ℕ) (state : Geo
   pub same : hearing width reached now left ≡ hearing width x rest bytes
   pub behind : rest_behind now left ≡ rest_behind rest bytes
 
--- over these calls, in order, the client comes from one course, with some bytes since the last line feed, to another
-abbrev pub Follows : ℕ → Course → List ℕ → List Step → Course → List ℕ → Type 0
-Follows width x rest [] y left = (y ≡ x) × (left ≡ rest)
-Follows width x rest (Send target deadline procedure params ∷ steps) y left =
-    ((call : Call) × IsCall procedure params.now call × Follows width (goes width x (one.Send target call deadline)) rest steps y left)
-    ⊎ (((call : Call) → IsCall procedure params.now call → ⊥) × Follows width x rest steps y left)
-Follows width x rest (Feed bytes ∷ steps) y left = Follows width (hearing width x rest bytes.now) (rest_behind rest bytes.now) steps y left
-Follows width x rest (Expire now ∷ steps) y left = Follows width (goes width x (one.Expire now)) rest steps y left
-Follows width x rest (Restart ∷ steps) y left = Follows width (goes width x one.Restart) [] steps y left
-
--- no part of a promise: the state stands for a client from which the calls that are left come to what all of them come to
-pub record Reached (width : ℕ) (x : Course) (rest : List ℕ) (steps : List Step) (state : GeocomClient) (left : List Step) : Type 0 where
+-- where calls have come to: what the client came to, the bytes since the last line feed, and what isn't answered of the beginning's word
+pub record Stage : Type 0 where
   pub reached : Course
-  pub now : List ℕ
-  pub stands : StandsFor state (record { width = width; ids = reached.client }) now
-  pub on : (z : Course) (end : List ℕ) → Follows width reached now left z end → Follows width x rest steps z end
+  pub rest : List ℕ
+  pub left : List ℕ
+
+-- a client that was made: no null procedure is answered
+abbrev pub opened : Stage
+opened = record { reached = begun; rest = []; left = the_word }
+
+-- the state stands for what calls have come to
+pub record IsAt (width : ℕ) (s : Stage) (state : GeocomClient) : Type 0 where
+  pub stands : StandsFor state (record { width = width; ids = s.reached.client }) s.rest
+  pub left : left_of state ≡ s.left
+
+-- over these calls, in order, the client comes from one stage to another. A send goes out only once it has begun; a begin hears lines, which
+-- are no lines of the client's; a restart of a client that has begun has it begin anew
+abbrev pub Follows : ℕ → Stage → List Step → Stage → Type 0
+Follows width s [] t = t ≡ s
+Follows width s (Send target deadline procedure params ∷ steps) t =
+    ((call : Call) × (s.left ≡ []) × IsCall procedure params.now call × Follows width (record s { reached = goes width s.reached (one.Send target call deadline) }) steps t)
+    ⊎ ((s.left ≡ [] → (call : Call) → IsCall procedure params.now call → ⊥) × Follows width s steps t)
+Follows width s (Begin bytes ∷ steps) t = Follows width (record s { rest = rest_behind s.rest bytes.now; left = left_behind s.left s.rest bytes.now }) steps t
+Follows width s (Feed bytes ∷ steps) t = Follows width (record s { reached = hearing width s.reached s.rest bytes.now; rest = rest_behind s.rest bytes.now }) steps t
+Follows width s (Expire now ∷ steps) t = Follows width (record s { reached = goes width s.reached (one.Expire now) }) steps t
+Follows width s (Restart ∷ steps) t = Follows width (record { reached = goes width s.reached one.Restart; rest = []; left = anew s.left }) steps t
+
+-- no part of a promise: the state is at a stage from which the calls that are left come to what all of them come to
+pub record Reached (width : ℕ) (s : Stage) (steps : List Step) (state : GeocomClient) (later : List Step) : Type 0 where
+  pub stage : Stage
+  pub at : IsAt width stage state
+  pub on : (t : Stage) → Follows width stage later t → Follows width s steps t

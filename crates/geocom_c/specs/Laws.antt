@@ -1,70 +1,92 @@
 -- What holds of calls on a state where there is an instrument at the other end, this project's own: each answer that the library books is
--- the instrument's to that very request. What may happen meanwhile is the field's: a line of many connections that keeps order, loses
--- lines whole and repeats a line directly behind it, and an instrument that may start anew and change by itself at any moment.
-use Rattle.std.specs.Prelude.{◌≡◌, ℕ, ◌<◌, List, [], Option, Some, slice_get}
+-- the instrument's to that very request, from the first one on. What may happen meanwhile is the field's: a line of many connections that keeps
+-- order, loses lines whole and repeats a line directly behind it, and an instrument that may start anew and change by itself at any moment. What
+-- is under way when the client begins may be anything, but for the word of a beginning. No clock has a part in it.
+use Rattle.std.specs.Prelude.{◌≡◌, ℕ, ◌≤◌, List, [], Option, Some, slice_get}
 use Rattle.std.specs.List.{AllByRecursion}
-use Rattle.gc_client.specs.OneForOne.{Course, begun, of_settled}
-use Rattle.gc_client.specs.Rule.{ById, IsWidth, Settlement, Answered}
+use Rattle.gc_client.specs.Beginning.{IsSubsequence, the_word}
+use Rattle.gc_client.specs.OneForOne.{of_settled}
+use Rattle.gc_client.specs.Rule.{IsWidth, Settlement, Answered}
 use Rattle.gc_instrument.specs.State.{KeptReply, State, IsFittingState}
 use Rattle.gc_world.specs.Clients.{ends}
 use Rattle.gc_world.specs.Record.{IsReplyTo}
-use Rattle.gc_world.specs.World.{Ends, Sent, World}
+use Rattle.gc_world.specs.World.{Ends, Sent}
+use Rattle.gc_field.specs.Begin.{AreLines, UnderWay, ids_under_way, leaves}
+use Rattle.gc_field.specs.Beginnings.{AreFewKilled, AreRuns, IsOwnIf, IsRow, Run}
+use Rattle.gc_field.specs.Begun.{WasMadeOn}
 use Rattle.gc_field.specs.Instrument.{IsAnInstrument, AnyState}
-use Rattle.gc_field.specs.Laws.{IsFaithful, WasExecuted, asked, kept_of, left}
-use Rattle.gc_field.specs.Made.{WasMadeOn}
-use Rattle.gc_field.specs.Stretches.{Stretch, steps_over, settled_over, client_over, ArePossible}
-use Rattle.geocom_c.specs.Following.{Follows}
-use Rattle.geocom_c.specs.Steps.{AreSteps}
+use Rattle.gc_field.specs.Laws.{WasExecuted, asked, kept_of}
+use Rattle.geocom_c.specs.Following.{Follows, Stage, opened}
+use Rattle.geocom_c.specs.Runs.{Part, ArePossibleRuns, begun_at, client_over, events_over, left_by_runs, left_over, parts, settled_over, world}
+use Rattle.geocom_c.specs.Steps.{AreEvents, IsOverEvents}
 use Rattle.geocom_c.specs.declared.following.Step.{Step}
 
--- the world behind a stretch
-abbrev pub world : {State : Type 0} → ℕ → Ends State → Stretch State → World ById State
-world width ends s = left width ends s.state s.moves
+-- for every width, all calls on a state, and what they come to
+abbrev pub CallsAreEvents : Type 0
+CallsAreEvents = (width : ℕ) (calls : List Step) (t : Stage) → Follows width opened calls t → IsOverEvents width calls t
 
-module _ {State : Type 0} (ends : Ends State) (Good : State → Type 0) (kept : State → Option KeptReply) where
-  -- where an answer comes from: it settled request m of a stretch, which has its target and its call; and unless that is the first request
-  -- of the stretch, the instrument made this line on executing that very request
-  pub record IsItsOwn (width : ℕ) (stretches : List (Stretch State)) (s : Settlement) (line : List ℕ) : Type 0 where
+-- the word isn't under way: its ids aren't a subsequence of those of the replies and the requests that are
+abbrev pub MayBegin : {State : Type 0} → UnderWay State → Type 0
+MayBegin u = IsSubsequence the_word (ids_under_way u) → ⊥
+
+module _ {State : Type 0} (width : ℕ) (ends : Ends State) (Good : State → Type 0) (kept : State → Option KeptReply) where
+  -- where an answer comes from: it settled request m of a run, which has its target and its call and is none of the eight null procedures; and
+  -- the instrument made this line on executing that very request
+  pub record IsItsOwn (ps : List (Part State)) (s : Settlement) (line : List ℕ) : Type 0 where
     pub k : ℕ
-    pub stretch : Stretch State
-    pub of_stretches : slice_get stretches k ≡ Some stretch
+    pub part : Part State
+    pub of_parts : slice_get ps k ≡ Some part
     pub m : ℕ
-    pub settled : slice_get (world width ends stretch).wire.settled m ≡ Some s
+    pub commands : 8 ≤ m
+    pub settled : slice_get (world width ends part).wire.settled m ≡ Some s
     pub request : Sent
-    pub sent : slice_get (world width ends stretch).wire.sent m ≡ Some request
+    pub sent : slice_get (world width ends part).wire.sent m ≡ Some request
     pub asks : asked request ≡ of_settled s
-    pub made : 0 < m → (j : ℕ) × (slice_get (world width ends stretch).wire.made j ≡ Some (record { number = m; line = line }))
-    pub reply : 0 < m → IsReplyTo ends Good s.call line
-    pub executed : 0 < m → WasExecuted (world width ends stretch).wire.executed m
-    -- and it was made on executing that very request: at one of the stretch's moves request m, with this call, reached the instrument,
-    -- which executed it, and this line was its reply
-    pub made_on : 0 < m → WasMadeOn width ends stretch.state stretch.moves m s.call line
+    pub made : (j : ℕ) × (slice_get (world width ends part).wire.made j ≡ Some (record { number = m; line = line }))
+    pub reply : IsReplyTo ends Good s.call line
+    pub executed : WasExecuted (world width ends part).wire.executed m
+    -- and it was made on executing that very request: at one of the run's moves request m, with this call, reached the instrument, which
+    -- executed it, and this line was its reply
+    pub made_on : WasMadeOn width ends (leaves (begun_at width ends part)) part.run.moves m s.call line
 
-  abbrev pub IsOwnAnswer : ℕ → List (Stretch State) → Settlement → Type 0
-  IsOwnAnswer width stretches s = (line : List ℕ) → s.outcome ≡ Answered line → IsItsOwn width stretches s line
+  abbrev pub IsOwnAnswer : List (Part State) → Settlement → Type 0
+  IsOwnAnswer ps s = (line : List ℕ) → s.outcome ≡ Answered line → IsItsOwn ps s line
 
-  -- what holds of calls that are these stretches
-  pub record AreOwn (width : ℕ) (x : Course) (stretches : List (Stretch State)) : Type 0 where
+  -- what holds of calls that are these runs
+  pub record AreOwn (ps : List (Part State)) (t : Stage) : Type 0 where
     -- the library settles what the world's client settled, and stands where that stands; so the lines that it writes have the same ids
-    pub settled : x.settlements ≡ settled_over width ends stretches
-    pub client : x.client ≡ client_over width ends stretches
+    pub settled : t.reached.settlements ≡ settled_over width ends ps
+    pub client : t.reached.client ≡ client_over width ends ps
+    -- and its beginning stands where that of the last run does; so its null procedures have the same ids, too
+    pub left : t.left ≡ left_over width ends ps
     -- each answer is its own request's
-    pub own : AllByRecursion (IsOwnAnswer width stretches) x.settlements
-    -- and each stretch is faithful: one for one, in order, acts once where the instrument keeps its reply, and a first reply in time is booked
-    pub each : AllByRecursion (λ s. IsFaithful width ends s.state s.moves Good kept) stretches
+    pub own : AllByRecursion (IsOwnAnswer ps) t.reached.settlements
+    -- and each run that has begun has begun cleanly, and is faithful: one for one, in order, acts once where the instrument keeps its reply, and
+    -- a first reply in time is booked
+    pub each : AllByRecursion (λ p. IsOwnIf width ends Good kept (begun_at width ends p).left (begun_at width ends p) p.run.moves) ps
 
--- for any instrument, every width, all calls on a state, and all that the line and the instrument may do meanwhile, from each restart to the
--- next
+-- for any instrument, every width, all calls on a state, whatever is under way when it is made, unless the word is, and all that the line and
+-- the instrument may do meanwhile
 abbrev pub AnswersAreTheirOwn : Type 0 → Type 0
 AnswersAreTheirOwn State =
     (ends : Ends State) (kept : State → Option KeptReply) → IsAnInstrument ends AnyState kept →
-    (width : ℕ) → IsWidth width → (calls : List Step) (x : Course) (rest : List ℕ) → Follows width begun [] calls x rest →
-    (stretches : List (Stretch State)) → AreSteps [] calls (steps_over stretches) → ArePossible width ends AnyState kept stretches →
-    AreOwn ends AnyState kept width x stretches
+    (width : ℕ) → IsWidth width → (calls : List Step) (t : Stage) → Follows width opened calls t →
+    (u : UnderWay State) → AreLines AnyState u → MayBegin u →
+    (rs : List (Run State)) → AreEvents the_word [] calls (events_over width ends u rs) → ArePossibleRuns width ends AnyState kept u rs →
+    AreOwn width ends AnyState kept (parts width ends u rs) t
 
 -- the same for the simulated instrument, in any state that fits
 abbrev pub SimulatorsAnswersAreTheirOwn : Type 0
 SimulatorsAnswersAreTheirOwn =
-    (width : ℕ) → IsWidth width → (calls : List Step) (x : Course) (rest : List ℕ) → Follows width begun [] calls x rest →
-    (stretches : List (Stretch State)) → AreSteps [] calls (steps_over stretches) → ArePossible width ends IsFittingState kept_of stretches →
-    AreOwn ends IsFittingState kept_of width x stretches
+    (width : ℕ) → IsWidth width → (calls : List Step) (t : Stage) → Follows width opened calls t →
+    (u : UnderWay State) → AreLines IsFittingState u → MayBegin u →
+    (rs : List (Run State)) → AreEvents the_word [] calls (events_over width ends u rs) → ArePossibleRuns width ends IsFittingState kept_of u rs →
+    AreOwn width ends IsFittingState kept_of (parts width ends u rs) t
+
+-- behind a run that measured, or over a line with nothing under way: as long as fewer than six runs in a row ended while they began, the next
+-- one may begin
+abbrev pub FewKilledMayBegin : Type 0 → Type 0
+FewKilledMayBegin State =
+    (ends : Ends State) (kept : State → Option KeptReply) → IsAnInstrument ends AnyState kept →
+    (width : ℕ) → IsWidth width → (u : UnderWay State) → AreLines AnyState u → IsRow u →
+    (rs : List (Run State)) → AreRuns width ends AnyState kept u rs → AreFewKilled width ends 0 u rs → MayBegin (left_by_runs width ends u rs)

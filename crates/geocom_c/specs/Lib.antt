@@ -5,7 +5,9 @@ pub mod Sending
 pub mod Deadlines
 pub mod Settled
 pub mod Feeding
+pub mod Beginning
 pub mod Following
 pub mod Steps
+pub mod Runs
 pub mod Laws
 pub mod FieldWitness

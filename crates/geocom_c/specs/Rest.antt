@@ -1,6 +1,7 @@
 -- The bytes of a line under way, this project's own: what a state keeps of those since the last line feed.
-use Rattle.std.specs.Prelude.{◌≡◌, ◌≢◌, ◌≤◌, ℕ, List, ◌++◌, take, All}
-use Rattle.gc_lines.specs.Frames.{frame_of}
+use Rattle.std.specs.Prelude.{◌≡◌, ◌≢◌, ◌≤◌, ℕ, List, ◌++◌, take, All, map}
+use Rattle.std.specs.List.{filter_map}
+use Rattle.gc_lines.specs.Frames.{frame_of, line_in, pieces_behind}
 use Rattle.geocom_c.specs.declared.rest.GeocomRest.{GeocomRest}
 
 -- the bytes that are kept
@@ -16,3 +17,7 @@ pub record IsCut (r : GeocomRest) : Type 0 where
 pub record IsRest (r : GeocomRest) (rest : List ℕ) : Type 0 where
   pub cut : IsCut r
   pub same : (more : List ℕ) → frame_of (kept r ++ more) ≡ frame_of (rest ++ more)
+
+-- the lines that bytes end, behind those since the last line feed
+abbrev pub lines_behind : List ℕ → List ℕ → List (List ℕ)
+lines_behind rest bytes = filter_map line_in (map frame_of (pieces_behind rest bytes))

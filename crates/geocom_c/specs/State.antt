@@ -1,8 +1,9 @@
--- What the bytes of a state stand for: a client, and the bytes since the last line feed. This project's own.
-use Rattle.std.specs.Prelude.{◌≡◌, ℕ, ◌<◌, ◌≤◌, List, length, take, if◌then◌else◌, None}
+-- What the bytes of a state stand for: a client, the bytes since the last line feed, and how far its beginning came. This project's own.
+use Rattle.std.specs.Prelude.{◌≡◌, ℕ, ◌<◌, ◌≤◌, List, length, take, drop, if◌then◌else◌, None}
 use Rattle.gc_lines.specs.Requests.{RequestFields, IsRequest}
 use Rattle.gc_catalogue.specs.declared.call.Call.{Call}
 use Rattle.gc_catalogue.specs.Calls.{IsCall}
+use Rattle.gc_client.specs.Beginning.{the_word}
 use Rattle.gc_client.specs.declared.pending.Pending.{Pending}
 use Rattle.gc_client.specs.declared.window.TheConstants.{IDS}
 use Rattle.gc_client.specs.Rule.{Windowed, IsWidth}
@@ -26,11 +27,16 @@ pub record IsPlace (w : GeocomWaiting) (p : Pending) : Type 0 where
   pub within : w.length ≤ 512
   pub line : IsLineOf (take w.length w.line) p.call
 
--- a client can have this width, this next id, and so many requests waiting
+-- a client can have this width, this next id, so many requests waiting, and so many null procedures answered
 pub record HasHead (s : GeocomClient) : Type 0 where
   pub width : IsWidth s.width
   pub digit : s.next < IDS
   pub few : s.waiting ≤ s.width
+  pub part : s.answered ≤ 8
+
+-- what isn't answered of the beginning's word
+abbrev pub left_of : GeocomClient → List ℕ
+left_of s = drop s.answered the_word
 
 -- the bytes of a state are those of this client, and these came since the last line feed
 pub record StandsFor (s : GeocomClient) (c : Windowed) (rest : List ℕ) : Type 0 where

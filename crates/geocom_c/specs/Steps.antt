@@ -1,34 +1,88 @@
--- Calls as steps, this project's own: which steps of a client the calls that a caller makes on a state are.
-use Rattle.std.specs.Prelude.{◌≡◌, ◌⊎◌, ℕ, List, [], ◌∷◌, ◌++◌, map}
+-- Calls as events, this project's own: what the calls that a caller makes on a state are to a beginning, and to a client that has begun.
+use Rattle.std.specs.Prelude.{◌≡◌, ◌⊎◌, ℕ, List, [], ◌∷◌, ◌++◌, map, Option, Some, None}
 use Rattle.gc_lines.specs.Frames.{rest_behind}
 use Rattle.gc_catalogue.specs.declared.call.Call.{Call}
 use Rattle.gc_catalogue.specs.Calls.{IsCall}
-use Rattle.gc_client.specs.OneForOne.{Course, begun, course}
+use Rattle.gc_client.specs.Beginning.{the_word, left_by}
+use Rattle.gc_client.specs.OneForOne.{begun, course}
 use Rattle.gc_client.specs.OneForOne as one
-use Rattle.geocom_c.specs.Following.{lines_behind, Follows}
+use Rattle.gc_client.specs.Rule.{heard}
+use Rattle.geocom_c.specs.Beginning.{anew, given, left_behind}
+use Rattle.geocom_c.specs.Following.{Stage}
+use Rattle.geocom_c.specs.Rest.{lines_behind}
 use Rattle.geocom_c.specs.declared.following.Step.{Step}
-use Rattle.geocom_c.specs.declared.following.Step.TheVariants.{Send, Feed, Expire, Restart}
+use Rattle.geocom_c.specs.declared.following.Step.TheVariants.{Send, Begin, Feed, Expire, Restart}
 
--- these calls, behind these bytes since the last line feed, are these steps of a client. A send is a step where its number and parameters are
--- a call's, with room in the window or not; else it is none. Each line that bytes end is a step, and so is a moment. A restart is one, and
--- forgets the bytes of a line
-abbrev pub AreSteps : List ℕ → List Step → List one.Step → Type 0
-AreSteps rest [] steps = steps ≡ []
-AreSteps rest (Send target deadline procedure params ∷ calls) steps =
-    ((call : Call) × (later : List one.Step) × IsCall procedure params.now call × (steps ≡ one.Send target call deadline ∷ later) × AreSteps rest calls later)
-    ⊎ (((call : Call) → IsCall procedure params.now call → ⊥) × AreSteps rest calls steps)
-AreSteps rest (Feed bytes ∷ calls) steps =
-    (later : List one.Step) × (steps ≡ map one.Hear (lines_behind rest bytes.now) ++ later) × AreSteps (rest_behind rest bytes.now) calls later
-AreSteps rest (Expire now ∷ calls) steps = (later : List one.Step) × (steps ≡ one.Expire now ∷ later) × AreSteps rest calls later
-AreSteps rest (Restart ∷ calls) steps = (later : List one.Step) × (steps ≡ one.Restart ∷ later) × AreSteps [] calls later
+-- what happens to the two: while it begins, a null procedure goes out, or a line comes; once it has begun, a step of the client
+pub data Event : Type 0 where
+  Asked : Event
+  Came : (line : List ℕ) → Event
+  Went : (step : one.Step) → Event
 
--- calls are steps, and no others; and what the calls come to is what a client by its rule comes to over these steps
-pub record IsOverSteps (width : ℕ) (calls : List Step) (x : Course) : Type 0 where
-  pub steps : List one.Step
-  pub are : AreSteps [] calls steps
-  pub only : (others : List one.Step) → AreSteps [] calls others → others ≡ steps
-  pub reached : x ≡ course width begun steps
+-- a null procedure goes out where a line does
+abbrev pub asked_by : Option (List ℕ) → List Event
+asked_by None = []
+asked_by (Some line) = Asked ∷ []
 
--- for every width, all calls on a state, and what they come to
-abbrev pub CallsAreSteps : Type 0
-CallsAreSteps = (width : ℕ) (calls : List Step) (x : Course) (rest : List ℕ) → Follows width begun [] calls x rest → IsOverSteps width calls x
+-- what a begin is: while it begins, each line that the bytes end comes, and then a null procedure may go out. Once it has begun it is nothing,
+-- and its lines are dropped
+abbrev pub begins_by : List ℕ → List ℕ → List ℕ → List Event
+begins_by [] rest bytes = []
+begins_by (asked ∷ later) rest bytes = map Came (lines_behind rest bytes) ++ asked_by (given bytes (asked ∷ later) (left_behind (asked ∷ later) rest bytes))
+
+-- what a step of the client is: nothing while it begins
+abbrev pub goes_by : List ℕ → List one.Step → List Event
+goes_by [] steps = map Went steps
+goes_by (asked ∷ later) steps = []
+
+-- these calls are these events, where this isn't answered of the word, and behind these bytes since the last line feed. A send is a step where
+-- it has begun, and its number and parameters are a call's, with room in the window or not; else it is nothing. Each line that bytes end is a
+-- step, and so is a moment; a restart is one, and forgets the bytes of a line. Lines that are fed while it begins are nothing: they are dropped
+abbrev pub AreEvents : List ℕ → List ℕ → List Step → List Event → Type 0
+AreEvents left rest [] events = events ≡ []
+AreEvents left rest (Send target deadline procedure params ∷ calls) events =
+    ((call : Call) × (later : List Event) × (left ≡ []) × IsCall procedure params.now call × (events ≡ Went (one.Send target call deadline) ∷ later) × AreEvents left rest calls later)
+    ⊎ ((left ≡ [] → (call : Call) → IsCall procedure params.now call → ⊥) × AreEvents left rest calls events)
+AreEvents left rest (Begin bytes ∷ calls) events =
+    (later : List Event) × (events ≡ begins_by left rest bytes.now ++ later) × AreEvents (left_behind left rest bytes.now) (rest_behind rest bytes.now) calls later
+AreEvents left rest (Feed bytes ∷ calls) events =
+    (later : List Event) × (events ≡ goes_by left (map one.Hear (lines_behind rest bytes.now)) ++ later) × AreEvents left (rest_behind rest bytes.now) calls later
+AreEvents left rest (Expire now ∷ calls) events = (later : List Event) × (events ≡ goes_by left (one.Expire now ∷ []) ++ later) × AreEvents left rest calls later
+AreEvents left rest (Restart ∷ calls) events = (later : List Event) × (events ≡ goes_by left (one.Restart ∷ []) ++ later) × AreEvents (anew left) [] calls later
+
+-- the steps of the client among events
+abbrev pub steps_among : List Event → List one.Step
+steps_among [] = []
+steps_among (Asked ∷ events) = steps_among events
+steps_among (Came line ∷ events) = steps_among events
+steps_among (Went step ∷ events) = step ∷ steps_among events
+
+-- where it begins anew behind a step
+abbrev pub left_by_step : one.Step → List ℕ
+left_by_step (one.Send target call deadline) = []
+left_by_step (one.Hear line) = []
+left_by_step (one.Expire now) = []
+left_by_step one.Restart = the_word
+
+-- what isn't answered behind events
+abbrev pub left_among : List ℕ → List Event → List ℕ
+left_among left [] = left
+left_among left (Asked ∷ events) = left_among left events
+left_among left (Came line ∷ events) = left_among (left_by left (heard line)) events
+left_among left (Went step ∷ events) = left_among (left_by_step step) events
+
+-- no step of the client comes before all of the word is answered, at first and behind each restart
+abbrev pub AreInTurn : List ℕ → List Event → Type 0
+AreInTurn left [] = Unit {0}
+AreInTurn left (Asked ∷ events) = AreInTurn left events
+AreInTurn left (Came line ∷ events) = AreInTurn (left_by left (heard line)) events
+AreInTurn left (Went step ∷ events) = (left ≡ []) × AreInTurn (left_by_step step) events
+
+-- calls are events, and no others, each in its turn; and what the calls come to is what a client by its rule comes to over the steps among them
+pub record IsOverEvents (width : ℕ) (calls : List Step) (t : Stage) : Type 0 where
+  pub events : List Event
+  pub are : AreEvents the_word [] calls events
+  pub only : (others : List Event) → AreEvents the_word [] calls others → others ≡ events
+  pub turns : AreInTurn the_word events
+  pub reached : t.reached ≡ course width begun (steps_among events)
+  pub left : t.left ≡ left_among the_word events

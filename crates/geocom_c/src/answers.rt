@@ -1,6 +1,6 @@
 //! What a call answers, in plain fields.
 
-ghost use Rattle.std.specs.Prelude.{◌≡◌};
+ghost use Rattle.std.specs.Prelude.{◌≡◌, ◌↔◌};
 ghost use Rattle.geocom_c.specs.declared.header.TheConstants.{MORE};
 
 use crate::header::MORE;
@@ -20,6 +20,19 @@ pub struct GeocomDeadline {
     pub deadline: u64,
     pub fault: u32,
     pub is_set: u32,
+}
+
+/// What came of a beginning: a fault or 0, and how many bytes of a line are to be written.
+#[repr(C)]
+#[derive(Clone, Copy)]
+pub struct GeocomBeginning {
+    pub fault: u32,
+    /// How many bytes of the line, with its CR LF; 0: none goes out now.
+    pub count: u32,
+    /// How many null procedures are answered, of eight.
+    pub answered: u32,
+    /// 1 once all are; else 0.
+    pub has_begun: u32,
 }
 
 /// What came of a feed: a fault or 0, how many bytes were used, what they ended, and how many requests that settled.
@@ -50,6 +63,33 @@ pub(crate) fn refused(fault: u32) -> GeocomCount
     ensures count { result.count ≡ 0 }
 {
     GeocomCount { fault, count: 0 }
+}
+
+// So many bytes are to be written, where so many null procedures are answered.
+pub(crate) fn begun(count: u32, answered: u8) -> GeocomBeginning
+    ensures fault { result.fault ≡ 0 }
+    ensures count { result.count ≡ count }
+    ensures answered { result.answered ≡ answered }
+    ensures begun { (result.has_begun ≡ 1) ↔ (answered ≡ 8) }
+{
+    GeocomBeginning {
+        fault: 0,
+        count,
+        answered: u32::from(answered),
+        has_begun: u32::from(answered == 8),
+    }
+}
+
+// The fault of a beginning that heard nothing. All else is 0.
+pub(crate) fn unbegun(fault: u32) -> GeocomBeginning
+    ensures { result ≡ record { fault = fault; count = 0; answered = 0; has_begun = 0 } }
+{
+    GeocomBeginning {
+        fault,
+        count: 0,
+        answered: 0,
+        has_begun: 0,
+    }
 }
 
 // What the bytes of a feed ended, before it is known how many they are.

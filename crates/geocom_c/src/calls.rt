@@ -3,7 +3,8 @@
 ghost use Rattle.std.specs.Prelude.{◌≡◌, ◌≢◌, ◌↔◌, ◌<◌, ◌≤◌, ℕ, List, [], length, take, drop, Some, None, if◌then◌else◌};
 ghost use Rattle.gc_client.specs.Rule.{Windowed, IsWidth, expires, expiring, deadlines, IsEarliest};
 ghost use Rattle.gc_client.specs.Rule;
-ghost use Rattle.geocom_c.specs.State.{StandsFor, IsAstray};
+ghost use Rattle.gc_client.specs.Beginning.{the_word};
+ghost use Rattle.geocom_c.specs.State.{StandsFor, IsAstray, left_of};
 ghost use Rattle.geocom_c.specs.Deadlines.{earliest_in};
 ghost use Rattle.geocom_c.specs.declared.header.TheConstants.{VERSION, NO_WIDTH, NO_ROOM, NO_CLIENT};
 ghost use Rattle.gc_client.specs.declared.window.TheConstants.{WINDOW};
@@ -28,12 +29,13 @@ pub extern "C" fn geocom_version() -> u32
     VERSION
 }
 
-/// Makes a client that has sent nothing. It lets `width` requests wait, 1 to 7.
+/// Makes a client that hasn't begun, and has sent nothing. It lets `width` requests wait, 1 to 7.
 ///
 /// Fault 61: another width; the state is as it was.
 #[unsafe(no_mangle)]
 pub extern "C" fn geocom_client_init(state: &mut GeocomClient, width: u8) -> u32
     ensures made { IsWidth width → (result ≡ 0) × StandsFor state.new (record { width = width; ids = Rule.fresh }) [] }
+    ensures begins { IsWidth width → left_of state.new ≡ the_word }
     ensures refused { (IsWidth width → ⊥) → (result ≡ NO_WIDTH) × (state.new ≡ state.old) }
 {
     if width < 1 || width > WINDOW as u8 {
@@ -71,6 +73,7 @@ pub extern "C" fn geocom_client_expire(
     ensures done { result.fault ≡ 0 → (c : Windowed) × (rest : List ℕ) × StandsFor state.old c rest }
     ensures refused { result.fault ≢ 0 → (result.count ≡ 0) × (state.new ≡ state.old) × (targets.new ≡ targets.old) }
     ensures few { result.count ≤ WINDOW }
+    ensures answered { state.new.answered ≡ state.old.answered }
     ensures untouched { drop result.count targets.new ≡ drop result.count targets.old }
     ensures length { length targets.new ≡ length targets.old }
 {

@@ -4,10 +4,12 @@ ghost use Rattle.std.specs.Prelude.{◌≡◌, ◌≢◌, ◌↔◌, ◌<◌, �
 ghost use Rattle.std.specs.List.{position};
 ghost use Rattle.gc_lines.specs.Frames.{is_line_feed, frame_of};
 ghost use Rattle.gc_client.specs.Rule.{Windowed, restarts};
+ghost use Rattle.gc_client.specs.Beginning.{the_word};
 ghost use Rattle.gc_client.specs.declared.window.TheConstants.{WINDOW};
+ghost use Rattle.geocom_c.specs.Beginning.{anew};
 ghost use Rattle.geocom_c.specs.FirstAre.{FirstAre};
 ghost use Rattle.geocom_c.specs.Rest.{IsCut, IsRest};
-ghost use Rattle.geocom_c.specs.State.{StandsFor, IsAstray};
+ghost use Rattle.geocom_c.specs.State.{StandsFor, IsAstray, left_of};
 ghost use Rattle.geocom_c.specs.Settled.{IsRecord};
 ghost use Rattle.geocom_c.specs.Feeding.{HasRoom, IsFed, behind};
 ghost use Rattle.geocom_c.specs.declared.header.TheConstants.{NO_ROOM, NO_CLIENT, MORE};
@@ -40,7 +42,9 @@ fn hear(
 ) -> GeocomHeard
     requires { HasRoom settlements.old text.old }
     ensures fed { IsFed client (Frame.Line line.now) result settlements.new text.new }
-    ensures state { (rest : List ℕ) → IsRest state.old.rest rest → StandsFor state.new (behind client (Frame.Line line.now)) rest }
+    ensures state { (rest : List ℕ) → IsRest state.old.rest rest → state.old.answered ≤ 8
+        → StandsFor state.new (behind client (Frame.Line line.now)) rest }
+    ensures answered { state.new.answered ≡ state.old.answered }
     ensures untouched { drop result.count settlements.new ≡ drop result.count settlements.old }
     ensures records { length settlements.new ≡ length settlements.old }
     ensures text { length text.new ≡ length text.old }
@@ -72,6 +76,7 @@ fn feed_frame(
     requires { HasRoom settlements.old text.old }
     ensures fed { IsFed client frame.now result settlements.new text.new }
     ensures state { (rest : List ℕ) → StandsFor state.old client rest → StandsFor state.new (behind client frame.now) rest }
+    ensures answered { state.new.answered ≡ state.old.answered }
     ensures untouched { drop result.count settlements.new ≡ drop result.count settlements.old }
     ensures records { length settlements.new ≡ length settlements.old }
     ensures text { length text.new ≡ length text.old }
@@ -103,6 +108,7 @@ fn feed(
         → (result.used ≡ at + 1) × IsFed client (frame_of (rest ++ take at bytes.now)) result settlements.new text.new
         × StandsFor state.new (behind client (frame_of (rest ++ take at bytes.now))) [] }
     ensures fault { result.fault ≡ 0 }
+    ensures answered { state.new.answered ≡ state.old.answered }
     ensures used { (result.used ≤ length bytes.now) × (0 < length bytes.now → 0 < result.used) }
     ensures untouched { drop result.count settlements.new ≡ drop result.count settlements.old }
     ensures records { length settlements.new ≡ length settlements.old }
@@ -154,6 +160,7 @@ pub extern "C" fn geocom_client_feed(
         × (state.new ≡ state.old) }
     ensures few { result.count ≤ WINDOW }
     ensures silent { result.count ≡ 0 → (settlements.new ≡ settlements.old) × (text.new ≡ text.old) }
+    ensures answered { state.new.answered ≡ state.old.answered }
     ensures untouched { drop result.count settlements.new ≡ drop result.count settlements.old }
     ensures records { length settlements.new ≡ length settlements.old }
     ensures text { length text.new ≡ length text.old }
@@ -167,11 +174,20 @@ pub extern "C" fn geocom_client_feed(
     }
 }
 
-/// Settles all that wait as lost, in order, and writes a record for each: `count` of them, and nothing behind these. Then it
-/// begins anew, at id 0 and at the start of a line. The width stays.
-///
-/// The caller vouches that no byte is under way in either direction, and that the instrument starts anew too, or keeps no
-/// replies, or that a null procedure is sent next, and nothing else until it is answered.
+// How many null procedures are answered behind a restart: none of a client that had begun.
+fn answered_anew(answered: u8) -> u8
+    ensures left { drop result the_word ≡ anew (drop answered the_word) }
+    ensures within { result ≤ 8 }
+{
+    if answered >= 8 {
+        return 0;
+    }
+    answered
+}
+
+/// Settles all that wait as lost, in order, and writes a record for each: `count` of them, and nothing behind these. The ids begin at 0
+/// again, at the start of a line, and the width stays. A client that had begun has to begin anew (`geocom_client_begin`); one that hadn't goes
+/// on with the null procedure that it was at, so it may be restarted as often as you like. Nothing has to be vouched for.
 ///
 /// Faults: 62, `settlements` has fewer than seven places; 63, the state is no client's. After a fault nothing has changed.
 #[unsafe(no_mangle)]
@@ -183,6 +199,7 @@ pub extern "C" fn geocom_client_restart(
         → (result.fault ≡ 0) × StandsFor state.new (record c { ids = (restarts c.ids).client }) []
         × (result.count ≡ length (restarts c.ids).settlements)
         × FirstAre (IsRecord []) settlements.new (restarts c.ids).settlements }
+    ensures begins { result.fault ≡ 0 → left_of state.new ≡ anew (left_of state.old) }
     ensures room { (result.fault ≡ NO_ROOM) ↔ (length settlements.old < WINDOW) }
     ensures astray { (result.fault ≡ NO_CLIENT) ↔ ((WINDOW ≤ length settlements.old) × IsAstray state.old) }
     ensures done { result.fault ≡ 0 → (c : Windowed) × (rest : List ℕ) × StandsFor state.old c rest }
@@ -199,6 +216,7 @@ pub extern "C" fn geocom_client_restart(
     };
     let settled = client.restart();
     state.rest = GeocomRest::new();
+    state.answered = answered_anew(state.answered);
     store(state, client);
     put_lost(settlements, settled.as_slice());
     counted(settled.len() as u32)

@@ -1,16 +1,18 @@
 //! Any sequence of calls: from `geocom_client_init` on, a state stands for what the client's rule makes of the calls.
 
-ghost use Rattle.std.specs.Prelude.{◌≡◌, ◌<◌, ◌≤◌, ℕ, List, [], ◌∷◌, length, drop, slice_get, Some};
+ghost use Rattle.std.specs.Prelude.{◌≡◌, ◌<◌, ◌≤◌, ℕ, List, ◌∷◌, length, drop, slice_get, Some};
 ghost use Rattle.gc_lines.specs.Frames.{rest_behind};
 ghost use Rattle.gc_client.specs.Rule.{IsWidth};
-ghost use Rattle.gc_client.specs.OneForOne.{Course, begun, IsOneForOne};
+ghost use Rattle.gc_client.specs.OneForOne.{Course, IsOneForOne};
 ghost use Rattle.geocom_c.specs.State.{StandsFor};
-ghost use Rattle.geocom_c.specs.Following.{hearing, FedTo, Follows, Reached};
+ghost use Rattle.geocom_c.specs.Following.{hearing, FedTo, Follows, IsAt, Reached, Stage, opened};
 
+use crate::beginning::geocom_client_begin;
 use crate::calls::{geocom_client_expire, geocom_client_init};
 use crate::feeding::{geocom_client_feed, geocom_client_restart};
 use crate::header::{LINE_ROOM, NONE, TEXT_ROOM};
 use crate::listed::NOWHERE;
+use crate::rest::bytes_from;
 use crate::sends::geocom_client_send;
 use crate::settled::GeocomSettlement;
 use crate::state::GeocomClient;
@@ -26,6 +28,8 @@ pub enum Step<'a> {
         procedure: u16,
         params: &'a [u8],
     },
+    /// Bytes of a connection, or none, handed to the beginning.
+    Begin(&'a [u8]),
     /// Bytes of a connection, fed until all are used.
     Feed(&'a [u8]),
     Expire(u64),
@@ -49,6 +53,7 @@ fn feed_line(state: &mut GeocomClient, bytes: &[u8]) -> usize
     ensures used { (result ≤ length bytes.now) × (0 < length bytes.now → 0 < result) }
     ensures fed { (width : ℕ) (x : Course) (rest : List ℕ) → StandsFor state.old (record { width = width; ids = x.client }) rest
         → FedTo width x rest bytes.now state.new (drop result bytes.now) }
+    ensures answered { state.new.answered ≡ state.old.answered }
 {
     let mut settlements = [VACANT; WINDOW];
     let mut text = [0; TEXT_ROOM];
@@ -59,18 +64,11 @@ fn feed_line(state: &mut GeocomClient, bytes: &[u8]) -> usize
     heard.used
 }
 
-// The bytes from a place on.
-fn bytes_from(bytes: &[u8], at: usize) -> &[u8]
-    requires { at ≤ length bytes.now }
-    ensures { result.now ≡ drop at bytes.now }
-{
-    bytes.split_at(at).1
-}
-
 // Feeds bytes until all are used.
 fn feed_all(state: &mut GeocomClient, bytes: &[u8])
-    ensures { (width : ℕ) (x : Course) (rest : List ℕ) → StandsFor state.old (record { width = width; ids = x.client }) rest
+    ensures fed { (width : ℕ) (x : Course) (rest : List ℕ) → StandsFor state.old (record { width = width; ids = x.client }) rest
         → StandsFor state.new (record { width = width; ids = (hearing width x rest bytes.now).client }) (rest_behind rest bytes.now) }
+    ensures answered { state.new.answered ≡ state.old.answered }
 {
     let mut left = bytes;
     while !left.is_empty() {
@@ -81,8 +79,8 @@ fn feed_all(state: &mut GeocomClient, bytes: &[u8])
 
 // Makes a call.
 fn call(state: &mut GeocomClient, step: &Step<'_>)
-    ensures { (width : ℕ) (x : Course) (rest : List ℕ) (steps : List Step) → StandsFor state.old (record { width = width; ids = x.client }) rest
-        → Reached width x rest (step.now ∷ steps) state.new steps }
+    ensures { (width : ℕ) (s : Stage) (steps : List Step) → IsAt width s state.old
+        → Reached width s (step.now ∷ steps) state.new steps }
 {
     match step {
         Step::Send {
@@ -93,6 +91,10 @@ fn call(state: &mut GeocomClient, step: &Step<'_>)
         } => {
             let mut line = [0; LINE_ROOM];
             let _ = geocom_client_send(state, *target, *deadline, *procedure, params, &mut line);
+        }
+        Step::Begin(bytes) => {
+            let mut line = [0; LINE_ROOM];
+            let _ = geocom_client_begin(state, bytes, &mut line);
         }
         Step::Feed(bytes) => feed_all(state, bytes),
         Step::Expire(now) => {
@@ -115,11 +117,10 @@ fn step_at<'a>(steps: &[Step<'a>], k: usize) -> Step<'a>
 }
 
 /// Makes a client of this width, and then these calls, each with ample room. Whatever the calls are, the state stands for the
-/// client that the rule makes of them, and for the bytes that came since the last line feed. What was settled, and behind it
+/// client that the rule makes of them, for the bytes that came since the last line feed, and for how far its beginning came. What was settled, and behind it
 /// the requests that wait, are the sends that weren't refused, in order, each once.
 pub fn follow(state: &mut GeocomClient, width: u8, steps: &[Step<'_>])
-    ensures { IsWidth width → (x : Course) × (rest : List ℕ) × Follows width begun [] steps.now x rest
-        × StandsFor state.new (record { width = width; ids = x.client }) rest × IsOneForOne x }
+    ensures { IsWidth width → (t : Stage) × Follows width opened steps.now t × IsAt width t state.new × IsOneForOne t.reached }
 {
     let _ = geocom_client_init(state, width);
     for k in 0..steps.len() {

@@ -4,6 +4,7 @@
 #![tactic(auto)]
 
 mod answers;
+mod beginning;
 mod calls;
 mod feeding;
 mod following;
@@ -17,7 +18,8 @@ mod state;
 #[cfg(test)]
 mod tests;
 
-pub use answers::{GeocomCount, GeocomDeadline, GeocomHeard};
+pub use answers::{GeocomBeginning, GeocomCount, GeocomDeadline, GeocomHeard};
+pub use beginning::geocom_client_begin;
 pub use calls::{
     geocom_client_expire, geocom_client_init, geocom_client_next_deadline, geocom_client_waiting,
     geocom_version,

@@ -86,3 +86,11 @@ pub(crate) fn put(bytes: &mut [u8], at: usize, text: &[u8])
 {
     bytes[at..at + text.len()].copy_from_slice(text);
 }
+
+/// The bytes from a place on.
+pub(crate) fn bytes_from(bytes: &[u8], at: usize) -> &[u8]
+    requires { at ≤ length bytes.now }
+    ensures { result.now ≡ drop at bytes.now }
+{
+    bytes.split_at(at).1
+}

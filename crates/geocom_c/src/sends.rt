@@ -1,18 +1,18 @@
 //! Sending: a call's number and parameters become its request line, or are refused.
 
-ghost use Rattle.std.specs.Prelude.{◌≡◌, ◌≢◌, ◌↔◌, ◌<◌, ◌≤◌, ℕ, List, length, drop};
+ghost use Rattle.std.specs.Prelude.{◌≡◌, ◌≢◌, ◌↔◌, ◌<◌, ◌≤◌, ℕ, List, [], length, drop};
 ghost use Rattle.gc_catalogue.specs.declared.call.Call.{Call};
 ghost use Rattle.gc_catalogue.specs.declared.fault.CallFault.{CallFault};
 ghost use Rattle.gc_catalogue.specs.CallFault.{refusal_number};
 ghost use Rattle.gc_catalogue.specs.Calls.{IsCall, IsRefusal};
 ghost use Rattle.gc_client.specs.Rule.{Windowed, sends};
 ghost use Rattle.geocom_c.specs.Rest.{IsRest};
-ghost use Rattle.geocom_c.specs.State.{StandsFor, IsAstray};
+ghost use Rattle.geocom_c.specs.State.{StandsFor, IsAstray, left_of};
 ghost use Rattle.geocom_c.specs.Sending.{IsSent};
-ghost use Rattle.geocom_c.specs.declared.header.TheConstants.{LINE_ROOM, WINDOW_FULL, NO_ROOM, NO_CLIENT};
+ghost use Rattle.geocom_c.specs.declared.header.TheConstants.{LINE_ROOM, WINDOW_FULL, NO_ROOM, NO_CLIENT, NOT_BEGUN};
 
 use crate::answers::{GeocomCount, counted, refused};
-use crate::header::{LINE_ROOM, NO_CLIENT, NO_ROOM};
+use crate::header::{LINE_ROOM, NO_CLIENT, NO_ROOM, NOT_BEGUN};
 use crate::rest::put;
 use crate::state::{GeocomClient, load, store};
 use gc_catalogue::{Call, decode_call};
@@ -29,11 +29,12 @@ fn send_call(
     line: &mut [u8],
 ) -> GeocomCount
     requires { LINE_ROOM ≤ length line.old }
-    ensures sent { (rest : List ℕ) → IsRest state.old.rest rest
+    ensures sent { (rest : List ℕ) → IsRest state.old.rest rest → state.old.answered ≤ 8
         → IsSent client rest call (sends client.width client.ids target call deadline)
         (record { old = state.old; new = state.new; before = line.old; after = line.new; told = result }) }
     ensures untouched { drop result.count line.new ≡ drop result.count line.old }
     ensures length { length line.new ≡ length line.old }
+    ensures answered { state.new.answered ≡ state.old.answered }
     ensures full { result.fault ≡ WINDOW_FULL → length client.ids.waiting ≡ client.width }
     ensures done { result.fault ≡ 0 → length client.ids.waiting < client.width }
     ensures either { (result.fault ≢ 0) → result.fault ≡ WINDOW_FULL }
@@ -50,9 +51,9 @@ fn send_call(
     }
 }
 
-/// Sends a request, and writes its line with CR LF into `line`: `count` bytes, and nothing behind these.
+/// Sends a request of a client that has begun, and writes its line with CR LF into `line`: `count` bytes, and nothing behind these.
 ///
-/// Faults: 62, `line` has fewer than 514 bytes; 63, the state is no client's; 21, no procedure has the number; 11 to 15,
+/// Faults: 62, `line` has fewer than 514 bytes; 63, the state is no client's; 67, the client hasn't begun; 21, no procedure has the number; 11 to 15,
 /// the parameters don't read; 31, as many requests wait as the width allows. After a fault nothing has changed.
 #[unsafe(no_mangle)]
 pub extern "C" fn geocom_client_send(
@@ -64,20 +65,24 @@ pub extern "C" fn geocom_client_send(
     line: &mut [u8],
 ) -> GeocomCount
     ensures sent { LINE_ROOM ≤ length line.old → (c : Windowed) (rest : List ℕ) (call : Call) → StandsFor state.old c rest
-        → IsCall procedure params.now call
+        → left_of state.old ≡ [] → IsCall procedure params.now call
         → IsSent c rest call (sends c.width c.ids target call deadline)
         (record { old = state.old; new = state.new; before = line.old; after = line.new; told = result }) }
     ensures call { LINE_ROOM ≤ length line.old → (c : Windowed) (rest : List ℕ) (e : CallFault) → StandsFor state.old c rest
-        → IsRefusal procedure params.now e → result.fault ≡ refusal_number e }
+        → left_of state.old ≡ [] → IsRefusal procedure params.now e → result.fault ≡ refusal_number e }
+    ensures begins { LINE_ROOM ≤ length line.old → (c : Windowed) (rest : List ℕ) → StandsFor state.old c rest
+        → left_of state.old ≢ [] → result.fault ≡ NOT_BEGUN }
+    ensures begun { result.fault ≡ NOT_BEGUN → left_of state.old ≢ [] }
     ensures room { (result.fault ≡ NO_ROOM) ↔ (length line.old < LINE_ROOM) }
     ensures astray { (result.fault ≡ NO_CLIENT) ↔ ((LINE_ROOM ≤ length line.old) × IsAstray state.old) }
     ensures full { result.fault ≡ WINDOW_FULL → (c : Windowed) × (rest : List ℕ) × (call : Call) × StandsFor state.old c rest
-        × IsCall procedure params.now call × (length c.ids.waiting ≡ c.width) }
+        × (left_of state.old ≡ []) × IsCall procedure params.now call × (length c.ids.waiting ≡ c.width) }
     ensures done { result.fault ≡ 0 → (c : Windowed) × (rest : List ℕ) × (call : Call) × StandsFor state.old c rest
-        × IsCall procedure params.now call × (length c.ids.waiting < c.width) }
+        × (left_of state.old ≡ []) × IsCall procedure params.now call × (length c.ids.waiting < c.width) }
     ensures refusal { result.fault ≢ 0 → result.fault ≢ WINDOW_FULL → result.fault ≢ NO_ROOM → result.fault ≢ NO_CLIENT
-        → (e : CallFault) × IsRefusal procedure params.now e × (result.fault ≡ refusal_number e) }
+        → result.fault ≢ NOT_BEGUN → (e : CallFault) × IsRefusal procedure params.now e × (result.fault ≡ refusal_number e) }
     ensures refused { result.fault ≢ 0 → (result.count ≡ 0) × (state.new ≡ state.old) × (line.new ≡ line.old) }
+    ensures answered { state.new.answered ≡ state.old.answered }
     ensures untouched { drop result.count line.new ≡ drop result.count line.old }
     ensures length { length line.new ≡ length line.old }
 {
@@ -87,6 +92,9 @@ pub extern "C" fn geocom_client_send(
     let Some(client) = load(state) else {
         return refused(NO_CLIENT);
     };
+    if state.answered < 8 {
+        return refused(NOT_BEGUN);
+    }
     let request = Request {
         rpc: procedure,
         id: None,

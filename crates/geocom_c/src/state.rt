@@ -3,12 +3,13 @@
 ghost use Rattle.std.specs.Prelude.{◌≡◌, ◌≤◌, ◌↔◌, IsTrue, ℕ, Bool, List, [], length, take, None, Some, IfSome, if◌then◌else◌};
 ghost use Rattle.gc_catalogue.specs.declared.call.Call.{Call};
 ghost use Rattle.gc_catalogue.specs.Calls.{IsCall};
+ghost use Rattle.gc_client.specs.Beginning.{the_word};
 ghost use Rattle.gc_client.specs.declared.pending.Pending.{Pending};
 ghost use Rattle.gc_client.specs.Rule.{Windowed};
 ghost use Rattle.gc_client.specs.Rule;
 ghost use Rattle.geocom_c.specs.FirstAre.{FirstAre};
 ghost use Rattle.geocom_c.specs.Rest.{kept, IsCut, IsRest};
-ghost use Rattle.geocom_c.specs.State.{IsLineOf, IsPlace, HasHead, StandsFor, IsAstray};
+ghost use Rattle.geocom_c.specs.State.{IsLineOf, IsPlace, HasHead, StandsFor, IsAstray, left_of};
 
 use crate::rest::GeocomRest;
 use gc_catalogue::{Call, decode_call, encode_call};
@@ -26,7 +27,8 @@ pub struct GeocomWaiting {
     pub line: [u8; 512],
 }
 
-/// A client: the requests that wait, oldest first, the bytes of a line under way, its width, the next id, and how many wait.
+/// A client: the requests that wait, oldest first, the bytes of a line under way, its width, the next id, how many wait, and how many
+/// null procedures of its beginning are answered: 8 once it has begun.
 #[repr(C)]
 #[derive(Clone, Copy)]
 pub struct GeocomClient {
@@ -35,6 +37,7 @@ pub struct GeocomClient {
     pub width: u8,
     pub next: u8,
     pub waiting: u8,
+    pub answered: u8,
 }
 
 // What stands in a place that nothing has used yet.
@@ -46,11 +49,12 @@ const VACANT: GeocomWaiting = GeocomWaiting {
     line: [0; 512],
 };
 
-// A client of this width that has sent nothing, at the start of a line.
+// A client of this width that hasn't begun, at the start of a line.
 pub(crate) fn fresh(width: u8) -> GeocomClient
     requires least { 1 ≤ width }
     requires most { width ≤ WINDOW }
-    ensures { StandsFor result (record { width = width; ids = Rule.fresh }) [] }
+    ensures client { StandsFor result (record { width = width; ids = Rule.fresh }) [] }
+    ensures begins { left_of result ≡ the_word }
 {
     GeocomClient {
         places: [VACANT; WINDOW],
@@ -58,6 +62,7 @@ pub(crate) fn fresh(width: u8) -> GeocomClient
         width,
         next: 0,
         waiting: 0,
+        answered: 0,
     }
 }
 
@@ -181,7 +186,7 @@ fn write_places(places: &mut [GeocomWaiting], window: &Slots)
     }
 }
 
-// Whether a client can have this width, this next id and so many requests waiting.
+// Whether a client can have this width, this next id, so many requests waiting and so many null procedures answered.
 fn has_head(state: &GeocomClient) -> bool
     ensures { IsTrue result ↔ HasHead state.now }
 {
@@ -189,6 +194,7 @@ fn has_head(state: &GeocomClient) -> bool
         && state.width <= WINDOW as u8
         && state.next < IDS
         && state.waiting <= state.width
+        && state.answered <= 8
 }
 
 // The client that a state's bytes are.
@@ -206,10 +212,11 @@ pub(crate) fn load(state: &GeocomClient) -> Option<Client<Slots>>
     Some(Client::resume(window, state.width, state.next))
 }
 
-// Puts a client into a state. The bytes of a line under way stay.
+// Puts a client into a state. The bytes of a line under way stay, and so does its beginning.
 pub(crate) fn store(state: &mut GeocomClient, client: Client<Slots>)
-    ensures client { (rest : List ℕ) → IsRest state.old.rest rest → StandsFor state.new client rest }
+    ensures client { (rest : List ℕ) → IsRest state.old.rest rest → state.old.answered ≤ 8 → StandsFor state.new client rest }
     ensures rest { state.new.rest ≡ state.old.rest }
+    ensures answered { state.new.answered ≡ state.old.answered }
 {
     let (window, width, next) = client.into_parts();
     state.width = width;

@@ -1,5 +1,6 @@
 //! The client's worked examples through the exported calls: whole, in single bytes, and cut in two at every place.
 
+use crate::beginning::geocom_client_begin;
 use crate::calls::{
     geocom_client_expire, geocom_client_init, geocom_client_next_deadline, geocom_client_waiting,
 };
@@ -9,7 +10,7 @@ use crate::header::{LINE_ROOM, SETTLED, TEXT_ROOM};
 use crate::sends::geocom_client_send;
 use crate::settled::GeocomSettlement;
 use crate::state::{GeocomClient, fresh};
-use Step::{Expire, Feed, Restart, Send};
+use Step::{Begin, Expire, Feed, Restart, Send};
 use gc_client::WINDOW;
 use std::alloc::{AllocError, Global};
 use std::test::Fail;
@@ -24,6 +25,34 @@ fn put_bytes(told: &mut String, bytes: &[u8]) -> Result<(), AllocError> {
 // The first bytes.
 fn front(bytes: &[u8], count: usize) -> &[u8] {
     bytes.get(..count).unwrap_or(b"")
+}
+
+// The replies to the null procedures of a beginning.
+const ANSWERS: &[u8] =
+    b"%R1P,0,6:0\r\n%R1P,0,5:0\r\n%R1P,0,4:0\r\n%R1P,0,3:0\r\n%R1P,0,2:0\r\n%R1P,0,1:0\r\n%R1P,0,0:0\r\n%R1P,0,7:0\r\n";
+
+// Hands bytes to the beginning, cut in pieces of this many, the first of another length. How many answered is told.
+fn begin_cut(
+    told: &mut String,
+    state: &mut GeocomClient,
+    bytes: &[u8],
+    first: usize,
+    piece: usize,
+) -> Result<(), AllocError> {
+    let mut left = bytes;
+    let mut next = first.max(1);
+    for _ in 0..=bytes.len() {
+        let at = next.min(left.len());
+        let mut line = [0; LINE_ROOM];
+        let begun = geocom_client_begin(state, left.get(..at).unwrap_or(b""), &mut line);
+        left = left.get(at..).unwrap_or(b"");
+        if left.is_empty() {
+            write!(told, "{} answered", begun.answered)?;
+            return Ok(());
+        }
+        next = piece;
+    }
+    Ok(())
 }
 
 // A request for the null procedure.
@@ -138,6 +167,7 @@ fn told(
                         .unwrap_or(b""),
                 )?;
             }
+            Begin(bytes) => begin_cut(&mut told, &mut state, bytes, first, piece)?,
             Feed(bytes) => feed_cut(&mut told, &mut state, bytes, first, piece)?,
             Expire(now) => {
                 let mut targets = [0; WINDOW];
@@ -166,6 +196,7 @@ fn told(
 #[test]
 fn late_reply(rt: HostRuntime) -> Result<(), Fail> {
     let steps = [
+        Begin(ANSWERS),
         Send {
             target: 1,
             deadline: 10,
@@ -184,7 +215,7 @@ fn late_reply(rt: HostRuntime) -> Result<(), Fail> {
         ),
     ];
     let want =
-        "0: %R1Q,5003,0:; 1 wait, 10\n1, ; 1 wait, 0\n%R1Q,2108,1:5000,1; 2 wait, 20\nkind 4, fault 0, 1 2 0 0 , 2 1 1 0 %R1P,0,1:0, 2.25 ,1.625,110.0625<2.25><1.625><110.0625>, kind 2, fault 0, kind 3, fault 5, ; 0 wait, 0\n";
+        "0: 8 answered; 0 wait, 0\n%R1Q,5003,0:; 1 wait, 10\n1, ; 1 wait, 0\n%R1Q,2108,1:5000,1; 2 wait, 20\nkind 4, fault 0, 1 2 0 0 , 2 1 1 0 %R1P,0,1:0, 2.25 ,1.625,110.0625<2.25><1.625><110.0625>, kind 2, fault 0, kind 3, fault 5, ; 0 wait, 0\n";
     for first in 0..90 {
         assert_eq!(rt;
             told(rt.alloc(), 7, &steps, first, 90)?.as_str(),
@@ -203,11 +234,14 @@ fn late_reply(rt: HostRuntime) -> Result<(), Fail> {
 #[test]
 fn seven_waiting(rt: HostRuntime) -> Result<(), Fail> {
     let steps = [
+        Begin(ANSWERS),
         null(1, 9),
         null(2, 9),
         null(3, 9),
         Feed(b"%R1P,0,1:0\r\n"),
         Restart,
+        null(4, 9),
+        Begin(ANSWERS),
         Send {
             target: 4,
             deadline: 9,
@@ -222,7 +256,7 @@ fn seven_waiting(rt: HostRuntime) -> Result<(), Fail> {
         },
     ];
     let want =
-        "0: %R1Q,0,0:; 1 wait, 9\n%R1Q,0,1:; 2 wait, 9\nfault 31; 2 wait, 9\n1 3 0 0 , 2 1 1 0 %R1P,0,1:0, ; 0 wait, 0\n; 0 wait, 0\nfault 21; 0 wait, 0\nfault 12; 0 wait, 0\n";
+        "0: 8 answered; 0 wait, 0\n%R1Q,0,0:; 1 wait, 9\n%R1Q,0,1:; 2 wait, 9\nfault 31; 2 wait, 9\n1 3 0 0 , 2 1 1 0 %R1P,0,1:0, ; 0 wait, 0\n; 0 wait, 0\nfault 67; 0 wait, 0\n8 answered; 0 wait, 0\nfault 21; 0 wait, 0\nfault 12; 0 wait, 0\n";
     assert_eq!(rt; told(rt.alloc(), 2, &steps, 90, 90)?.as_str(), want);
     assert_eq!(rt;
         told(rt.alloc(), 2, &steps, 1, 1)?.as_str(),
@@ -239,8 +273,9 @@ fn overlong_line(rt: HostRuntime) -> Result<(), Fail> {
     for (place, byte) in b"\r\n%R1P,0,0:27\r\n".iter().enumerate() {
         bytes[525 + place] = *byte;
     }
-    let steps = [null(1, 9), Feed(&bytes)];
-    let want = "0: %R1Q,0,0:; 1 wait, 9\nkind 5, fault 0, 1 1 2 27 %R1P,0,0:27, ; 0 wait, 0\n";
+    let steps = [Begin(ANSWERS), null(1, 9), Feed(&bytes)];
+    let want =
+        "0: 8 answered; 0 wait, 0\n%R1Q,0,0:; 1 wait, 9\nkind 5, fault 0, 1 1 2 27 %R1P,0,0:27, ; 0 wait, 0\n";
     for first in [0, 1, 512, 513, 514, 515, 525, 526, 527, 540] {
         assert_eq!(rt;
             told(rt.alloc(), 1, &steps, first, 600)?.as_str(),
@@ -280,7 +315,20 @@ fn refusals(rt: HostRuntime) {
         geocom_client_send(&mut state, 1, 1, 0, b"", &mut text[..513]).fault,
         62
     );
+    let mut line = [0; LINE_ROOM];
+    assert_eq!(rt;
+        geocom_client_send(&mut state, 1, 1, 0, b"", &mut line).fault,
+        67
+    );
+    assert_eq!(rt;
+        geocom_client_begin(&mut state, b"", &mut text[..513]).fault,
+        62
+    );
+    state.answered = 9;
+    assert_eq!(rt; geocom_client_waiting(&state).fault, 63);
+    state.answered = 0;
     state.width = 0;
+    assert_eq!(rt; geocom_client_begin(&mut state, b"", &mut line).fault, 63);
     assert_eq!(rt; geocom_client_waiting(&state).fault, 63);
     assert_eq!(rt; geocom_client_next_deadline(&state).fault, 63);
     assert_eq!(rt;
@@ -291,4 +339,65 @@ fn refusals(rt: HostRuntime) {
         geocom_client_send(&mut state, 1, 1, 0, b"", &mut text).fault,
         63
     );
+}
+
+// What a begin answers: the line that goes out, and how many are answered.
+fn ask(told: &mut String, state: &mut GeocomClient, bytes: &[u8]) -> Result<(), AllocError> {
+    let mut line = [0; LINE_ROOM];
+    let begun = geocom_client_begin(state, bytes, &mut line);
+    put_bytes(told, front(&line, begun.count as usize))?;
+    write!(told, "{} {}, ", begun.answered, begun.has_begun)
+}
+
+// A null procedure goes out again with its id where nothing came, and the next one where it was answered; all else is dropped.
+#[test]
+fn begins(rt: HostRuntime) -> Result<(), Fail> {
+    let mut state = fresh(7);
+    let mut told = String::new(rt.alloc());
+    ask(&mut told, &mut state, b"")?;
+    ask(&mut told, &mut state, b"%R1P,0,0:0,654321\r\n%R1P,0,")?;
+    ask(&mut told, &mut state, b"")?;
+    ask(&mut told, &mut state, b"6:27,1\r\n")?;
+    ask(
+        &mut told,
+        &mut state,
+        b"%R1P,0,6:0\r\nnoise\n%R1P,3080,5:0\r\n",
+    )?;
+    assert_eq!(rt;
+        told.as_str(),
+        "%R1Q,0,6:\r\n0 0, 0 0, %R1Q,0,6:\r\n0 0, %R1Q,0,5:\r\n1 0, %R1Q,0,4:\r\n2 0, "
+    );
+    Ok(())
+}
+
+// Behind the eighth answer no line of the piece is handed on; a restart has it begin anew, and one before the eighth answer goes on.
+#[test]
+fn begins_anew(rt: HostRuntime) -> Result<(), Fail> {
+    let mut state = fresh(7);
+    let mut told = String::new(rt.alloc());
+    let mut line = [0; LINE_ROOM];
+    let mut records = [VACANT; WINDOW];
+    ask(&mut told, &mut state, front(ANSWERS, 84))?;
+    assert_eq!(rt; geocom_client_restart(&mut state, &mut records).count, 0);
+    assert_eq!(rt;
+        geocom_client_send(&mut state, 1, 9, 5003, b"", &mut line).fault,
+        67
+    );
+    ask(
+        &mut told,
+        &mut state,
+        b"%R1P,0,7:0\r\n%R1P,0,0:0,654321\r\n%R1P,0",
+    )?;
+    assert_eq!(rt;
+        geocom_client_send(&mut state, 1, 9, 5003, b"", &mut line).fault,
+        0
+    );
+    ask(&mut told, &mut state, b",0:0,5\r\n")?;
+    assert_eq!(rt; geocom_client_restart(&mut state, &mut records).count, 1);
+    ask(&mut told, &mut state, b"")?;
+    assert_eq!(rt;
+        told.as_str(),
+        "%R1Q,0,7:\r\n7 0, 8 1, 8 1, %R1Q,0,6:\r\n0 0, "
+    );
+    Ok(())
 }

@@ -35,6 +35,7 @@ returns-in_default c =
           );
       fault = ap (λ (x : GeocomHeard). x.fault) c.using-in_default.ensures ∙ c.feed_frame.ensures.fed.fault;
       used = (omega (arith, ap (λ (x : GeocomHeard). x.used) c.using-in_default.ensures, c.frame-used.ensures.used.0), λ some. omega (arith, ap (λ (x : GeocomHeard). x.used) c.using-in_default.ensures, c.frame-used.ensures.used.1 some));
+      answered = c.feed_frame.ensures.answered;
       records = c.feed_frame.ensures.records;
       text = c.feed_frame.ensures.text;
       few = omega (arith, ap (λ (x : GeocomHeard). x.count) c.using-in_default.ensures, c.feed_frame.ensures.few);

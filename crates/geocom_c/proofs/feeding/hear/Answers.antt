@@ -45,10 +45,10 @@ returns-in-Settled-clause-fed c =
     }
 
 pub returns-in-Settled-clause-state : goal.returns-in-Settled-clause-state
-returns-in-Settled-clause-state c = λ rest is. subst (λ (d : Windowed). StandsFor c.store.new.state d rest) c.on_line-told.ensures.client (c.store.ensures.client rest is)
+returns-in-Settled-clause-state c = λ rest is part. subst (λ (d : Windowed). StandsFor c.store.new.state d rest) c.on_line-told.ensures.client (c.store.ensures.client rest is part)
 
 pub returns-in-Stray-clause-state : goal.returns-in-Stray-clause-state
-returns-in-Stray-clause-state c = λ rest is. subst (λ (d : Windowed). StandsFor c.store.new.state d rest) c.on_line-told.ensures.client (c.store.ensures.client rest is)
+returns-in-Stray-clause-state c = λ rest is part. subst (λ (d : Windowed). StandsFor c.store.new.state d rest) c.on_line-told.ensures.client (c.store.ensures.client rest is part)
 
 pub returns-in-Unread-clause-state : goal.returns-in-Unread-clause-state
-returns-in-Unread-clause-state c = λ rest is. subst (λ (d : Windowed). StandsFor c.store.new.state d rest) c.on_line-told.ensures.client (c.store.ensures.client rest is)
+returns-in-Unread-clause-state c = λ rest is part. subst (λ (d : Windowed). StandsFor c.store.new.state d rest) c.on_line-told.ensures.client (c.store.ensures.client rest is part)

@@ -1,24 +1,25 @@
 use Rattle.std.proofs.Common.{◌≡◌, ◌∙◌, Ok, sym, subst}
 use Rattle.gc_client.specs.Rule.{Windowed, sends}
 use Rattle.geocom_c.specs.Sending.{Sent, IsSent}
-use Rattle.geocom_c.proofs.Clients.{from_some, full_alone, no_refusal_astray}
+use Rattle.geocom_c.proofs.Answering.{not_begun}
+use Rattle.geocom_c.proofs.Clients.{from_some, full_alone, no_refusal_astray, other}
 use Rattle.geocom_c.proofs.sends.geocom_client_send.Goals as goal
 
 pub returns-in_default-clause-sent : goal.returns-in_default-clause-sent
-returns-in_default-clause-sent c = λ room c' rest call s is. absurd (c.in_default.not-Some c' (c.load.ensures.only c' rest s))
+returns-in_default-clause-sent c = λ room c' rest call s begun is. absurd (c.in_default.not-Some c' (c.load.ensures.only c' rest s))
 
 pub returns-in_default-clause-call : goal.returns-in_default-clause-call
-returns-in_default-clause-call c = λ room c' rest e s is. absurd (c.in_default.not-Some c' (c.load.ensures.only c' rest s))
+returns-in_default-clause-call c = λ room c' rest e s begun is. absurd (c.in_default.not-Some c' (c.load.ensures.only c' rest s))
 
 pub returns-in-Ok-clause-sent : goal.returns-in-Ok-clause-sent
-returns-in-Ok-clause-sent c = λ room c' rest call s is.
+returns-in-Ok-clause-sent c = λ room c' rest call s begun is.
     let same = from_some c.in-Some.client c' (sym c.in-Some.is ∙ c.load.ensures.only c' rest s) in
     let both : Ok c.in-Ok.call ≡ Ok call = sym c.in-Ok.is ∙ c.decode_call.ensures.only call is in
     let called : c.in-Ok.call ≡ call = cc in
     let sent : Sent = record { old = c.args.state.now; new = c.send_call.new.state; before = c.args.line.now; after = c.send_call.new.line; told = c.send_call.result } in
     subst (λ k. IsSent c' rest k (sends c'.width c'.ids c.args.target k c.args.deadline) sent) called
     (subst (λ (d : Windowed). IsSent d rest c.in-Ok.call (sends d.width d.ids c.args.target c.in-Ok.call c.args.deadline) sent) same
-    (c.send_call.ensures.sent rest s.under_way))
+    (c.send_call.ensures.sent rest s.under_way s.head.part))
 
 pub returns-in-Ok-clause-astray : goal.returns-in-Ok-clause-astray
 returns-in-Ok-clause-astray c = (λ e. absurd (full_alone _ c.send_call.ensures.either e), λ both. absurd (both.1 _ _ c.in-Some.ensures.found))
@@ -28,3 +29,18 @@ returns-in_default-clause-astray c = (λ _. (c.if-line-lt-LINE_ROOM.false, c.loa
 
 pub returns-in-Err-clause-astray : goal.returns-in-Err-clause-astray
 returns-in-Err-clause-astray c = (λ e. absurd (no_refusal_astray c.in-Err.fault (sym c.refusal_number.ensures ∙ sym c.from.ensures ∙ sym c.refused-in-Err.ensures.fault ∙ e)), λ both. absurd (both.1 _ _ c.in-Some.ensures.found))
+
+pub returns-in_default-clause-begins : goal.returns-in_default-clause-begins
+returns-in_default-clause-begins c = λ room c' rest s unbegun. absurd (c.in_default.not-Some c' (c.load.ensures.only c' rest s))
+
+pub returns-then-state-lt8-clause-sent : goal.returns-then-state-lt8-clause-sent
+returns-then-state-lt8-clause-sent c = λ room c' rest call s begun is. absurd (not_begun c.args.state.now.answered c.if-state-lt8.true begun)
+
+pub returns-then-state-lt8-clause-call : goal.returns-then-state-lt8-clause-call
+returns-then-state-lt8-clause-call c = λ room c' rest e s begun is. absurd (not_begun c.args.state.now.answered c.if-state-lt8.true begun)
+
+pub returns-then-state-lt8-clause-begun : goal.returns-then-state-lt8-clause-begun
+returns-then-state-lt8-clause-begun c = λ e. not_begun c.args.state.now.answered c.if-state-lt8.true
+
+pub returns-then-state-lt8-clause-astray : goal.returns-then-state-lt8-clause-astray
+returns-then-state-lt8-clause-astray c = (λ e. absurd (other (sym c.refused-then-state-lt8.ensures.fault ∙ e)), λ both. absurd (both.1 _ _ c.in-Some.ensures.found))

@@ -7,13 +7,13 @@ use Rattle.geocom_c.proofs.Clients.{same_width, twice_untouched}
 use Rattle.geocom_c.proofs.sends.send_call.Goals as goal
 
 pub returns-in-Ok-clause-sent : goal.returns-in-Ok-clause-sent
-returns-in-Ok-clause-sent c = λ rest is.
+returns-in-Ok-clause-sent c = λ rest is part.
     let rule = c.in-Ok.ensures.rule in
     let old = c.args.client in
     let line = request_line (Some old.ids.next) c.args.call in
     let new = c.send.new.self in
     let after = c.put-in-Ok.new.bytes in
-    let stands = subst (λ (d : Windowed). StandsFor c.store.new.state d rest) (same_width old new c.send.ensures.width) (c.store.ensures.client rest is) in
+    let stands = subst (λ (d : Windowed). StandsFor c.store.new.state d rest) (same_width old new c.send.ensures.width) (c.store.ensures.client rest is part) in
     let n = ap length rule.1 in
     let front : take c.len-in-Ok.result c.put.new.bytes ≡ line = search rules in
     let count : c.counted.result.count ≡ length (line ++ 13 ∷ 10 ∷ []) = omega (arith, c.counted.ensures.count, n, c.len-in-Ok.ensures.value, length-append line (13 ∷ 10 ∷ [])) in

@@ -1,0 +1,328 @@
+-- Run after run: what calls that are runs settle, and whose the answers are.
+use Rattle.std.proofs.Common.{◌≡◌, ℕ, ◌≤◌, false, List, [], ◌∷◌, ◌++◌, map, drop, Option, Some, None, refl, sym, ◌∙◌, ap, subst, append_assoc}
+use Rattle.std.proofs.lemmas.List.{append-nil}
+use Rattle.std.specs.List.{AllByRecursion}
+use Rattle.gc_catalogue.specs.declared.call.Call.{Call}
+use Rattle.gc_client.specs.Beginning.{the_word}
+use Rattle.gc_client.specs.OneForOne.{Step, Send, Hear, Expire, Restart, Course, begun, sent_on, settled_on, goes, course}
+use Rattle.gc_client.specs.Rule.{ById, Sending, Settled, Settlement, sends, heard, hears, expires, restarts, lost}
+use Rattle.gc_instrument.specs.State.{KeptReply}
+use Rattle.gc_world.specs.Clients.{by_ids}
+use Rattle.gc_world.specs.Order.{Each}
+use Rattle.gc_world.specs.World.{Ends, Request}
+use Rattle.gc_field.specs.Begin.{Aged, AreLines, AreTurns, Asks, Comes, Foreign, Reaches, Up_lose, Up_repeat, Down_lose, Down_repeat, Anew, Changes, Standing, Turn, UnderWay, asks, begins, comes, leaves, reaches, turned, turns}
+use Rattle.gc_field.specs.Beginnings.{IsOwnIf, Run, left_by_run, left_if, on_line, stood}
+use Rattle.gc_field.specs.Begun.{IsClean, behind, eighth, ids_begun}
+use Rattle.gc_field.specs.Field.{Move, Sends, Tells, OnLine, Joins, ArePossible, seen}
+use Rattle.gc_field.specs.Field as field
+use Rattle.gc_field.specs.Instrument.{IsAnInstrument}
+use Rattle.gc_field.proofs.BeginJoin.{begins_cleanly, left_lines}
+use Rattle.gc_field.proofs.BegunFaithful.{faithful}
+use Rattle.gc_field.proofs.BegunRows.{rows_have_not, runs_leave_rows, runs_leave_good}
+use Rattle.geocom_c.specs.Following.{Follows, Stage, opened}
+use Rattle.geocom_c.specs.Laws.{AreOwn, IsOwnAnswer, MayBegin}
+use Rattle.geocom_c.specs.Runs.{Part, ArePossibleRuns, asked_of, begun_at, client_if, client_over, event_of, events_of, events_over, front_of, left_over, lost_if, parts, settled_if, settled_over, world}
+use Rattle.geocom_c.specs.Steps.{Event, Went, AreEvents, AreInTurn, left_among, steps_among}
+use Rattle.geocom_c.specs.declared.following.Step as call
+use Rattle.geocom_c.proofs.Courses.{over_events}
+use Rattle.geocom_c.proofs.Owning.{all_joined, all_weaker, later_own, none_answered, own_here}
+
+-- A course with the client of another, which settled these before.
+
+record Behind (old : List Settlement) (x y : Course) : Type 0 where
+  settled : x.settlements ≡ old ++ y.settlements
+  client : x.client ≡ y.client
+
+behind_send : (old : List Settlement) (x y : Course) (target : ℕ) (call : Call) (o : Option (Sending ById)) → Behind old x y → Behind old (sent_on x target call o) (sent_on y target call o)
+behind_send old x y target call None h = h
+behind_send old x y target call (Some s) h = record { settled = h.settled; client = refl }
+
+behind_settled : (old : List Settlement) (x y : Course) (s : Settled ById) → Behind old x y → Behind old (settled_on x s) (settled_on y s)
+behind_settled old x y s h = record { settled = ap (λ l. l ++ s.settlements) h.settled ∙ append_assoc old y.settlements s.settlements; client = refl }
+
+behind_step : (width : ℕ) (old : List Settlement) (x y : Course) (step : Step) → Behind old x y → Behind old (goes width x step) (goes width y step)
+behind_step width old x y (Send target call deadline) h =
+    subst (λ c. Behind old (sent_on x target call (sends width c target call deadline)) (sent_on y target call (sends width y.client target call deadline))) (sym h.client)
+    (behind_send old x y target call (sends width y.client target call deadline) h)
+behind_step width old x y (Hear line) h =
+    subst (λ c. Behind old (settled_on x (hears c line (heard line))) (settled_on y (hears y.client line (heard line)))) (sym h.client)
+    (behind_settled old x y (hears y.client line (heard line)) h)
+behind_step width old x y (Expire now) h = record { settled = h.settled; client = ap (λ c. expires c now) h.client }
+behind_step width old x y Restart h =
+    subst (λ c. Behind old (settled_on x (restarts c)) (settled_on y (restarts y.client))) (sym h.client) (behind_settled old x y (restarts y.client) h)
+
+behind_all : (width : ℕ) (old : List Settlement) (steps : List Step) (x y : Course) → Behind old x y → Behind old (course width x steps) (course width y steps)
+behind_all width old [] x y h = h
+behind_all width old (step ∷ steps) x y h = behind_all width old steps _ _ (behind_step width old x y step h)
+
+course_append : (width : ℕ) (first later : List Step) (x : Course) → course width x (first ++ later) ≡ course width (course width x first) later
+course_append width [] later x = refl
+course_append width (step ∷ first) later x = course_append width first later (goes width x step)
+
+-- Steps among events.
+
+steps_went : (steps : List Step) (es : List Event) → steps_among (map Went steps ++ es) ≡ steps ++ steps_among es
+steps_went [] es = refl
+steps_went (step ∷ steps) es = ap (λ l. step ∷ l) (steps_went steps es)
+
+over_none : (asked : ℕ) (later : List ℕ) → asked ∷ later ≡ [] → ⊥
+over_none asked later e = cc
+
+-- none comes before the eighth answer
+none_went : (asked : ℕ) (later : List ℕ) (steps : List Step) (es : List Event) → AreInTurn (asked ∷ later) (map Went steps ++ es) → steps ≡ []
+none_went asked later [] es h = refl
+none_went asked later (step ∷ steps) es h = absurd (over_none asked later h.0)
+
+no_restart : (asked : ℕ) (later : List ℕ) (steps : List Step) (es : List Event) → AreInTurn (asked ∷ later) (map Went steps ++ Went Restart ∷ es) → ⊥
+no_restart asked later [] es h = over_none asked later h.0
+no_restart asked later (step ∷ steps) es h = over_none asked later h.0
+
+-- behind moves it has begun as before
+went_on : {State : Type 0} (ms : List (Move State)) (es : List Event) → AreInTurn [] (map Went (seen ms) ++ es) → AreInTurn [] es
+went_on [] es h = h
+went_on (Sends target call deadline ∷ ms) es h = went_on ms es h.1
+went_on (Tells now ∷ ms) es h = went_on ms es h.1
+went_on (field.Comes line ∷ ms) es h = went_on ms es h.1
+went_on (field.Foreign line ∷ ms) es h = went_on ms es h.1
+went_on (OnLine step ∷ ms) es h = went_on ms es h
+went_on (field.Anew ∷ ms) es h = went_on ms es h
+went_on (field.Changes state ∷ ms) es h = went_on ms es h
+went_on (Joins line ∷ ms) es h = went_on ms es h
+
+went_left : {State : Type 0} (ms : List (Move State)) (es : List Event) → left_among [] (map Went (seen ms) ++ es) ≡ left_among [] es
+went_left [] es = refl
+went_left (Sends target call deadline ∷ ms) es = went_left ms es
+went_left (Tells now ∷ ms) es = went_left ms es
+went_left (field.Comes line ∷ ms) es = went_left ms es
+went_left (field.Foreign line ∷ ms) es = went_left ms es
+went_left (OnLine step ∷ ms) es = went_left ms es
+went_left (field.Anew ∷ ms) es = went_left ms es
+went_left (field.Changes state ∷ ms) es = went_left ms es
+went_left (Joins line ∷ ms) es = went_left ms es
+
+module _ {State : Type 0} (width : ℕ) (ends : Ends State) where
+  -- The events of a beginning: they have no step, and leave what the turns leave.
+  record Turned (s after : Standing State) (front : List Event) : Type 0 where
+    turns : (es : List Event) → AreInTurn s.left (front ++ es) → AreInTurn after.left es
+    left : (es : List Event) → left_among s.left (front ++ es) ≡ left_among after.left es
+    steps : (es : List Event) → steps_among (front ++ es) ≡ steps_among es
+
+  turned_same : (s after : Standing State) → after.left ≡ s.left → Turned s after []
+  turned_same s after e =
+      record {
+        turns = λ es h. subst (λ l. AreInTurn l es) (sym e) h;
+        left = λ es. ap (λ l. left_among l es) (sym e);
+        steps = λ es. refl;
+      }
+
+  turned_asked : (s : Standing State) (left : List ℕ) → Turned s (asks s left) (asked_of left)
+  turned_asked s [] = turned_same s s refl
+  turned_asked s (asked ∷ later) = record { turns = λ es h. h; left = λ es. refl; steps = λ es. refl }
+
+  turned_front : (s : Standing State) (down : List (Aged (List ℕ))) → Turned s (comes s down) (front_of down)
+  turned_front s [] = turned_same s s refl
+  turned_front s (x ∷ rest) = record { turns = λ es h. h; left = λ es. refl; steps = λ es. refl }
+
+  reached_left : (s : Standing State) (up : List (Aged Request)) → (reaches ends s up).left ≡ s.left
+  reached_left s [] = refl
+  reached_left s (x ∷ rest) = refl
+
+  turned_one : (s : Standing State) (t : Turn State) → Turned s (turns ends s t) (event_of s t)
+  turned_one s Asks = turned_asked s s.left
+  turned_one s Comes = turned_front s s.down
+  turned_one s (Foreign line) = record { turns = λ es h. h; left = λ es. refl; steps = λ es. refl }
+  turned_one s Reaches = turned_same s _ (reached_left s s.up)
+  turned_one s (Up_lose k) = turned_same s _ refl
+  turned_one s (Up_repeat k) = turned_same s _ refl
+  turned_one s (Down_lose k) = turned_same s _ refl
+  turned_one s (Down_repeat k) = turned_same s _ refl
+  turned_one s Anew = turned_same s _ refl
+  turned_one s (Changes state) = turned_same s _ refl
+
+  turned_all : (ts : List (Turn State)) (s : Standing State) → Turned s (turned ends ts s) (events_of width ends s ts)
+  turned_all [] s = turned_same s s refl
+  turned_all (t ∷ ts) s =
+      let one = turned_one s t in
+      let more = turned_all ts (turns ends s t) in
+      let front = event_of s t in
+      let later = events_of width ends (turns ends s t) ts in
+      record {
+        turns = λ es h. more.turns es (one.turns (later ++ es) (subst (λ l. AreInTurn s.left l) (append_assoc front later es) h));
+        left = λ es. ap (λ l. left_among s.left l) (append_assoc front later es) ∙ one.left (later ++ es) ∙ more.left es;
+        steps = λ es. ap steps_among (append_assoc front later es) ∙ one.steps (later ++ es) ∙ more.steps es;
+      }
+
+  module _ (Good : State → Type 0) (kept : State → Option KeptReply) (is : IsAnInstrument ends Good kept) (narrow : width ≤ 7) where
+    -- what has begun cleanly leaves clean lines
+    clean_up : (xs : List (Aged Request)) → Each (λ x. (x.old ≡ false) × (x.line ≡ eighth)) xs → Each (λ x. x ≡ eighth) (map (λ x. x.line) xs)
+    clean_up [] h = tt
+    clean_up (x ∷ xs) h = (h.0.1, clean_up xs h.1)
+
+    clean_down : (xs : List (Aged (List ℕ))) → Each (λ x. (x.old ≡ false) × (heard x.line ≡ Some 7)) xs → Each (λ line. heard line ≡ Some 7) (map (λ x. x.line) xs)
+    clean_down [] h = tt
+    clean_down (x ∷ xs) h = (h.0.1, clean_down xs h.1)
+
+    -- a run that has begun
+    record Begins (u : UnderWay State) (r : Run State) : Type 0 where
+      own : IsOwnIf width ends Good kept [] (stood width ends u r) r.moves
+      lines : AreLines Good (left_if width ends [] (stood width ends u r) r.moves)
+      may : MayBegin (left_if width ends [] (stood width ends u r) r.moves)
+
+    begins_own : (u : UnderWay State) (r : Run State) → AreLines Good u → MayBegin u → AreTurns ends Good kept r.turns (begins u)
+        → ArePossible ends Good kept (by_ids width ends) r.moves (ids_begun (leaves (stood width ends u r))) → (stood width ends u r).left ≡ [] → Begins u r
+    begins_own u r lines may ts possible e =
+        let s = stood width ends u r in
+        let clean = begins_cleanly ends Good kept is u r.turns lines ts may e in
+        let good = (left_lines ends Good kept is u r.turns lines ts).good in
+        let is_clean : IsClean Good kept (leaves s) = record { good = good; up = clean_up s.up clean.up; down = clean_down s.down clean.down; keeps = clean.keeps } in
+        let after = runs_leave_good ends Good kept is width narrow (leaves s) is_clean r.moves possible in
+        record {
+          own = (clean, faithful ends Good kept is width narrow (leaves s) is_clean r.moves possible);
+          lines = record { ids = after.1; good = after.0 };
+          may = rows_have_not (on_line (behind width ends (leaves s) r.moves).wire) (runs_leave_rows ends Good kept is width narrow (leaves s) is_clean r.moves possible);
+        }
+
+    abbrev OwnPart : Part State → Type 0
+    OwnPart p = IsOwnIf width ends Good kept (begun_at width ends p).left (begun_at width ends p) p.run.moves
+
+    abbrev OwnAll : List (Part State) → List Settlement → Type 0
+    OwnAll ps ss = AllByRecursion (IsOwnAnswer width ends Good kept ps) ss
+
+    -- what holds of runs, where these are their events
+    record Holds (ps : List (Part State)) (events : List Event) : Type 0 where
+      settled : (course width begun (steps_among events)).settlements ≡ settled_over width ends ps
+      client : (course width begun (steps_among events)).client ≡ client_over width ends ps
+      left : left_among the_word events ≡ left_over width ends ps
+      own : OwnAll ps (settled_over width ends ps)
+      each : AllByRecursion OwnPart ps
+
+    -- the last run
+    last_holds : (p : Part State) (left : List ℕ) → (begun_at width ends p).left ≡ left → AreLines Good p.before → MayBegin p.before → AreTurns ends Good kept p.run.turns (begins p.before)
+        → ArePossible ends Good kept (by_ids width ends) p.run.moves (ids_begun (leaves (begun_at width ends p)))
+        → AreInTurn the_word (events_of width ends (begins p.before) p.run.turns ++ map Went (seen p.run.moves))
+        → Holds (p ∷ []) (events_of width ends (begins p.before) p.run.turns ++ map Went (seen p.run.moves))
+    last_holds p [] e lines may ts possible h =
+        let s = begun_at width ends p in
+        let w = world width ends p in
+        let steps = seen p.run.moves in
+        let front = turned_all p.run.turns (begins p.before) in
+        let b = begins_own p.before p.run lines may ts possible e in
+        let f = b.own.1 in
+        let nil = append-nil (map Went steps) in
+        let same = front.steps (map Went steps) ∙ ap steps_among (sym nil) ∙ steps_went steps [] ∙ append-nil steps in
+        let here : drop 8 w.wire.settled ≡ (course width begun steps).settlements = ap (drop 8) f.settled in
+        let none : settled_if width ends s.left w ≡ drop 8 w.wire.settled = ap (λ l. settled_if width ends l w) e in
+        record {
+          settled = ap (λ l. (course width begun l).settlements) same ∙ sym here ∙ sym none;
+          client = ap (λ l. (course width begun l).client) same ∙ f.stands ∙ sym (ap (λ l. client_if width ends l w) e);
+          left = front.left (map Went steps) ∙ ap (λ l. left_among l (map Went steps)) e ∙ ap (left_among []) (sym nil) ∙ went_left p.run.moves [] ∙ sym e;
+          own = subst (λ l. OwnAll (p ∷ []) l) (sym none) (own_here width ends Good kept p [] f);
+          each = (subst (λ l. IsOwnIf width ends Good kept l s p.run.moves) (sym e) b.own, tt);
+        }
+    last_holds p (asked ∷ later) e lines may ts possible h =
+        let s = begun_at width ends p in
+        let w = world width ends p in
+        let steps = seen p.run.moves in
+        let front = turned_all p.run.turns (begins p.before) in
+        let nil = append-nil (map Went steps) in
+        let turn = front.turns (map Went steps) h in
+        let none = none_went asked later steps [] (subst (λ l. AreInTurn (asked ∷ later) l) (sym nil) (subst (λ l. AreInTurn l (map Went steps)) e turn)) in
+        let same = front.steps (map Went steps) ∙ ap (λ l. steps_among (map Went l)) none in
+        record {
+          settled = ap (λ l. (course width begun l).settlements) same ∙ sym (ap (λ l. settled_if width ends l w) e);
+          client = ap (λ l. (course width begun l).client) same ∙ sym (ap (λ l. client_if width ends l w) e);
+          left = front.left (map Went steps) ∙ ap (λ l. left_among s.left (map Went l)) none;
+          own = subst (λ l. OwnAll (p ∷ []) (settled_if width ends l w)) (sym e) tt;
+          each = (subst (λ l. IsOwnIf width ends Good kept l s p.run.moves) (sym e) tt, tt);
+        }
+
+    -- a run that restarts
+    record Passes (p : Part State) (rest : List Event) : Type 0 where
+      begins : Begins p.before p.run
+      done : (begun_at width ends p).left ≡ []
+      turns : AreInTurn the_word rest
+
+    passes : (p : Part State) (left : List ℕ) (rest : List Event) → (begun_at width ends p).left ≡ left → AreLines Good p.before → MayBegin p.before → AreTurns ends Good kept p.run.turns (begins p.before)
+        → ArePossible ends Good kept (by_ids width ends) p.run.moves (ids_begun (leaves (begun_at width ends p)))
+        → AreInTurn the_word (events_of width ends (begins p.before) p.run.turns ++ (map Went (seen p.run.moves) ++ Went Restart ∷ rest)) → Passes p rest
+    passes p [] rest e lines may ts possible h =
+        let turn = (turned_all p.run.turns (begins p.before)).turns (map Went (seen p.run.moves) ++ Went Restart ∷ rest) h in
+        record {
+          begins = begins_own p.before p.run lines may ts possible e;
+          done = e;
+          turns = (went_on p.run.moves (Went Restart ∷ rest) (subst (λ l. AreInTurn l (map Went (seen p.run.moves) ++ Went Restart ∷ rest)) e turn)).1;
+        }
+    passes p (asked ∷ later) rest e lines may ts possible h =
+        let turn = (turned_all p.run.turns (begins p.before)).turns (map Went (seen p.run.moves) ++ Went Restart ∷ rest) h in
+        absurd (no_restart asked later (seen p.run.moves) rest (subst (λ l. AreInTurn l (map Went (seen p.run.moves) ++ Went Restart ∷ rest)) e turn))
+
+    passed_holds : (p next : Part State) (others : List (Part State)) (rest : List Event) → Passes p rest → Holds (next ∷ others) rest
+        → Holds (p ∷ next ∷ others) (events_of width ends (begins p.before) p.run.turns ++ (map Went (seen p.run.moves) ++ Went Restart ∷ rest))
+    passed_holds p next others rest pass more =
+        let s = begun_at width ends p in
+        let w = world width ends p in
+        let steps = seen p.run.moves in
+        let e = pass.done in
+        let f = pass.begins.own.1 in
+        let front = turned_all p.run.turns (begins p.before) in
+        let tail = map Went steps ++ Went Restart ∷ rest in
+        let later = steps_among rest in
+        let x = course width begun steps in
+        let z = settled_on x (restarts x.client) in
+        let all = p ∷ next ∷ others in
+        let same = front.steps tail ∙ steps_went steps (Went Restart ∷ rest) in
+        let on = behind_all width z.settlements later z begun (record { settled = sym (append-nil z.settlements); client = refl }) in
+        let here : z.settlements ≡ drop 8 w.wire.settled ++ map lost w.client.waiting =
+        ap (λ l. l ++ map lost x.client.waiting) (sym (ap (drop 8) f.settled)) ∙ ap (λ (c : ById). drop 8 w.wire.settled ++ map lost c.waiting) f.stands in
+        let over : settled_over width ends all ≡ (drop 8 w.wire.settled ++ map lost w.client.waiting) ++ settled_over width ends (next ∷ others) =
+        ap (λ l. (settled_if width ends l w ++ lost_if width ends l w) ++ settled_over width ends (next ∷ others)) e in
+        record {
+          settled =
+              ap (λ l. (course width begun l).settlements) same
+              ∙ ap (λ (c : Course). c.settlements) (course_append width steps (Restart ∷ later) begun)
+              ∙ on.settled
+              ∙ ap (λ l. l ++ (course width begun later).settlements) here
+              ∙ ap (λ l. (drop 8 w.wire.settled ++ map lost w.client.waiting) ++ l) more.settled
+              ∙ sym over;
+          client =
+              ap (λ l. (course width begun l).client) same
+              ∙ ap (λ (c : Course). c.client) (course_append width steps (Restart ∷ later) begun)
+              ∙ on.client
+              ∙ more.client;
+          left = front.left tail ∙ ap (λ l. left_among l tail) e ∙ went_left p.run.moves (Went Restart ∷ rest) ∙ more.left;
+          own = subst (λ l. OwnAll all l) (sym over)
+              (all_joined (IsOwnAnswer width ends Good kept all) (drop 8 w.wire.settled ++ map lost w.client.waiting) (settled_over width ends (next ∷ others))
+              (all_joined (IsOwnAnswer width ends Good kept all) (drop 8 w.wire.settled) (map lost w.client.waiting)
+              (own_here width ends Good kept p (next ∷ others) f) (none_answered width ends Good kept all w.client.waiting))
+              (all_weaker (IsOwnAnswer width ends Good kept (next ∷ others)) (IsOwnAnswer width ends Good kept all) (later_own width ends Good kept p (next ∷ others)) (settled_over width ends (next ∷ others)) more.own));
+          each = (subst (λ l. IsOwnIf width ends Good kept l s p.run.moves) (sym e) pass.begins.own, more.each);
+        }
+
+    all_hold : (rs : List (Run State)) (u : UnderWay State) → AreLines Good u → MayBegin u → ArePossibleRuns width ends Good kept u rs → AreInTurn the_word (events_over width ends u rs) → Holds (parts width ends u rs) (events_over width ends u rs)
+    all_hold [] u lines may possible h = record { settled = refl; client = refl; left = refl; own = tt; each = tt }
+    all_hold (r ∷ []) u lines may possible h = last_holds (record { before = u; run = r }) _ refl lines may possible.0.0 possible.0.1 h
+    all_hold (r ∷ next ∷ others) u lines may possible h =
+        let p : Part State = record { before = u; run = r } in
+        let after = left_by_run width ends u r in
+        let pass = passes p _ (events_over width ends after (next ∷ others)) refl lines may possible.0.0 possible.0.1 h in
+        let s = stood width ends u r in
+        let now = subst (λ l. AreLines Good (left_if width ends l s r.moves)) (sym pass.done) pass.begins.lines in
+        let again = subst (λ l. MayBegin (left_if width ends l s r.moves)) (sym pass.done) pass.begins.may in
+        passed_holds p (record { before = after; run = next }) (parts width ends (left_by_run width ends after next) others) (events_over width ends after (next ∷ others)) pass
+        (all_hold (next ∷ others) after now again possible.1 pass.turns)
+
+    pub owned : (calls : List call.Step) (t : Stage) → Follows width opened calls t → (u : UnderWay State) → AreLines Good u → MayBegin u → (rs : List (Run State)) → AreEvents the_word [] calls (events_over width ends u rs) → ArePossibleRuns width ends Good kept u rs → AreOwn width ends Good kept (parts width ends u rs) t
+    owned calls t follows u lines may rs are possible =
+        let over = over_events width calls t follows in
+        let events = events_over width ends u rs in
+        let same = over.only events are in
+        let all = all_hold rs u lines may possible (subst (λ l. AreInTurn the_word l) (sym same) over.turns) in
+        let reached : t.reached ≡ course width begun (steps_among events) = over.reached ∙ ap (λ l. course width begun (steps_among l)) (sym same) in
+        let settled = ap (λ (c : Course). c.settlements) reached ∙ all.settled in
+        record {
+          settled = settled;
+          client = ap (λ (c : Course). c.client) reached ∙ all.client;
+          left = over.left ∙ ap (left_among the_word) (sym same) ∙ all.left;
+          own = subst (λ l. OwnAll (parts width ends u rs) l) (sym settled) all.own;
+          each = all.each;
+        }

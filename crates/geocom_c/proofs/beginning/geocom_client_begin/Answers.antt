@@ -1,0 +1,31 @@
+use Rattle.std.proofs.Common.{◌≡◌, ◌∙◌, drop, sym, ap}
+use Rattle.gc_client.specs.Beginning.{the_word}
+use Rattle.geocom_c.specs.Beginning.{left_behind}
+use Rattle.geocom_c.specs.declared.answers.GeocomBeginning.{GeocomBeginning}
+use Rattle.geocom_c.specs.declared.header.TheConstants.{NO_CLIENT}
+use Rattle.geocom_c.proofs.beginning.geocom_client_begin.Goals as goal
+
+pub returns-in_default-clause-heard : goal.returns-in_default-clause-heard
+returns-in_default-clause-heard c = λ room c' rest s. absurd (c.in_default.not-Some c' (c.load.ensures.only c' rest s))
+
+pub returns-in_default-clause-astray : goal.returns-in_default-clause-astray
+returns-in_default-clause-astray c = (λ _. (c.if-line-lt-LINE_ROOM.false, c.load.ensures.none c.in_default.is), λ _. ap (λ (x : GeocomBeginning). x.fault) c.unbegun-in_default.ensures)
+
+pub returns-clause-heard : goal.returns-clause-heard
+returns-clause-heard c = λ room c' rest s.
+    let told = c.hear_all.ensures rest s.under_way in
+    let left = sym c.answered.ensures.answered ∙ told.1 ∙ ap (λ l. left_behind l rest c.args.bytes.now) (c.resume-beginning.ensures ∙ ap (λ n. drop n the_word) c.from.ensures) in (
+      c.begun.ensures.fault,
+      record {
+        width = s.width;
+        next = s.next;
+        waiting = s.waiting;
+        head = record { width = s.head.width; digit = s.head.digit; few = s.head.few; part = c.answered.ensures.within };
+        places = s.places;
+        under_way = told.0;
+      },
+      left,
+    )
+
+pub returns-clause-astray : goal.returns-clause-astray
+returns-clause-astray c = (λ e. let zero : 0 ≡ NO_CLIENT = sym c.begun.ensures.fault ∙ e in cc, λ both. absurd (both.1 _ _ c.in-Some.ensures.found))

@@ -1,0 +1,45 @@
+-- A beginning over calls on a state, this project's own: what it makes of the bytes that come, and which line goes out.
+use Rattle.std.specs.Prelude.{◌≡◌, ℕ, Bool, true, false, List, [], ◌∷◌, length, take, nat_eq, Option, Some, None}
+use Rattle.gc_lines.specs.Lines.{with_end}
+use Rattle.gc_lines.specs.declared.frame.Frame.{Frame}
+use Rattle.gc_lines.specs.declared.frame.Frame.TheVariants.{Line, Cleared, Overlong, More}
+use Rattle.gc_client.specs.Beginning.{the_word, asks, left_by}
+use Rattle.gc_client.specs.Rule.{heard}
+use Rattle.geocom_c.specs.Rest.{lines_behind}
+use Rattle.geocom_c.specs.declared.answers.GeocomBeginning.{GeocomBeginning}
+
+-- what isn't answered of a word behind lines, which are heard in order: one that doesn't answer is dropped, and so is each behind the last answer
+abbrev pub left_by_all : List ℕ → List (List ℕ) → List ℕ
+left_by_all left [] = left
+left_by_all left (line ∷ lines) = left_by_all (left_by left (heard line)) lines
+
+-- the same behind bytes: each line that they end, with those since the last line feed, is heard
+abbrev pub left_behind : List ℕ → List ℕ → List ℕ → List ℕ
+left_behind left rest bytes = left_by_all left (lines_behind rest bytes)
+
+-- the same behind a frame
+abbrev pub left_past : List ℕ → Frame → List ℕ
+left_past left (Line line) = left_by left (heard line.items)
+left_past left Cleared = left
+left_past left Overlong = left
+left_past left More = left
+
+-- the line that goes out behind bytes, where that wasn't answered before them, and this isn't behind them. Where no byte came, it is the null
+-- procedure that is asked for, for the first time or again; where one was answered, it is the next one; else, and once it has begun, none goes out
+abbrev pub given_if : Bool → List ℕ → Option (List ℕ)
+given_if true after = None
+given_if false after = asks after
+
+abbrev pub given : List ℕ → List ℕ → List ℕ → Option (List ℕ)
+given [] before after = asks after
+given (byte ∷ bytes) before after = given_if (nat_eq (length before) (length after)) after
+
+-- this line was written with its CR LF, or none was
+abbrev pub IsGiven : Option (List ℕ) → GeocomBeginning → List ℕ → Type 0
+IsGiven None told room = told.count ≡ 0
+IsGiven (Some line) told room = (told.count ≡ length (with_end line)) × (take told.count room ≡ with_end line)
+
+-- a restart of a client that has begun has it begin anew, with the first null procedure; one that hasn't goes on with that which it was at
+abbrev pub anew : List ℕ → List ℕ
+anew [] = the_word
+anew (asked ∷ later) = asked ∷ later

@@ -1,0 +1,113 @@
+-- What the library's client does over a line, this project's own: run after run, each from one beginning to the next. A run begins by its null
+-- procedures, among whatever is under way by then, and then sends. Behind a restart the next run begins among what the run before it left.
+use Rattle.std.specs.Prelude.{ℕ, List, [], ◌∷◌, ◌++◌, map, drop, Option}
+use Rattle.gc_client.specs.Beginning.{the_word}
+use Rattle.gc_client.specs.OneForOne as one
+use Rattle.gc_client.specs.Rule.{ById, Settlement, fresh, lost}
+use Rattle.gc_instrument.specs.State.{KeptReply}
+use Rattle.gc_world.specs.Clients.{by_ids}
+use Rattle.gc_world.specs.World.{Ends, World}
+use Rattle.gc_field.specs.Begin.{Aged, AreTurns, Asks, Comes, Foreign, Reaches, Up_lose, Up_repeat, Down_lose, Down_repeat, Anew, Changes, Standing, Turn, UnderWay, begins, leaves, turns}
+use Rattle.gc_field.specs.Beginnings.{Run, left_by_run, stood}
+use Rattle.gc_field.specs.Begun.{behind, ids_begun}
+use Rattle.gc_field.specs.Field.{ArePossible, seen}
+use Rattle.geocom_c.specs.Steps.{Event, Asked, Came, Went}
+
+-- What a run is to the library.
+
+-- a null procedure goes out, unless it has begun
+abbrev pub asked_of : List ℕ → List Event
+asked_of [] = []
+asked_of (asked ∷ later) = Asked ∷ []
+
+-- the line in front comes, where there is one
+abbrev pub front_of : List (Aged (List ℕ)) → List Event
+front_of [] = []
+front_of (x ∷ rest) = Came x.line ∷ []
+
+-- what a turn of a beginning is to it: those of the line and of the instrument are nothing
+abbrev pub event_of : {State : Type 0} → Standing State → Turn State → List Event
+event_of s Asks = asked_of s.left
+event_of s Comes = front_of s.down
+event_of s (Foreign line) = Came line ∷ []
+event_of s Reaches = []
+event_of s (Up_lose k) = []
+event_of s (Up_repeat k) = []
+event_of s (Down_lose k) = []
+event_of s (Down_repeat k) = []
+event_of s Anew = []
+event_of s (Changes state) = []
+
+-- a run, and what was under way when it began
+pub record Part (State : Type 0) : Type 0 where
+  pub before : UnderWay State
+  pub run : Run State
+
+module _ {State : Type 0} (width : ℕ) (ends : Ends State) where
+  abbrev pub events_of : Standing State → List (Turn State) → List Event
+  events_of s [] = []
+  events_of s (t ∷ ts) = event_of s t ++ events_of (turns ends s t) ts
+
+  -- what runs are to it: the client restarts between them
+  abbrev pub events_over : UnderWay State → List (Run State) → List Event
+  events_over u [] = []
+  events_over u (r ∷ []) = events_of (begins u) r.turns ++ map Went (seen r.moves)
+  events_over u (r ∷ next ∷ others) = events_of (begins u) r.turns ++ (map Went (seen r.moves) ++ Went one.Restart ∷ events_over (left_by_run width ends u r) (next ∷ others))
+
+  -- Runs, one after the other.
+
+  -- where its beginning stood at the end, and the world behind the run
+  abbrev pub begun_at : Part State → Standing State
+  begun_at p = stood width ends p.before p.run
+
+  abbrev pub world : Part State → World ById State
+  world p = behind width ends (leaves (begun_at p)) p.run.moves
+
+  -- what they leave under way
+  abbrev pub left_by_runs : UnderWay State → List (Run State) → UnderWay State
+  left_by_runs u [] = u
+  left_by_runs u (r ∷ rs) = left_by_runs (left_by_run width ends u r) rs
+
+  -- each run begins among what the one before it left
+  abbrev pub parts : UnderWay State → List (Run State) → List (Part State)
+  parts u [] = []
+  parts u (r ∷ rs) = record { before = u; run = r } ∷ parts (left_by_run width ends u r) rs
+
+  -- what happens is possible, in the beginning of each run and behind it. Whether it has begun by then is no premise
+  abbrev pub ArePossibleRuns : (State → Type 0) → (State → Option KeptReply) → UnderWay State → List (Run State) → Type 0
+  ArePossibleRuns Good kept u [] = Unit {0}
+  ArePossibleRuns Good kept u (r ∷ rs) =
+      (AreTurns ends Good kept r.turns (begins u) × ArePossible ends Good kept (by_ids width ends) r.moves (ids_begun (leaves (stood width ends u r))))
+      × ArePossibleRuns Good kept (left_by_run width ends u r) rs
+
+  -- What they settle.
+
+  -- a run that has begun: all but its eight null procedures, and, where it restarts, what waits as lost. One that hasn't settles nothing
+  abbrev pub settled_if : List ℕ → World ById State → List Settlement
+  settled_if [] w = drop 8 w.wire.settled
+  settled_if (asked ∷ later) w = []
+
+  abbrev pub lost_if : List ℕ → World ById State → List Settlement
+  lost_if [] w = map lost w.client.waiting
+  lost_if (asked ∷ later) w = []
+
+  abbrev pub settled_over : List (Part State) → List Settlement
+  settled_over [] = []
+  settled_over (p ∷ []) = settled_if (begun_at p).left (world p)
+  settled_over (p ∷ next ∷ others) = (settled_if (begun_at p).left (world p) ++ lost_if (begun_at p).left (world p)) ++ settled_over (next ∷ others)
+
+  -- and the client behind it: that of the last run, which is new where that hasn't begun
+  abbrev pub client_if : List ℕ → World ById State → ById
+  client_if [] w = w.client
+  client_if (asked ∷ later) w = fresh
+
+  abbrev pub client_over : List (Part State) → ById
+  client_over [] = fresh
+  client_over (p ∷ []) = client_if (begun_at p).left (world p)
+  client_over (p ∷ next ∷ others) = client_over (next ∷ others)
+
+  -- and what isn't answered then
+  abbrev pub left_over : List (Part State) → List ℕ
+  left_over [] = the_word
+  left_over (p ∷ []) = (begun_at p).left
+  left_over (p ∷ next ∷ others) = left_over (next ∷ others)

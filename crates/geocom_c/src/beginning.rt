@@ -1,0 +1,150 @@
+//! The beginning: a client sends nothing before eight null procedures were answered, by which nothing from before is taken for an answer.
+
+ghost use Rattle.std.specs.Prelude.{◌≡◌, ◌≢◌, ◌↔◌, ◌<◌, ◌≤◌, ◌+◌, ◌++◌, ℕ, Bool, List, [], length, take, drop, Some, None, true, false};
+ghost use Rattle.std.specs.List.{position};
+ghost use Rattle.gc_lines.specs.Frames.{is_line_feed, frame_of, rest_behind};
+ghost use Rattle.gc_client.specs.Beginning.{asks};
+ghost use Rattle.gc_client.specs.Rule.{Windowed};
+ghost use Rattle.geocom_c.specs.Beginning.{given, given_if, IsGiven, left_behind, left_past};
+ghost use Rattle.gc_client.specs.Beginning.{the_word};
+ghost use Rattle.geocom_c.specs.Rest.{IsCut, IsRest};
+ghost use Rattle.geocom_c.specs.State.{StandsFor, IsAstray, left_of};
+ghost use Rattle.geocom_c.specs.declared.header.TheConstants.{LINE_ROOM, NO_ROOM, NO_CLIENT};
+
+use crate::answers::{GeocomBeginning, begun, unbegun};
+use crate::header::{LINE_ROOM, NO_CLIENT, NO_ROOM};
+use crate::rest::{GeocomRest, bytes_from, put};
+use crate::state::{GeocomClient, load};
+use gc_client::Beginning;
+use gc_lines::Frame;
+
+// Hands a frame to the beginning.
+fn hear_frame(beginning: &mut Beginning, frame: &Frame)
+    ensures { beginning.new ≡ left_past beginning.old frame.now }
+{
+    match frame {
+        Frame::Line(line) => {
+            let _ = beginning.hear(line);
+        }
+        Frame::Cleared | Frame::Overlong | Frame::More => {}
+    }
+}
+
+// Hears bytes through the first line feed, and says how many were used.
+fn hear_line(rest: &mut GeocomRest, beginning: &mut Beginning, bytes: &[u8]) -> usize
+    requires { IsCut rest.old }
+    ensures used { (result ≤ length bytes.now) × (0 < length bytes.now → 0 < result) }
+    ensures more { (r : List ℕ) → IsRest rest.old r → position is_line_feed bytes.now ≡ None
+        → (result ≡ length bytes.now) × IsRest rest.new (r ++ bytes.now) × (beginning.new ≡ beginning.old) }
+    ensures frame { (r : List ℕ) (at : ℕ) → IsRest rest.old r → position is_line_feed bytes.now ≡ Some at
+        → (result ≡ at + 1) × IsRest rest.new [] × (beginning.new ≡ left_past beginning.old (frame_of (r ++ take at bytes.now))) }
+{
+    let (used, frame) = rest.frame(bytes);
+    match frame {
+        Frame::More => {
+            rest.keep(bytes);
+            used
+        }
+        ended => {
+            *rest = GeocomRest::new();
+            hear_frame(beginning, &ended);
+            used
+        }
+    }
+}
+
+// Hears all bytes: each line that they end, and those behind the eighth answer too, which are dropped.
+fn hear_all(rest: &mut GeocomRest, beginning: &mut Beginning, bytes: &[u8])
+    requires { IsCut rest.old }
+    ensures { (r : List ℕ) → IsRest rest.old r
+        → IsRest rest.new (rest_behind r bytes.now) × (beginning.new ≡ left_behind beginning.old r bytes.now) }
+{
+    let mut left = bytes;
+    while !left.is_empty() {
+        let used = hear_line(rest, beginning, left);
+        left = bytes_from(left, used);
+    }
+}
+
+// Writes the line of the null procedure that is asked for, with CR LF, and says how many bytes that are; none once it has begun.
+fn ask(beginning: &Beginning, line: &mut [u8]) -> u32
+    requires { LINE_ROOM ≤ length line.old }
+    ensures asked { (told : GeocomBeginning) → told.count ≡ result → IsGiven (asks beginning.now) told line.new }
+    ensures untouched { drop result line.new ≡ drop result line.old }
+    ensures length { length line.new ≡ length line.old }
+{
+    match beginning.ask() {
+        Some(text) => {
+            put(line, 0, text.as_slice());
+            put(line, text.len(), b"\r\n");
+            text.len() as u32 + 2
+        }
+        None => 0,
+    }
+}
+
+// The same, unless nothing was answered by what came.
+fn ask_if(is_waiting: bool, beginning: &Beginning, line: &mut [u8]) -> u32
+    requires { LINE_ROOM ≤ length line.old }
+    ensures asked { (told : GeocomBeginning) → told.count ≡ result → IsGiven (given_if is_waiting beginning.now) told line.new }
+    ensures untouched { drop result line.new ≡ drop result line.old }
+    ensures length { length line.new ≡ length line.old }
+{
+    if is_waiting {
+        return 0;
+    }
+    ask(beginning, line)
+}
+
+// Whether a null procedure is waited for: something came, and it answered none.
+fn is_waiting(bytes: &[u8], before: u8, after: u8) -> bool
+    requires before { before ≤ 8 }
+    requires after { after ≤ 8 }
+    ensures { (given_if result (drop after the_word)) ≡ given bytes.now (drop before the_word) (drop after the_word) }
+{
+    !bytes.is_empty() && before == after
+}
+
+/// Begins: takes what came, and gives the line of the null procedure that is to go out next, with CR LF: `count` bytes of `line`. Eight null
+/// procedures are asked, one after the other, with ids 6, 5, 4, 3, 2, 1, 0 and 7. A reply with the id of the one that is asked answers it,
+/// whatever its codes and parameters. All else that comes is dropped, so no old reply is taken for the answer to a later request. Once the
+/// eighth is answered, `has_begun` is 1, and requests go out.
+///
+/// Call it without bytes for the first line, and again where nothing came in time: it gives the same line again. Where bytes came, and
+/// answered nothing, `count` is 0: read on. It takes all bytes; what comes behind the eighth answer is dropped, too. Once it has begun it
+/// gives no line, and drops what it is handed: then bytes go to `geocom_client_feed`.
+///
+/// Faults: 62, `line` has fewer than 514 bytes; 63, the state is no client's. After a fault nothing has changed.
+#[unsafe(no_mangle)]
+pub extern "C" fn geocom_client_begin(
+    state: &mut GeocomClient,
+    bytes: &[u8],
+    line: &mut [u8],
+) -> GeocomBeginning
+    ensures heard { LINE_ROOM ≤ length line.old → (c : Windowed) (rest : List ℕ) → StandsFor state.old c rest
+        → (result.fault ≡ 0) × StandsFor state.new c (rest_behind rest bytes.now)
+        × (left_of state.new ≡ left_behind (left_of state.old) rest bytes.now) }
+    ensures given { result.fault ≡ 0 → IsGiven (given bytes.now (left_of state.old) (left_of state.new)) result line.new }
+    ensures begun { result.fault ≡ 0 → (result.has_begun ≡ 1) ↔ (left_of state.new ≡ []) }
+    ensures answered { result.fault ≡ 0 → result.answered ≡ state.new.answered }
+    ensures room { (result.fault ≡ NO_ROOM) ↔ (length line.old < LINE_ROOM) }
+    ensures astray { (result.fault ≡ NO_CLIENT) ↔ ((LINE_ROOM ≤ length line.old) × IsAstray state.old) }
+    ensures done { result.fault ≡ 0 → (c : Windowed) × (rest : List ℕ) × StandsFor state.old c rest }
+    ensures refused { result.fault ≢ 0 → (result ≡ record { fault = result.fault; count = 0; answered = 0; has_begun = 0 }) × (state.new ≡ state.old) × (line.new ≡ line.old) }
+    ensures untouched { drop result.count line.new ≡ drop result.count line.old }
+    ensures length { length line.new ≡ length line.old }
+{
+    if line.len() < LINE_ROOM {
+        return unbegun(NO_ROOM);
+    }
+    let Some(_client) = load(state) else {
+        return unbegun(NO_CLIENT);
+    };
+    let before = state.answered;
+    let mut beginning = Beginning::resume(usize::from(before));
+    hear_all(&mut state.rest, &mut beginning, bytes);
+    state.answered = beginning.answered() as u8;
+    let waits = is_waiting(bytes, before, state.answered);
+    let count = ask_if(waits, &beginning, line);
+    begun(count, state.answered)
+}
