@@ -56,7 +56,7 @@ async def run(instrument, commands, words, delay, per_cent, seed):
     def lost(line):
         if line.startswith(COMMAND):
             first.append(time.time())
-        if line != b"\n" and chance.random() * 100 < per_cent:
+        if first and line != b"\n" and chance.random() * 100 < per_cent:
             count.append(line)
             return True
         return False

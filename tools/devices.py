@@ -141,7 +141,8 @@ def is_held(path):
 def faults_of_pauses(program, folder):
     """What is wrong where a far end is mute from the second cycle on, for so many requests that the line is dead. From the first
     request on to the end the device is to be held, over each close."""
-    mute = range(6, 16)
+    # Behind eight null procedures and a cycle of three commands.
+    mute = range(13, 23)
     came, looks = [], []
     log = Path(folder, "log")
 

@@ -117,9 +117,13 @@ class FarEnd:
                 if data:
                     self.say(near, connection, data)
 
+    def commands(self):
+        """The requests that came, in order, without the station's own null procedures."""
+        return [request for request in self.requests if request.rpc]
+
     def asked(self):
-        """The procedures that were asked for, in order, without the station's own null procedures."""
-        return [request.rpc for request in self.requests if request.rpc]
+        """The procedures that they asked for."""
+        return [request.rpc for request in self.commands()]
 
 
 @contextmanager

@@ -60,6 +60,7 @@ def logs_each_byte(width, program):
 
     def answers(request):
         asked.append(request)
+        # In the beginning, where one request is under way alone: the log has what was put, and the far end what came.
         if len(asked) in (5, 6):
             return CLOSES
         return noise[len(asked) % len(noise)] + good(request)

@@ -1,6 +1,5 @@
 """Holds a request of `geocom station` back over a close, and hands it to a restarted instrument before all that the station sends
-on its new connection: each answer must be that of its own request. So it does with each request in turn, the station's own null
-procedure first.
+on its new connection: each answer must be that of its own request. So it does with each request in turn, those of the beginning first.
 
     held.py GEOCOM
 
@@ -14,6 +13,8 @@ import subprocess
 import sys
 import time
 
+# How many null procedures go ahead.
+BEGINNING = 8
 COMMANDS = "7 5003\n8 5004\n9 2026\n"
 VALUES = [("7", "123456"), ("8", '"GEOCOM SIM"'), ("9", "0")]
 
@@ -26,7 +27,8 @@ def carry(near, far, before):
             data = end.recv(4096)
             if not data:
                 return b"", came
-            if end is near and data.startswith(b"%R1Q,"):
+            # The line feed of a new connection may stand in front.
+            if end is near and data.lstrip(b"\n").startswith(b"%R1Q,"):
                 if came == before:
                     return data, came
                 came += 1
@@ -72,9 +74,9 @@ with socket.socket() as free:
     at = free.getsockname()
 serve = subprocess.Popen([sys.argv[1], "serve", str(at[1]), "--connections", "100"], stderr=subprocess.DEVNULL)
 faults = []
-for request in range(4):
-    # The null procedure is sent anew, and a command isn't.
-    right = [(target, "lost" if place == request - 1 else "answered", "" if place == request - 1 else value)
+for request in range(BEGINNING + len(VALUES)):
+    # A null procedure of the beginning is sent again, and a command isn't.
+    right = [(target, *(("lost", "") if place == request - BEGINNING else ("answered", value)))
              for place, (target, value) in enumerate(VALUES)]
     was = rows(at, request)
     if was != right:

@@ -20,7 +20,7 @@ def measuring(program, port, words, given):
 
 
 # The line that says at the start what a run has to do, where, and what it waits for.
-START = re.compile(r"geocom: \d+ commands? for .*: waits until the line is quiet for \d+ ms and a null procedure is answered")
+START = re.compile(r"geocom: \d+ commands? for .*: waits until eight null procedures are answered, one after the other")
 
 
 def finished(run, status=0, patience=PATIENCE, counts=-1):

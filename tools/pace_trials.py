@@ -30,7 +30,7 @@ def processor_times():
 
 def starts_of(far, commands=2):
     """When the first request of each cycle came."""
-    return [request.moment for request in [r for r in far.requests if r.rpc][::commands]]
+    return [request.moment for request in far.commands()[::commands]]
 
 
 def begins_each_cycle_in_time(cycles, program):
@@ -83,14 +83,14 @@ def misses_while_the_line_is_pulled(width, program):
         words = f"--every 1 --cycles {cycles} --quiet 100 --deadline 300 --retries 50 --width {width}"
         with measuring(program, far.port, words, TWO) as run:
             rows, _ = finished(run, patience=cycles + 8)
-        began = far.requests[1].utc
+        began = far.commands()[0].utc
         expect_each_once(rows, 2, cycles)
         many = expect_missed_when_due(rows, began, "the line was pulled")
         expect(2 <= many <= 3, f"{many} cycles were missed")
         ends = [row["outcome"] for row in rows]
         expect_same(ends[:5], 4 * ["answered"] + ["lost"], "the first outcomes")
         expect_same(ends[-2:], 2 * ["answered"], "the last outcomes")
-        off = far.requests[-2].utc - began - (cycles - 1)
+        off = far.commands()[-2].utc - began - (cycles - 1)
         expect(abs(off) < 0.1, f"the last cycle began {1000 * off:.0f} ms off")
         sent = [int(row["procedure"]) for row in rows if row["outcome"] != "missed"]
         expect(far.asked() in (sent, sent[:5] + sent[6:]), f"{far.asked()} were asked")
@@ -110,7 +110,7 @@ def misses_while_it_is_stopped(program):
             run.child.send_signal(signal.SIGCONT)
             rows, _ = finished(run, patience=cycles + 5)
         expect_each_once(rows, 2, cycles)
-        many = expect_missed_when_due(rows, far.requests[1].utc, "it was stopped")
+        many = expect_missed_when_due(rows, far.commands()[0].utc, "it was stopped")
         expect_same(many, 2, "how many cycles were missed")
         ends = [row["outcome"] for row in rows]
         expect_same(ends, 4 * ["answered"] + 4 * ["missed"] + 6 * ["answered"], "the outcomes")
@@ -187,7 +187,7 @@ def says_what_it_waits_for(program):
     with standing() as far:
         for words, count in ([], 1), (["--silent"], 0):
             status, _, told = ended(program, ["station", str(far.port), "--quiet", "100", "--deadline", "100", *words], TWO)
-            start = f"geocom: 2 commands for 127.0.0.1:{far.port}: waits until the line is quiet for 100 ms and a null procedure is answered"
+            start = f"geocom: 2 commands for 127.0.0.1:{far.port}: waits until eight null procedures are answered, one after the other"
             expect_same((status, told.splitlines().count(start)), (0, count), f"status and start, of {told!r}")
 
 
@@ -258,7 +258,7 @@ def shows_a_line_on_a_terminal(words, most, program):
     *lines, last = shown.decode().split("\r\x1b[K")
     expect_same(last, "answered 8 late 0 lost 0 skipped 0 unreadable 0 missed 0\n", "the last line")
     if lines:
-        start, over = re.match(r"(?s)(geocom: .*? is answered\n)?(.*)", lines[0]).groups()
+        start, over = re.match(r"(?s)(geocom: .*? one after the other\n)?(.*)", lines[0]).groups()
         expect(bool(start), f"{lines} were shown")
         lines[0] = over
     over = r"cycle \d: answered \d( \(last \d s ago\))?"
@@ -290,9 +290,9 @@ def connects_on(program):
                 far.plug()
                 rows, told = finished(run, patience=15)
                 expect_each_once(rows, 2, 1)
-                expect_signs(told[1:], [AWAY, AGAIN])
-                since = moment(told[1][-24:]).timestamp()
-                expect(began - 0.1 <= since <= began + 0.5, f"{told[1]!r} was told, and it began at {began:.3f}")
+                expect_signs(told, [AWAY, AGAIN])
+                since = moment(told[0][-24:]).timestamp()
+                expect(began - 0.1 <= since <= began + 0.5, f"{told[0]!r} was told, and it began at {began:.3f}")
                 expect_same({row["outcome"] for row in rows}, {"answered"}, "the outcomes")
 
 

@@ -26,7 +26,6 @@ NO_TERMINAL, HELD, FORBIDDEN = 58, 59, 60
 ANSWERED = b'0 7 answered %R1P,0,0:0,123456\n1 8 answered %R1P,0,1:0,"GEOCOM SIM"\n'
 ECHOES = "geocom: the line sends back what goes out: a modem or the far end has its echo on"
 NOT_RAW = "geocom: the line changes CR to LF: it is to be raw (stty raw)"
-HASTY = "geocom: the quiet time of 100 ms is shorter than the longest deadline of "
 # Where all is answered, and where it isn't.
 SHORT, SHORTER = "--quiet 100 --deadline 2000", "--quiet 100 --deadline 300"
 NOBODY = 65534
@@ -52,17 +51,17 @@ def expect_asked(program, place):
 
 
 def expect_measured(program, place, words=SHORT, cycles=2, patience=PATIENCE):
-    """Each command of a station there is answered. What it told besides its quiet time and its counts."""
+    """Each command of a station there is answered. What it told besides its start and its counts."""
     with measuring(program, place, f"{words} --cycles {cycles}", COMMANDS) as run:
         rows, told = finished(run, patience=patience)
     expect_each_once(rows, 2, cycles)
     expect_same([row["values"] for row in rows], ["123456", '"GEOCOM SIM"'] * cycles, "the values")
-    return unhurried(told)
+    return told
 
 
-def unhurried(told):
-    """These lines without the one of a short quiet time."""
-    return [line for line in told if not line.startswith(HASTY)]
+def asked(line):
+    """The procedures that were asked for at a device, without the station's own null procedures."""
+    return [request.rpc for request in line.requests if request.rpc]
 
 
 def reaches(listening, host, program):
@@ -90,7 +89,7 @@ def measures_over_a_device(width, program):
     with terminal() as line:
         told = expect_measured(program, line.path, f"{SHORT} --width {width}", cycles=5)
         expect_same(told, [], "what was told")
-        expect_same([r.rpc for r in line.requests if r.rpc], [5003, 5004] * 5, "what was asked for")
+        expect_same(asked(line), [5003, 5004] * 5, "what was asked for")
 
 
 def asks_over_a_device(program):
@@ -197,13 +196,13 @@ def refuses_what_is_no_device(program):
 def refuses_a_held_device(program):
     """While a station has a device no second one, no `ask` and no simulator gets it, and the station goes on."""
     with terminal() as line, measuring(program, line.path, f"{SHORT} --every 1 --cycles 6", COMMANDS) as run:
-        until(lambda: len(line.requests) > 1, "nothing is asked")
+        until(lambda: asked(line), "nothing is asked")
         expect_refused(program, line.path, HELD)
         expect(run.is_running(), "the first ended before the others were refused")
         rows, told = finished(run, patience=12)
         expect_each_once(rows, 2, 6)
-        expect_same((unhurried(told), {row["outcome"] for row in rows}), ([], {"answered"}), "what was told, and the outcomes")
-        expect_same([r.rpc for r in line.requests if r.rpc], [5003, 5004] * 6, "what was asked for")
+        expect_same((told, {row["outcome"] for row in rows}), ([], {"answered"}), "what was told, and the outcomes")
+        expect_same(asked(line), [5003, 5004] * 6, "what was asked for")
         expect_asked(program, line.path)
 
 
@@ -248,7 +247,7 @@ def measures_on_behind_a_pull(program):
         link = Path(folder, "device")
         lead(link, first.path)
         with measuring(program, str(link), f"{SHORTER} --every 1 --cycles 4", COMMANDS) as run:
-            until(lambda: len(first.requests) > 4, "nothing is asked")
+            until(lambda: len(asked(first)) > 3, "nothing is asked")
             lead(link, second.path)
             first.pull()
             rows, _ = finished(run, patience=12)
@@ -290,7 +289,7 @@ def gets_no_controlling_terminal(program):
     with terminal() as line:
         words = ["station", line.path, "--csv", "--every", "1", "--cycles", "3", *SHORT.split()]
         with started(program, words, start_new_session=True) as run:
-            until(lambda: len(line.requests) > 2, "nothing is asked")
+            until(lambda: len(asked(line)) > 1, "nothing is asked")
             expect(line.path in opened(run), "the device isn't open")
             expect_no_terminal(run)
             finished(run, patience=10)

@@ -3,14 +3,14 @@ over in pieces, closes connections, also idle ones, refuses them for a while, an
 what is under way where a connection ends is lost, or held back and handed over on a later one, before all that is new. Of a
 line that is cut there the front, the whole or nothing gets through. The instrument lives on, or starts anew, at any time.
 
-Nothing from before may be under way once a beginning's quiet time is over. So what was held back comes while each connection is
-drained, or well behind the quiet time, or behind the first request; where that one is a null procedure with id 0, it is lost.
+What was held back comes while each connection is drained, or well behind the quiet time, or behind the first request, also where the
+station begins anew: ids alone tell then what is from before.
 
 With `--tag` each answer carries, in place of its first value, the number of the request on whose execution it was made. The log has
 a line for each thing that came or went, with the milliseconds of this machine's clock in front:
 
     clear                       the station's lone line feed
-    null ID                     a null procedure of the station's own
+    null ID                     a null procedure of the station's own, in a beginning or behind commands that were given up
     sent NUMBER CYCLE PLACE     a command's request, as it came from the station; cycles of which none came aren't counted
     came NUMBER                 a reply to it that went on to the station, whole
 """
@@ -32,7 +32,6 @@ from tagging import tagged
 
 REQUEST = re.compile(rb"%R1Q,(\d+),(\d):")
 REPLY = re.compile(rb"%R1P,0,(\d):0,([^\r]*)\r\n$")
-LOST = -1
 
 
 class Line:
@@ -131,7 +130,7 @@ class Relay:
                 self.note("null", int(found[2]))
             if not self.asked:
                 self.asked = True
-                self.past(number is None and found[2] == b"0")
+                self.past()
             if self.chance(15):
                 self.told["echoed"] += 1
                 self.down.queue.append(Line(0, [line]))
@@ -159,22 +158,15 @@ class Relay:
         self.told["held"] += len(self.up.queue) + len(self.down.queue)
         self.up.queue.append(Line(0, [line]))
 
-    def past(self, anew):
-        """The station is past its drain: what was held back is lost where it begins anew, and else may come."""
-        for way in (self.up, self.down):
-            if anew:
-                way.queue = collections.deque(line for line in way.queue if not line.old)
-            for line in way.queue:
-                if line.old:
-                    line.at = time.monotonic() + self.random.uniform(0, self.options.deadline) / 1000
-        if anew:
-            self.owed = collections.deque([LOST] * len(self.owed))
+    def past(self):
+        """The station is past its drain: what was held back may come."""
+        for line in [*self.up.queue, *self.down.queue]:
+            if line.old:
+                line.at = time.monotonic() + self.random.uniform(0, self.options.deadline) / 1000
 
     def from_instrument(self, data):
         for line in self.down.lines(data):
             number = self.owed.popleft()
-            if number == LOST:
-                continue
             found = REPLY.match(line)
             if self.options.tag and number and found:
                 line = b"%%R1P,0,%s:0,%s\r\n" % (found[1], tagged(found[2].decode(), number).encode())

@@ -6,10 +6,12 @@ import subprocess
 import time
 from functools import partial
 
-from far_end import LOSES, good, standing
+from far_end import CLOSES, LOSES, good, standing
 from measuring import expect_ends, expect_each_once, finished, measuring
 from operating import PATIENCE, ended, expect, expect_same, started, written_file
 
+# The ids of a beginning's null procedures.
+BEGINNING = [6, 5, 4, 3, 2, 1, 0, 7]
 # Texts that are refused, with the number of the first faulty line and what is said of it.
 FAULTY = [
     (b"7 5003\n7 9999\n", 2, "no procedure 9999"),
@@ -145,8 +147,8 @@ def waits_as_the_text_says(program):
         expect_same(told, [], "what was told")
 
 
-def drains_what_an_earlier_run_left(program):
-    """An answer of three seconds, which an earlier run asked for, goes to no target: the quiet time is the deadline."""
+def drops_what_an_earlier_run_left(program):
+    """An answer of three seconds, which an earlier run asked for, goes to no target, and neither does what has its first command's id."""
     busy = []
 
     def says(_):
@@ -163,24 +165,82 @@ def drains_what_an_earlier_run_left(program):
         expect_same(told, [], "what was told")
 
 
-def is_quiet_for(words, text, least, tells, program):
-    """The line is quiet for so many milliseconds before the first request, and a hasty quiet time is told."""
-    opened = []
-
-    def says(_):
-        opened.append(time.monotonic())
-        return []
-
-    with standing(good, says) as far, measuring(program, far.port, words, text) as run:
+def begins_at_once(words, text, program):
+    """A run begins by eight null procedures, each once the one before it is answered, and nothing is waited for."""
+    began = time.monotonic()
+    with standing() as far, measuring(program, far.port, words, text) as run:
         rows, told = finished(run)
-        quiet = 1000 * (far.requests[0].moment - opened[0])
-        expect(least - 20 <= quiet <= least + 500, f"it was quiet for {quiet:.0f} ms, and it should be {least}")
-        expect_same(told, tells, "what was told")
+        expect_same([(request.rpc, request.id) for request in far.requests[:9]], [(0, n) for n in BEGINNING] + [(5003, 0)], "what was asked")
+        took = 1000 * (far.commands()[0].moment - began)
+        expect(took <= 1000, f"the first command came {took:.0f} ms behind the start")
+        expect_same(far.came[0][:1], b"\n", "the first byte")
+        expect_same(told, [], "what was told")
         expect_same({row["outcome"] for row in rows}, {"answered"}, "the outcomes")
 
 
-def hasty(quiet, deadline):
-    return [f"geocom: the quiet time of {quiet} ms is shorter than the longest deadline of {deadline} ms"]
+def asks_on_until_it_has_begun(program):
+    """A null procedure that isn't answered goes out again with its id, at its deadline and on the next connection; what has another id is
+    dropped; and a refusal answers it."""
+    came = []
+
+    def answers(request):
+        came.append(request.id)
+        if request.rpc:
+            return good(request)
+        tries = came.count(request.id)
+        if request.id == 4 and tries == 1:
+            return LOSES
+        if request.id == 3 and tries == 1:
+            return CLOSES
+        if request.id == 2 and tries == 1:
+            return b"%R1P,0,0:0,111111\r\n%R1P,0,7:0\r\n"
+        return b"%%R1P,3077,%d:13,5\r\n" % request.id
+
+    with standing(answers) as far, measuring(program, far.port, "--deadline 300 --quiet 100", b"7 5003\n") as run:
+        rows, _ = finished(run)
+        expect_same(came, [6, 5, 4, 4, 3, 3, 2, 2, 1, 0, 7, 0], "the ids")
+        expect_same(len(far.came), 2, "the connections")
+        expect_same([row["values"] for row in rows], ["123456"], "the values")
+
+
+def is_quiet_for(words, least, program):
+    """Within a run a connection is made anew behind so many milliseconds, and is quiet for as long before a request goes out on it."""
+    opened, closed = [], []
+
+    def says(connection):
+        opened.append(time.monotonic())
+        return [(0.1, b"noise\r\n")] if connection > 1 else []
+
+    def answers(request):
+        if request.rpc and not closed:
+            closed.append(time.monotonic())
+            return CLOSES
+        return good(request)
+
+    with standing(answers, says) as far, measuring(program, far.port, f"--deadline 1000 {words}", b"7 5003\n8 5003\n") as run:
+        rows, _ = finished(run, patience=10)
+        paused = 1000 * (opened[1] - closed[0])
+        expect(least - 20 <= paused <= least + 500, f"it paused for {paused:.0f} ms, and it should be {least}")
+        quiet = 1000 * (far.commands()[1].moment - opened[1]) - 100
+        expect(least - 20 <= quiet <= least + 500, f"it was quiet for {quiet:.0f} ms, and it should be {least}")
+        expect_same([row["outcome"] for row in rows], ["lost", "answered"], "the outcomes")
+
+
+def begins_anew(words, program):
+    """Where seven requests are given up they are lost at once, and null procedures go out on the same connection, without a line feed.
+    A reply that fits none keeps the line alive."""
+
+    def answers(request):
+        return b"%R1P,0,7:0\r\n" if request.rpc and len(far.commands()) <= 7 else good(request)
+
+    with standing(answers) as far:
+        with measuring(program, far.port, f"--deadline 300 --quiet 200 --unchained {words}", b"".join(b"%d 5003\n" % n for n in range(9))) as run:
+            rows, told = finished(run, patience=10)
+        expect_same([row["outcome"] for row in rows], 7 * ["lost"] + 2 * ["answered"], "the outcomes")
+        ids = [request.id for request in far.requests]
+        expect_same(ids, BEGINNING + list(range(7)) + BEGINNING + [0, 1], "the ids")
+        expect_same((len(far.came), far.came[0].count(b"\n")), (1, 1 + len(ids)), "the connections, and the line feeds")
+        expect_same(told, [], "what was told")
 
 
 def gives_a_mute_line_up(mute, words, outcomes, program):
@@ -192,12 +252,12 @@ def gives_a_mute_line_up(mute, words, outcomes, program):
 
 
 def falls_mute():
-    """What answers the null procedure of the begin, and nothing behind it."""
+    """What answers the null procedures of the beginning, and nothing behind them."""
     came = []
 
     def answers(request):
         came.append(request)
-        return good(request) if len(came) == 1 else LOSES
+        return good(request) if len(came) <= len(BEGINNING) else LOSES
 
     return answers
 
@@ -223,14 +283,15 @@ def trials():
     yield "a full standard error", measures_on_over_a_full_standard_error
     yield "names of targets", names_targets
     yield "deadlines of the text", waits_as_the_text_says
-    yield "an answer of three seconds from an earlier run", drains_what_an_earlier_run_left
+    yield "an answer of three seconds from an earlier run", drops_what_an_earlier_run_left
     one = b"7 5003\n"
-    slow = b"deadline 900\n" + one
-    yield "the quiet time, without a word", partial(is_quiet_for, "--deadline 700", one, 700, [])
-    yield "the quiet time, a deadline of the text", partial(is_quiet_for, "--deadline 500", slow, 900, [])
-    yield "the quiet time, as long as the deadline", partial(is_quiet_for, "--deadline 500 --quiet 500", one, 500, [])
-    yield "the quiet time, hasty", partial(is_quiet_for, "--deadline 500 --quiet 200", one, 200, hasty(200, 500))
-    yield "the quiet time, hasty by the text", partial(is_quiet_for, "--deadline 500 --quiet 600", slow, 600, hasty(600, 900))
+    yield "the beginning", partial(begins_at_once, "", one)
+    yield "the beginning, long times", partial(begins_at_once, "--quiet 60000 --deadline 60000", b"deadline 90000\n" + one)
+    yield "the beginning, null procedures that aren't answered", asks_on_until_it_has_begun
+    yield "the beginning, anew", partial(begins_anew, "--width 1")
+    yield "the beginning, anew, width 7", partial(begins_anew, "--width 7")
+    yield "the quiet time, without a word", partial(is_quiet_for, "", 2000)
+    yield "the quiet time, shorter than the deadline", partial(is_quiet_for, "--quiet 300", 300)
     yield "a mute line", partial(gives_a_mute_line_up, falls_mute, "--retries 1 --cycles 2", ["lost", "lost"])
-    yield "a mute line from the begin", partial(gives_a_mute_line_up, stays_mute, "--retries 1", [])
+    yield "a mute line from the beginning", partial(gives_a_mute_line_up, stays_mute, "--retries 1", [])
     yield "numbers out of their range", is_refused_by_the_command_line

@@ -24,7 +24,7 @@ complete -c geocom -n '__fish_seen_subcommand_from serve' -l idle -x -d 'seconds
 complete -c geocom -n '__fish_seen_subcommand_from station' -l deadline -x -d 'milliseconds, and then a request is given up'
 complete -c geocom -n '__fish_seen_subcommand_from station' -l every -x -d 'seconds between cycles'
 complete -c geocom -n '__fish_seen_subcommand_from station' -l cycles -x -d 'how many cycles, 0 without end'
-complete -c geocom -n '__fish_seen_subcommand_from station' -l quiet -x -d 'milliseconds, and then the line is quiet'
+complete -c geocom -n '__fish_seen_subcommand_from station' -l quiet -x -d 'milliseconds: the pause before a new connection, and how long that is quiet first'
 complete -c geocom -n '__fish_seen_subcommand_from station' -l retries -x -d 'how many connections in a row, 0 without end'
 complete -c geocom -n '__fish_seen_subcommand_from station; and not __fish_contains_opt json' -l csv -d 'writes comma-separated values'
 complete -c geocom -n '__fish_seen_subcommand_from station; and not __fish_contains_opt json' -l columns -d 'the same, with a column for each quantity'

@@ -1,5 +1,5 @@
 -- What an operator chooses, and the plan that it makes with the tasks of a text: this project's own.
-use Rattle.std.specs.Prelude.{ℕ, List, [], ◌∷◌, Option, None, Some, max}
+use Rattle.std.specs.Prelude.{ℕ, List, [], ◌∷◌, max}
 use Rattle.gc_console.specs.declared.choice.Choice.{Choice}
 use Rattle.gc_station.specs.declared.plan.Plan.{Plan}
 use Rattle.gc_texts.specs.declared.tasks.Task.{Task}
@@ -9,11 +9,6 @@ abbrev pub longest : ℕ → List Task → ℕ
 longest deadline [] = deadline
 longest deadline (task ∷ later) = longest (max deadline task.deadline) later
 
--- the quiet time that was chosen, or else the longest deadline
-abbrev pub quiet_of : Option ℕ → ℕ → ℕ
-quiet_of (Some quiet) deadline = quiet
-quiet_of None deadline = deadline
-
 -- the plan of a choice, for these tasks
 abbrev pub plan_of : Choice → List Task → Plan
 plan_of choice tasks =
@@ -22,6 +17,6 @@ plan_of choice tasks =
       deadline = longest choice.deadline tasks;
       every = choice.every;
       cycles = choice.cycles;
-      quiet = quiet_of choice.quiet (longest choice.deadline tasks);
+      quiet = choice.quiet;
       retries = choice.retries;
     }

@@ -18,7 +18,7 @@ fault_of_unfit Failed = Output
 abbrev pub rotation_line : Unfit → List ℕ
 rotation_line Unopened = []
 rotation_line Held = []
-rotation_line Foreign = codes "geocom: the file does not begin as this station's rows do: it has other columns, or a rotation cut off its header (copytruncate). To rotate it, stop the station, rename the file, wait seven quiet times, and start it\n"
+rotation_line Foreign = codes "geocom: the file does not begin as this station's rows do: it has other columns, or a rotation cut off its header (copytruncate). To rotate it, stop the station, rename the file, and start it\n"
 rotation_line Failed = []
 
 -- all that is told of a path that can't be had as a file of records

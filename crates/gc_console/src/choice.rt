@@ -1,7 +1,7 @@
 //! The choice: what an operator chooses beside the text, and the plan that it makes with the tasks of the text.
 
 ghost use Rattle.std.specs.Prelude.{◌≡◌};
-ghost use Rattle.gc_console.specs.Choices.{longest, quiet_of, plan_of};
+ghost use Rattle.gc_console.specs.Choices.{longest, plan_of};
 
 use gc_station::Plan;
 use gc_texts::Task;
@@ -30,8 +30,8 @@ pub struct Choice {
     pub every: u64,
     /// How many cycles are measured.
     pub cycles: u64,
-    /// The quiet time. None: the longest deadline in use.
-    pub quiet: Option<u64>,
+    /// The quiet time: for a new connection within a run, and the pause before one.
+    pub quiet: u64,
     /// How many times in a row it connects anew.
     pub retries: u32,
     /// Who watches.
@@ -43,13 +43,12 @@ impl Choice {
     pub fn plan(&self, tasks: &[Task]) -> Plan
         ensures { result ≡ plan_of self.now tasks.now }
     {
-        let deadline = longest(self.deadline, tasks);
         Plan {
             width: self.width,
-            deadline,
+            deadline: longest(self.deadline, tasks),
             every: self.every,
             cycles: self.cycles,
-            quiet: quiet_of(self.quiet, deadline),
+            quiet: self.quiet,
             retries: self.retries,
         }
     }
@@ -64,14 +63,4 @@ fn longest(deadline: u64, tasks: &[Task]) -> u64
         longest = longest.max(task.deadline);
     }
     longest
-}
-
-// The quiet time that was chosen, or else the longest deadline.
-fn quiet_of(quiet: Option<u64>, deadline: u64) -> u64
-    ensures { result ≡ quiet_of quiet deadline }
-{
-    match quiet {
-        Some(quiet) => quiet,
-        None => deadline,
-    }
 }

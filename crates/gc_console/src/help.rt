@@ -128,8 +128,8 @@ Each is asked once in each cycle, and each gets a line as it ends, which begins 
   missed        it wasn't sent: its cycle couldn't begin before the next was due
 
 A request that is given up keeps its id, and holds up no other. The connection is closed and made anew where it ends or
-fails, and where something waits and no reply came for twice the longest deadline and the quiet time. Ids go on then. At the
-start, and where seven requests are given up, it begins anew: a null procedure has to be answered before any command goes out.
+fails, and where something waits and no reply came for twice the longest deadline. Ids go on then. At the start, and where
+seven requests are given up, eight null procedures are answered, one after the other, before any command goes out.
 
 With --append FILE each command gets a row of the file as --csv writes it, behind the file's whole rows. What stands behind
 its last line feed, which a crash left, is cut off and told. A file that begins with something else than the names of its columns
@@ -146,10 +146,9 @@ Each answer is the reply to its own request, also by an instrument that keeps it
     to the request directly before;
   - the station is alone on the line: no other client sends on it;
   - the line keeps order, over connections too, loses requests and replies whole, and repeats one only directly behind it;
-  - nothing from before is under way once a beginning was drained;
+  - fewer than six runs in a row before this one ended while they began, with what they sent still under way;
   - what else comes doesn't look like a numbered reply;
-  - the line feed behind half a request arrives, and clears it at the instrument;
-  - the clock goes as time does.
+  - the line feed behind half a request arrives, and clears it at the instrument.
 
 Example, beside `geocom serve 4001`:
   printf '7 5003\\n8 2026\\n' | geocom station 4001

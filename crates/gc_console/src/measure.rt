@@ -14,7 +14,7 @@ ghost use Rattle.gc_station.specs.Scopes.{AreReadings};
 ghost use Rattle.gc_texts.specs.Texts.{end_reads};
 ghost use Rattle.gc_texts.specs.declared.text.TheConstants.{TEXT_LIMIT};
 
-use crate::choice::{Choice, Watch};
+use crate::choice::Watch;
 use crate::files::FilesTold;
 use crate::layout::Layout;
 use crate::oddity::{Noticed, Spot};
@@ -26,7 +26,7 @@ use crate::task_text::read_task_text;
 use crate::turns::tell_turns;
 use gc_lines::{Lasting, PortFailed, Source, write_whole};
 use gc_links::{Link, Moment};
-use gc_station::{Book, Plan, Sight, Stamp, Tally, run_station};
+use gc_station::{Book, Sight, Stamp, Tally, run_station};
 use gc_texts::{Command, Ending, RunFault, Task, Tasks, When, write_head, write_record};
 use std::alloc::Global;
 use std::cell::Cell;
@@ -41,9 +41,9 @@ use std::io::{self, Write};
 /// comes with the faults of [`run_station`], and with `Output` where the output failed: in front of the records, and then the link
 /// wasn't used, or at a record.
 ///
-/// What is odd of the choice and of the text is told on the messages at the start: each angle of a positioning that lies outside one
-/// turn, and a quiet time that is shorter than the longest deadline. So are signs of life, each at most once a minute, where the
-/// choice has them, and once what is noticed of the line at the spot. Where that can't be written the station measures on.
+/// What is odd of the text is told on the messages at the start: each angle of a positioning that lies outside one turn. So are signs
+/// of life, each at most once a minute, where the choice has them, and once what is noticed of the line at the spot. Where that
+/// can't be written the station measures on.
 pub fn run_station_text<L: Link, S: Source, K: Lasting, E: Write>(
     alloc: Global,
     link: &mut L,
@@ -138,14 +138,7 @@ fn measure<L: Link, S, K: Lasting, E: Write>(
         max_turns,
     } = work;
     let plan = station.choice.plan(tasks.as_slice());
-    let _ = warn(&station.choice, &plan, &mut messages);
-    let _ = tell_start(
-        spot,
-        tasks.len(),
-        &plan,
-        station.choice.watch,
-        &mut messages,
-    );
+    let _ = tell_start(spot, tasks.len(), station.choice.watch, &mut messages);
     let mut records = Records {
         sink: output,
         layout: station.layout,
@@ -174,25 +167,10 @@ fn measure<L: Link, S, K: Lasting, E: Write>(
     (streams, end)
 }
 
-// Tells that the quiet time that was chosen is shorter than the longest deadline, where it is.
-fn warn<E: Write>(choice: &Choice, plan: &Plan, messages: &mut E) -> io::Result<()> {
-    match choice.quiet {
-        Some(quiet) if quiet < plan.deadline => {
-            let deadline = plan.deadline;
-            writeln!(
-                messages,
-                "geocom: the quiet time of {quiet} ms is shorter than the longest deadline of {deadline} ms"
-            )
-        }
-        _ => Ok(()),
-    }
-}
-
 // Tells at the start how many commands there are, where they are asked, and what the station waits for first.
 fn tell_start<E: Write>(
     spot: Spot<'_>,
     count: usize,
-    plan: &Plan,
     watch: Watch,
     messages: &mut E,
 ) -> io::Result<()> {
@@ -200,10 +178,10 @@ fn tell_start<E: Write>(
         return Ok(());
     }
     let commands = if count == 1 { "command" } else { "commands" };
-    let (place, quiet) = (spot.place, plan.quiet);
+    let place = spot.place;
     writeln!(
         messages,
-        "geocom: {count} {commands} for {place}: waits until the line is quiet for {quiet} ms and a null procedure is answered"
+        "geocom: {count} {commands} for {place}: waits until eight null procedures are answered, one after the other"
     )
 }
 

@@ -97,7 +97,7 @@ fn write_rotation<E: Write>(why: Unfit, messages: &mut E) -> io::Result<()>
     match why {
         Unfit::Foreign => writeln!(
             messages,
-            "geocom: the file does not begin as this station's rows do: it has other columns, or a rotation cut off its header (copytruncate). To rotate it, stop the station, rename the file, wait seven quiet times, and start it"
+            "geocom: the file does not begin as this station's rows do: it has other columns, or a rotation cut off its header (copytruncate). To rotate it, stop the station, rename the file, and start it"
         ),
         // Nothing, and by its clause nothing.
         Unfit::Unopened | Unfit::Held | Unfit::Failed => write!(messages, ""),

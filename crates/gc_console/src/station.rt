@@ -131,7 +131,8 @@ const ARGUMENTS: &[Argument<'static>] = &[
         name: "quiet",
         takes: Takes::Unsigned(1, 86_400_000),
         value_name: &["MS"],
-        help: "Takes the line for quiet where nothing came or went for so many milliseconds, 1 to 86400000 [default: the longest deadline]",
+        default: &["2000"],
+        help: "Pauses so many milliseconds before it connects anew, and sends on the new connection once nothing came for as long, 1 to 86400000",
         ..FLAG
     },
     Argument {
@@ -229,7 +230,7 @@ fn station_of(matches: &ArgMatches) -> Option<Station> {
             chained: !matches.get_flag("unchained"),
             every: matches.get_one::<u64>("every")?.saturating_mul(1000),
             cycles: cycles_of(matches.get_one::<u64>("cycles")?),
-            quiet: matches.get_one::<u64>("quiet"),
+            quiet: matches.get_one::<u64>("quiet")?,
             retries: retries_of(matches.get_one::<u32>("retries")?),
             watch: if matches.get_flag("silent") {
                 Watch::Nobody

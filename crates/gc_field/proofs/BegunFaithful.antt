@@ -76,7 +76,7 @@ module _ {Line : Type 0} where
   rising_up [] = tt
   rising_up (x ∷ xs) = (omega arith, rising_up xs)
 
-  each_last : (P : Numbered Line → Type 0) (Q : Line → Type 0) → ((x : Line) → Q x → P (record { number = 7; line = x })) → (xs : List Line) → Each Q xs → Each P (of_last xs)
+  pub each_last : (P : Numbered Line → Type 0) (Q : Line → Type 0) → ((x : Line) → Q x → P (record { number = 7; line = x })) → (xs : List Line) → Each Q xs → Each P (of_last xs)
   each_last P Q f [] h = tt
   each_last P Q f (x ∷ xs) h = (f x h.0, each_last P Q f xs h.1)
 
@@ -87,6 +87,12 @@ rising_both (x ∷ xs) ys = (omega arith, rising_both xs ys)
 module _ {State : Type 0} (ends : Ends State) (Good : State → Type 0) (kept : State → Option KeptReply) (keeper : IsAnInstrument ends Good kept) (width : ℕ) (narrow : width ≤ 7) where
   abbrev pub ex : IsExchange ends Good
   ex = exchange_of ends Good kept keeper
+
+  -- what was sent: the null procedures, and then what the client sent
+  pub sent_is : (u : UnderWay State) (ms : List (Move State)) → ArePossible ends Good kept (by_ids width ends) ms (ids_begun u) → map of_sent (behind width ends u ms).wire.sent ≡ map of_sent nulls ++ (course width begun (seen ms)).sent
+  sent_is u ms p =
+      let one = same_all width ends keeper.hears Good kept ms begun_course (ids_begun u) p (record { sent = refl; settled = refl; client = refl }) in
+      sym one.sent ∙ (behind_all width (map of_sent nulls) nulls_settled (seen ms) begun_course begun begun_behind).sent
 
   module _ (u : UnderWay State) (clean : IsClean Good kept u) where
     sound_begun : Sound width ends Good (numbers_begun u)

@@ -39,7 +39,7 @@ module _ {State : Type 0} (ends : Ends State) (Good : State → Type 0) (kept : 
   clean_down [] h = tt
   clean_down (x ∷ xs) h = (h.0.1, clean_down xs h.1)
 
-  clean_lines : (s : Standing State) → Good s.state → HasBegunCleanly kept s → IsClean Good kept (leaves s)
+  pub clean_lines : (s : Standing State) → Good s.state → HasBegunCleanly kept s → IsClean Good kept (leaves s)
   clean_lines s good h = record { good = good; up = clean_up s.up h.up; down = clean_down s.down h.down; keeps = h.keeps }
 
   -- a run that is killed while it begins

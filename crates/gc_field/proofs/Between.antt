@@ -3,17 +3,21 @@ use Rattle.std.proofs.Common.{◌≡◌, ℕ, ◌+◌, ◌≤◌, Bool, true, fa
 use Rattle.std.specs.Prelude.{slice_get}
 use Rattle.std.proofs.lemmas.List.{length-append}
 use Rattle.gc_catalogue.specs.declared.call.Call.{Call}
+use Rattle.gc_catalogue.specs.declared.call.Call.TheVariants.{NullProc}
 use Rattle.gc_catalogue.specs.Texts.{request_line}
 use Rattle.gc_client.specs.Rule.{ById, Sending, sends}
 use Rattle.gc_instrument.specs.Replying.{Handed}
 use Rattle.gc_instrument.specs.State.{KeptReply}
-use Rattle.gc_world.specs.Clients.{by_ids, ids_open}
+use Rattle.gc_world.specs.Clients.{by_ids}
 use Rattle.gc_world.specs.Order.{Each}
 use Rattle.gc_world.specs.World.{Ends, Request, Sent, Numbered, Step, Send, Up_deliver, Up_lose, Up_repeat, Down_deliver, Down_lose, Down_repeat, Expire, Restart_client, Restart_instrument, Nothing, World, Wire, without, doubled, replied, up_delivered, with_up, with_down, started, requested, down_delivered, happens}
 use Rattle.gc_world.proofs.Places.{get_more, get_push}
 use Rattle.gc_world.proofs.Rows.{each_append, each_more, each_without, each_doubled}
+use Rattle.gc_field.specs.Begin.{UnderWay}
+use Rattle.gc_field.specs.Begun.{IsClean, eighth, ids_begun, nulls}
 use Rattle.gc_field.specs.Field.{Move, Sends, Tells, Comes, Foreign, OnLine, Anew, Changes, Joins, IsOfLine, moves, moved, ArePossible}
 use Rattle.gc_field.specs.Chains.{HasNoStartBetween, IsUndisturbed, HasEffect, AreCalls, executing}
+use Rattle.gc_field.proofs.BegunFaithful.{each_last}
 
 -- What the instrument becomes.
 
@@ -260,12 +264,15 @@ module _ {State : Type 0} (ends : Ends State) where
         (goes_less (record w.wire { state = state }) _ (HasNoStartBetween ms) (HasNoStartBetween ms) (IsUndisturbed ms) ⊥ (λ q. q) (λ e. absurd e) (goes_all ms _ p.1 one.stands))
     goes_all (Joins line ∷ ms) w p k = absurd p.0
 
-    stands_open : (state : State) → Stands (ids_open state).wire
-    stands_open state = record { known = tt; begun = tt }
+    known_last : (x : Request) → x ≡ eighth → IsKnown nulls (record { number = 7; line = x })
+    known_last x e = (record { target = 0; call = NullProc; line = request_line (Some 7) NullProc }, refl, sym (ap (λ (r : Request). r.call) e))
 
-    -- so each wire stands, from the beginning on
-    pub stands_all : (ms : List (Move State)) (state : State) → ArePossible ends Good kept (by_ids 7 ends) ms (ids_open state) → Stands (moved ends (by_ids 7 ends) ms (ids_open state)).wire
-    stands_all ms state p = (goes_all ms (ids_open state) p (stands_open state)).stands
+    stands_begun : (u : UnderWay State) → IsClean Good kept u → Stands (ids_begun u).wire
+    stands_begun u clean = record { known = each_last (IsKnown nulls) (λ x. x ≡ eighth) known_last u.up clean.up; begun = tt }
+
+    -- so each wire stands, once it has begun cleanly
+    pub stands_all : (ms : List (Move State)) (u : UnderWay State) → IsClean Good kept u → ArePossible ends Good kept (by_ids 7 ends) ms (ids_begun u) → Stands (moved ends (by_ids 7 ends) ms (ids_begun u)).wire
+    stands_all ms u clean p = (goes_all ms (ids_begun u) p (stands_begun u clean)).stands
 
     pub did_all : (ms : List (Move State)) (w : World ById State) → ArePossible ends Good kept (by_ids 7 ends) ms w → Stands w.wire → Did w.wire (moved ends (by_ids 7 ends) ms w).wire (HasNoStartBetween ms) (IsUndisturbed ms)
     did_all ms w p k = (goes_all ms w p k).did

@@ -1,5 +1,5 @@
 -- A run of a chain that points the telescope, in the field, computed.
-use Rattle.std.proofs.Common.{zero, suc, true, [], refl, sym, ap, arith}
+use Rattle.std.proofs.Common.{◌≡◌, zero, suc, true, [], ◌∷◌, Some, refl, sym, ap, subst, arith}
 use Rattle.std.specs.Fmt.{digits}
 use Rattle.gc_lines.specs.Readers.{header_at, reply_at}
 use Rattle.gc_values.specs.Decimals.{rounded}
@@ -8,9 +8,16 @@ use Rattle.gc_instrument.specs.Replying.{handed}
 use Rattle.gc_texts.specs.declared.tasks.Task.{Task}
 use Rattle.gc_station.specs.Links.{AreChained}
 use Rattle.gc_world.proofs.Options.{some_is}
-use Rattle.gc_field.specs.ChainWitness.{IsPointedInField, commands, measures}
+use Rattle.gc_field.specs.ChainWitness.{IsPointedInField, acts, before, commands, measures, moves, runs, scope}
 use Rattle.gc_field.specs.Pointing.{AreStill, turns}
-use Rattle.gc_field.proofs.Witness.{fits}
+use Rattle.gc_field.proofs.Witness.{asked_each, fits}
+use Rattle.gc_station.specs.Parts.{nothing, parts_of}
+use Rattle.gc_station.specs.Standing.{opening}
+use Rattle.gc_field.specs.Field.{seen}
+use Rattle.gc_field.specs.Shown.{AreShownAs, shown}
+use Rattle.gc_world.specs.Clients.{ends}
+use Rattle.gc_field.specs.Begin.{begins}
+use Rattle.gc_field.specs.Witness.{eight, plan, replies}
 
 pub all_chained : AreChained commands 0 2
 all_chained zero above upto = absurd (omega (arith, above))
@@ -24,15 +31,25 @@ none_turns (suc zero) task above under e =
     let one : Task = record { command = record { target = 7; call = measures }; deadline = 100; chained = true } in ap (λ (t : Task). turns t.command.call) (sym (some_is one task e))
 none_turns (suc (suc p)) task above under e = absurd (omega (arith, under))
 
+parts_are : parts_of plan commands (opening plan scope) acts ≡ record { turns = asked_each replies; steps = seen moves; marks = Some (record { cycle = 1; place = 0; sent = 15 }) ∷ Some (record { cycle = 1; place = 1; sent = 20 }) ∷ Some (record { cycle = 1; place = 2; sent = 25 }) ∷ [] } ∷ nothing ∷ []
+unfolding header_at reply_at digits rounded
+parts_are = refl
+
+shown_are : shown ends eight (begins before) ≡ asked_each replies
+unfolding header_at reply_at handed exec digits rounded
+shown_are = refl
+
 pub chain : IsPointedInField
 unfolding header_at reply_at handed exec digits rounded
 chain =
     record {
       field =
           record {
-            runs = (tt, (refl, (tt, (tt, (refl, (tt, (tt, (tt, (refl, (tt, (tt, (refl, (tt, (tt, (refl, (tt, (tt, (refl, tt))))))))))))))))));
-            steps = refl;
-            possible = ((fits, (tt, (tt, (tt, (tt, (tt, (tt, ((0, [], refl), (tt, (tt, (tt, (tt, (tt, ((1, [], refl), (tt, (tt, (tt, (tt, ((2, [], refl), (tt, (tt, (tt, (tt, ((3, [], refl), tt)))))))))))))))))))))))), ((fits, tt), tt));
+            runs = (tt, (refl, (tt, (refl, (tt, (tt, (refl, (tt, (tt, (refl, (tt, (tt, (refl, (tt, (tt, (refl, (tt, (tt, (refl, (tt, (tt, (refl, (tt, (tt, (refl, (tt, (tt, (tt, (refl, (tt, (tt, (refl, (tt, (tt, (refl, (tt, (tt, (refl, tt))))))))))))))))))))))))))))))))))))));
+            lines = record { ids = tt; good = fits };
+            none = λ h. h;
+            shown = subst (AreShownAs ends before runs) (sym parts_are) (shown_are, refl, (refl, refl, tt));
+            possible = (((tt, (tt, (tt, (tt, (tt, (tt, (tt, (tt, (tt, (tt, (tt, (tt, (tt, (tt, (tt, (tt, (tt, (tt, (tt, (tt, (tt, (tt, (tt, (tt, tt)))))))))))))))))))))))), (tt, (tt, (tt, (tt, (tt, ((8, [], refl), (tt, (tt, (tt, (tt, ((9, [], refl), (tt, (tt, (tt, (tt, ((10, [], refl), tt))))))))))))))))), ((tt, refl), tt));
           };
       records = refl;
       chained = all_chained;

@@ -1,5 +1,5 @@
 -- Chains in the field: the run up to a request is a run in the field, whose last stretch is a front of the whole one's.
-use Rattle.std.proofs.Common.{◌≡◌, ◌⊎◌, inl, inr, ℕ, zero, suc, ◌<◌, ◌≤◌, Bool, true, false, List, [], ◌∷◌, ◌++◌, length, map, Option, Some, refl, sym, ◌∙◌, ap, subst, arith, append_assoc, ltb}
+use Rattle.std.proofs.Common.{◌≡◌, ◌⊎◌, inl, inr, ℕ, zero, suc, ◌+◌, ◌-◌, ◌<◌, ◌≤◌, ◌&&◌, Bool, true, false, if◌then◌else◌, drop, length-drop, List, [], ◌∷◌, ◌++◌, length, map, Option, Some, refl, sym, ◌∙◌, ap, subst, arith, append_assoc, ltb}
 use Rattle.std.specs.Prelude.{slice_get}
 use Rattle.std.specs.List.{AllByRecursion}
 use Rattle.std.proofs.lemmas.Bool.{ltb-true, ltb-false}
@@ -12,29 +12,35 @@ use Rattle.gc_texts.specs.declared.tasks.Task.{Task}
 use Rattle.gc_station.specs.declared.plan.Plan.{Plan}
 use Rattle.gc_links.specs.Acts.{Act}
 use Rattle.gc_station.specs.Answers.{answer_of}
-use Rattle.gc_station.specs.Parts.{Part, AreOf, joined, nothing, in_front, acting, ends_part, parts_of, mark_of}
+use Rattle.gc_station.specs.Deciding.{has_begun}
+use Rattle.gc_station.specs.Parts as part
+use Rattle.gc_station.specs.Parts.{Part, AreOf, joined, nothing, in_front, acting, beginning, doing, ends_part, parts_of, mark_of}
+use Rattle.gc_station.specs.Progressing.{loses_all}
 use Rattle.gc_station.specs.Records.{Record}
 use Rattle.gc_station.specs.Runs.{stood}
 use Rattle.gc_station.specs.Scopes.{Scope}
 use Rattle.gc_station.specs.Standing.{Standing, Runs, opening, order_at, after}
+use Rattle.gc_station.proofs.Asked.{FirstHasNone, goes_begun, marks_none, nil_both, no_turns}
 use Rattle.gc_station.proofs.Booking.{of_length}
-use Rattle.gc_station.proofs.EachRun.{fine_opening}
-use Rattle.gc_station.proofs.Lone.{beyond_first, all_parts_lone}
-use Rattle.gc_world.specs.Clients.{by_ids, ids_open}
-use Rattle.gc_world.specs.World.{Ends}
+use Rattle.gc_world.specs.Clients.{by_ids}
+use Rattle.gc_world.specs.World.{Ends, Up_deliver}
 use Rattle.gc_world.proofs.Options.{some_is, none_is_not}
 use Rattle.gc_world.proofs.Places.{below}
+use Rattle.gc_field.specs.Begin.{AreTurns, UnderWay, begins, leaves, turned}
+use Rattle.gc_field.specs.Begin.{Standing as Begins}
+use Rattle.gc_field.specs.Beginnings.{ArePossibleIf, AreRuns, Run, left_by_run}
+use Rattle.gc_field.specs.Beginnings.{stood as stood_by}
+use Rattle.gc_field.specs.Begun.{WasMadeOn, behind, ids_begun}
 use Rattle.gc_field.specs.Chains.{AreExecutedInChain, IsChainedTo, IsExecutedInChain}
 use Rattle.gc_field.specs.Field.{Move, Sends, Tells, Comes, Foreign, OnLine, Anew, Changes, Joins, ArePossible, seen}
 use Rattle.gc_field.specs.Instrument.{IsAnInstrument}
-use Rattle.gc_field.specs.Laws.{asked, left}
+use Rattle.gc_field.specs.Laws.{asked}
 use Rattle.gc_station.specs.Links.{AreChained, IsBefore, IsAnsweredBack, ChainsStay, MarksGoOn, RecordsStay, parts}
-use Rattle.gc_field.specs.Made.{WasMadeOn}
-use Rattle.gc_field.specs.Runs.{IsInField, IsItsOwn, IsOwnAnswer, AreSentAs, world}
-use Rattle.gc_field.specs.Stretches.{Stretch}
-use Rattle.gc_field.proofs.InTime.{Law}
+use Rattle.gc_field.specs.Runs.{IsInField, IsItsOwn, IsOwnAnswer, AreSentAs, own_sent, own_settled, world}
+use Rattle.gc_field.specs.Shown.{AreShownAs, Stretch, shown, stretches}
+use Rattle.gc_field.proofs.InTime.{clean_of, front_nil}
 use Rattle.gc_field.proofs.Possible.{possible_front}
-use Rattle.gc_field.proofs.Joining.{AllFit, Fits, all_fit, run_faithful}
+use Rattle.gc_field.proofs.Joining.{AllFit, Fits, all_fitting, get_drop, run_faithful}
 use Rattle.gc_field.proofs.Ordered.{executed_behind}
 
 -- The front of a run.
@@ -48,8 +54,9 @@ IsFront (p ∷ next ∷ ps) (q ∷ qs) = (q ≡ p) × IsFront (next ∷ ps) qs
 
 joined_assoc : (p q r : Part) → joined (joined p q) r ≡ joined p (joined q r)
 joined_assoc p q r =
-    ap (λ (steps : List step.Step). record { steps = steps; marks = (p.marks ++ q.marks) ++ r.marks }) (append_assoc p.steps q.steps r.steps)
-    ∙ ap (λ (marks : List _). record { steps = p.steps ++ (q.steps ++ r.steps); marks = marks }) (append_assoc p.marks q.marks r.marks)
+    ap (λ (turns : List part.Turn). record { turns = turns; steps = (p.steps ++ q.steps) ++ r.steps; marks = (p.marks ++ q.marks) ++ r.marks }) (append_assoc p.turns q.turns r.turns)
+    ∙ ap (λ (steps : List step.Step). record { turns = p.turns ++ (q.turns ++ r.turns); steps = steps; marks = (p.marks ++ q.marks) ++ r.marks }) (append_assoc p.steps q.steps r.steps)
+    ∙ ap (λ (marks : List _). record { turns = p.turns ++ (q.turns ++ r.turns); steps = p.steps ++ (q.steps ++ r.steps); marks = marks }) (append_assoc p.marks q.marks r.marks)
 
 front_more : (p : Part) (b : Bool) (ps qs : List Part) → IsFront ps qs → IsFront (in_front p b ps) (in_front p b qs)
 front_more p b [] qs h = absurd h
@@ -84,6 +91,66 @@ front_last (x ∷ []) (y ∷ qs) zero p q h size e f = (h.0, sym (some_is y q f)
 front_last (x ∷ []) (y ∷ qs) (suc i) p q h size e f = absurd (omega (arith, size))
 front_last (x ∷ next ∷ ps) (y ∷ qs) zero p q h size e f = absurd (omega (arith, size))
 front_last (x ∷ next ∷ ps) (y ∷ qs) (suc i) p q h size e f = front_last (next ∷ ps) qs i p q h.1 (omega (arith, size)) e f
+
+-- Where a request went out in the last of them, it had begun, and no turn came behind that.
+
+abbrev AreWhole : List Part → List Part → Type 0
+AreWhole [] qs = ⊥
+AreWhole (p ∷ ps) [] = ⊥
+AreWhole (p ∷ []) (q ∷ qs) = (p.marks ≡ []) ⊎ (q.turns ≡ p.turns)
+AreWhole (p ∷ next ∷ ps) (q ∷ qs) = AreWhole (next ∷ ps) qs
+
+whole_none : (p : Part) (b : Bool) (ps : List Part) → AreWhole (nothing ∷ []) (in_front p b ps)
+whole_none p true ps = inl refl
+whole_none p false [] = inl refl
+whole_none p false (q ∷ ps) = inl refl
+
+turns_alike : (p x y : Part) → x.turns ≡ [] → y.turns ≡ [] → (joined p y).turns ≡ (joined p x).turns
+turns_alike p x y e f = ap (λ l. p.turns ++ l) (f ∙ sym e)
+
+whole_more : (p : Part) (b : Bool) (ps qs : List Part) → (p.marks ≡ []) ⊎ (b ≡ false → FirstHasNone ps × FirstHasNone qs) → AreWhole ps qs → AreWhole (in_front p b ps) (in_front p b qs)
+whole_more p b [] qs k h = absurd h
+whole_more p true (x ∷ ps) [] k h = absurd h
+whole_more p false (x ∷ ps) [] k h = absurd h
+whole_more p true (x ∷ ps) (y ∷ qs) k h = h
+whole_more p false (x ∷ []) (y ∷ qs) k (inr e) = inr (ap (λ l. p.turns ++ l) e)
+whole_more p false (x ∷ []) (y ∷ qs) (inl e) (inl f) = inl (nil_both p.marks x.marks e f)
+whole_more p false (x ∷ []) (y ∷ qs) (inr g) (inl f) = inr (turns_alike p x y (g refl).0 (g refl).1)
+whole_more p false (x ∷ next ∷ ps) (y ∷ qs) k h = h
+
+module _ (plan : Plan) (commands : List Task) where
+  -- an act sends nothing while it begins; and once it has begun no turn comes until the next part
+  sends_or_not : (s : Standing) (act : Act) (xs ys : List Act) (b : Bool) → has_begun s.progress ≡ b → let t = after plan commands s act in
+      ((if b then doing plan commands s (order_at plan s) act else beginning s (order_at plan s) act).marks ≡ []) ⊎ ((b && loses_all t.progress) ≡ false → FirstHasNone (parts_of plan commands t xs) × FirstHasNone (parts_of plan commands t ys))
+  sends_or_not s act xs ys false e = inl (marks_none plan commands s (order_at plan s) act)
+  sends_or_not s act xs ys true e =
+      let t = after plan commands s act in
+      inr (λ f. (no_turns plan commands t xs (goes_begun plan commands t f), no_turns plan commands t ys (goes_begun plan commands t f)))
+
+  whole_parts : (s : Standing) (xs ys : List Act) → AreWhole (parts_of plan commands s xs) (parts_of plan commands s (xs ++ ys))
+  whole_parts s [] [] = inl refl
+  whole_parts s [] (act ∷ ys) = whole_none (acting plan commands s (order_at plan s) act) (ends_part plan commands s act) (parts_of plan commands (after plan commands s act) ys)
+  whole_parts s (act ∷ xs) ys =
+      whole_more (acting plan commands s (order_at plan s) act) (ends_part plan commands s act) (parts_of plan commands (after plan commands s act) xs) (parts_of plan commands (after plan commands s act) (xs ++ ys))
+      (sends_or_not s act xs (xs ++ ys) (has_begun s.progress) refl)
+      (whole_parts (after plan commands s act) xs ys)
+
+-- a request went out in the last of them
+abbrev LastIsMarked : List Part → Type 0
+LastIsMarked [] = Unit {0}
+LastIsMarked (p ∷ []) = p.marks ≡ [] → ⊥
+LastIsMarked (p ∷ next ∷ ps) = LastIsMarked (next ∷ ps)
+
+marked : {A : Type 0} (xs : List A) (m : ℕ) (x : A) → slice_get xs m ≡ Some x → xs ≡ [] → ⊥
+marked [] m x got e = none_is_not x got
+marked (y ∷ xs) m x got e = cc
+
+last_marked : (ps : List Part) (i m : ℕ) (p : Part) (mark : _) → length ps ≡ suc i → slice_get ps i ≡ Some p → slice_get p.marks m ≡ Some mark → LastIsMarked ps
+last_marked [] i m p mark size e got = tt
+last_marked (x ∷ []) zero m p mark size e got = marked x.marks m mark (subst (λ (y : Part). slice_get y.marks m ≡ Some mark) (sym (some_is x p e)) got)
+last_marked (x ∷ []) (suc i) m p mark size e got = absurd (omega (arith, size))
+last_marked (x ∷ next ∷ ps) zero m p mark size e got = absurd (omega (arith, size))
+last_marked (x ∷ next ∷ ps) (suc i) m p mark size e got = last_marked (next ∷ ps) i m p mark (omega (arith, size)) e got
 
 -- Its stretches.
 
@@ -126,77 +193,71 @@ split_seen (Joins line ∷ ms) (x ∷ xs) ys e = let h = split_seen ms (x ∷ xs
 record IsCutOf {State : Type 0} (t s : Stretch State) : Type 0 where
   front : List (Move State)
   later : List (Move State)
-  is : t ≡ record { state = s.state; moves = front }
+  is : t ≡ record { from = s.from; moves = front }
   order : s.moves ≡ front ++ later
 
-abbrev SeenOf : {State : Type 0} → List (Stretch State) → List (List step.Step)
-SeenOf ss = map (λ (s : Stretch _). seen s.moves) ss
-
-abbrev StepsOf : List Part → List (List step.Step)
-StepsOf ps = map (λ (p : Part). p.steps) ps
-
 first_cut : {State : Type 0} (s : Stretch State) (ss : List (Stretch State)) (front later : List (Move State)) → s.moves ≡ front ++ later → (i : ℕ) (u v : Stretch State) → i ≡ 0
-    → slice_get (record { state = s.state; moves = front } ∷ []) i ≡ Some u → slice_get (s ∷ ss) i ≡ Some v → IsCutOf u v
+    → slice_get (record { from = s.from; moves = front } ∷ []) i ≡ Some u → slice_get (s ∷ ss) i ≡ Some v → IsCutOf u v
 first_cut s ss front later order zero u v is a b =
-    subst (λ w. IsCutOf u w) (some_is s v b) (record { front = front; later = later; is = sym (some_is (record { state = s.state; moves = front }) u a); order = order })
+    subst (λ w. IsCutOf u w) (some_is s v b) (record { front = front; later = later; is = sym (some_is (record { from = s.from; moves = front }) u a); order = order })
 first_cut s ss front later order (suc i) u v is a b = absurd (omega (arith, is))
 
-nil_not : {A : Type 0} (x : A) (xs : List A) → [] ≡ x ∷ xs → ⊥
-nil_not x xs e = cc
-
 module _ {State : Type 0} (ends : Ends State) (Good : State → Type 0) (kept : State → Option KeptReply) where
-  abbrev Possible : List (Stretch State) → Type 0
-  Possible ss = AllByRecursion (λ (s : Stretch State). Good s.state × ArePossible ends Good kept (by_ids 7 ends) s.moves (ids_open s.state)) ss
+  abbrev from_of : UnderWay State → Run State → UnderWay State
+  from_of u r = leaves (turned ends r.turns (begins u))
 
-  record Cut (ps : List Part) (ss : List (Stretch State)) : Type 0 where
-    stretches : List (Stretch State)
-    steps : map (λ (s : Stretch State). seen s.moves) stretches ≡ map (λ (p : Part). p.steps) ps
-    possible : Possible stretches
-    last : (i : ℕ) (t s : Stretch State) → length ps ≡ suc i → slice_get stretches i ≡ Some t → slice_get ss i ≡ Some s → IsCutOf t s
+  possible_cut : (left : List ℕ) (s : Begins State) (ms front later : List (Move State)) → ms ≡ front ++ later → ArePossibleIf 7 ends Good kept left s ms → ArePossibleIf 7 ends Good kept left s front
+  possible_cut [] s ms front later e p = possible_front 7 ends Good kept front later (ids_begun (leaves s)) (subst (λ l. ArePossible ends Good kept (by_ids 7 ends) l (ids_begun (leaves s))) e p)
+  possible_cut (asked ∷ rest) s ms front later e p = front_nil front later (sym p ∙ e)
 
-  cut_one : (p : Part) (s : Stretch State) (ss : List (Stretch State)) → SplitSeen s.moves p.steps → Good s.state → ArePossible ends Good kept (by_ids 7 ends) s.moves (ids_open s.state) → Cut (p ∷ []) (s ∷ ss)
-  cut_one p s ss x good possible = record {
-    stretches = record { state = s.state; moves = x.front } ∷ [];
-    steps = ap (λ l. l ∷ []) x.steps;
-    possible = ((good, possible_front 7 ends Good kept x.front x.later (ids_open s.state) (subst (λ l. ArePossible ends Good kept (by_ids 7 ends) l (ids_open s.state)) x.order possible)), tt);
-    last = λ i u v size a b. first_cut s ss x.front x.later x.order i u v (omega (arith, size)) a b;
+  record Cut (ps : List Part) (u : UnderWay State) (rs : List (Run State)) : Type 0 where
+    runs : List (Run State)
+    shown : AreShownAs ends u runs ps
+    possible : AreRuns 7 ends Good kept u runs
+    last : (i : ℕ) (t s : Stretch State) → length ps ≡ suc i → slice_get (stretches ends u runs) i ≡ Some t → slice_get (stretches ends u rs) i ≡ Some s → IsCutOf t s
+
+  cut_one : (p : Part) (u : UnderWay State) (r : Run State) (rs : List (Run State)) → shown ends r.turns (begins u) ≡ p.turns → SplitSeen r.moves p.steps → AreTurns ends Good kept r.turns (begins u)
+      → ArePossibleIf 7 ends Good kept (stood_by 7 ends u r).left (stood_by 7 ends u r) r.moves → Cut (p ∷ []) u (r ∷ rs)
+  cut_one p u r rs e x turns possible = record {
+    runs = record { turns = r.turns; moves = x.front } ∷ [];
+    shown = (e, x.steps, tt);
+    possible = ((turns, possible_cut (stood_by 7 ends u r).left (stood_by 7 ends u r) r.moves x.front x.later x.order possible), tt);
+    last = λ i t v size a b. first_cut (record { from = from_of u r; moves = r.moves }) (stretches ends (left_by_run 7 ends u r) rs) x.front x.later x.order i t v (omega (arith, size)) a b;
   }
 
-  later_cut : (p next : Part) (ps : List Part) (s : Stretch State) (ss : List (Stretch State)) (c : Cut (next ∷ ps) ss) (i : ℕ) (u v : Stretch State) → length (p ∷ next ∷ ps) ≡ suc i
-      → slice_get (s ∷ c.stretches) i ≡ Some u → slice_get (s ∷ ss) i ≡ Some v → IsCutOf u v
-  later_cut p next ps s ss c zero u v size a b = absurd (omega (arith, size))
-  later_cut p next ps s ss c (suc i) u v size a b = c.last i u v (omega (arith, size)) a b
+  later_cut : (p next : Part) (ps : List Part) (u : UnderWay State) (r : Run State) (rs : List (Run State)) (c : Cut (next ∷ ps) (left_by_run 7 ends u r) rs) (i : ℕ) (t v : Stretch State) → length (p ∷ next ∷ ps) ≡ suc i
+      → slice_get (stretches ends u (r ∷ c.runs)) i ≡ Some t → slice_get (stretches ends u (r ∷ rs)) i ≡ Some v → IsCutOf t v
+  later_cut p next ps u r rs c zero t v size a b = absurd (omega (arith, size))
+  later_cut p next ps u r rs c (suc i) t v size a b = c.last i t v (omega (arith, size)) a b
 
-  cut_more : (p next : Part) (ps : List Part) (s : Stretch State) (ss : List (Stretch State)) → seen s.moves ≡ p.steps → Good s.state × ArePossible ends Good kept (by_ids 7 ends) s.moves (ids_open s.state) → Cut (next ∷ ps) ss → Cut (p ∷ next ∷ ps) (s ∷ ss)
-  cut_more p next ps s ss here good c = record {
-    stretches = s ∷ c.stretches;
-    steps = ap (λ l. l ∷ SeenOf c.stretches) here ∙ ap (λ l. p.steps ∷ l) c.steps;
+  cut_last : (p : Part) (qs : List Part) (u : UnderWay State) (rs : List (Run State)) → IsFront (p ∷ []) qs → AreWhole (p ∷ []) qs → (p.marks ≡ [] → ⊥) → AreShownAs ends u rs qs → AreRuns 7 ends Good kept u rs → Cut (p ∷ []) u rs
+  cut_last p [] u rs h w marked e good = absurd h
+  cut_last p (q ∷ qs) u [] h w marked e good = absurd e
+  cut_last p (q ∷ qs) u (r ∷ rs) h (inl none) marked e good = absurd (marked none)
+  cut_last p (q ∷ qs) u (r ∷ rs) h (inr same) marked e good =
+      let here : seen r.moves ≡ p.steps ++ h.0.steps = e.1 ∙ ap (λ (x : Part). x.steps) h.1 in
+      cut_one p u r rs (e.0 ∙ same) (split_seen r.moves p.steps h.0.steps here) good.0.0 good.0.1
+
+  cut_more : (p next : Part) (ps : List Part) (u : UnderWay State) (r : Run State) (rs : List (Run State)) → shown ends r.turns (begins u) ≡ p.turns → seen r.moves ≡ p.steps
+      → AreTurns ends Good kept r.turns (begins u) × ArePossibleIf 7 ends Good kept (stood_by 7 ends u r).left (stood_by 7 ends u r) r.moves → Cut (next ∷ ps) (left_by_run 7 ends u r) rs → Cut (p ∷ next ∷ ps) u (r ∷ rs)
+  cut_more p next ps u r rs e f good c = record {
+    runs = r ∷ c.runs;
+    shown = (e, f, c.shown);
     possible = (good, c.possible);
-    last = λ i u v size a b. later_cut p next ps s ss c i u v size a b;
+    last = λ i t v size a b. later_cut p next ps u r rs c i t v size a b;
   }
 
-  cut_last : (p : Part) (qs : List Part) (ss : List (Stretch State)) → IsFront (p ∷ []) qs → SeenOf ss ≡ StepsOf qs → Possible ss → Cut (p ∷ []) ss
-  cut_last p [] ss h e good = absurd h
-  cut_last p (q ∷ qs) [] h e good = absurd (nil_not q.steps (StepsOf qs) e)
-  cut_last p (q ∷ qs) (s ∷ ss) h e good =
-      let same : seen s.moves ≡ q.steps = cons_head (seen s.moves) q.steps (SeenOf ss) (StepsOf qs) e in
-      let here : seen s.moves ≡ p.steps ++ h.0.steps = same ∙ ap (λ (x : Part). x.steps) h.1 in
-      cut_one p s ss (split_seen s.moves p.steps h.0.steps here) good.0.0 good.0.1
+  cut_on : (p next : Part) (ps qs : List Part) (u : UnderWay State) (rs : List (Run State)) → IsFront (p ∷ next ∷ ps) qs → AreWhole (p ∷ next ∷ ps) qs → AreShownAs ends u rs qs → AreRuns 7 ends Good kept u rs
+      → ((xs : List Part) (v : UnderWay State) (ts : List (Run State)) → IsFront (next ∷ ps) xs → AreWhole (next ∷ ps) xs → AreShownAs ends v ts xs → AreRuns 7 ends Good kept v ts → Cut (next ∷ ps) v ts) → Cut (p ∷ next ∷ ps) u rs
+  cut_on p next ps [] u rs h w e good again = absurd h
+  cut_on p next ps (q ∷ qs) u [] h w e good again = absurd e
+  cut_on p next ps (q ∷ qs) u (r ∷ rs) h w e good again =
+      cut_more p next ps u r rs (e.0 ∙ ap (λ (x : Part). x.turns) h.0) (e.1 ∙ ap (λ (x : Part). x.steps) h.0) good.0 (again qs (left_by_run 7 ends u r) rs h.1 w e.2 good.1)
 
-  cut_on : (p next : Part) (ps qs : List Part) (ss : List (Stretch State)) → IsFront (p ∷ next ∷ ps) qs → SeenOf ss ≡ StepsOf qs → Possible ss
-      → ((rs : List Part) (ts : List (Stretch State)) → IsFront (next ∷ ps) rs → SeenOf ts ≡ StepsOf rs → Possible ts → Cut (next ∷ ps) ts) → Cut (p ∷ next ∷ ps) ss
-  cut_on p next ps [] ss h e good again = absurd h
-  cut_on p next ps (q ∷ qs) [] h e good again = absurd (nil_not q.steps (StepsOf qs) e)
-  cut_on p next ps (q ∷ qs) (s ∷ ss) h e good again =
-      let same : seen s.moves ≡ q.steps = cons_head (seen s.moves) q.steps (SeenOf ss) (StepsOf qs) e in
-      let here : seen s.moves ≡ p.steps = same ∙ ap (λ (x : Part). x.steps) h.0 in
-      let others : SeenOf ss ≡ StepsOf qs = cons_tail (seen s.moves) q.steps (SeenOf ss) (StepsOf qs) e in
-      cut_more p next ps s ss here good.0 (again qs ss h.1 others good.1)
-
-  cut_field : (ps qs : List Part) (ss : List (Stretch State)) → IsFront ps qs → SeenOf ss ≡ StepsOf qs → Possible ss → Cut ps ss
-  cut_field [] qs ss h e good = absurd h
-  cut_field (p ∷ []) qs ss h e good = cut_last p qs ss h e good
-  cut_field (p ∷ next ∷ ps) qs ss h e good = cut_on p next ps qs ss h e good (λ rs ts g f well. cut_field (next ∷ ps) rs ts g f well)
+  cut_field : (ps qs : List Part) (u : UnderWay State) (rs : List (Run State)) → IsFront ps qs → AreWhole ps qs → LastIsMarked ps → AreShownAs ends u rs qs → AreRuns 7 ends Good kept u rs → Cut ps u rs
+  cut_field [] qs u rs h w marked e good = absurd h
+  cut_field (p ∷ []) qs u rs h w marked e good = cut_last p qs u rs h w marked e good
+  cut_field (p ∷ next ∷ ps) qs u rs h w marked e good = cut_on p next ps qs u rs h w e good (λ xs v ts g x f well. cut_field (next ∷ ps) xs v ts g x marked f well)
 
 -- What stands at a place.
 
@@ -220,11 +281,11 @@ fit_at ends Good kept is (q ∷ ps) [] i p s h e f = absurd h
 fit_at ends Good kept is (q ∷ ps) (t ∷ ss) zero p s h e f = subst (λ x. Fits ends Good kept is x s) (some_is q p e) (subst (λ x. Fits ends Good kept is q x) (some_is t s f) h.0)
 fit_at ends Good kept is (q ∷ ps) (t ∷ ss) (suc i) p s h e f = fit_at ends Good kept is ps ss i p s h.1 e f
 
-pub sent_at : {State : Type 0} (ends : Ends State) (commands : List Task) (ps : List Part) (ss : List (Stretch State)) (i : ℕ) (p : Part) (s : Stretch State) → AreSentAs ends commands ps ss → slice_get ps i ≡ Some p → slice_get ss i ≡ Some s → AreOf commands p.marks (map asked (world ends s).wire.sent)
+pub sent_at : {State : Type 0} (ends : Ends State) (commands : List Task) (ps : List Part) (ss : List (Stretch State)) (i : ℕ) (p : Part) (s : Stretch State) → AreSentAs ends commands ps ss → slice_get ps i ≡ Some p → slice_get ss i ≡ Some s → AreOf commands p.marks (map asked (own_sent ends s))
 sent_at ends commands [] ss i p s h e f = absurd (none_is_not p e)
 sent_at ends commands (q ∷ ps) [] i p s h e f = absurd h
 sent_at ends commands (q ∷ ps) (t ∷ ss) zero p s h e f =
-    subst (λ (x : Part). AreOf commands x.marks (map asked (world ends s).wire.sent)) (some_is q p e) (subst (λ (x : Stretch _). AreOf commands q.marks (map asked (world ends x).wire.sent)) (some_is t s f) h.0)
+    subst (λ (x : Part). AreOf commands x.marks (map asked (own_sent ends s))) (some_is q p e) (subst (λ (x : Stretch _). AreOf commands q.marks (map asked (own_sent ends x))) (some_is t s f) h.0)
 sent_at ends commands (q ∷ ps) (t ∷ ss) (suc i) p s h e f = sent_at ends commands ps ss i p s h.1 e f
 
 -- Pairs of numbers.
@@ -264,11 +325,7 @@ within c p d q e r (inr a) (inr b) same = (b.0, a.1, b.1)
 
 -- The theorem, from what is known of a station's runs.
 
-module _ {State : Type 0} (ends : Ends State) (Good : State → Type 0) (kept : State → Option KeptReply) (is : IsAnInstrument ends Good kept) (law : Law ends Good kept) (stay : ChainsStay) (go_on : MarksGoOn) (records_stay : RecordsStay) (plan : Plan) (commands : List Task) (scope : Scope) where
-  fitting : (acts : List Act) (ss : List (Stretch State)) → IsInField ends Good kept plan commands scope acts ss → AllFit ends Good kept is (parts plan commands scope acts) ss
-  fitting acts ss h =
-      all_fit ends Good kept is law (parts plan commands scope acts) ss h.steps h.possible (all_parts_lone plan commands (opening plan scope) acts (fine_opening plan commands scope) refl h.runs)
-
+module _ {State : Type 0} (ends : Ends State) (Good : State → Type 0) (kept : State → Option KeptReply) (is : IsAnInstrument ends Good kept) (stay : ChainsStay) (go_on : MarksGoOn) (records_stay : RecordsStay) (plan : Plan) (commands : List Task) (scope : Scope) where
   -- where a command's own request is, whose record is known
   own_place : (acts : List Act) → Runs plan commands (opening plan scope) acts → (i m : ℕ) (part : Part) (r : Record) (ss : List (Stretch State)) (line : List ℕ) → slice_get (parts plan commands scope acts) i ≡ Some part
       → slice_get part.marks m ≡ Some (Some (mark_of r)) → (u : IsItsOwn ends Good kept commands (parts plan commands scope acts) ss r line) → (u.k ≡ i) × (u.m ≡ m)
@@ -278,48 +335,59 @@ module _ {State : Type 0} (ends : Ends State) (Good : State → Type 0) (kept : 
       (λ l. not_itself r.cycle r.place (go_on plan commands scope acts runs i u.k m u.m part u.part (mark_of r) (mark_of r) of_parts u.of_parts mark u.mark l))
 
   -- the run up to a request is one in the field
-  in_front_of : (acts before rest : List Act) (ss : List (Stretch State)) → acts ≡ before ++ rest → IsInField ends Good kept plan commands scope acts ss
-      → (c : Cut ends Good kept (parts plan commands scope before) ss) × IsInField ends Good kept plan commands scope before c.stretches
-  in_front_of acts before rest ss e h =
+  in_front_of : (acts before rest : List Act) (u : UnderWay State) (rs : List (Run State)) → acts ≡ before ++ rest → LastIsMarked (parts plan commands scope before) → IsInField ends Good kept plan commands scope acts u rs
+      → (c : Cut ends Good kept (parts plan commands scope before) u rs) × IsInField ends Good kept plan commands scope before u c.runs
+  in_front_of acts before rest u rs e marked h =
       let front : IsFront (parts plan commands scope before) (parts plan commands scope acts) =
       subst (λ l. IsFront (parts plan commands scope before) (parts plan commands scope l)) (sym e) (front_parts plan commands (opening plan scope) before rest) in
       let runs : Runs plan commands (opening plan scope) before = runs_front plan commands (opening plan scope) before rest (subst (λ l. Runs plan commands (opening plan scope) l) e h.runs) in
-      let c = cut_field ends Good kept (parts plan commands scope before) (parts plan commands scope acts) ss front h.steps h.possible in
-      (c, record { runs = runs; steps = c.steps; possible = c.possible })
+      let whole : AreWhole (parts plan commands scope before) (parts plan commands scope acts) =
+      subst (λ l. AreWhole (parts plan commands scope before) (parts plan commands scope l)) (sym e) (whole_parts plan commands (opening plan scope) before rest) in
+      let c = cut_field ends Good kept (parts plan commands scope before) (parts plan commands scope acts) u rs front whole marked h.shown h.possible in
+      (c, record { runs = runs; lines = h.lines; none = h.none; shown = c.shown; possible = c.possible })
 
   -- there the answer of the command before was settled, and the request wasn't sent
-  settled_there : (before : List Act) (ss' : List (Stretch State)) → IsInField ends Good kept plan commands scope before ss' → (i n cycle a : ℕ) (first : Part) → slice_get (parts plan commands scope before) i ≡ Some first → length first.marks ≡ n
-      → (back : IsAnsweredBack plan commands scope before first cycle a) → (t : Stretch State) × (slice_get ss' i ≡ Some t) × (length (world ends t).wire.sent ≡ n)
-      × (slice_get (world ends t).wire.settled back.m ≡ Some (record { target = back.answer.command.target; call = back.answer.command.call; outcome = Answered back.line }))
-  settled_there before ss' h i n cycle a first of_first count back =
-      let f = run_faithful ends Good kept is law plan commands scope before ss' h in
-      let u = all_at (IsOwnAnswer ends Good kept commands (parts plan commands scope before) ss') (stood plan commands scope before).records back.k back.answer f.own back.among back.line (ap answer_of back.answered) in
-      let at = own_place before h.runs i back.m first back.answer ss' back.line of_first back.mark u in
-      let of_ss : slice_get ss' i ≡ Some u.stretch = subst (λ k. slice_get ss' k ≡ Some u.stretch) at.0 u.of_stretches in
-      let size : length first.marks ≡ length (world ends u.stretch).wire.sent =
-      of_length commands first.marks (map asked (world ends u.stretch).wire.sent) (sent_at ends commands (parts plan commands scope before) ss' i first u.stretch f.sent of_first of_ss) ∙ length-map (world ends u.stretch).wire.sent asked in
-      (u.stretch, of_ss, sym size ∙ count, subst (λ m. slice_get (world ends u.stretch).wire.settled m ≡ Some (record { target = back.answer.command.target; call = back.answer.command.call; outcome = Answered back.line })) at.1 u.settled)
+  settled_there : (before : List Act) (u : UnderWay State) (rs : List (Run State)) → IsInField ends Good kept plan commands scope before u rs → (i n cycle a : ℕ) (first : Part) → slice_get (parts plan commands scope before) i ≡ Some first → length first.marks ≡ n
+      → (back : IsAnsweredBack plan commands scope before first cycle a) → (t : Stretch State) × (slice_get (stretches ends u rs) i ≡ Some t) × (length (own_sent ends t) ≡ n)
+      × (slice_get (own_settled ends t) back.m ≡ Some (record { target = back.answer.command.target; call = back.answer.command.call; outcome = Answered back.line }))
+  settled_there before u rs h i n cycle a first of_first count back =
+      let ss = stretches ends u rs in
+      let f = run_faithful ends Good kept is plan commands scope before u rs h in
+      let o = all_at (IsOwnAnswer ends Good kept commands (parts plan commands scope before) ss) (stood plan commands scope before).records back.k back.answer f.own back.among back.line (ap answer_of back.answered) in
+      let at = own_place before h.runs i back.m first back.answer ss back.line of_first back.mark o in
+      let of_ss : slice_get ss i ≡ Some o.stretch = subst (λ k. slice_get ss k ≡ Some o.stretch) at.0 o.of_stretches in
+      let size : length first.marks ≡ length (own_sent ends o.stretch) =
+      of_length commands first.marks (map asked (own_sent ends o.stretch)) (sent_at ends commands (parts plan commands scope before) ss i first o.stretch f.sent of_first of_ss) ∙ length-map (own_sent ends o.stretch) asked in
+      (o.stretch, of_ss, sym size ∙ count, subst (λ m. slice_get (own_settled ends o.stretch) m ≡ Some (record { target = back.answer.command.target; call = back.answer.command.call; outcome = Answered back.line })) at.1 o.settled)
 
   -- the line of a record was made on executing its own call
-  made_its : (acts : List Act) (ss : List (Stretch State)) → IsInField ends Good kept plan commands scope acts ss → (b : Record) (line : List ℕ) (u : IsItsOwn ends Good kept commands (parts plan commands scope acts) ss b line) → Fits ends Good kept is u.part u.stretch
-      → WasMadeOn 7 ends u.stretch.state u.stretch.moves u.m b.command.call line
-  made_its acts ss h b line u fit =
+  made_its : (ps : List Part) (ss : List (Stretch State)) (b : Record) (line : List ℕ) (o : IsItsOwn ends Good kept commands ps ss b line) → Fits ends Good kept is o.part o.stretch
+      → WasMadeOn 7 ends o.stretch.from o.stretch.moves (8 + o.m) b.command.call line
+  made_its ps ss b line o fit =
       let x : Settlement = record { target = b.command.target; call = b.command.call; outcome = Answered line } in
-      let right : b.command.call ≡ u.task.command.call = (fit.faithful.one_for_one.same u.m x u.request u.settled u.sent).1 ∙ ap (λ (o : Asked). o.call) u.asks in
-      subst (λ call. WasMadeOn 7 ends u.stretch.state u.stretch.moves u.m call line) (sym right) u.made_on
+      let w = (world ends o.stretch).wire in
+      let right : b.command.call ≡ o.task.command.call = (fit.faithful.one_for_one.same (8 + o.m) x o.request (get_drop 8 o.m w.settled x o.settled) (get_drop 8 o.m w.sent o.request o.sent)).1 ∙ ap (λ (z : Asked). z.call) o.asks in
+      subst (λ call. WasMadeOn 7 ends o.stretch.from o.stretch.moves (8 + o.m) call line) (sym right) o.made_on
 
-  chained_to : (acts : List Act) (ss : List (Stretch State)) → IsInField ends Good kept plan commands scope acts ss → (b : Record) (line : List ℕ) (u : IsItsOwn ends Good kept commands (parts plan commands scope acts) ss b line) (a : ℕ) → a < b.place → AreChained commands a b.place
-      → IsChainedTo ends Good kept scope.reads (parts plan commands scope acts) ss (stood plan commands scope acts).records a b line
-  chained_to acts ss h b line u a less chained =
+  chained_to : (acts : List Act) (v : UnderWay State) (rs : List (Run State)) → IsInField ends Good kept plan commands scope acts v rs → (b : Record) (line : List ℕ) (u : IsItsOwn ends Good kept commands (parts plan commands scope acts) (stretches ends v rs) b line) (a : ℕ) → a < b.place → AreChained commands a b.place
+      → IsChainedTo ends Good kept scope.reads (parts plan commands scope acts) (stretches ends v rs) (stood plan commands scope acts).records a b line
+  chained_to acts v rs h b line u a less chained =
+      let ss = stretches ends v rs in
       let sent = stay plan commands scope acts h.runs u.k u.m u.part (mark_of b) u.of_parts u.mark in
       let back = sent.chain a less chained in
-      let cut = in_front_of acts sent.before sent.rest ss sent.order h in
-      let there = settled_there sent.before cut.0.stretches cut.1 u.k u.m b.cycle a sent.first sent.of_parts sent.count back in
+      let marked = last_marked (parts plan commands scope sent.before) u.k back.m sent.first (Some (mark_of back.answer)) sent.last sent.of_parts back.mark in
+      let cut = in_front_of acts sent.before sent.rest v rs sent.order marked h in
+      let there = settled_there sent.before v cut.0.runs cut.1 u.k u.m b.cycle a sent.first sent.of_parts sent.count back in
       let c = cut.0.last u.k there.0 u.stretch sent.last there.1 u.of_stretches in
-      let fit = fit_at ends Good kept is (parts plan commands scope acts) ss u.k u.part u.stretch (fitting acts ss h) u.of_parts u.of_stretches in
+      let fit = fit_at ends Good kept is (parts plan commands scope acts) ss u.k u.part u.stretch (all_fitting ends Good kept is plan commands scope acts v rs h).0 u.of_parts u.of_stretches in
       let x : Settlement = record { target = back.answer.command.target; call = back.answer.command.call; outcome = Answered back.line } in
-      let settled : slice_get (left 7 ends u.stretch.state c.front).wire.settled back.m ≡ Some x = subst (λ (t : Stretch State). slice_get (world ends t).wire.settled back.m ≡ Some x) c.is there.3 in
-      let size : length (left 7 ends u.stretch.state c.front).wire.sent ≡ u.m = subst (λ (t : Stretch State). length (world ends t).wire.sent ≡ u.m) c.is there.2 in
+      let w = (behind 7 ends u.stretch.from c.front).wire in
+      let settled : slice_get (drop 8 w.settled) back.m ≡ Some x = subst (λ (t : Stretch State). slice_get (own_settled ends t) back.m ≡ Some x) c.is there.3 in
+      let size : length (drop 8 w.sent) ≡ u.m = subst (λ (t : Stretch State). length (own_sent ends t) ≡ u.m) c.is there.2 in
+      let dropped : length (drop 8 w.sent) ≡ length w.sent - 8 = length-drop 8 w.sent in
+      let beyond : 8 ≤ 8 + back.m = omega arith in
+      let made = made_its (parts plan commands scope acts) ss b line u fit in
+      let clean = clean_of ends Good kept is u.stretch fit.sound made.front made.later (OnLine Up_deliver) made.split in
       let front : IsFront (parts plan commands scope sent.before) (parts plan commands scope acts) =
       subst (λ l. IsFront (parts plan commands scope sent.before) (parts plan commands scope l)) (sym sent.order) (front_parts plan commands (opening plan scope) sent.before sent.rest) in
       let more = front_last (parts plan commands scope sent.before) (parts plan commands scope acts) u.k sent.first u.part front sent.last sent.of_parts u.of_parts in
@@ -354,12 +422,12 @@ module _ {State : Type 0} (ends : Ends State) (Good : State → Type 0) (kept : 
             let it = within back.answer.cycle back.answer.place mark.cycle mark.place b.cycle b.place first last same_cycle in
             (it.0, subst (λ p. p < mark.place) back.own_place it.1, it.2);
         executed =
-            executed_behind ends Good kept is law u.stretch fit.good fit.field c.front c.later c.order back.m u.m x back.line (beyond_first u.part.marks back.m (mark_of back.answer) fit.first mark_a) settled refl
-            (omega (arith, size)) b.command.call line (made_its acts ss h b line u fit);
+            executed_behind ends Good kept is u.stretch clean fit.sound.possible c.front c.later c.order (8 + back.m) (8 + u.m) x back.line beyond (get_drop 8 back.m w.settled x settled) refl
+            (omega (arith, size, dropped)) b.command.call line made;
       }
 
-  pub chains_executed : (acts : List Act) (ss : List (Stretch State)) → IsInField ends Good kept plan commands scope acts ss → AreExecutedInChain ends Good kept plan commands scope acts ss
-  chains_executed acts ss h =
-      all_so (IsOwnAnswer ends Good kept commands (parts plan commands scope acts) ss) (IsExecutedInChain ends Good kept plan commands scope acts ss)
-      (λ b own line a answered less chained. chained_to acts ss h b line (own line answered) a less chained)
-      (stood plan commands scope acts).records (run_faithful ends Good kept is law plan commands scope acts ss h).own
+  pub chains_executed : (acts : List Act) (u : UnderWay State) (rs : List (Run State)) → IsInField ends Good kept plan commands scope acts u rs → AreExecutedInChain ends Good kept plan commands scope acts u rs
+  chains_executed acts u rs h =
+      all_so (IsOwnAnswer ends Good kept commands (parts plan commands scope acts) (stretches ends u rs)) (IsExecutedInChain ends Good kept plan commands scope acts u rs)
+      (λ b own line a answered less chained. chained_to acts u rs h b line (own line answered) a less chained)
+      (stood plan commands scope acts).records (run_faithful ends Good kept is plan commands scope acts u rs h).own

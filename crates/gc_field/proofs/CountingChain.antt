@@ -1,5 +1,5 @@
 -- A run of a chain over an instrument that counts, computed.
-use Rattle.std.proofs.Common.{◌≡◌, ℕ, suc, ◌<◌, inl, inr, true, false, cond, List, Option, Some, None, [], refl, sym, ◌∙◌, ap}
+use Rattle.std.proofs.Common.{◌≡◌, ℕ, suc, ◌<◌, inl, inr, true, false, cond, List, Option, Some, None, [], ◌∷◌, refl, sym, ◌∙◌, ap, subst}
 use Rattle.std.proofs.lemmas.Bool.{eq-eqb}
 use Rattle.std.specs.Prelude.{take, drop}
 use Rattle.std.specs.Fmt.{digits}
@@ -9,14 +9,21 @@ use Rattle.gc_client.specs.declared.window.TheConstants.{WINDOW}
 use Rattle.gc_client.specs.Rule.{heard}
 use Rattle.gc_instrument.specs.State.{KeptReply}
 use Rattle.gc_world.proofs.Options.{some_is}
-use Rattle.gc_field.specs.ChainWitness.{points, reads_all}
+use Rattle.gc_field.specs.ChainWitness.{commands, points, reads_all, scope}
 use Rattle.gc_field.specs.Chains.{HasEffect}
-use Rattle.gc_field.specs.CountingChain.{Counter, counted_or, counting, kept_by, bare, counts, stretch, moves, first, third, IsCountedInField}
+use Rattle.gc_field.specs.CountingChain.{Counter, IsCountedInField, acts, bare, before, begun, counted_or, counting, counts, first, kept_by, moves, runs, stretch, third}
 use Rattle.gc_field.specs.Instrument.{IsAnInstrument, KeepsItsReply, AnyState}
-use Rattle.gc_field.specs.Made.{WasMadeOn}
+use Rattle.gc_field.specs.Begun.{WasMadeOn}
 use Rattle.gc_field.specs.Needed.{Keeper, held, kept, value}
 use Rattle.gc_field.proofs.ChainWitness.{all_chained}
 use Rattle.gc_field.proofs.Needed.{kept_own, reads_value}
+use Rattle.gc_station.specs.Parts.{nothing, parts_of}
+use Rattle.gc_station.specs.Standing.{opening}
+use Rattle.gc_field.specs.Field.{seen}
+use Rattle.gc_field.specs.Shown.{AreShownAs, shown}
+use Rattle.gc_field.specs.Begin.{begins}
+use Rattle.gc_field.specs.Witness.{eight, plan}
+use Rattle.gc_field.proofs.Witness.{asked_each}
 
 true_is_not : true ≡ false → ⊥
 true_is_not e = cc
@@ -77,13 +84,21 @@ effect =
       alike = λ s t call e. ap (λ (c : Counter). record { count = suc c.count; keeps = None }) e;
     }
 
-first_made : WasMadeOn WINDOW counting stretch.state moves 1 points first
+first_made : WasMadeOn WINDOW counting stretch.from moves 8 points first
 unfolding header_at reply_at digits
-first_made = record { front = take 10 moves; later = drop 11 moves; split = refl; id = 1; rest = []; reaches = refl; executed = refl; reply = refl }
+first_made = record { front = take 3 moves; later = drop 4 moves; split = refl; id = 0; rest = []; reaches = refl; executed = refl; reply = refl }
 
-third_made : WasMadeOn WINDOW counting stretch.state moves 3 reads_all third
+third_made : WasMadeOn WINDOW counting stretch.from moves 10 reads_all third
 unfolding header_at reply_at digits
-third_made = record { front = take 20 moves; later = drop 21 moves; split = refl; id = 3; rest = []; reaches = refl; executed = refl; reply = refl }
+third_made = record { front = take 13 moves; later = drop 14 moves; split = refl; id = 2; rest = []; reaches = refl; executed = refl; reply = refl }
+
+parts_are : parts_of plan commands (opening plan scope) acts ≡ record { turns = asked_each begun; steps = seen moves; marks = Some (record { cycle = 1; place = 0; sent = 15 }) ∷ Some (record { cycle = 1; place = 1; sent = 20 }) ∷ Some (record { cycle = 1; place = 2; sent = 25 }) ∷ [] } ∷ nothing ∷ []
+unfolding header_at reply_at digits
+parts_are = refl
+
+shown_are : shown counting eight (begins before) ≡ asked_each begun
+unfolding header_at reply_at digits
+shown_are = refl
 
 pub counted : IsCountedInField
 unfolding header_at reply_at digits
@@ -94,9 +109,11 @@ counted =
       effect = effect;
       field =
           record {
-            runs = (tt, (refl, (tt, (tt, (refl, (tt, (tt, (tt, (refl, (tt, (tt, (refl, (tt, (tt, (refl, (tt, (tt, (refl, tt))))))))))))))))));
-            steps = refl;
-            possible = ((tt, (tt, (tt, (tt, (tt, (tt, (tt, ((0, [], refl), (tt, (tt, (tt, (tt, (tt, ((1, [], refl), (tt, (tt, (tt, (tt, ((2, [], refl), (tt, (tt, (tt, (tt, ((3, [], refl), tt)))))))))))))))))))))))), ((tt, tt), tt));
+            runs = (tt, (refl, (tt, (refl, (tt, (tt, (refl, (tt, (tt, (refl, (tt, (tt, (refl, (tt, (tt, (refl, (tt, (tt, (refl, (tt, (tt, (refl, (tt, (tt, (refl, (tt, (tt, (tt, (refl, (tt, (tt, (refl, (tt, (tt, (refl, (tt, (tt, (refl, tt))))))))))))))))))))))))))))))))))))));
+            lines = record { ids = tt; good = tt };
+            none = λ h. h;
+            shown = subst (AreShownAs counting before runs) (sym parts_are) (shown_are, refl, (refl, refl, tt));
+            possible = (((tt, (tt, (tt, (tt, (tt, (tt, (tt, (tt, (tt, (tt, (tt, (tt, (tt, (tt, (tt, (tt, (tt, (tt, (tt, (tt, (tt, (tt, (tt, (tt, tt)))))))))))))))))))))))), (tt, (tt, (tt, (tt, (tt, ((8, [], refl), (tt, (tt, (tt, (tt, ((9, [], refl), (tt, (tt, (tt, (tt, ((10, [], refl), tt))))))))))))))))), ((tt, refl), tt));
           };
       records = refl;
       chained = all_chained;

@@ -1,5 +1,5 @@
 -- A run over an instrument that keeps no reply, computed.
-use Rattle.std.proofs.Common.{◌≡◌, true, false, Some, [], inl, refl, ap, lit<}
+use Rattle.std.proofs.Common.{◌≡◌, true, false, Some, [], ◌∷◌, inl, refl, sym, ap, subst, lit<}
 use Rattle.std.specs.Prelude.{take, drop}
 use Rattle.std.specs.Fmt.{decimal, digits}
 use Rattle.gc_lines.specs.Readers.{header_at, reply_at}
@@ -8,8 +8,15 @@ use Rattle.gc_catalogue.specs.declared.call.Call.TheVariants.{InstrumentNo}
 use Rattle.gc_client.specs.declared.window.TheConstants.{WINDOW}
 use Rattle.gc_client.specs.Rule.{id_in}
 use Rattle.gc_field.specs.Instrument.{IsAnInstrument, AnyState, nothing}
-use Rattle.gc_field.specs.Made.{WasMadeOn}
-use Rattle.gc_field.specs.Drifting.{drifting, moves, answer, IsAnsweredByDrifting}
+use Rattle.gc_field.specs.Begin.{begins, leaves, none_under_way, turned}
+use Rattle.gc_field.specs.Begun.{WasMadeOn}
+use Rattle.gc_field.specs.Drifting.{IsAnsweredByDrifting, acts, answer, begun, commands, drifting, moves, plan, runs, scope, turns}
+use Rattle.gc_station.specs.Parts.{parts_of}
+use Rattle.gc_station.specs.Standing.{opening}
+use Rattle.gc_field.specs.Field.{seen}
+use Rattle.gc_field.specs.Shown.{AreShownAs, shown}
+use Rattle.gc_station.specs.Parts as part
+use Rattle.gc_field.proofs.Witness.{asked_each}
 
 true_is_not : true ≡ false → ⊥
 true_is_not e = cc
@@ -26,9 +33,17 @@ is =
       starts_good = λ s good. tt;
     }
 
-was_made : WasMadeOn WINDOW drifting 12 moves 2 InstrumentNo answer
+was_made : WasMadeOn WINDOW drifting (leaves (turned drifting turns (begins (none_under_way 5)))) moves 9 InstrumentNo answer
 unfolding header_at reply_at digits
-was_made = record { front = take 20 moves; later = drop 21 moves; split = refl; id = 2; rest = []; reaches = refl; executed = refl; reply = refl }
+was_made = record { front = take 11 moves; later = drop 12 moves; split = refl; id = 1; rest = []; reaches = refl; executed = refl; reply = refl }
+
+parts_are : parts_of plan commands (opening plan scope) acts ≡ record { turns = part.Asks ∷ part.Asks ∷ asked_each begun; steps = seen moves; marks = Some (record { cycle = 1; place = 0; sent = 220 }) ∷ Some (record { cycle = 1; place = 1; sent = 320 }) ∷ [] } ∷ part.nothing ∷ []
+unfolding header_at reply_at digits
+parts_are = refl
+
+shown_are : shown drifting turns (begins (none_under_way 5)) ≡ part.Asks ∷ part.Asks ∷ asked_each begun
+unfolding header_at reply_at digits
+shown_are = refl
 
 pub answered : IsAnsweredByDrifting
 unfolding header_at reply_at digits
@@ -37,9 +52,11 @@ answered =
       is = is;
       field =
           record {
-            runs = (tt, (refl, (tt, (tt, (refl, (tt, (tt, (tt, (refl, (tt, (tt, (tt, (refl, (tt, (tt, (refl, (tt, (tt, (tt, (refl, (tt, (tt, (refl, (tt, (tt, (refl, (tt, (tt, (tt, (refl, (tt, (tt, (tt, (refl, tt))))))))))))))))))))))))))))))))));
-            steps = refl;
-            possible = ((tt, (tt, (tt, (tt, (tt, (tt, (tt, (tt, (tt, tt))))))))), ((tt, (tt, (tt, (tt, (tt, (tt, (tt, (tt, (tt, ((0, [], refl), (tt, (tt, (tt, (tt, (tt, (tt, ((tt, refl), (tt, (tt, (tt, ((tt, refl), (tt, (tt, (tt, (tt, (tt, (tt, ((2, [], refl), tt)))))))))))))))))))))))))))), ((tt, tt), tt)));
+            runs = (tt, (refl, (tt, (refl, (tt, (tt, (refl, (tt, (tt, (refl, (tt, (tt, (tt, (refl, (tt, (refl, (tt, (tt, (refl, (tt, (tt, (refl, (tt, (tt, (refl, (tt, (tt, (refl, (tt, (tt, (refl, (tt, (tt, (refl, (tt, (tt, (refl, (tt, (tt, (tt, (refl, (tt, (tt, (refl, (tt, (tt, (refl, (tt, (tt, (tt, (refl, (tt, (tt, (tt, (refl, tt)))))))))))))))))))))))))))))))))))))))))))))))))))))));
+            lines = record { ids = tt; good = tt };
+            none = λ h. h;
+            shown = subst (AreShownAs drifting (none_under_way 5) runs) (sym parts_are) (shown_are, refl, (refl, refl, tt));
+            possible = (((tt, (tt, (tt, (tt, (tt, ((tt, refl), (tt, (tt, (tt, (tt, (tt, (tt, (tt, (tt, (tt, (tt, (tt, (tt, (tt, (tt, (tt, (tt, (tt, (tt, (tt, (tt, (tt, (tt, (tt, (tt, tt)))))))))))))))))))))))))))))), (tt, (tt, (tt, (tt, (tt, (tt, ((tt, refl), (tt, (tt, (tt, ((tt, refl), (tt, (tt, (tt, (tt, (tt, (tt, ((9, [], refl), tt))))))))))))))))))), ((tt, refl), tt));
           };
       over = refl;
       records = refl;

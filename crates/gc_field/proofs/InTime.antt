@@ -1,5 +1,5 @@
 -- The first reply to a request that comes unsettled settles it.
-use Rattle.std.proofs.Common.{◌≡◌, ℕ, zero, suc, ◌+◌, ◌-◌, ◌<◌, ◌≤◌, Bool, true, false, List, [], ◌∷◌, ◌++◌, length, map, nat_eq, Option, Some, refl, sym, ◌∙◌, ap, subst, arith, append_assoc, length-drop}
+use Rattle.std.proofs.Common.{◌≡◌, ◌⊎◌, inl, inr, ℕ, zero, suc, ◌+◌, ◌-◌, ◌<◌, ◌≤◌, Bool, true, false, List, [], ◌∷◌, ◌++◌, length, map, nat_eq, Option, Some, refl, sym, ◌∙◌, ap, subst, arith, append_assoc, length-drop}
 use Rattle.std.specs.Prelude.{slice_get}
 use Rattle.std.proofs.lemmas.Bool.{ne_eqb}
 use Rattle.std.proofs.lemmas.List.{length-append, length-map}
@@ -10,19 +10,23 @@ use Rattle.gc_client.specs.declared.pending.Pending.{Pending}
 use Rattle.gc_client.specs.Rule.{ById, Settlement, id_send, met, pending_of, settle}
 use Rattle.gc_instrument.specs.State.{KeptReply}
 use Rattle.gc_station.proofs.Booking.{settled_by, client_after, settled_append, course_settled}
-use Rattle.gc_world.specs.Clients.{by_ids, by_numbers, ids_open, numbers_open}
+use Rattle.gc_world.specs.Clients.{by_ids, by_numbers}
 use Rattle.gc_world.specs.Order.{Each}
 use Rattle.gc_world.specs.World.{Ends, Numbered, Wire, World, requested}
 use Rattle.gc_world.proofs.Sound.{IsComing}
-use Rattle.gc_field.specs.Field.{Move, Sends, Tells, Comes, Foreign, OnLine, Anew, Changes, Joins, moves, moved, ArePossible, IsFirstAlone, IsField, seen}
+use Rattle.gc_field.specs.Begin.{UnderWay}
+use Rattle.gc_field.specs.Begun.{IsClean, IsFaithful, behind, ids_begun, nulls_settled, numbers_begun}
+use Rattle.gc_field.specs.Field.{Move, Sends, Tells, Comes, Foreign, OnLine, Anew, Changes, Joins, moves, moved, ArePossible, seen}
 use Rattle.gc_field.specs.Instrument.{IsAnInstrument}
-use Rattle.gc_field.specs.Laws.{IsFaithful, asked, left}
+use Rattle.gc_field.specs.Laws.{asked}
 use Rattle.gc_field.specs.Runs.{IsFaithfulThroughout, IsInTime, gives_up, world}
-use Rattle.gc_field.specs.Stretches.{Stretch}
+use Rattle.gc_field.specs.Shown.{Stretch}
 use Rattle.gc_field.proofs.Instruments.{exchange_of}
 use Rattle.gc_field.proofs.Possible.{moved_append, possible_front, possible_behind}
 use Rattle.gc_field.proofs.Waits.{Waits, after_is, after_moves, get_last, waits_all}
-use Rattle.gc_field.proofs.Moving.{both_all, both_open}
+use Rattle.gc_field.proofs.Moving.{both_all}
+use Rattle.gc_field.proofs.BegunFaithful.{both_begun, faithful}
+use Rattle.gc_field.proofs.Unbegun.{faithful_none}
 
 seen_append : {State : Type 0} (front later : List (Move State)) → seen (front ++ later) ≡ seen front ++ seen later
 seen_append [] later = refl
@@ -34,25 +38,6 @@ seen_append (OnLine s ∷ front) later = seen_append front later
 seen_append (Anew ∷ front) later = seen_append front later
 seen_append (Changes state ∷ front) later = seen_append front later
 seen_append (Joins line ∷ front) later = seen_append front later
-
-alone_front : {State : Type 0} (front later : List (Move State)) (out : Bool) → IsFirstAlone out (front ++ later) → IsFirstAlone out front
-alone_front [] later out h = tt
-alone_front (Sends target call deadline ∷ front) later false h = alone_front front later true h
-alone_front (Sends target call deadline ∷ front) later true h = absurd h
-alone_front (Tells now ∷ front) later false h = alone_front front later false h
-alone_front (Tells now ∷ front) later true h = alone_front front later true h
-alone_front (Comes line ∷ front) later false h = tt
-alone_front (Comes line ∷ front) later true h = tt
-alone_front (Foreign line ∷ front) later false h = alone_front front later false h
-alone_front (Foreign line ∷ front) later true h = alone_front front later true h
-alone_front (OnLine s ∷ front) later false h = alone_front front later false h
-alone_front (OnLine s ∷ front) later true h = alone_front front later true h
-alone_front (Anew ∷ front) later false h = alone_front front later false h
-alone_front (Anew ∷ front) later true h = alone_front front later true h
-alone_front (Changes state ∷ front) later false h = alone_front front later false h
-alone_front (Changes state ∷ front) later true h = alone_front front later true h
-alone_front (Joins line ∷ front) later false h = alone_front front later false h
-alone_front (Joins line ∷ front) later true h = alone_front front later true h
 
 -- the request that a reply meets
 met_at : (k : ℕ) (line : List ℕ) (ps : List Pending) → k < length ps → (p : Pending) × (slice_get ps k ≡ Some p) × (slice_get (settle k line ps) k ≡ Some (met p line))
@@ -72,40 +57,68 @@ get_between (a ∷ xs) ys zs (suc n) k x e got = get_between xs ys zs n k x (ome
 some_pending : (p q : Pending) → Some p ≡ Some q → p ≡ q
 some_pending p q e = cc
 
--- the law of one stretch
-abbrev pub Law : {State : Type 0} → Ends State → (State → Type 0) → (State → Option KeptReply) → Type 0
-Law ends Good kept = (state : _) → Good state → (ms : List (Move _)) → IsField 7 ends Good kept state ms → IsFaithful 7 ends state ms Good kept
+cons_not : {A : Type 0} (xs ys : List A) (y : A) → xs ≡ [] → xs ≡ y ∷ ys → ⊥
+cons_not xs ys y e f = cc
+
+pub not_nil : {A : Type 0} (xs front later : List A) (x : A) → xs ≡ [] → xs ≡ front ++ x ∷ later → ⊥
+not_nil xs [] later x e f = cons_not xs later x e f
+not_nil xs (y ∷ front) later x e f = cons_not xs (front ++ x ∷ later) y e f
+
+pub front_nil : {A : Type 0} (front later : List A) → [] ≡ front ++ later → front ≡ []
+front_nil [] later e = refl
+front_nil (x ∷ front) later e = cc
 
 module _ {State : Type 0} (ends : Ends State) (Good : State → Type 0) (kept : State → Option KeptReply) (is : IsAnInstrument ends Good kept) where
-  pub field_front : (state : State) (ms front later : List (Move State)) → ms ≡ front ++ later → IsField 7 ends Good kept state ms → IsField 7 ends Good kept state front
-  field_front state ms front later e h = record {
-    possible = possible_front 7 ends Good kept front later (ids_open state) (subst (λ xs. ArePossible ends Good kept (by_ids 7 ends) xs (ids_open state)) e h.possible);
-    alone = alone_front front later false (subst (IsFirstAlone false) e h.alone);
-  }
+  -- the law of one stretch
+  pub law : (u : UnderWay State) → IsClean Good kept u → (ms : List (Move State)) → ArePossible ends Good kept (by_ids 7 ends) ms (ids_begun u) → IsFaithful 7 ends u ms Good kept
+  law u clean ms p = faithful ends Good kept is 7 (omega arith) u clean ms p
 
-  pub throughout : Law ends Good kept → (s : Stretch State) → Good s.state → IsField 7 ends Good kept s.state s.moves → IsFaithfulThroughout ends Good kept s
-  throughout law s good field = λ front later e. law s.state good front (field_front s.state s.moves front later e field)
+  pub front_of : (u : UnderWay State) (ms front later : List (Move State)) → ms ≡ front ++ later → ArePossible ends Good kept (by_ids 7 ends) ms (ids_begun u) → ArePossible ends Good kept (by_ids 7 ends) front (ids_begun u)
+  front_of u ms front later e p = possible_front 7 ends Good kept front later (ids_begun u) (subst (λ xs. ArePossible ends Good kept (by_ids 7 ends) xs (ids_begun u)) e p)
+
+  -- a stretch: it has begun cleanly, or nothing happens in it
+  pub record Sound (s : Stretch State) : Type 0 where
+    pub possible : ArePossible ends Good kept (by_ids 7 ends) s.moves (ids_begun s.from)
+    pub clean : IsClean Good kept s.from ⊎ (s.moves ≡ [])
+
+  -- where something happens it has begun cleanly
+  pub clean_of : (s : Stretch State) → Sound s → (front later : List (Move State)) (m : Move State) → s.moves ≡ front ++ m ∷ later → IsClean Good kept s.from
+  clean_of s sound front later m e =
+      elim sound.clean [
+        | inl clean ↦ clean
+        | inr none ↦ absurd (not_nil s.moves front later m none e)
+      ]
+
+  pub throughout : (s : Stretch State) → Sound s → IsFaithfulThroughout ends Good kept s
+  throughout s sound front later e =
+      elim sound.clean [
+        | inl clean ↦ law s.from clean front (front_of s.from s.moves front later e sound.possible)
+        | inr none ↦ subst (λ ms. IsFaithful 7 ends s.from ms Good kept) (sym (front_nil front later (sym none ∙ e))) (faithful_none ends Good kept s.from)
+      ]
 
   -- what is settled stays so
-  settled_more : Law ends Good kept → (state : State) → Good state → (ms front later : List (Move State)) → ms ≡ front ++ later → IsField 7 ends Good kept state ms
-      → (more : List Settlement) × ((left 7 ends state ms).wire.settled ≡ (left 7 ends state front).wire.settled ++ more)
-  settled_more law state good ms front later e field =
-      let whole = law state good ms field in
-      let part = law state good front (field_front state ms front later e field) in
-      let more = settled_by (client_after begun.client (seen front)) (seen later) in (
+  settled_more : (u : UnderWay State) → IsClean Good kept u → (ms front later : List (Move State)) → ms ≡ front ++ later → ArePossible ends Good kept (by_ids 7 ends) ms (ids_begun u)
+      → (more : List Settlement) × ((behind 7 ends u ms).wire.settled ≡ (behind 7 ends u front).wire.settled ++ more)
+  settled_more u clean ms front later e p =
+      let whole = law u clean ms p in
+      let part = law u clean front (front_of u ms front later e p) in
+      let own = (course 7 begun (seen front)).settlements in
+      let more = settled_by (client_after begun.client (seen front)) (seen later) in
+      let grown : (course 7 begun (seen ms)).settlements ≡ own ++ more =
+      course_settled (seen ms) begun ∙ ap (settled_by begun.client) (ap seen e ∙ seen_append front later)
+      ∙ settled_append begun.client (seen front) (seen later)
+      ∙ ap (λ l. l ++ more) (sym (course_settled (seen front) begun)) in (
         more,
-        sym whole.settled ∙ course_settled (seen ms) begun ∙ ap (settled_by begun.client) (ap seen e ∙ seen_append front later)
-            ∙ settled_append begun.client (seen front) (seen later)
-            ∙ ap (λ l. l ++ more) (sym (course_settled (seen front) begun) ∙ part.settled),
+        whole.settled ∙ ap (λ l. nulls_settled ++ l) grown ∙ sym (append_assoc nulls_settled own more) ∙ ap (λ l. l ++ more) (sym part.settled),
       )
 
-  -- a reply under way is one to a request that was sent
-  below_sent : (state : State) → Good state → (front : List (Move State)) → ArePossible ends Good kept (by_ids 7 ends) front (ids_open state) → (line : List ℕ) (n : ℕ) (rest : List (Numbered (List ℕ))) → (left 7 ends state front).wire.down ≡ record { number = n; line = line } ∷ rest
-      → length (left 7 ends state front).wire.settled ≤ n → n - length (left 7 ends state front).wire.settled < length (left 7 ends state front).client.waiting
-  below_sent state good front possible line n rest e le =
-      let a = left 7 ends state front in
-      let b = moved ends (by_numbers 7) front (numbers_open state) in
-      let both = both_all 7 (omega arith) ends Good (exchange_of ends Good kept is) kept front (ids_open state) (numbers_open state) possible (both_open 7 (omega arith) ends Good (exchange_of ends Good kept is) kept state good) in
+  -- a reply under way that isn't settled is one to a request that was sent
+  below_sent : (u : UnderWay State) → IsClean Good kept u → (front : List (Move State)) → ArePossible ends Good kept (by_ids 7 ends) front (ids_begun u) → (line : List ℕ) (n : ℕ) (rest : List (Numbered (List ℕ))) → (behind 7 ends u front).wire.down ≡ record { number = n; line = line } ∷ rest
+      → length (behind 7 ends u front).wire.settled ≤ n → n - length (behind 7 ends u front).wire.settled < length (behind 7 ends u front).client.waiting
+  below_sent u clean front possible line n rest e le =
+      let a = behind 7 ends u front in
+      let b = moved ends (by_numbers 7) front (numbers_begun u) in
+      let both = both_all 7 (omega arith) ends Good (exchange_of ends Good kept is) kept front (ids_begun u) (numbers_begun u) possible (both_begun ends Good kept is 7 (omega arith) u clean) in
       let same : a.wire ≡ b.wire = both.agree.wire in
       let down : b.wire.down ≡ record { number = n; line = line } ∷ rest = sym (ap (λ (w : Wire State). w.down) same) ∙ e in
       let coming = subst (λ l. Each (IsComing 7 ends Good b.client.since (length b.client.requests)) l) down both.sound.coming in
@@ -117,20 +130,20 @@ module _ {State : Type 0} (ends : Ends State) (Good : State → Type 0) (kept : 
   abbrev MetAt : Stretch State → Type 0
   MetAt s =
       (front later : List (Move State)) (line : List ℕ) (n : ℕ) (rest : List (Numbered (List ℕ))) → s.moves ≡ front ++ Comes line ∷ later
-      → (left 7 ends s.state front).wire.down ≡ record { number = n; line = line } ∷ rest → length (left 7 ends s.state front).wire.settled ≤ n
-      → (p : Pending) × (slice_get (left 7 ends s.state front).client.waiting (n - length (left 7 ends s.state front).wire.settled) ≡ Some p)
+      → (behind 7 ends s.from front).wire.down ≡ record { number = n; line = line } ∷ rest → length (behind 7 ends s.from front).wire.settled ≤ n
+      → (p : Pending) × (slice_get (behind 7 ends s.from front).client.waiting (n - length (behind 7 ends s.from front).wire.settled) ≡ Some p)
       × (slice_get (world ends s).wire.settled n ≡ Some (met p line))
 
-  meets : Law ends Good kept → (s : Stretch State) → Good s.state → IsField 7 ends Good kept s.state s.moves → MetAt s
-  meets law s good field = λ front later line n rest e down le.
-      let w = left 7 ends s.state front in
+  meets : (s : Stretch State) → IsClean Good kept s.from → ArePossible ends Good kept (by_ids 7 ends) s.moves (ids_begun s.from) → MetAt s
+  meets s clean possible = λ front later line n rest e down le.
+      let w = behind 7 ends s.from front in
       let k = n - length w.wire.settled in
       let split : s.moves ≡ (front ++ Comes line ∷ []) ++ later = e ∙ sym (append_assoc front (Comes line ∷ []) later) in
-      let f = law s.state good front (field_front s.state s.moves front (Comes line ∷ later) e field) in
-      let p = met_at k line w.client.waiting (below_sent s.state good front (field_front s.state s.moves front (Comes line ∷ later) e field).possible line n rest down le) in
-      let more = settled_more law s.state good s.moves (front ++ Comes line ∷ []) later split field in
-      let here : (left 7 ends s.state (front ++ Comes line ∷ [])).wire.settled ≡ w.wire.settled ++ settle k line w.client.waiting =
-      ap (λ (v : World ById State). v.wire.settled) (moved_append 7 ends front (Comes line ∷ []) (ids_open s.state)) ∙ f.first_reply n line rest down le in (
+      let f = law s.from clean front (front_of s.from s.moves front (Comes line ∷ later) e possible) in
+      let p = met_at k line w.client.waiting (below_sent s.from clean front (front_of s.from s.moves front (Comes line ∷ later) e possible) line n rest down le) in
+      let more = settled_more s.from clean s.moves (front ++ Comes line ∷ []) later split possible in
+      let here : (behind 7 ends s.from (front ++ Comes line ∷ [])).wire.settled ≡ w.wire.settled ++ settle k line w.client.waiting =
+      ap (λ (v : World ById State). v.wire.settled) (moved_append 7 ends front (Comes line ∷ []) (ids_begun s.from)) ∙ f.first_reply n line rest down le in (
         p.0,
         p.1,
         ap (λ l. slice_get l n) (more.1 ∙ ap (λ l. l ++ more.0) here) ∙ get_between w.wire.settled (settle k line w.client.waiting) more.0 n k (met p.0 line) (omega (arith, le)) p.2,
@@ -151,24 +164,28 @@ module _ {State : Type 0} (ends : Ends State) (Good : State → Type 0) (kept : 
   sent_by_test w target call deadline true e counts = cc
   sent_by_test w target call deadline false e counts = λ le. get_last w.client.waiting (length w.wire.sent - length w.wire.settled) (pending_of target call deadline) (omega (arith, counts))
 
-  sent_waits : (state : State) (before : List (Move State)) (target : ℕ) (call : Call) (deadline : ℕ) → IsFaithful 7 ends state before Good kept → length (left 7 ends state before).client.waiting < 7
-      → Waits (moves ends (by_ids 7 ends) (left 7 ends state before) (Sends target call deadline)) (length (left 7 ends state before).wire.sent) (pending_of target call deadline)
-  sent_waits state before target call deadline f room =
-      let w = left 7 ends state before in
+  sent_waits : (u : UnderWay State) (before : List (Move State)) (target : ℕ) (call : Call) (deadline : ℕ) → IsFaithful 7 ends u before Good kept → length (behind 7 ends u before).client.waiting < 7
+      → Waits (moves ends (by_ids 7 ends) (behind 7 ends u before) (Sends target call deadline)) (length (behind 7 ends u before).wire.sent) (pending_of target call deadline)
+  sent_waits u before target call deadline f room =
+      let w = behind 7 ends u before in
       sent_by_test w target call deadline (nat_eq (length w.client.waiting) 7) (ne_eqb (length w.client.waiting) 7 (λ e. omega (arith, e, room))) (sent_counts w f.accounted)
 
-  pub in_time : Law ends Good kept → (s : Stretch State) → Good s.state → IsField 7 ends Good kept s.state s.moves → IsInTime ends s
-  in_time law s good field = λ before between later target call deadline line rest e room down le.
+  in_time_clean : (s : Stretch State) → IsClean Good kept s.from → ArePossible ends Good kept (by_ids 7 ends) s.moves (ids_begun s.from) → IsInTime ends s
+  in_time_clean s clean all_possible = λ before between later target call deadline line rest e room down le.
       let front = before ++ Sends target call deadline ∷ between in
-      let w = left 7 ends s.state before in
+      let w = behind 7 ends s.from before in
       let n = length w.wire.sent in
       let split : s.moves ≡ before ++ (Sends target call deadline ∷ (between ++ Comes line ∷ later)) = e ∙ append_assoc before (Sends target call deadline ∷ between) (Comes line ∷ later) in
-      let f = law s.state good before (field_front s.state s.moves before (Sends target call deadline ∷ (between ++ Comes line ∷ later)) split field) in
-      let m = meets law s good field front later line n rest e down le in
-      let possible = possible_behind 7 ends Good kept before (Sends target call deadline ∷ between) (ids_open s.state) (possible_front 7 ends Good kept front (Comes line ∷ later) (ids_open s.state) (subst (λ xs. ArePossible ends Good kept (by_ids 7 ends) xs (ids_open s.state)) e field.possible)) in
+      let f = law s.from clean before (front_of s.from s.moves before (Sends target call deadline ∷ (between ++ Comes line ∷ later)) split all_possible) in
+      let m = meets s clean all_possible front later line n rest e down le in
+      let possible = possible_behind 7 ends Good kept before (Sends target call deadline ∷ between) (ids_begun s.from) (front_of s.from s.moves front (Comes line ∷ later) e all_possible) in
       let p = pending_of target call deadline in
-      let waits : Waits (left 7 ends s.state front) n (after_moves p between) =
-      subst (λ (v : World ById State). Waits v n (after_moves p between)) (sym (moved_append 7 ends before (Sends target call deadline ∷ between) (ids_open s.state)))
-      (waits_all ends Good kept between (moves ends (by_ids 7 ends) w (Sends target call deadline)) n p possible.1 (sent_waits s.state before target call deadline f room)) in
+      let waits : Waits (behind 7 ends s.from front) n (after_moves p between) =
+      subst (λ (v : World ById State). Waits v n (after_moves p between)) (sym (moved_append 7 ends before (Sends target call deadline ∷ between) (ids_begun s.from)))
+      (waits_all ends Good kept between (moves ends (by_ids 7 ends) w (Sends target call deadline)) n p possible.1 (sent_waits s.from before target call deadline f room)) in
       let same : m.0 ≡ record p { given_up = gives_up deadline between } = some_pending m.0 (record p { given_up = gives_up deadline between }) (sym m.1 ∙ waits le ∙ ap Some (after_is p between)) in
       m.2 ∙ ap (λ q. Some (met q line)) same
+
+  pub in_time : (s : Stretch State) → Sound s → IsInTime ends s
+  in_time s sound = λ before between later target call deadline line rest e.
+      in_time_clean s (clean_of s sound (before ++ Sends target call deadline ∷ between) later (Comes line) e) sound.possible before between later target call deadline line rest e

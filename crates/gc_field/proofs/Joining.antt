@@ -1,10 +1,11 @@
 -- A run of a station and its stretches, joined.
-use Rattle.std.proofs.Common.{◌≡◌, ℕ, zero, suc, Bool, true, false, List, [], ◌∷◌, ◌++◌, map, Option, Some, refl, sym, ◌∙◌, ap, subst, append_assoc, append-nil}
+use Rattle.std.proofs.Common.{◌≡◌, inl, inr, ℕ, zero, suc, ◌+◌, ◌≤◌, Bool, true, false, List, [], ◌∷◌, ◌++◌, map, Option, Some, refl, sym, ◌∙◌, ap, subst, arith, append_assoc, append-nil, drop}
 use Rattle.std.specs.Prelude.{slice_get}
 use Rattle.std.specs.List.{AllByRecursion}
 use Rattle.gc_catalogue.specs.declared.answer.Reading.{Reading}
 use Rattle.gc_catalogue.specs.declared.call.Call.{Call}
-use Rattle.gc_client.specs.OneForOne.{Asked, Step, Restart, begun}
+use Rattle.gc_client.specs.Beginning.{IsSubsequence, the_word}
+use Rattle.gc_client.specs.OneForOne.{Asked, Restart, begun}
 use Rattle.gc_client.specs.declared.pending.Pending.{Pending}
 use Rattle.gc_client.specs.Rule.{ById, Outcome, Answered, Late, Lost, Settlement, fresh, lost}
 use Rattle.gc_instrument.specs.State.{KeptReply}
@@ -14,36 +15,40 @@ use Rattle.gc_texts.specs.Endings as end
 use Rattle.gc_station.specs.declared.plan.Plan.{Plan}
 use Rattle.gc_links.specs.Acts.{Act}
 use Rattle.gc_station.specs.Answers.{answer_of}
+use Rattle.gc_station.specs.Beginnings.{left_behind}
+use Rattle.gc_station.specs.Begun.{AreBegun, heard_in}
 use Rattle.gc_station.specs.Marks.{record_of, records_of}
 use Rattle.gc_station.specs.Parts.{Part, joined, AreOf, parts_of, went_out, sent_with, sent_of, timeless}
 use Rattle.gc_station.specs.Records.{Record}
 use Rattle.gc_station.specs.Runs.{stood}
 use Rattle.gc_station.specs.Standing.{Standing, opening}
-use Rattle.gc_station.proofs.Beginning.{IfForeign, IsAloneIn}
+use Rattle.gc_station.proofs.Asked.{parts_begun}
 use Rattle.gc_station.proofs.Booking.{Books, client_after, settled_by, sent_by, settled_append, sent_append, course_settled, course_sent, course_client, of_at, all_records, restarting}
 use Rattle.gc_station.proofs.EachRun.{fine_opening, each_once}
 use Rattle.gc_station.proofs.Following.{Follows, follows}
 use Rattle.gc_station.proofs.Meets.{was_answered, was_late}
-use Rattle.gc_station.proofs.Lone.{IsLone, IsNullFirst, beyond_first, all_parts_lone}
 use Rattle.gc_station.specs.Scopes.{Scope}
-use Rattle.gc_world.specs.Clients.{by_ids, ids_open}
+use Rattle.gc_world.specs.Clients.{by_ids}
 use Rattle.gc_world.specs.Record.{IsReplyTo}
-use Rattle.gc_world.specs.World.{Ends, Sent, World}
-use Rattle.gc_field.specs.Field.{Move, Sends, Tells, Comes, Foreign, OnLine, Anew, Changes, Joins, ArePossible, IsFirstAlone, IsField, seen}
+use Rattle.gc_world.specs.World.{Ends, Sent}
+use Rattle.gc_world.proofs.Options.{none_is_not}
+use Rattle.gc_field.specs.Begin.{AreLines, AreTurns, UnderWay, begins, ids_under_way, leaves, turned}
+use Rattle.gc_field.specs.Beginnings.{AreOwn, ArePossibleIf, AreRuns, IsOwnIf, Run, left_by_run, left_if, on_line}
+use Rattle.gc_field.specs.Beginnings.{stood as stood_by}
+use Rattle.gc_field.specs.Begun.{IsClean, IsFaithful, WasMadeOn, behind, ids_begun}
+use Rattle.gc_field.specs.Field.{ArePossible, seen}
 use Rattle.gc_field.specs.Instrument.{IsAnInstrument}
-use Rattle.gc_field.specs.Laws.{IsFaithful, asked}
-use Rattle.gc_field.specs.Made.{WasMadeOn}
-use Rattle.gc_field.specs.Runs.{IsInField, IsItsOwn, IsOwnAnswer, IsDealtWith, IsRunFaithful, IsFaithfulThroughout, IsInTime, AreSentAs, world, written_over}
-use Rattle.gc_field.specs.Stretches.{Stretch}
-use Rattle.gc_field.proofs.InTime.{Law, throughout, in_time}
+use Rattle.gc_field.specs.Laws.{asked}
+use Rattle.gc_field.specs.Runs.{IsInField, IsItsOwn, IsOwnAnswer, IsDealtWith, IsRunFaithful, IsFaithfulThroughout, IsInTime, AreSentAs, own_sent, own_settled, world, written_over}
+use Rattle.gc_field.specs.Shown.{AreShownAs, Stretch, shown, stretches}
+use Rattle.gc_field.proofs.BeginJoin.{begins_cleanly, left_lines}
+use Rattle.gc_field.proofs.BegunFaithful.{sent_is}
+use Rattle.gc_field.proofs.BegunRows.{rows_have_not, runs_leave_good, runs_leave_rows}
+use Rattle.gc_field.proofs.BegunRuns.{clean_lines}
+use Rattle.gc_field.proofs.InTime.{Sound, in_time, law, throughout}
 use Rattle.gc_field.proofs.Meant.{are_meant}
-use Rattle.gc_field.proofs.Seen.{same_all, same_open}
-
-cons_head : (x y : List Step) (xs ys : List (List Step)) → x ∷ xs ≡ y ∷ ys → x ≡ y
-cons_head x y xs ys e = cc
-
-cons_tail : (x y : List Step) (xs ys : List (List Step)) → x ∷ xs ≡ y ∷ ys → xs ≡ ys
-cons_tail x y xs ys e = cc
+use Rattle.gc_field.proofs.Shown.{left_is}
+use Rattle.gc_field.proofs.Unbegun.{faithful_none}
 
 -- what is lost has no answer
 among_settled : (xs : List Settlement) (ps : List Pending) (n : ℕ) (x : Settlement) (line : List ℕ) → slice_get (xs ++ map lost ps) n ≡ Some x → x.outcome ≡ Answered line → slice_get xs n ≡ Some x
@@ -92,52 +97,89 @@ all_append : (P : Record → Type 0) (xs ys : List Record) → AllByRecursion P 
 all_append P [] ys h g = g
 all_append P (x ∷ xs) ys h g = (h.0, all_append P xs ys h.1 g)
 
-module _ {State : Type 0} (ends : Ends State) (Good : State → Type 0) (kept : State → Option KeptReply) (is : IsAnInstrument ends Good kept) where
-  -- The first request goes out alone.
+-- of what comes behind so many
+get_behind : {A : Type 0} (k n j : ℕ) (xs : List A) (x : A) → j ≡ k + n → slice_get (drop k xs) n ≡ Some x → slice_get xs j ≡ Some x
+get_behind zero n j xs x e got = let same : n ≡ j = omega (arith, e) in subst (λ i. slice_get xs i ≡ Some x) same got
+get_behind (suc k) n j [] x e got = absurd (none_is_not x got)
+get_behind (suc k) n zero (y ∷ xs) x e got = absurd (omega (arith, e))
+get_behind (suc k) n (suc j) (y ∷ xs) x e got = get_behind k n j xs x (omega (arith, e)) got
 
-  pub alone_moves : (ms : List (Move State)) (out : Bool) (w : World ById State) → ArePossible ends Good kept (by_ids 7 ends) ms w → IsAloneIn out (seen ms) → IsFirstAlone out ms
-  alone_moves [] out w p h = tt
-  alone_moves (Sends target call deadline ∷ ms) false w p h = alone_moves ms true _ p.1 h
-  alone_moves (Sends target call deadline ∷ ms) true w p h = absurd h
-  alone_moves (Tells now ∷ ms) false w p h = alone_moves ms false _ p.1 h
-  alone_moves (Tells now ∷ ms) true w p h = alone_moves ms true _ p.1 h
-  alone_moves (Comes line ∷ ms) out w p h = tt
-  alone_moves (Foreign line ∷ ms) false w p h = alone_moves ms false _ p.1 (subst (λ o. IfForeign o (IsAloneIn false (seen ms))) p.0 h)
-  alone_moves (Foreign line ∷ ms) true w p h = alone_moves ms true _ p.1 (subst (λ o. IfForeign o (IsAloneIn true (seen ms))) p.0 h)
-  alone_moves (OnLine s ∷ ms) false w p h = alone_moves ms false _ p.1 h
-  alone_moves (OnLine s ∷ ms) true w p h = alone_moves ms true _ p.1 h
-  alone_moves (Anew ∷ ms) false w p h = alone_moves ms false _ p.1 h
-  alone_moves (Anew ∷ ms) true w p h = alone_moves ms true _ p.1 h
-  alone_moves (Changes state ∷ ms) false w p h = alone_moves ms false _ p.1 h
-  alone_moves (Changes state ∷ ms) true w p h = alone_moves ms true _ p.1 h
-  alone_moves (Joins line ∷ ms) out w p h = absurd p.0
+pub get_drop : {A : Type 0} (k n : ℕ) (xs : List A) (x : A) → slice_get (drop k xs) n ≡ Some x → slice_get xs (k + n) ≡ Some x
+get_drop k n xs x got = get_behind k n (k + n) xs x refl got
+
+pub map_drop : {A B : Type 0} (f : A → B) (k : ℕ) (xs : List A) → map f (drop k xs) ≡ drop k (map f xs)
+map_drop f zero xs = refl
+map_drop f (suc k) [] = refl
+map_drop f (suc k) (x ∷ xs) = map_drop f k xs
+
+module _ {State : Type 0} (ends : Ends State) (Good : State → Type 0) (kept : State → Option KeptReply) (is : IsAnInstrument ends Good kept) where
+  -- One part.
+
+  record One (u : UnderWay State) (r : Run State) (left : List ℕ) : Type 0 where
+    own : IsOwnIf 7 ends Good kept left (stood_by 7 ends u r) r.moves
+    sound : Sound ends Good kept is (record { from = leaves (turned ends r.turns (begins u)); moves = r.moves })
+    faithful : IsFaithful 7 ends (leaves (turned ends r.turns (begins u))) r.moves Good kept
+
+  begun_clean : (u : UnderWay State) (r : Run State) → AreLines Good u → (IsSubsequence the_word (ids_under_way u) → ⊥) → AreTurns ends Good kept r.turns (begins u) → (stood_by 7 ends u r).left ≡ [] → IsClean Good kept (leaves (stood_by 7 ends u r))
+  begun_clean u r lines none turns e =
+      clean_lines ends Good kept is 7 (omega arith) (stood_by 7 ends u r) (left_lines ends Good kept is u r.turns lines turns).good (begins_cleanly ends Good kept is u r.turns lines turns none e)
+
+  one : (u : UnderWay State) (r : Run State) (left : List ℕ) → (stood_by 7 ends u r).left ≡ left → AreLines Good u → (IsSubsequence the_word (ids_under_way u) → ⊥) → AreTurns ends Good kept r.turns (begins u)
+      → ArePossibleIf 7 ends Good kept left (stood_by 7 ends u r) r.moves → One u r left
+  one u r [] e lines none turns p =
+      let from = leaves (stood_by 7 ends u r) in
+      let clean = begun_clean u r lines none turns e in
+      let f = law ends Good kept is from clean r.moves p in
+      record { own = (begins_cleanly ends Good kept is u r.turns lines turns none e, f); sound = record { possible = p; clean = inl clean }; faithful = f }
+  one u r (asked ∷ rest) e lines none turns p =
+      let from = leaves (stood_by 7 ends u r) in
+      record {
+        own = tt;
+        sound = record { possible = subst (λ ms. ArePossible ends Good kept (by_ids 7 ends) ms (ids_begun from)) (sym p) tt; clean = inr p };
+        faithful = subst (λ ms. IsFaithful 7 ends from ms Good kept) (sym p) (faithful_none ends Good kept from);
+      }
+
+  -- what it leaves where it has begun: lines, without the word
+  leaves_next : (u : UnderWay State) (r : Run State) → AreLines Good u → (IsSubsequence the_word (ids_under_way u) → ⊥) → AreTurns ends Good kept r.turns (begins u) → ArePossibleIf 7 ends Good kept (stood_by 7 ends u r).left (stood_by 7 ends u r) r.moves
+      → (stood_by 7 ends u r).left ≡ [] → AreLines Good (left_by_run 7 ends u r) × (IsSubsequence the_word (ids_under_way (left_by_run 7 ends u r)) → ⊥)
+  leaves_next u r lines none turns p e =
+      let s = stood_by 7 ends u r in
+      let clean = begun_clean u r lines none turns e in
+      let possible = subst (λ w. ArePossibleIf 7 ends Good kept w s r.moves) e p in
+      let good = runs_leave_good ends Good kept is 7 (omega arith) (leaves s) clean r.moves possible in
+      let row = runs_leave_rows ends Good kept is 7 (omega arith) (leaves s) clean r.moves possible in
+      subst (λ w. AreLines Good (left_if 7 ends w s r.moves) × (IsSubsequence the_word (ids_under_way (left_if 7 ends w s r.moves)) → ⊥)) (sym e)
+      (record { ids = good.1; good = good.0 }, rows_have_not (on_line (behind 7 ends (leaves s) r.moves).wire) row)
 
   -- A stretch with its part.
 
   pub record Fits (p : Part) (s : Stretch State) : Type 0 where
     pub steps : seen s.moves ≡ p.steps
-    pub good : Good s.state
-    pub field : IsField 7 ends Good kept s.state s.moves
-    pub faithful : IsFaithful 7 ends s.state s.moves Good kept
-    pub first : IsNullFirst p.marks
+    pub sound : Sound ends Good kept is s
+    pub faithful : IsFaithful 7 ends s.from s.moves Good kept
 
   abbrev pub AllFit : List Part → List (Stretch State) → Type 0
   AllFit [] [] = Unit {0}
   AllFit (p ∷ ps) (s ∷ ss) = Fits p s × AllFit ps ss
   AllFit _ _ = ⊥
 
-  pub all_fit : Law ends Good kept → (ps : List Part) (ss : List (Stretch State)) → map (λ (s : Stretch State). seen s.moves) ss ≡ map (λ (p : Part). p.steps) ps
-      → AllByRecursion (λ (s : Stretch State). Good s.state × ArePossible ends Good kept (by_ids 7 ends) s.moves (ids_open s.state)) ss → AllByRecursion IsLone ps → AllFit ps ss
-  all_fit law [] [] e h l = tt
-  all_fit law [] (s ∷ ss) e h l = cc
-  all_fit law (p ∷ ps) [] e h l = cc
-  all_fit law (p ∷ ps) (s ∷ ss) e h l =
-      let same = cons_head (seen s.moves) p.steps (map (λ (s : Stretch State). seen s.moves) ss) (map (λ (p : Part). p.steps) ps) e in
-      let others = cons_tail (seen s.moves) p.steps (map (λ (s : Stretch State). seen s.moves) ss) (map (λ (p : Part). p.steps) ps) e in
-      let field : IsField 7 ends Good kept s.state s.moves = record { possible = h.0.1; alone = alone_moves s.moves false (ids_open s.state) h.0.1 (subst (IsAloneIn false) (sym same) l.0.0) } in (
-        record { steps = same; good = h.0.0; field = field; faithful = law s.state h.0.0 s.moves field; first = l.0.1 },
-        all_fit law ps ss others h.1 l.1,
-      )
+  -- the word that a run leaves is that which its part leaves
+  left_so : (u : UnderWay State) (r : Run State) (p : Part) → shown ends r.turns (begins u) ≡ p.turns → (stood_by 7 ends u r).left ≡ left_behind the_word (heard_in p.turns)
+  left_so u r p e = left_is ends r.turns (begins u) ∙ ap (λ l. left_behind the_word (heard_in l)) e
+
+  pub all_fit : (ps : List Part) (rs : List (Run State)) (u : UnderWay State) → AreLines Good u → (IsSubsequence the_word (ids_under_way u) → ⊥) → AreShownAs ends u rs ps → AreRuns 7 ends Good kept u rs → AreBegun the_word ps
+      → AllFit ps (stretches ends u rs) × AreOwn 7 ends Good kept u rs
+  all_fit [] [] u lines none s p b = (tt, tt)
+  all_fit [] (r ∷ rs) u lines none s p b = absurd s
+  all_fit (x ∷ ps) [] u lines none s p b = absurd s
+  all_fit (x ∷ []) (r ∷ []) u lines none s p b =
+      let o = one u r (stood_by 7 ends u r).left refl lines none p.0.0 p.0.1 in ((record { steps = s.1; sound = o.sound; faithful = o.faithful }, tt), (o.own, tt))
+  all_fit (x ∷ []) (r ∷ t ∷ rs) u lines none s p b = absurd s.2
+  all_fit (x ∷ y ∷ ps) (r ∷ rs) u lines none s p b =
+      let o = one u r (stood_by 7 ends u r).left refl lines none p.0.0 p.0.1 in
+      let next = leaves_next u r lines none p.0.0 p.0.1 (left_so u r x s.0 ∙ b.0) in
+      let others = all_fit (y ∷ ps) rs (left_by_run 7 ends u r) next.0 next.1 s.2 p.1 b.1 in
+      ((record { steps = s.1; sound = o.sound; faithful = o.faithful }, others.0), (o.own, others.1))
 
   pub each_fits : (P : Stretch State → Type 0) → ((p : Part) (s : Stretch State) → Fits p s → P s) → (ps : List Part) (ss : List (Stretch State)) → AllFit ps ss → AllByRecursion P ss
   each_fits P g [] [] h = tt
@@ -146,18 +188,19 @@ module _ {State : Type 0} (ends : Ends State) (Good : State → Type 0) (kept : 
   each_fits P g (p ∷ ps) (s ∷ ss) h = (g p s h.0, each_fits P g ps ss h.1)
 
   -- what its steps settle and send, and where its client stands, are the world's
-  fit_settled : (p : Part) (s : Stretch State) → Fits p s → settled_by fresh p.steps ≡ (world ends s).wire.settled
-  fit_settled p s f = ap (settled_by fresh) (sym f.steps) ∙ sym (course_settled (seen s.moves) begun) ∙ f.faithful.settled
+  fit_settled : (p : Part) (s : Stretch State) → Fits p s → settled_by fresh p.steps ≡ own_settled ends s
+  fit_settled p s f = ap (settled_by fresh) (sym f.steps) ∙ sym (course_settled (seen s.moves) begun) ∙ sym (ap (drop 8) f.faithful.settled)
 
   fit_client : (p : Part) (s : Stretch State) → Fits p s → client_after fresh p.steps ≡ (world ends s).client
   fit_client p s f = ap (client_after fresh) (sym f.steps) ∙ sym (course_client (seen s.moves) begun) ∙ f.faithful.stands
 
-  fit_sent : (p : Part) (s : Stretch State) → Fits p s → sent_by fresh p.steps ≡ map asked (world ends s).wire.sent
+  fit_sent : (p : Part) (s : Stretch State) → Fits p s → sent_by fresh p.steps ≡ map asked (own_sent ends s)
   fit_sent p s f =
-      ap (sent_by fresh) (sym f.steps) ∙ sym (course_sent (seen s.moves) begun) ∙ (same_all 7 ends is.hears Good kept s.moves begun (ids_open s.state) f.field.possible (same_open 7 ends is.hears Good kept s.state)).sent
+      ap (sent_by fresh) (sym f.steps) ∙ sym (course_sent (seen s.moves) begun) ∙ sym (ap (drop 8) (sent_is ends Good kept is 7 (omega arith) s.from s.moves f.sound.possible))
+      ∙ sym (map_drop asked 8 (world ends s).wire.sent)
 
   -- what is settled up to its end, where what waits is lost
-  fit_ended : (p : Part) (s : Stretch State) → Fits p s → settled_by fresh (p.steps ++ Restart ∷ []) ≡ (world ends s).wire.settled ++ map lost (world ends s).client.waiting
+  fit_ended : (p : Part) (s : Stretch State) → Fits p s → settled_by fresh (p.steps ++ Restart ∷ []) ≡ own_settled ends s ++ map lost (world ends s).client.waiting
   fit_ended p s f =
       let c = client_after fresh p.steps in
       settled_append fresh p.steps (Restart ∷ [])
@@ -166,21 +209,21 @@ module _ {State : Type 0} (ends : Ends State) (Good : State → Type 0) (kept : 
 
   module _ (reads : Call → List ℕ → Reading) (commands : List Task) where
     -- the requests of a part
-    of_last : (rs : List Record) (p : Part) (s : Stretch State) (end : Standing) → Fits p s → Books reads commands fresh [] rs p end.client end.marks (sent_of end.records) → AreOf commands p.marks (map asked (world ends s).wire.sent)
+    of_last : (rs : List Record) (p : Part) (s : Stretch State) (end : Standing) → Fits p s → Books reads commands fresh [] rs p end.client end.marks (sent_of end.records) → AreOf commands p.marks (map asked (own_sent ends s))
     of_last rs p s end f h = subst (AreOf commands p.marks) (fit_sent p s f) h.wrote.sent
 
-    of_ended : (rs mid : List Record) (p : Part) (s : Stretch State) → Fits p s → Books reads commands fresh [] rs (joined p restarting) fresh [] mid → AreOf commands p.marks (map asked (world ends s).wire.sent)
+    of_ended : (rs mid : List Record) (p : Part) (s : Stretch State) → Fits p s → Books reads commands fresh [] rs (joined p restarting) fresh [] mid → AreOf commands p.marks (map asked (own_sent ends s))
     of_ended rs mid p s f h =
-        let asks : sent_by fresh (p.steps ++ Restart ∷ []) ≡ map asked (world ends s).wire.sent = sent_append fresh p.steps (Restart ∷ []) ∙ append-nil (sent_by fresh p.steps) ∙ fit_sent p s f in
-        subst (λ marks. AreOf commands marks (map asked (world ends s).wire.sent)) (append-nil p.marks) (subst (AreOf commands (p.marks ++ [])) asks h.wrote.sent)
+        let asks : sent_by fresh (p.steps ++ Restart ∷ []) ≡ map asked (own_sent ends s) = sent_append fresh p.steps (Restart ∷ []) ∙ append-nil (sent_by fresh p.steps) ∙ fit_sent p s f in
+        subst (λ marks. AreOf commands marks (map asked (own_sent ends s))) (append-nil p.marks) (subst (AreOf commands (p.marks ++ [])) asks h.wrote.sent)
 
     -- its records
     written_last : (rs : List Record) (p : Part) (s : Stretch State) (end : Standing) → Fits p s → Books reads commands fresh [] rs p end.client end.marks (sent_of end.records)
-        → map timeless (sent_of end.records) ≡ map timeless rs ++ records_of reads 0 p.marks (world ends s).wire.settled
+        → map timeless (sent_of end.records) ≡ map timeless rs ++ records_of reads 0 p.marks (own_settled ends s)
     written_last rs p s end f h = h.wrote.records ∙ ap (λ l. map timeless rs ++ records_of reads 0 p.marks l) (fit_settled p s f)
 
     written_ended : (rs mid : List Record) (p : Part) (s : Stretch State) → Fits p s → Books reads commands fresh [] rs (joined p restarting) fresh [] mid
-        → map timeless mid ≡ map timeless rs ++ records_of reads 0 p.marks ((world ends s).wire.settled ++ map lost (world ends s).client.waiting)
+        → map timeless mid ≡ map timeless rs ++ records_of reads 0 p.marks (own_settled ends s ++ map lost (world ends s).client.waiting)
     written_ended rs mid p s f h =
         h.wrote.records ∙ ap (λ marks. map timeless rs ++ records_of reads 0 marks (settled_by fresh (p.steps ++ Restart ∷ []))) (append-nil p.marks)
         ∙ ap (λ l. map timeless rs ++ records_of reads 0 p.marks l) (fit_ended p s f)
@@ -204,7 +247,7 @@ module _ {State : Type 0} (ends : Ends State) (Good : State → Type 0) (kept : 
     written_all (p ∷ q ∷ ps) (s ∷ []) rs end f h = absurd f.1
     written_all (p ∷ q ∷ ps) (s ∷ t ∷ ss) rs end f h =
         written_all (q ∷ ps) (t ∷ ss) h.0 end f.1 h.2 ∙ ap (λ l. l ++ written_over ends reads (q ∷ ps) (t ∷ ss)) (written_ended rs h.0 p s f.0 h.1)
-        ∙ append_assoc (map timeless rs) (records_of reads 0 p.marks ((world ends s).wire.settled ++ map lost (world ends s).client.waiting)) (written_over ends reads (q ∷ ps) (t ∷ ss))
+        ∙ append_assoc (map timeless rs) (records_of reads 0 p.marks (own_settled ends s ++ map lost (world ends s).client.waiting)) (written_over ends reads (q ∷ ps) (t ∷ ss))
 
   -- Its own.
 
@@ -261,18 +304,19 @@ module _ {State : Type 0} (ends : Ends State) (Good : State → Type 0) (kept : 
   all_later commands p s ps ss (r ∷ rs) h = (λ line answered. own_later commands p s ps ss r line (h.0 line answered), all_later commands p s ps ss rs h.1)
 
   -- in the first one, among what is settled there and then what is lost
-  own_first : (reads : Call → List ℕ → Reading) (commands : List Task) (p : Part) (s : Stretch State) (ps : List Part) (ss : List (Stretch State)) (waiting : List Pending) (xs : List Settlement) → xs ≡ (world ends s).wire.settled ++ map lost waiting → Fits p s → AreOf commands p.marks (map asked (world ends s).wire.sent)
+  own_first : (reads : Call → List ℕ → Reading) (commands : List Task) (p : Part) (s : Stretch State) (ps : List Part) (ss : List (Stretch State)) (waiting : List Pending) (xs : List Settlement) → xs ≡ own_settled ends s ++ map lost waiting → Fits p s → AreOf commands p.marks (map asked (own_sent ends s))
       → AllByRecursion (IsOwnAnswer ends Good kept commands (p ∷ ps) (s ∷ ss)) (records_of reads 0 p.marks xs)
   own_first reads commands p s ps ss waiting xs e f sent =
       all_records reads (IsOwnAnswer ends Good kept commands (p ∷ ps) (s ∷ ss)) p.marks xs
       (λ n mark x at got line says.
       let answered : x.outcome ≡ Answered line = was_answered (record_of reads 0 mark x) x (record { reads = reads; command = refl; ended = refl }) line says in
-      let here = among_settled (world ends s).wire.settled waiting n x line (sym (ap (λ l. slice_get l n) e) ∙ got) answered in
-      let beyond = beyond_first p.marks n mark f.first at in
-      let a = of_at commands p.marks (map asked (world ends s).wire.sent) n (Some mark) sent at in
-      let r = asked_at (world ends s).wire.sent n a.0 a.1 in
-      let b = f.faithful.booked n x beyond here line answered in
-      let right : x.call ≡ a.2.0.command.call = (f.faithful.one_for_one.same n x r.0 here r.1).1 ∙ ap (λ (o : Asked). o.call) (r.2 ∙ a.2.2) in
+      let here = among_settled (own_settled ends s) waiting n x line (sym (ap (λ l. slice_get l n) e) ∙ got) answered in
+      let beyond : 8 ≤ 8 + n = omega arith in
+      let there = get_drop 8 n (world ends s).wire.settled x here in
+      let a = of_at commands p.marks (map asked (own_sent ends s)) n (Some mark) sent at in
+      let r = asked_at (own_sent ends s) n a.0 a.1 in
+      let b = f.faithful.booked (8 + n) x beyond there line answered in
+      let right : x.call ≡ a.2.0.command.call = (f.faithful.one_for_one.same (8 + n) x r.0 there (get_drop 8 n (world ends s).wire.sent r.0 r.1)).1 ∙ ap (λ (o : Asked). o.call) (r.2 ∙ a.2.2) in
       record {
         k = 0;
         part = p;
@@ -289,19 +333,19 @@ module _ {State : Type 0} (ends : Ends State) (Good : State → Type 0) (kept : 
         settled = here ∙ ap (λ (o : Outcome). Some (record { target = x.target; call = x.call; outcome = o })) answered;
         made = b.0;
         reply = subst (λ call. IsReplyTo ends Good call line) right b.1;
-        executed = f.faithful.executed n x line beyond here answered;
-        made_on = subst (λ call. WasMadeOn 7 ends s.state s.moves n call line) right (f.faithful.made_on n x line beyond here answered);
+        executed = f.faithful.executed (8 + n) x line beyond there answered;
+        made_on = subst (λ call. WasMadeOn 7 ends s.from s.moves (8 + n) call line) right (f.faithful.made_on (8 + n) x line beyond there answered);
       })
 
   pub own_all : (reads : Call → List ℕ → Reading) (commands : List Task) (ps : List Part) (ss : List (Stretch State)) → AllFit ps ss → AreSentAs ends commands ps ss → AllByRecursion (IsOwnAnswer ends Good kept commands ps ss) (written_over ends reads ps ss)
   own_all reads commands [] [] f h = tt
   own_all reads commands [] (s ∷ ss) f h = tt
   own_all reads commands (p ∷ ps) [] f h = absurd f
-  own_all reads commands (p ∷ []) (s ∷ []) f h = own_first reads commands p s [] [] [] (world ends s).wire.settled (sym (append-nil (world ends s).wire.settled)) f.0 h.0
+  own_all reads commands (p ∷ []) (s ∷ []) f h = own_first reads commands p s [] [] [] (own_settled ends s) (sym (append-nil (own_settled ends s))) f.0 h.0
   own_all reads commands (p ∷ []) (s ∷ t ∷ ss) f h = absurd f.1
   own_all reads commands (p ∷ q ∷ ps) (s ∷ []) f h = absurd f.1
   own_all reads commands (p ∷ q ∷ ps) (s ∷ t ∷ ss) f h =
-      let xs = (world ends s).wire.settled ++ map lost (world ends s).client.waiting in
+      let xs = own_settled ends s ++ map lost (world ends s).client.waiting in
       all_append (IsOwnAnswer ends Good kept commands (p ∷ q ∷ ps) (s ∷ t ∷ ss)) (records_of reads 0 p.marks xs) (written_over ends reads (q ∷ ps) (t ∷ ss))
       (own_first reads commands p s (q ∷ ps) (t ∷ ss) (world ends s).client.waiting xs refl f.0 h.0)
       (all_later commands p s (q ∷ ps) (t ∷ ss) (written_over ends reads (q ∷ ps) (t ∷ ss)) (own_all reads commands (q ∷ ps) (t ∷ ss) f.1 h.1))
@@ -345,18 +389,19 @@ module _ {State : Type 0} (ends : Ends State) (Good : State → Type 0) (kept : 
     late_timeless commands ps ss rs h.1,
   )
 
-  late_first : (reads : Call → List ℕ → Reading) (commands : List Task) (p : Part) (s : Stretch State) (ps : List Part) (ss : List (Stretch State)) (waiting : List Pending) (xs : List Settlement) → xs ≡ (world ends s).wire.settled ++ map lost waiting → Fits p s → AreOf commands p.marks (map asked (world ends s).wire.sent)
+  late_first : (reads : Call → List ℕ → Reading) (commands : List Task) (p : Part) (s : Stretch State) (ps : List Part) (ss : List (Stretch State)) (waiting : List Pending) (xs : List Settlement) → xs ≡ own_settled ends s ++ map lost waiting → Fits p s → AreOf commands p.marks (map asked (own_sent ends s))
       → AllByRecursion (IsDealtWith ends Good kept commands (p ∷ ps) (s ∷ ss)) (records_of reads 0 p.marks xs)
   late_first reads commands p s ps ss waiting xs e f sent =
       all_records reads (IsDealtWith ends Good kept commands (p ∷ ps) (s ∷ ss)) p.marks xs
       (λ n mark x at got says.
       let late : x.outcome ≡ Late = was_late (record_of reads 0 mark x) x (record { reads = reads; command = refl; ended = refl }) says in
-      let here = among_late (world ends s).wire.settled waiting n x (sym (ap (λ l. slice_get l n) e) ∙ got) late in
-      let beyond = beyond_first p.marks n mark f.first at in
-      let a = of_at commands p.marks (map asked (world ends s).wire.sent) n (Some mark) sent at in
-      let r = asked_at (world ends s).wire.sent n a.0 a.1 in
-      let right : x.call ≡ a.2.0.command.call = (f.faithful.one_for_one.same n x r.0 here r.1).1 ∙ ap (λ (o : Asked). o.call) (r.2 ∙ a.2.2) in
-      let made = f.faithful.late n x beyond here late in
+      let here = among_late (own_settled ends s) waiting n x (sym (ap (λ l. slice_get l n) e) ∙ got) late in
+      let beyond : 8 ≤ 8 + n = omega arith in
+      let there = get_drop 8 n (world ends s).wire.settled x here in
+      let a = of_at commands p.marks (map asked (own_sent ends s)) n (Some mark) sent at in
+      let r = asked_at (own_sent ends s) n a.0 a.1 in
+      let right : x.call ≡ a.2.0.command.call = (f.faithful.one_for_one.same (8 + n) x r.0 there (get_drop 8 n (world ends s).wire.sent r.0 r.1)).1 ∙ ap (λ (o : Asked). o.call) (r.2 ∙ a.2.2) in
+      let made = f.faithful.late (8 + n) x beyond there late in
       record {
         k = 0;
         part = p;
@@ -368,18 +413,18 @@ module _ {State : Type 0} (ends : Ends State) (Good : State → Type 0) (kept : 
         task = a.2.0;
         listed = a.2.1;
         line = made.0;
-        made_on = subst (λ call. WasMadeOn 7 ends s.state s.moves n call made.0) right made.1;
+        made_on = subst (λ call. WasMadeOn 7 ends s.from s.moves (8 + n) call made.0) right made.1;
       })
 
   pub late_all : (reads : Call → List ℕ → Reading) (commands : List Task) (ps : List Part) (ss : List (Stretch State)) → AllFit ps ss → AreSentAs ends commands ps ss → AllByRecursion (IsDealtWith ends Good kept commands ps ss) (written_over ends reads ps ss)
   late_all reads commands [] [] f h = tt
   late_all reads commands [] (s ∷ ss) f h = tt
   late_all reads commands (p ∷ ps) [] f h = absurd f
-  late_all reads commands (p ∷ []) (s ∷ []) f h = late_first reads commands p s [] [] [] (world ends s).wire.settled (sym (append-nil (world ends s).wire.settled)) f.0 h.0
+  late_all reads commands (p ∷ []) (s ∷ []) f h = late_first reads commands p s [] [] [] (own_settled ends s) (sym (append-nil (own_settled ends s))) f.0 h.0
   late_all reads commands (p ∷ []) (s ∷ t ∷ ss) f h = absurd f.1
   late_all reads commands (p ∷ q ∷ ps) (s ∷ []) f h = absurd f.1
   late_all reads commands (p ∷ q ∷ ps) (s ∷ t ∷ ss) f h =
-      let xs = (world ends s).wire.settled ++ map lost (world ends s).client.waiting in
+      let xs = own_settled ends s ++ map lost (world ends s).client.waiting in
       all_append (IsDealtWith ends Good kept commands (p ∷ q ∷ ps) (s ∷ t ∷ ss)) (records_of reads 0 p.marks xs) (written_over ends reads (q ∷ ps) (t ∷ ss))
       (late_first reads commands p s (q ∷ ps) (t ∷ ss) (world ends s).client.waiting xs refl f.0 h.0)
       (late_all_later commands p s (q ∷ ps) (t ∷ ss) (written_over ends reads (q ∷ ps) (t ∷ ss)) (late_all reads commands (q ∷ ps) (t ∷ ss) f.1 h.1))
@@ -395,23 +440,31 @@ module _ {State : Type 0} (ends : Ends State) (Good : State → Type 0) (kept : 
 
   -- The whole.
 
-  pub run_faithful : Law ends Good kept → (plan : Plan) (commands : List Task) (scope : Scope) (acts : List Act) (ss : List (Stretch State)) → IsInField ends Good kept plan commands scope acts ss → IsRunFaithful ends Good kept plan commands scope acts ss
-  run_faithful law plan commands scope acts ss h =
+  pub all_fitting : (plan : Plan) (commands : List Task) (scope : Scope) (acts : List Act) (u : UnderWay State) (rs : List (Run State)) → IsInField ends Good kept plan commands scope acts u rs
+      → AllFit (parts_of plan commands (opening plan scope) acts) (stretches ends u rs) × AreOwn 7 ends Good kept u rs
+  all_fitting plan commands scope acts u rs h =
+      all_fit (parts_of plan commands (opening plan scope) acts) rs u h.lines h.none h.shown h.possible (parts_begun plan commands (opening plan scope) acts h.runs)
+
+  pub run_faithful : (plan : Plan) (commands : List Task) (scope : Scope) (acts : List Act) (u : UnderWay State) (rs : List (Run State)) → IsInField ends Good kept plan commands scope acts u rs → IsRunFaithful ends Good kept plan commands scope acts u rs
+  run_faithful plan commands scope acts u rs h =
       let start = opening plan scope in
       let ps = parts_of plan commands start acts in
+      let ss = stretches ends u rs in
       let end = stood plan commands scope acts in
       let fine = fine_opening plan commands scope in
-      let fit = all_fit law ps ss h.steps h.possible (all_parts_lone plan commands start acts fine refl h.runs) in
+      let fit = all_fitting plan commands scope acts u rs h in
       let on = follows plan commands scope.reads start acts refl fine h.runs in
-      let sent = sent_all scope.reads commands ps ss [] end fit on in
-      let written = written_all scope.reads commands ps ss [] end fit on in
+      let sent = sent_all scope.reads commands ps ss [] end fit.0 on in
+      let written = written_all scope.reads commands ps ss [] end fit.0 on in
       record {
-        own = all_sent commands ps ss end.records (all_timeless commands ps ss (sent_of end.records) (subst (AllByRecursion (IsOwnAnswer ends Good kept commands ps ss)) (sym written) (own_all scope.reads commands ps ss fit sent)));
-        late = late_sent commands ps ss end.records (late_timeless commands ps ss (sent_of end.records) (subst (AllByRecursion (IsDealtWith ends Good kept commands ps ss)) (sym written) (late_all scope.reads commands ps ss fit sent)));
+        begun = parts_begun plan commands start acts h.runs;
+        clean = fit.1;
+        own = all_sent commands ps ss end.records (all_timeless commands ps ss (sent_of end.records) (subst (AllByRecursion (IsOwnAnswer ends Good kept commands ps ss)) (sym written) (own_all scope.reads commands ps ss fit.0 sent)));
+        late = late_sent commands ps ss end.records (late_timeless commands ps ss (sent_of end.records) (subst (AllByRecursion (IsDealtWith ends Good kept commands ps ss)) (sym written) (late_all scope.reads commands ps ss fit.0 sent)));
         one_for_one = each_once plan commands scope acts;
         sent = sent;
         written = written;
         meant = are_meant plan commands start acts fine h.runs;
-        in_time = each_fits (IsInTime ends) (λ p s f. in_time ends Good kept is law s f.good f.field) ps ss fit;
-        each = each_fits (IsFaithfulThroughout ends Good kept) (λ p s f. throughout ends Good kept is law s f.good f.field) ps ss fit;
+        in_time = each_fits (IsInTime ends) (λ p s f. in_time ends Good kept is s f.sound) ps ss fit.0;
+        each = each_fits (IsFaithfulThroughout ends Good kept) (λ p s f. throughout ends Good kept is s f.sound) ps ss fit.0;
       }

@@ -1,5 +1,5 @@
 -- A run with a late record, in the field, computed.
-use Rattle.std.proofs.Common.{[], refl}
+use Rattle.std.proofs.Common.{◌≡◌, [], ◌∷◌, Some, refl, sym, subst}
 use Rattle.std.specs.Prelude.{take, drop}
 use Rattle.std.specs.Fmt.{digits}
 use Rattle.gc_lines.specs.Readers.{header_at, reply_at}
@@ -7,19 +7,32 @@ use Rattle.gc_catalogue.specs.declared.call.Call.TheVariants.{InstrumentNo}
 use Rattle.gc_client.specs.declared.window.TheConstants.{WINDOW}
 use Rattle.gc_instrument.specs.Execution.{exec}
 use Rattle.gc_instrument.specs.Replying.{handed}
-use Rattle.gc_instrument.specs.State.{simulator_opening}
 use Rattle.gc_world.specs.Clients.{ends}
-use Rattle.gc_field.specs.LateAnswer.{IsLateInField, moves, late, answer}
-use Rattle.gc_field.specs.Made.{WasMadeOn}
-use Rattle.gc_field.proofs.Witness.{fits}
+use Rattle.gc_field.specs.LateAnswer.{IsLateInField, acts, answer, before, commands, from, late, moves, runs}
+use Rattle.gc_field.specs.Begun.{WasMadeOn}
+use Rattle.gc_field.proofs.Witness.{asked_each, fits}
+use Rattle.gc_station.specs.Parts.{nothing, parts_of}
+use Rattle.gc_station.specs.Standing.{opening}
+use Rattle.gc_field.specs.Field.{seen}
+use Rattle.gc_field.specs.Shown.{AreShownAs, shown}
+use Rattle.gc_field.specs.Begin.{begins}
+use Rattle.gc_field.specs.Witness.{eight, plan, replies, scope}
 
-late_made : WasMadeOn WINDOW ends simulator_opening moves 1 InstrumentNo late
+late_made : WasMadeOn WINDOW ends from moves 8 InstrumentNo late
 unfolding header_at reply_at handed exec digits
-late_made = record { front = take 10 moves; later = drop 11 moves; split = refl; id = 1; rest = []; reaches = refl; executed = refl; reply = refl }
+late_made = record { front = take 3 moves; later = drop 4 moves; split = refl; id = 0; rest = []; reaches = refl; executed = refl; reply = refl }
 
-answer_made : WasMadeOn WINDOW ends simulator_opening moves 2 InstrumentNo answer
+answer_made : WasMadeOn WINDOW ends from moves 9 InstrumentNo answer
 unfolding header_at reply_at handed exec digits
-answer_made = record { front = take 16 moves; later = drop 17 moves; split = refl; id = 2; rest = []; reaches = refl; executed = refl; reply = refl }
+answer_made = record { front = take 9 moves; later = drop 10 moves; split = refl; id = 1; rest = []; reaches = refl; executed = refl; reply = refl }
+
+parts_are : parts_of plan commands (opening plan scope) acts ≡ record { turns = asked_each replies; steps = seen moves; marks = Some (record { cycle = 1; place = 0; sent = 15 }) ∷ Some (record { cycle = 1; place = 1; sent = 115 }) ∷ [] } ∷ nothing ∷ []
+unfolding header_at reply_at digits
+parts_are = refl
+
+shown_are : shown ends eight (begins before) ≡ asked_each replies
+unfolding header_at reply_at handed exec digits
+shown_are = refl
 
 pub come_late : IsLateInField
 unfolding header_at reply_at handed exec digits
@@ -27,9 +40,11 @@ come_late =
     record {
       field =
           record {
-            runs = (tt, (refl, (tt, (tt, (refl, (tt, (tt, (tt, (refl, (tt, (tt, (refl, (tt, (tt, (tt, (refl, tt))))))))))))))));
-            steps = refl;
-            possible = ((fits, (tt, (tt, (tt, (tt, (tt, (tt, ((0, [], refl), (tt, (tt, (tt, (tt, (tt, (tt, (tt, (tt, ((1, [], refl), (tt, (tt, ((2, [], refl), tt)))))))))))))))))))), ((fits, tt), tt));
+            runs = (tt, (refl, (tt, (refl, (tt, (tt, (refl, (tt, (tt, (refl, (tt, (tt, (refl, (tt, (tt, (refl, (tt, (tt, (refl, (tt, (tt, (refl, (tt, (tt, (refl, (tt, (tt, (tt, (refl, (tt, (tt, (refl, (tt, (tt, (tt, (refl, tt))))))))))))))))))))))))))))))))))));
+            lines = record { ids = tt; good = fits };
+            none = λ h. h;
+            shown = subst (AreShownAs ends before runs) (sym parts_are) (shown_are, refl, (refl, refl, tt));
+            possible = (((tt, (tt, (tt, (tt, (tt, (tt, (tt, (tt, (tt, (tt, (tt, (tt, (tt, (tt, (tt, (tt, (tt, (tt, (tt, (tt, (tt, (tt, (tt, (tt, tt)))))))))))))))))))))))), (tt, (tt, (tt, (tt, (tt, (tt, (tt, (tt, ((8, [], refl), (tt, (tt, ((9, [], refl), tt))))))))))))), ((tt, refl), tt));
           };
       over = refl;
       records = refl;

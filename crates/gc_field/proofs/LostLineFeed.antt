@@ -53,7 +53,7 @@ joined =
     record {
       line = refl;
       reads = refl;
-      possible = (tt, (tt, ((0, [], refl), (tt, (tt, tt)))));
+      possible = (tt, (tt, ((8, [], refl), (tt, (tt, tt)))));
       replied = refused _;
       settled = refl;
       executed = refl;

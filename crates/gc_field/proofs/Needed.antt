@@ -7,9 +7,12 @@ use Rattle.gc_lines.specs.Readers.{header_at, reply_at}
 use Rattle.gc_lines.proofs.Written.{reply_back}
 use Rattle.gc_catalogue.specs.Calls.{call_fields}
 use Rattle.gc_client.specs.Rule.{id_in, heard}
+use Rattle.gc_instrument.specs.State.{KeptReply}
 use Rattle.gc_world.specs.Order.{Each}
 use Rattle.gc_world.proofs.Options.{some_is}
 use Rattle.gc_world.proofs.Places.{each_get}
+use Rattle.gc_field.specs.Begin.{none_under_way}
+use Rattle.gc_field.specs.Begun.{IsClean}
 use Rattle.gc_field.specs.Instrument.{IsAnInstrument, AnyState, nothing}
 use Rattle.gc_field.specs.Laws.{WasExecuted}
 use Rattle.gc_field.specs.Needed.{Keeper, IsAllNeeded, InOrder, value, refusal, kept, keeper, held, again_or, refuses_or, answers_in, deals_anew, sound, forgets}
@@ -56,21 +59,21 @@ refuses_repeats false k id not = absurd (true_is_not not)
 above : (n : ℕ) (xs : List ℕ) → Each (λ m. m < n) xs → WasExecuted xs n → ⊥
 above n xs low h = omega (arith, each_get (λ m. m < n) xs h.0 n low h.1)
 
-eighth : WasExecuted (0 ∷ 1 ∷ 2 ∷ 3 ∷ 4 ∷ 5 ∷ 6 ∷ 7 ∷ []) 8 → ⊥
-eighth h = above 8 (0 ∷ 1 ∷ 2 ∷ 3 ∷ 4 ∷ 5 ∷ 6 ∷ 7 ∷ []) (lit< tt, (lit< tt, (lit< tt, (lit< tt, (lit< tt, (lit< tt, (lit< tt, (lit< tt, tt)))))))) h
+ninth : WasExecuted (8 ∷ 9 ∷ 10 ∷ 11 ∷ 12 ∷ 13 ∷ 14 ∷ 15 ∷ []) 16 → ⊥
+ninth h = above 16 (8 ∷ 9 ∷ 10 ∷ 11 ∷ 12 ∷ 13 ∷ 14 ∷ 15 ∷ []) (lit< tt, (lit< tt, (lit< tt, (lit< tt, (lit< tt, (lit< tt, (lit< tt, (lit< tt, tt)))))))) h
 
-none : WasExecuted [] 1 → ⊥
-none h = above 1 [] tt h
+none : WasExecuted [] 9 → ⊥
+none h = above 9 [] tt h
 
-first : WasExecuted (0 ∷ []) 1 → ⊥
-first h = above 1 (0 ∷ []) (lit< tt, tt) h
+first : WasExecuted (8 ∷ []) 9 → ⊥
+first h = above 9 (8 ∷ []) (lit< tt, tt) h
 
-second : WasExecuted (0 ∷ 1 ∷ []) 2 → ⊥
-second h = above 2 (0 ∷ 1 ∷ []) (lit< tt, (lit< tt, tt)) h
+second : WasExecuted (8 ∷ 9 ∷ []) 10 → ⊥
+second h = above 10 (8 ∷ 9 ∷ []) (lit< tt, (lit< tt, tt)) h
 
--- 0 ∷ 1 ∷ 1, with no start
-not_once : ActsOnce (0 ∷ 1 ∷ 1 ∷ []) [] → ⊥
-not_once h = omega (arith, h 1 2 1 1 (lit< tt) tt refl refl)
+-- 8 ∷ 9 ∷ 9, with no start
+not_once : ActsOnce (8 ∷ 9 ∷ 9 ∷ []) [] → ⊥
+not_once h = omega (arith, h 1 2 9 9 (lit< tt) tt refl refl)
 
 keeper_is : IsAnInstrument keeper AnyState kept
 keeper_is =
@@ -124,6 +127,25 @@ sound_is =
       starts_good = λ b good. good;
     }
 
+-- with nothing under way, and nothing kept, it has begun cleanly
+none_kept : {State : Type 0} (state : State) (k : KeptReply) → nothing state ≡ Some k → k.id ≡ 7
+none_kept state k e = let never : ⊥ = cc in absurd never
+
+none_of : (k : KeptReply) → kept None ≡ Some k → k.id ≡ 7
+none_of k e = let never : ⊥ = cc in absurd never
+
+clean_any : IsClean AnyState nothing (none_under_way false)
+clean_any = record { good = tt; up = tt; down = tt; keeps = none_kept false }
+
+clean_order : IsClean InOrder nothing (none_under_way false)
+clean_order = record { good = refl; up = tt; down = tt; keeps = none_kept false }
+
+clean_kept : IsClean AnyState kept (none_under_way None)
+clean_kept = record { good = tt; up = tt; down = tt; keeps = none_of }
+
+clean_key : IsClean {State = Keeper} AnyState nothing (none_under_way None)
+clean_key = record { good = tt; up = tt; down = tt; keeps = none_kept {State = Keeper} None }
+
 pub all_needed : IsAllNeeded
 unfolding header_at reply_at digits
 all_needed =
@@ -141,7 +163,7 @@ all_needed =
                   starts_good = inr (λ b good. tt);
                 };
             good = tt;
-            booked = record { beyond = lit< tt; field = record { possible = (tt, (tt, ((0, [], refl), (tt, (tt, (tt, ((1, [], refl), tt))))))); alone = tt }; settled = refl; executed = second };
+            booked = record { beyond = omega arith; clean = clean_any; field = (tt, (tt, ((8, [], refl), (tt, (tt, (tt, ((9, [], refl), tt))))))); settled = refl; executed = second };
           };
       replies =
           record {
@@ -156,7 +178,7 @@ all_needed =
                   starts_good = inr (λ b good. tt);
                 };
             good = tt;
-            booked = record { beyond = lit< tt; field = record { possible = (tt, (tt, ((0, [], refl), (tt, (tt, (tt, ((1, [], refl), tt))))))); alone = tt }; settled = refl; executed = second };
+            booked = record { beyond = omega arith; clean = clean_any; field = (tt, (tt, ((8, [], refl), (tt, (tt, (tt, ((9, [], refl), tt))))))); settled = refl; executed = second };
           };
       repeats =
           record {
@@ -171,7 +193,7 @@ all_needed =
                   starts_good = inr (λ b good. tt);
                 };
             good = tt;
-            booked = record { beyond = lit< tt; field = record { possible = (tt, (tt, ((0, [], refl), (tt, (tt, ((1, [], refl), tt)))))); alone = tt }; settled = refl; executed = none };
+            booked = record { beyond = omega arith; clean = clean_any; field = (tt, (tt, ((8, [], refl), (tt, (tt, ((9, [], refl), tt)))))); settled = refl; executed = none };
           };
       keeps =
           record {
@@ -188,14 +210,11 @@ all_needed =
             good = tt;
             booked =
                 record {
-                  beyond = lit< tt;
-                  field =
-                      record {
-                        possible = (tt, (tt, ((0, [], refl), (tt, (tt, ((1, [], refl), (tt, (tt, ((2, [], refl), (tt, (tt, ((3, [], refl), (tt, (tt, ((4, [], refl), (tt, (tt, ((5, [], refl), (tt, (tt, ((6, [], refl), (tt, (tt, ((7, [], refl), (tt, (tt, ((8, [], refl), tt)))))))))))))))))))))))))));
-                        alone = tt;
-                      };
+                  beyond = omega arith;
+                  clean = clean_kept;
+                  field = (tt, (tt, ((8, [], refl), (tt, (tt, ((9, [], refl), (tt, (tt, ((10, [], refl), (tt, (tt, ((11, [], refl), (tt, (tt, ((12, [], refl), (tt, (tt, ((13, [], refl), (tt, (tt, ((14, [], refl), (tt, (tt, ((15, [], refl), (tt, (tt, ((16, [], refl), tt)))))))))))))))))))))))))));
                   settled = refl;
-                  executed = eighth;
+                  executed = ninth;
                 };
           };
       starts =
@@ -211,7 +230,7 @@ all_needed =
                   starts_good = inr (λ k good. tt);
                 };
             good = tt;
-            booked = record { beyond = lit< tt; field = record { possible = (tt, (tt, ((0, [], refl), (tt, (tt, (tt, ((1, [], refl), tt))))))); alone = tt }; settled = refl; executed = first };
+            booked = record { beyond = omega arith; clean = clean_kept; field = (tt, (tt, ((8, [], refl), (tt, (tt, (tt, ((9, [], refl), tt))))))); settled = refl; executed = first };
           };
       stays_good =
           record {
@@ -226,7 +245,7 @@ all_needed =
                   starts_good = inr (λ b good. refl);
                 };
             good = refl;
-            booked = record { beyond = lit< tt; field = record { possible = (tt, (tt, ((0, [], refl), (tt, (tt, (tt, ((1, [], refl), tt))))))); alone = tt }; settled = refl; executed = second };
+            booked = record { beyond = omega arith; clean = clean_order; field = (tt, (tt, ((8, [], refl), (tt, (tt, (tt, ((9, [], refl), tt))))))); settled = refl; executed = second };
           };
       starts_good =
           record {
@@ -241,14 +260,14 @@ all_needed =
                   starts_good = inl refl;
                 };
             good = refl;
-            booked = record { beyond = lit< tt; field = record { possible = (tt, (tt, ((0, [], refl), (tt, (tt, (tt, (tt, ((1, [], refl), tt)))))))); alone = tt }; settled = refl; executed = second };
+            booked = record { beyond = omega arith; clean = clean_order; field = (tt, (tt, ((8, [], refl), (tt, (tt, (tt, (tt, ((9, [], refl), tt)))))))); settled = refl; executed = second };
           };
       shared_is = keeper_is;
-      changes_kept = record { beyond = lit< tt; field = record { possible = (tt, (tt, ((0, [], refl), ((tt, refl), (tt, (tt, ((1, [], refl), tt))))))); alone = tt }; settled = refl; executed = first };
+      changes_kept = record { beyond = omega arith; clean = clean_key; field = (tt, (tt, ((8, [], refl), ((tt, refl), (tt, (tt, ((9, [], refl), tt))))))); settled = refl; executed = first };
       sound_is = sound_is;
-      changes_good = record { beyond = lit< tt; field = record { possible = (tt, (tt, ((0, [], refl), ((tt, refl), (tt, (tt, (tt, ((1, [], refl), tt)))))))); alone = tt }; settled = refl; executed = second };
-      again = record { is = anew_is; good = tt; field = record { possible = (tt, (tt, ((0, [], refl), (tt, (tt, (tt, (tt, tt))))))); alone = tt }; twice = not_once };
+      changes_good = record { beyond = omega arith; clean = clean_any; field = (tt, (tt, ((8, [], refl), ((tt, refl), (tt, (tt, (tt, ((9, [], refl), tt)))))))); settled = refl; executed = second };
+      again = record { is = anew_is; good = tt; clean = clean_kept; field = (tt, (tt, ((8, [], refl), (tt, (tt, (tt, (tt, tt))))))); twice = not_once };
       again_keeps = λ k id call. refl;
       always_again = λ b id call line e. let never : ⊥ = cc in absurd never;
-      always = record { is = forgets_is; good = tt; field = record { possible = (tt, (tt, ((0, [], refl), (tt, (tt, (tt, (tt, tt))))))); alone = tt }; twice = not_once };
+      always = record { is = forgets_is; good = tt; clean = clean_any; field = (tt, (tt, ((8, [], refl), (tt, (tt, (tt, (tt, tt))))))); twice = not_once };
     }

@@ -5,20 +5,19 @@ use Rattle.std.proofs.lemmas.List.{length-append}
 use Rattle.gc_catalogue.specs.declared.call.Call.{Call}
 use Rattle.gc_client.specs.Rule.{ById, Settlement, Answered}
 use Rattle.gc_instrument.specs.State.{KeptReply}
-use Rattle.gc_world.specs.Clients.{by_ids, ids_open}
+use Rattle.gc_world.specs.Clients.{by_ids}
 use Rattle.gc_world.specs.Order.{Each}
 use Rattle.gc_world.specs.World.{Ends, Numbered, Request, Up_deliver, World}
 use Rattle.gc_world.proofs.Places.{below}
 use Rattle.gc_world.proofs.Rows.{each_more}
+use Rattle.gc_field.specs.Begun.{IsClean, WasMadeOn, behind, ids_begun}
 use Rattle.gc_field.specs.Chains.{AreCalls, IsExecutedAfter}
-use Rattle.gc_field.specs.Field.{Move, OnLine, moves, moved, ArePossible, IsField}
+use Rattle.gc_field.specs.Field.{Move, OnLine, moves, moved, ArePossible}
 use Rattle.gc_field.specs.Instrument.{IsAnInstrument}
-use Rattle.gc_field.specs.Laws.{left}
-use Rattle.gc_field.specs.Made.{WasMadeOn}
 use Rattle.gc_field.specs.Once.{ActsOnce, HasNoStart, IsInOrder}
-use Rattle.gc_field.specs.Stretches.{Stretch}
+use Rattle.gc_field.specs.Shown.{Stretch}
 use Rattle.gc_field.proofs.Between.{Stands, acted, calls_more, did_all, made_both, stands_all}
-use Rattle.gc_field.proofs.InTime.{Law, field_front}
+use Rattle.gc_field.proofs.InTime.{front_of, law}
 use Rattle.gc_field.proofs.Possible.{moved_append, possible_behind, possible_front}
 
 -- Lists.
@@ -97,20 +96,20 @@ module _ (e : List ℕ) (m n : ℕ) (numbers : List ℕ) where
 
 -- The law.
 
-module _ {State : Type 0} (ends : Ends State) (Good : State → Type 0) (kept : State → Option KeptReply) (is : IsAnInstrument ends Good kept) (law : Law ends Good kept) (s : Stretch State) (good : Good s.state) (field : IsField 7 ends Good kept s.state s.moves) where
+module _ {State : Type 0} (ends : Ends State) (Good : State → Type 0) (kept : State → Option KeptReply) (is : IsAnInstrument ends Good kept) (s : Stretch State) (clean : IsClean Good kept s.from) (field : ArePossible ends Good kept (by_ids 7 ends) s.moves (ids_begun s.from)) where
   abbrev at : List (Move State) → World ById State
-  at ms = left 7 ends s.state ms
+  at ms = behind 7 ends s.from ms
 
-  possible_to : (front later : List (Move State)) → s.moves ≡ front ++ later → ArePossible ends Good kept (by_ids 7 ends) front (ids_open s.state)
-  possible_to front later e = (field_front ends Good kept is s.state s.moves front later e field).possible
+  possible_to : (front later : List (Move State)) → s.moves ≡ front ++ later → ArePossible ends Good kept (by_ids 7 ends) front (ids_begun s.from)
+  possible_to front later e = front_of ends Good kept is s.from s.moves front later e field
 
   possible_from : (front later : List (Move State)) → s.moves ≡ front ++ later → ArePossible ends Good kept (by_ids 7 ends) later (at front)
-  possible_from front later e = possible_behind 7 ends Good kept front later (ids_open s.state) (subst (λ xs. ArePossible ends Good kept (by_ids 7 ends) xs (ids_open s.state)) e field.possible)
+  possible_from front later e = possible_behind 7 ends Good kept front later (ids_begun s.from) (subst (λ xs. ArePossible ends Good kept (by_ids 7 ends) xs (ids_begun s.from)) e field)
 
   -- a request that reaches the instrument was sent by then
-  was_sent : (n : ℕ) (call : Call) (line : List ℕ) (h : WasMadeOn 7 ends s.state s.moves n call line) → n < length (at h.front).wire.sent
+  was_sent : (n : ℕ) (call : Call) (line : List ℕ) (h : WasMadeOn 7 ends s.from s.moves n call line) → n < length (at h.front).wire.sent
   was_sent n call line h =
-      let stands = stands_all ends Good kept h.front s.state (possible_to h.front (OnLine Up_deliver ∷ h.later) h.split) in
+      let stands = stands_all ends Good kept h.front s.from clean (possible_to h.front (OnLine Up_deliver ∷ h.later) h.split) in
       let known = (subst (λ l. Each (λ (x : Numbered Request). (r : _) × (slice_get (at h.front).wire.sent x.number ≡ Some r) × (r.call ≡ x.line.call)) l) h.reaches stands.known).0 in
       below (at h.front).wire.sent n known.0 known.1
 
@@ -119,11 +118,11 @@ module _ {State : Type 0} (ends : Ends State) (Good : State → Type 0) (kept : 
   sent_more front more later e =
       let split : s.moves ≡ front ++ (more ++ later) = e ∙ append_assoc front more later in
       let possible = possible_front 7 ends Good kept more later (at front) (possible_from front (more ++ later) split) in
-      let did = did_all ends Good kept more (at front) possible (stands_all ends Good kept front s.state (possible_to front (more ++ later) split)) in
-      (did.more, ap (λ (w : World ById State). w.wire.sent) (moved_append 7 ends front more (ids_open s.state)) ∙ did.sent)
+      let did = did_all ends Good kept more (at front) possible (stands_all ends Good kept front s.from clean (possible_to front (more ++ later) split)) in
+      (did.more, ap (λ (w : World ById State). w.wire.sent) (moved_append 7 ends front more (ids_begun s.from)) ∙ did.sent)
 
   -- m was executed before these moves, and n wasn't sent: so n was executed behind them
-  behind_front : (before later : List (Move State)) → s.moves ≡ before ++ later → (n : ℕ) → length (at before).wire.sent ≤ n → (call : Call) (line : List ℕ) (h : WasMadeOn 7 ends s.state s.moves n call line)
+  behind_front : (before later : List (Move State)) → s.moves ≡ before ++ later → (n : ℕ) → length (at before).wire.sent ≤ n → (call : Call) (line : List ℕ) (h : WasMadeOn 7 ends s.from s.moves n call line)
       → (more : List (Move State)) × (h.front ≡ before ++ more)
   behind_front before later e n unsent call line h =
       elim (fronts before later h.front (OnLine Up_deliver ∷ h.later) (sym e ∙ h.split)) [
@@ -135,7 +134,7 @@ module _ {State : Type 0} (ends : Ends State) (Good : State → Type 0) (kept : 
       ]
 
   -- two executions, the one behind the other
-  both_made : (m n : ℕ) (call_m call_n : Call) (line_m line_n : List ℕ) (f : WasMadeOn 7 ends s.state s.moves m call_m line_m) (h : WasMadeOn 7 ends s.state s.moves n call_n line_n) (between : List (Move State)) → h.front ≡ f.front ++ OnLine Up_deliver ∷ between
+  both_made : (m n : ℕ) (call_m call_n : Call) (line_m line_n : List ℕ) (f : WasMadeOn 7 ends s.from s.moves m call_m line_m) (h : WasMadeOn 7 ends s.from s.moves n call_n line_n) (between : List (Move State)) → h.front ≡ f.front ++ OnLine Up_deliver ∷ between
       → IsExecutedAfter ends Good kept s m n call_m call_n line_m line_n
   both_made m n call_m call_n line_m line_n f h between order =
       let split : s.moves ≡ (f.front ++ OnLine Up_deliver ∷ between) ++ OnLine Up_deliver ∷ h.later = h.split ∙ ap (λ l. l ++ OnLine Up_deliver ∷ h.later) order in
@@ -143,21 +142,21 @@ module _ {State : Type 0} (ends : Ends State) (Good : State → Type 0) (kept : 
       let split_h : s.moves ≡ (h.front ++ OnLine Up_deliver ∷ []) ++ h.later = h.split ∙ sym (append_assoc h.front (OnLine Up_deliver ∷ []) h.later) in
       let v = at f.front in
       let w = moves ends (by_ids 7 ends) v (OnLine Up_deliver) in
-      let stands = stands_all ends Good kept f.front s.state (possible_to f.front (OnLine Up_deliver ∷ (between ++ OnLine Up_deliver ∷ h.later)) split_f) in
+      let stands = stands_all ends Good kept f.front s.from clean (possible_to f.front (OnLine Up_deliver ∷ (between ++ OnLine Up_deliver ∷ h.later)) split_f) in
       let one = acted ends v (record { number = m; line = record { id = f.id; call = call_m } }) f.rest f.reaches f.executed in
       let last = acted ends (at h.front) (record { number = n; line = record { id = h.id; call = call_n } }) h.rest h.reaches h.executed in
       let possible : ArePossible ends Good kept (by_ids 7 ends) between w = possible_front 7 ends Good kept between (OnLine Up_deliver ∷ h.later) w (possible_from f.front (OnLine Up_deliver ∷ (between ++ OnLine Up_deliver ∷ h.later)) split_f).1 in
       let split_w : s.moves ≡ (f.front ++ OnLine Up_deliver ∷ []) ++ (between ++ OnLine Up_deliver ∷ h.later) = split_f ∙ sym (append_assoc f.front (OnLine Up_deliver ∷ []) (between ++ OnLine Up_deliver ∷ h.later)) in
-      let stands_w : Stands ends w.wire = subst (λ (x : World ById State). Stands ends x.wire) (moved_append 7 ends f.front (OnLine Up_deliver ∷ []) (ids_open s.state)) (stands_all ends Good kept (f.front ++ OnLine Up_deliver ∷ []) s.state (possible_to (f.front ++ OnLine Up_deliver ∷ []) (between ++ OnLine Up_deliver ∷ h.later) split_w)) in
+      let stands_w : Stands ends w.wire = subst (λ (x : World ById State). Stands ends x.wire) (moved_append 7 ends f.front (OnLine Up_deliver ∷ []) (ids_begun s.from)) (stands_all ends Good kept (f.front ++ OnLine Up_deliver ∷ []) s.from clean (possible_to (f.front ++ OnLine Up_deliver ∷ []) (between ++ OnLine Up_deliver ∷ h.later) split_w)) in
       let did = did_all ends Good kept between w possible stands_w in
-      let there : at h.front ≡ moved ends (by_ids 7 ends) between w = ap (λ l. at l) order ∙ moved_append 7 ends f.front (OnLine Up_deliver ∷ between) (ids_open s.state) in
+      let there : at h.front ≡ moved ends (by_ids 7 ends) between w = ap (λ l. at l) order ∙ moved_append 7 ends f.front (OnLine Up_deliver ∷ between) (ids_begun s.from) in
       let e = v.wire.executed in
       let ran : (at h.front).wire.executed ≡ e ++ m ∷ did.numbers =
       ap (λ (x : World ById State). x.wire.executed) there ∙ did.executed ∙ ap (λ l. l ++ did.numbers) one.0 ∙ append_assoc e (m ∷ []) did.numbers in
-      let behind_last : at (h.front ++ OnLine Up_deliver ∷ []) ≡ moves ends (by_ids 7 ends) (at h.front) (OnLine Up_deliver) = moved_append 7 ends h.front (OnLine Up_deliver ∷ []) (ids_open s.state) in
+      let behind_last : at (h.front ++ OnLine Up_deliver ∷ []) ≡ moves ends (by_ids 7 ends) (at h.front) (OnLine Up_deliver) = moved_append 7 ends h.front (OnLine Up_deliver ∷ []) (ids_begun s.from) in
       let whole : (at (h.front ++ OnLine Up_deliver ∷ [])).wire.executed ≡ (e ++ m ∷ did.numbers) ++ n ∷ [] =
       ap (λ (x : World ById State). x.wire.executed) behind_last ∙ last.0 ∙ ap (λ l. l ++ n ∷ []) ran in
-      let true_there = law s.state good (h.front ++ OnLine Up_deliver ∷ []) (field_front ends Good kept is s.state s.moves (h.front ++ OnLine Up_deliver ∷ []) h.later split_h field) in
+      let true_there = law ends Good kept is s.from clean (h.front ++ OnLine Up_deliver ∷ []) (front_of ends Good kept is s.from s.moves (h.front ++ OnLine Up_deliver ∷ []) h.later split_h field) in
       let grown = sent_more h.front (OnLine Up_deliver ∷ h.later) [] (h.split ∙ sym (nil (h.front ++ OnLine Up_deliver ∷ h.later))) in
       let grown_all : (at s.moves).wire.sent ≡ (at h.front).wire.sent ++ grown.0 = ap (λ l. (at l).wire.sent) h.split ∙ grown.1 in
       let asked_there : AreCalls (at h.front).wire.sent did.numbers did.calls = subst (λ (x : World ById State). AreCalls x.wire.sent did.numbers did.calls) (sym there) did.asked in
@@ -186,12 +185,12 @@ module _ {State : Type 0} (ends : Ends State) (Good : State → Type 0) (kept : 
       nil (x ∷ ms) = ap (λ l. x ∷ l) (nil ms)
 
   -- what goes out behind an answer
-  pub executed_behind : (before later : List (Move State)) → s.moves ≡ before ++ later → (m n : ℕ) (x : Settlement) (line_m : List ℕ) → 0 < m → slice_get (at before).wire.settled m ≡ Some x → x.outcome ≡ Answered line_m
-      → length (at before).wire.sent ≤ n → (call : Call) (line_n : List ℕ) → WasMadeOn 7 ends s.state s.moves n call line_n → IsExecutedAfter ends Good kept s m n x.call call line_m line_n
+  pub executed_behind : (before later : List (Move State)) → s.moves ≡ before ++ later → (m n : ℕ) (x : Settlement) (line_m : List ℕ) → 8 ≤ m → slice_get (at before).wire.settled m ≡ Some x → x.outcome ≡ Answered line_m
+      → length (at before).wire.sent ≤ n → (call : Call) (line_n : List ℕ) → WasMadeOn 7 ends s.from s.moves n call line_n → IsExecutedAfter ends Good kept s m n x.call call line_m line_n
   executed_behind before later e m n x line_m beyond settled answered unsent call line_n h =
-      let f = (law s.state good before (field_front ends Good kept is s.state s.moves before later e field)).made_on m x line_m beyond settled answered in
+      let f = (law ends Good kept is s.from clean before (front_of ends Good kept is s.from s.moves before later e field)).made_on m x line_m beyond settled answered in
       let more = behind_front before later e n unsent call line_n h in
-      let first : WasMadeOn 7 ends s.state s.moves m x.call line_m = record {
+      let first : WasMadeOn 7 ends s.from s.moves m x.call line_m = record {
         front = f.front;
         later = f.later ++ later;
         split = e ∙ ap (λ l. l ++ later) f.split ∙ append_assoc f.front (OnLine Up_deliver ∷ f.later) later;

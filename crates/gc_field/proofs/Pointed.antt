@@ -1,5 +1,5 @@
 -- Where the telescope pointed when a command of a chain was executed.
-use Rattle.std.proofs.Common.{◌≡◌, ℕ, ℤ, pos, ◌<◌, Bool, true, false, cond, List, [], ◌∷◌, length, map, Option, Some, None, refl, sym, ◌∙◌, ap, subst, arith}
+use Rattle.std.proofs.Common.{◌≡◌, ℕ, zero, suc, ◌+◌, ◌-◌, ℤ, pos, ◌<◌, drop, Bool, true, false, cond, List, [], ◌∷◌, length, map, Option, Some, None, refl, sym, ◌∙◌, ap, subst, arith}
 use Rattle.std.specs.Prelude.{slice_get}
 use Rattle.std.specs.List.{AllByRecursion}
 use Rattle.std.specs.Ordering.{int_eq}
@@ -27,16 +27,17 @@ use Rattle.gc_world.specs.Clients.{ends}
 use Rattle.gc_world.specs.Order.{Each}
 use Rattle.gc_world.specs.World.{Sent}
 use Rattle.gc_world.proofs.Handing.{bare_after}
-use Rattle.gc_world.proofs.Options.{some_is}
+use Rattle.gc_world.proofs.Options.{none_is_not, some_is}
 use Rattle.gc_world.proofs.Places.{below, get_map, in_range}
+use Rattle.gc_field.specs.Begin.{UnderWay}
+use Rattle.gc_field.specs.Beginnings.{Run}
 use Rattle.gc_field.specs.Chains.{AreCalls, HasNoStartBetween, IsUndisturbed, IsChainedTo, IsExecutedInChain, behind, executing}
 use Rattle.gc_field.specs.Field.{Move, Sends, Tells, Comes, Foreign, OnLine, Anew, Changes, Joins}
 use Rattle.gc_field.specs.Laws.{asked, kept_of}
 use Rattle.gc_field.specs.Pointing.{AreStill, IsMeasuredWhereItPointed, IsPointedInChain, SimulatorHasItsEffect, bare, behind_call, turns}
-use Rattle.gc_field.specs.Runs.{IsInField, world}
-use Rattle.gc_field.specs.Stretches.{Stretch}
+use Rattle.gc_field.specs.Runs.{IsInField, own_sent, world}
+use Rattle.gc_field.specs.Shown.{Stretch, stretches}
 use Rattle.gc_field.proofs.Chained.{chains_executed, sent_at}
-use Rattle.gc_field.proofs.InTime.{Law}
 use Rattle.gc_field.proofs.Instruments.{simulator}
 use Rattle.gc_field.proofs.Joining.{run_faithful}
 
@@ -131,10 +132,20 @@ all_still sent m n (k ∷ ns) [] h g f = absurd h
 all_still sent m n (k ∷ ns) (x ∷ calls) h g f =
     (ap turns (sym h.0.2) ∙ f k h.0.0 g.0.0 g.0.1 h.0.1, all_still sent m n ns calls h.1 g.1 f)
 
+-- of what comes behind so many
+get_own : (k n j : ℕ) (xs : List Sent) (x : Sent) → j ≡ k + n → slice_get xs j ≡ Some x → slice_get (drop k xs) n ≡ Some x
+get_own zero n j xs x e got = let same : j ≡ n = omega (arith, e) in subst (λ i. slice_get xs i ≡ Some x) same got
+get_own (suc k) n j [] x e got = absurd (none_is_not x got)
+get_own (suc k) n zero (y ∷ xs) x e got = absurd (omega (arith, e))
+get_own (suc k) n (suc j) (y ∷ xs) x e got = get_own k n j xs x (omega (arith, e)) got
+
 null_still : (a : Asked) (r : Sent) → asked r ≡ a → a ≡ record { target = 0; call = call.NullProc } → turns r.call ≡ false
 null_still a r e f = ap (λ (o : Asked). turns o.call) (e ∙ f)
 
-module _ (law : Law ends IsFittingState kept_of) (plan : Plan) (commands : List Task) (scope : Scope) (acts : List Act) (ss : List (Stretch State)) (field : IsInField ends IsFittingState kept_of plan commands scope acts ss) where
+module _ (plan : Plan) (commands : List Task) (scope : Scope) (acts : List Act) (u : UnderWay State) (rs : List (Run State)) (field : IsInField ends IsFittingState kept_of plan commands scope acts u rs) where
+  abbrev ss : List (Stretch State)
+  ss = stretches ends u rs
+
   module _ (b : Record) (line : List ℕ) (a : ℕ) (h : IsChainedTo ends IsFittingState kept_of scope.reads (parts plan commands scope acts) ss (stood plan commands scope acts).records a b line) (still : AreStill commands a b.place) where
     still_by : (x : ℕ) (r : Sent) (o : Option _) (above : h.m < x) (under : x < h.n) → slice_get h.part.marks x ≡ Some o → (y : Asked) → asked r ≡ y → IsOf commands o y → turns r.call ≡ false
     still_by x r None above under at y e is = null_still y r e is
@@ -143,21 +154,26 @@ module _ (law : Law ends IsFittingState kept_of) (plan : Plan) (commands : List 
         let quiet = still mark.place is.0 there.1 there.2 is.1 in
         ap (λ (o : Asked). turns o.call) (e ∙ is.2) ∙ quiet
 
-    still_at : (x : ℕ) (r : Sent) → h.m < x → x < h.n → slice_get (world ends h.stretch).wire.sent x ≡ Some r → turns r.call ≡ false
+    still_at : (x : ℕ) (r : Sent) → h.m < x → x < h.n → slice_get (own_sent ends h.stretch) x ≡ Some r → turns r.call ≡ false
     still_at x r above under got =
-        let f = run_faithful ends IsFittingState kept_of simulator.is law plan commands scope acts ss field in
+        let f = run_faithful ends IsFittingState kept_of simulator.is plan commands scope acts u rs field in
         let of = sent_at ends commands (parts plan commands scope acts) ss h.i h.part h.stretch f.sent h.of_parts h.of_stretches in
         let size : h.n < length h.part.marks = below h.part.marks h.n _ h.mark_b in
         let mark = in_range h.part.marks x (omega (arith, under, size)) in
-        let y = of_at commands h.part.marks (map asked (world ends h.stretch).wire.sent) x mark.0 of mark.1 in
-        let same : asked r ≡ y.0 = some_is (asked r) y.0 (sym (get_map asked (world ends h.stretch).wire.sent x r got) ∙ y.1) in
+        let y = of_at commands h.part.marks (map asked (own_sent ends h.stretch)) x mark.0 of mark.1 in
+        let same : asked r ≡ y.0 = some_is (asked r) y.0 (sym (get_map asked (own_sent ends h.stretch) x r got) ∙ y.1) in
         still_by x r mark.0 above under mark.1 y.0 same y.2
+
+    -- by the number of the request
+    still_number : (k : ℕ) (r : Sent) → 8 + h.m < k → k < 8 + h.n → slice_get (world ends h.stretch).wire.sent k ≡ Some r → turns r.call ≡ false
+    still_number k r above under got =
+        still_at (k - 8) r (omega (arith, above)) (omega (arith, above, under)) (get_own 8 (k - 8) k (world ends h.stretch).wire.sent r (omega (arith, above)) got)
 
     pointed_there : IsUndisturbed h.executed.between → IsMeasuredWhereItPointed scope.reads (parts plan commands scope acts) ss (stood plan commands scope acts).records a b line h
     pointed_there quiet =
         let x = h.executed in
         let s = (behind ends h.stretch x.first.front).state in
-        let calls = all_still (world ends h.stretch).wire.sent h.m h.n x.numbers x.calls x.asked (x.strictly simulator.keeps (no_start x.between quiet)) (λ k r above under got. still_at k r above under got) in
+        let calls = all_still (world ends h.stretch).wire.sent (8 + h.m) (8 + h.n) x.numbers x.calls x.asked (x.strictly simulator.keeps (no_start x.between quiet)) (λ k r above under got. still_number k r above under got) in
         let there = x.state bare behind_call has_effect quiet in
         let t = behind_call s h.record_a.command.call in
         let same = executing_same x.calls t calls in
@@ -174,9 +190,9 @@ module _ (law : Law ends IsFittingState kept_of) (plan : Plan) (commands : List 
   all_so P Q f [] h = tt
   all_so P Q f (x ∷ xs) h = (f x h.0, all_so P Q f xs h.1)
 
-  pub pointed : ChainsStay → MarksGoOn → RecordsStay → AllByRecursion (IsPointedInChain plan commands scope acts ss) (stood plan commands scope acts).records
+  pub pointed : ChainsStay → MarksGoOn → RecordsStay → AllByRecursion (IsPointedInChain plan commands scope acts u rs) (stood plan commands scope acts).records
   pointed stay go_on records_stay =
-      all_so (IsExecutedInChain ends IsFittingState kept_of plan commands scope acts ss) (IsPointedInChain plan commands scope acts ss)
+      all_so (IsExecutedInChain ends IsFittingState kept_of plan commands scope acts u rs) (IsPointedInChain plan commands scope acts u rs)
       (λ b h line a answered less chained. let c = h line a answered less chained in (c, λ still quiet. pointed_there b line a c still quiet))
       (stood plan commands scope acts).records
-      (chains_executed ends IsFittingState kept_of simulator.is law stay go_on records_stay plan commands scope acts ss field)
+      (chains_executed ends IsFittingState kept_of simulator.is stay go_on records_stay plan commands scope acts u rs field)

@@ -10,7 +10,7 @@ pub again : IsExecutedAgain
 unfolding header_at reply_at handed exec digits
 again =
     record {
-      possible = (tt, (tt, ((0, [], refl), (tt, (tt, ((1, [], refl), (tt, (tt, (tt, (tt, (tt, (tt, ((2, [], refl), tt)))))))))))));
+      possible = (tt, (tt, ((8, [], refl), (tt, (tt, ((9, [], refl), (tt, (tt, (tt, (tt, (tt, (tt, ((10, [], refl), tt)))))))))))));
       executed = refl;
       settled = refl;
     }

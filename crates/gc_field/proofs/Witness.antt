@@ -1,18 +1,25 @@
 -- A run of one command, in the field.
-use Rattle.std.proofs.Common.{ℕ, ◌<◌, [], refl, arith, lit<}
+use Rattle.std.proofs.Common.{◌≡◌, inl, inr, ℕ, ◌<◌, List, [], ◌∷◌, Some, refl, sym, subst, arith, lit<}
 use Rattle.std.proofs.lemmas.Int.{ints}
 use Rattle.std.specs.Prelude.{codes, take, drop}
 use Rattle.std.specs.Fmt.{digits}
 use Rattle.gc_lines.specs.Readers.{header_at, reply_at}
 use Rattle.gc_values.specs.Text.{IsStringByte, IsText}
 use Rattle.gc_catalogue.specs.declared.call.Call.TheVariants.{InstrumentNo}
+use Rattle.gc_client.specs.Beginning.{IsSubsequence, the_word}
 use Rattle.gc_client.specs.declared.window.TheConstants.{WINDOW}
 use Rattle.gc_instrument.specs.Execution.{exec}
 use Rattle.gc_instrument.specs.Replying.{handed}
 use Rattle.gc_instrument.specs.State.{IsFittingState, simulator_opening}
+use Rattle.gc_station.specs.Parts as part
+use Rattle.gc_station.specs.Parts.{nothing, parts_of}
+use Rattle.gc_station.specs.Standing.{opening}
 use Rattle.gc_world.specs.Clients.{ends}
-use Rattle.gc_field.specs.Made.{WasMadeOn}
-use Rattle.gc_field.specs.Witness.{IsAnsweredInField, moves, answer}
+use Rattle.gc_field.specs.Begin.{begins, leaves, turned}
+use Rattle.gc_field.specs.Begun.{WasMadeOn}
+use Rattle.gc_field.specs.Field.{seen}
+use Rattle.gc_field.specs.Shown.{AreShownAs, shown}
+use Rattle.gc_field.specs.Witness.{IsAnsweredInField, acts, answer, before, commands, moves, plan, replies, runs, scope, turns}
 
 -- bytes of a name
 above : (b : ℕ) → 34 < b → IsStringByte b
@@ -39,10 +46,35 @@ fits =
       kept = tt;
     }
 
--- the command's request is the second one, and reaches the simulator at the eleventh move
-was_made : WasMadeOn WINDOW ends simulator_opening moves 1 InstrumentNo answer
+-- the word isn't a subsequence of two ids 0
+six : (n m : ℕ) → n ≡ m → n ≡ 6 → m ≡ 0 → ⊥
+six n m e a b = omega (arith, e, a, b)
+
+none_here : IsSubsequence the_word (0 ∷ 0 ∷ []) → ⊥
+none_here (inl h) = six 6 0 h.0 refl refl
+none_here (inr (inl h)) = six 6 0 h.0 refl refl
+none_here (inr (inr h)) = h
+
+-- the command's request is the client's first one, and reaches the simulator at the fourth move
+was_made : WasMadeOn WINDOW ends (leaves (turned ends turns (begins before))) moves 8 InstrumentNo answer
 unfolding header_at reply_at handed exec digits
-was_made = record { front = take 10 moves; later = drop 11 moves; split = refl; id = 1; rest = []; reaches = refl; executed = refl; reply = refl }
+was_made = record { front = take 3 moves; later = drop 4 moves; split = refl; id = 0; rest = []; reaches = refl; executed = refl; reply = refl }
+
+-- a null procedure goes out, and this is heard, for each of these
+abbrev pub asked_each : List (List ℕ) → List part.Turn
+asked_each [] = []
+asked_each (line ∷ lines) = part.Asks ∷ part.Hears line ∷ asked_each lines
+
+abbrev all_turns : List part.Turn
+all_turns = part.Asks ∷ part.Hears (codes "%R1P,0,0:0,654321") ∷ part.Hears answer ∷ part.Hears (codes "%R1P,0,6:0") ∷ asked_each (drop 1 replies)
+
+parts_are : parts_of plan commands (opening plan scope) acts ≡ record { turns = all_turns; steps = seen moves; marks = Some (record { cycle = 1; place = 0; sent = 15 }) ∷ [] } ∷ nothing ∷ []
+unfolding header_at reply_at digits
+parts_are = refl
+
+shown_are : shown ends turns (begins before) ≡ all_turns
+unfolding header_at reply_at handed exec digits
+shown_are = refl
 
 pub answered : IsAnsweredInField
 unfolding header_at reply_at handed exec digits
@@ -50,9 +82,11 @@ answered =
     record {
       field =
           record {
-            runs = (tt, (refl, (tt, (tt, (refl, (tt, (tt, (tt, (refl, (tt, (tt, (refl, tt))))))))))));
-            steps = refl;
-            possible = ((fits, (tt, (tt, (tt, (tt, (tt, (tt, ((0, [], refl), (tt, (tt, (tt, (tt, (tt, ((1, [], refl), tt)))))))))))))), ((fits, tt), tt));
+            runs = (tt, (refl, (tt, (refl, (tt, (tt, (tt, (tt, (refl, (tt, (tt, (refl, (tt, (tt, (refl, (tt, (tt, (refl, (tt, (tt, (refl, (tt, (tt, (refl, (tt, (tt, (refl, (tt, (tt, (tt, (refl, (tt, (tt, (refl, tt))))))))))))))))))))))))))))))))));
+            lines = record { ids = (lit< tt, tt); good = fits };
+            none = none_here;
+            shown = subst (AreShownAs ends before runs) (sym parts_are) (shown_are, refl, (refl, refl, tt));
+            possible = (((tt, (tt, (tt, (tt, (tt, (tt, (tt, (tt, (tt, (tt, (tt, (tt, (tt, (tt, (tt, (tt, (tt, (tt, (tt, (tt, (tt, (tt, (tt, (tt, (tt, (tt, (tt, tt))))))))))))))))))))))))))), (tt, (tt, (tt, (tt, (tt, ((8, [], refl), tt))))))), ((tt, refl), tt));
           };
       over = refl;
       records = refl;

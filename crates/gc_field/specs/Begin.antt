@@ -20,6 +20,10 @@ pub record UnderWay (State : Type 0) : Type 0 where
   pub down : List (List ℕ)
   pub state : State
 
+-- nothing is under way to this instrument, nor from it
+abbrev pub none_under_way : {State : Type 0} → State → UnderWay State
+none_under_way state = record { up = []; down = []; state = state }
+
 -- the ids under way, in order: of the replies, then of the requests. The reply that the instrument keeps doesn't count, since it is sent only
 -- for a request; nor does a line without an id
 abbrev pub ids_under_way : {State : Type 0} → UnderWay State → List ℕ

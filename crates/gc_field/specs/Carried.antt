@@ -1,14 +1,37 @@
--- A station in the field, this project's own: its acts, and what happens to its lines.
-use Rattle.std.specs.Prelude.{List, [], Option}
+-- A station in the field, this project's own: its acts once it has begun, and what happens to its lines.
+use Rattle.std.specs.Prelude.{◌≡◌, ℕ, List, Option}
 use Rattle.gc_client.specs.declared.window.TheConstants.{WINDOW}
 use Rattle.gc_client.specs.Rule.{fresh}
-use Rattle.gc_instrument.specs.State.{KeptReply}
+use Rattle.gc_instrument.specs.State.{KeptReply, State, IsFittingState}
 use Rattle.gc_links.specs.Acts.{Act}
+use Rattle.gc_world.specs.Clients.{ends, by_ids}
 use Rattle.gc_world.specs.World.{Ends}
-use Rattle.gc_field.specs.Field.{Move, IsField, seen}
-use Rattle.gc_field.specs.Meaning.{Amount}
+use Rattle.gc_field.specs.Begin.{UnderWay}
+use Rattle.gc_field.specs.Begun.{IsClean, IsFaithful, behind, ids_begun}
+use Rattle.gc_field.specs.Field.{Move, ArePossible, seen}
+use Rattle.gc_field.specs.Instrument.{IsAnInstrument, AnyState}
+use Rattle.gc_field.specs.Laws.{kept_of}
+use Rattle.gc_field.specs.Meaning.{Amount, client_after}
 
--- from a new client on, and with nothing under way, these acts go with these moves of the line and of an instrument that begins so
-pub record IsCarried {State : Type 0} (ends : Ends State) (Good : State → Type 0) (kept : State → Option KeptReply) (state : State) (acts : List Act) (ms : List (Move State)) : Type 0 where
-  pub steps : Amount fresh [] acts (seen ms)
-  pub field : IsField WINDOW ends Good kept state ms
+-- behind a beginning that has begun cleanly, whose last piece left these bytes of a line, these acts go with these moves of the line and of
+-- an instrument, whenever the station sends
+pub record IsCarried {State : Type 0} (ends : Ends State) (Good : State → Type 0) (kept : State → Option KeptReply) (u : UnderWay State) (rest : List ℕ) (acts : List Act) (ms : List (Move State)) : Type 0 where
+  pub clean : IsClean Good kept u
+  pub steps : Amount fresh rest acts (seen ms)
+  pub possible : ArePossible ends Good kept (by_ids WINDOW ends) ms (ids_begun u)
+
+-- all is so that is said of a client, and the station's stands where the world's does
+pub record IsStationFaithful {State : Type 0} (ends : Ends State) (Good : State → Type 0) (kept : State → Option KeptReply) (u : UnderWay State) (ms : List (Move State)) : Type 0 where
+  pub faithful : IsFaithful WINDOW ends u ms Good kept
+  pub client : client_after fresh (seen ms) ≡ (behind WINDOW ends u ms).client
+
+-- for any instrument, and a station, whatever its acts are
+abbrev pub StationsAnswersAreTheirOwn : Type 0 → Type 0
+StationsAnswersAreTheirOwn State =
+    (ends : Ends State) (kept : State → Option KeptReply) → IsAnInstrument ends AnyState kept →
+    (u : UnderWay State) (rest : List ℕ) (acts : List Act) (ms : List (Move State)) → IsCarried ends AnyState kept u rest acts ms → IsStationFaithful ends AnyState kept u ms
+
+-- and for a station over the simulated instrument
+abbrev pub SimulatorsStationsAnswersAreTheirOwn : Type 0
+SimulatorsStationsAnswersAreTheirOwn =
+    (u : UnderWay State) (rest : List ℕ) (acts : List Act) (ms : List (Move State)) → IsCarried ends IsFittingState kept_of u rest acts ms → IsStationFaithful ends IsFittingState kept_of u ms

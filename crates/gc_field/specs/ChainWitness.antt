@@ -7,24 +7,26 @@ use Rattle.gc_values.specs.declared.decimal.Decimal.{Decimal}
 use Rattle.gc_catalogue.specs.declared.answer.Answer.TheVariants.{Long}
 use Rattle.gc_catalogue.specs.declared.answer.Reading.TheVariants.{Value}
 use Rattle.gc_catalogue.specs.declared.call.Call.{Call}
-use Rattle.gc_catalogue.specs.declared.call.Call.TheVariants.{NullProc, Position, DoMeasure, SimpleMea}
+use Rattle.gc_catalogue.specs.declared.call.Call.TheVariants.{Position, DoMeasure, SimpleMea}
 use Rattle.gc_instrument.specs.State.{State, IsFittingState, simulator_opening}
 use Rattle.gc_texts.specs.declared.tasks.Task.{Task}
 use Rattle.gc_texts.specs.Endings as end
-use Rattle.gc_links.specs.Acts.{Act, Told, Put, Gave, Silent, Closed, Opened}
+use Rattle.gc_links.specs.Acts.{Act, Told, Put, Gave, Closed}
 use Rattle.gc_station.specs.Links.{AreChained}
 use Rattle.gc_station.specs.Records.{Record}
 use Rattle.gc_station.specs.Runs.{stood}
 use Rattle.gc_station.specs.Scopes.{Scope}
 use Rattle.gc_world.specs.Clients.{ends}
 use Rattle.gc_world.specs.World.{Up_deliver}
+use Rattle.gc_field.specs.Begin.{UnderWay, begins, leaves, none_under_way, turned}
+use Rattle.gc_field.specs.Beginnings.{Run}
 use Rattle.gc_field.specs.Chains.{IsUndisturbed, behind}
 use Rattle.gc_field.specs.Field.{Move, Sends, Tells, Comes, OnLine}
 use Rattle.gc_field.specs.Laws.{kept_of}
 use Rattle.gc_field.specs.Pointing.{AreStill}
 use Rattle.gc_field.specs.Runs.{IsInField}
-use Rattle.gc_field.specs.Stretches.{Stretch}
-use Rattle.gc_field.specs.Witness.{plan, at, begun}
+use Rattle.gc_field.specs.Shown.{Stretch}
+use Rattle.gc_field.specs.Witness.{plan, at, begun_with, eight, replies}
 
 -- a direction, in radians: horizontal, and vertical
 abbrev pub hz : Decimal
@@ -51,55 +53,42 @@ commands =
     ∷ record { command = record { target = 7; call = reads_all }; deadline = 100; chained = true }
     ∷ []
 
--- at most thirty acts; what a reply says isn't looked at, but that it is a value
+-- at most fifty acts; what a reply says isn't looked at, but that it is a value
 abbrev pub scope : Scope
-scope = record { turns = 30; reads = λ call line. Value (Long (pos 0)) }
+scope = record { turns = 50; reads = λ call line. Value (Long (pos 0)) }
 
 -- the simulator's replies to the three commands
 abbrev pub first : List ℕ
-first = codes "%R1P,0,1:0"
+first = codes "%R1P,0,0:0"
 
 abbrev pub second : List ℕ
-second = codes "%R1P,0,2:0"
+second = codes "%R1P,0,1:0"
 
 abbrev pub third : List ℕ
-third = codes "%R1P,0,3:0,2.25,1.625,110.0625"
+third = codes "%R1P,0,2:0,2.25,1.625,110.0625"
 
--- a connection is made and cleared, and quiet; the null procedure is answered, then one command after the other, with these replies; and
--- it is closed
-abbrev pub acts_with : List ℕ → List ℕ → List ℕ → List ℕ → List Act
-acts_with reply a b c =
-    Opened
-    ∷ Put (10 ∷ [])
-    ∷ Told (at 0)
-    ∷ Silent (at 10)
-    ∷ Put (with_end (codes "%R1Q,0,0:"))
-    ∷ Told (at 10)
-    ∷ Gave (with_end reply) (at 15)
-    ∷ Told (at 15)
-    ∷ Put (with_end (codes "%R1Q,9027,1:2.25,1.625,0,0,0"))
+-- it begins, with these replies; then one command goes out after the other, each with its reply; and it is closed
+abbrev pub acts_with : List (List ℕ) → List ℕ → List ℕ → List ℕ → List Act
+acts_with answers a b c =
+    begun_with answers (
+    Told (at 15)
+    ∷ Put (with_end (codes "%R1Q,9027,0:2.25,1.625,0,0,0"))
     ∷ Told (at 15)
     ∷ Gave (with_end a) (at 20)
-    ∷ Put (with_end (codes "%R1Q,2008,2:1,1"))
+    ∷ Put (with_end (codes "%R1Q,2008,1:1,1"))
     ∷ Told (at 20)
     ∷ Gave (with_end b) (at 25)
-    ∷ Put (with_end (codes "%R1Q,2108,3:3000,1"))
+    ∷ Put (with_end (codes "%R1Q,2108,2:3000,1"))
     ∷ Told (at 25)
     ∷ Gave (with_end c) (at 30)
     ∷ Closed
     ∷ []
+    )
 
 -- each request reaches the instrument, and each reply comes
-abbrev pub moves_with : {S : Type 0} → List ℕ → List ℕ → List ℕ → List ℕ → List (Move S)
-moves_with reply a b c =
-    Tells 0
-    ∷ Tells 10
-    ∷ Sends 0 NullProc 110
-    ∷ Tells 10
-    ∷ OnLine Up_deliver
-    ∷ Tells 15
-    ∷ Comes reply
-    ∷ Tells 15
+abbrev pub moves_with : {S : Type 0} → List ℕ → List ℕ → List ℕ → List (Move S)
+moves_with a b c =
+    Tells 15
     ∷ Sends 7 points 115
     ∷ Tells 15
     ∷ OnLine Up_deliver
@@ -125,27 +114,30 @@ records_with a b c =
     ∷ record { sent = Some 25; utc = 30; cycle = 1; place = 2; command = record { target = 7; call = reads_all }; end = end.Answered (Some (Long (pos 0))) c }
     ∷ []
 
--- over the simulator as it is at the start
+-- over the simulator as it is at the start, with nothing under way
 abbrev pub acts : List Act
-acts = acts_with begun first second third
+acts = acts_with replies first second third
 
 abbrev pub moves : List (Move State)
-moves = moves_with begun first second third
+moves = moves_with first second third
+
+abbrev pub before : UnderWay State
+before = none_under_way simulator_opening
 
 -- so it is one stretch, and nothing behind the end
 abbrev pub stretch : Stretch State
-stretch = record { state = simulator_opening; moves = moves }
+stretch = record { from = leaves (turned ends eight (begins before)); moves = moves }
 
-abbrev pub stretches : List (Stretch State)
-stretches = stretch ∷ record { state = simulator_opening; moves = [] } ∷ []
+abbrev pub runs : List (Run State)
+runs = record { turns = eight; moves = moves } ∷ record { turns = []; moves = [] } ∷ []
 
 -- it is a run in the field, which has written the answers down; the third command is of the first one's chain, no command between turns the
 -- telescope, and nothing disturbs the instrument. So when the third is executed, behind both others, the telescope points there
 pub record IsPointedInField : Type 0 where
-  pub field : IsInField ends IsFittingState kept_of plan commands scope acts stretches
+  pub field : IsInField ends IsFittingState kept_of plan commands scope acts before runs
   pub records : (stood plan commands scope acts).records ≡ records_with first second third
   pub chained : AreChained commands 0 2
   pub still : AreStill commands 0 2
   pub undisturbed : IsUndisturbed moves
-  pub executed : (behind ends stretch (take 20 moves)).executed ≡ 0 ∷ 1 ∷ 2 ∷ []
-  pub pointing : (behind ends stretch (take 20 moves)).state.pointing ≡ record { hz = hz; v = v }
+  pub executed : (behind ends stretch (take 13 moves)).executed ≡ 8 ∷ 9 ∷ []
+  pub pointing : (behind ends stretch (take 13 moves)).state.pointing ≡ record { hz = hz; v = v }

@@ -1,7 +1,7 @@
 -- Chains in the field, this project's own: what the instrument had executed when it executed a command of a chain. Each one before it was
 -- executed first, with the reply that was booked; between the two nothing but what was sent between them; and the instrument was what
 -- these had made of it.
-use Rattle.std.specs.Prelude.{◌≡◌, ℕ, ◌<◌, ◌≤◌, true, false, List, [], ◌∷◌, ◌++◌, Option, Some, slice_get}
+use Rattle.std.specs.Prelude.{◌≡◌, ℕ, ◌+◌, ◌<◌, ◌≤◌, true, false, List, [], ◌∷◌, ◌++◌, Option, Some, slice_get}
 use Rattle.std.specs.List.{AllByRecursion}
 use Rattle.gc_catalogue.specs.declared.answer.Answer.{Answer}
 use Rattle.gc_catalogue.specs.declared.answer.Reading.{Reading}
@@ -22,12 +22,15 @@ use Rattle.gc_station.specs.Standing.{opening}
 use Rattle.gc_station.specs.declared.plan.Plan.{Plan}
 use Rattle.gc_world.specs.Order.{Each}
 use Rattle.gc_world.specs.World.{Ends, Sent, Up_deliver, Wire}
+use Rattle.gc_field.specs.Begin.{UnderWay}
+use Rattle.gc_field.specs.Beginnings.{Run}
+use Rattle.gc_field.specs.Begun as begun
+use Rattle.gc_field.specs.Begun.{WasMadeOn}
 use Rattle.gc_field.specs.Field.{Move, Sends, Tells, Comes, Foreign, OnLine, Anew, Changes, Joins}
 use Rattle.gc_field.specs.Instrument.{IsAnInstrument, KeepsItsReply, AnyState}
-use Rattle.gc_field.specs.Made.{WasMadeOn, wire_behind}
 use Rattle.gc_field.specs.Once.{IsInOrder}
 use Rattle.gc_field.specs.Runs.{IsInField}
-use Rattle.gc_field.specs.Stretches.{Stretch}
+use Rattle.gc_field.specs.Shown.{Stretch, stretches}
 
 -- What happens between two executions.
 
@@ -75,15 +78,15 @@ pub record HasEffect {State : Type 0} (ends : Ends State) (apart : State → Sta
 
 -- the wire behind these moves of a stretch
 abbrev pub behind : {State : Type 0} → Ends State → Stretch State → List (Move State) → Wire State
-behind ends s ms = wire_behind WINDOW ends s.state ms
+behind ends s ms = (begun.behind WINDOW ends s.from ms).wire
 
 module _ {State : Type 0} (ends : Ends State) (Good : State → Type 0) (kept : State → Option KeptReply) where
   -- Two executions of a stretch.
 
   -- in a stretch request m was executed, and this line was its reply; and behind that request n was, and that line was its
   pub record IsExecutedAfter (s : Stretch State) (m n : ℕ) (call_m call_n : Call) (line_m line_n : List ℕ) : Type 0 where
-    pub first : WasMadeOn WINDOW ends s.state s.moves m call_m line_m
-    pub second : WasMadeOn WINDOW ends s.state s.moves n call_n line_n
+    pub first : WasMadeOn WINDOW ends s.from s.moves m call_m line_m
+    pub second : WasMadeOn WINDOW ends s.from s.moves n call_n line_n
     pub between : List (Move State)
     pub order : second.front ≡ first.front ++ OnLine Up_deliver ∷ between
     -- the requests that were executed between them, by their numbers: in the order of sending, none sent before m, and none behind n
@@ -114,7 +117,7 @@ module _ {State : Type 0} (ends : Ends State) (Good : State → Type 0) (kept : 
     pub said : Option Answer
     pub answered : record_a.end ≡ Answered said line_a
     pub well : is_value (reads record_a.command.call line_a) ≡ true
-    -- both are requests of one part of the run, and so of one stretch, that of a before that of b
+    -- both are requests of the client in one part of the run, and so in one stretch, that of a before that of b
     pub i : ℕ
     pub part : Part
     pub stretch : Stretch State
@@ -128,21 +131,21 @@ module _ {State : Type 0} (ends : Ends State) (Good : State → Type 0) (kept : 
     -- the commands that went out between them are those of the places between them, of the same cycle
     pub between : (x : ℕ) (mark : _) → m < x → x < n → slice_get part.marks x ≡ Some (Some mark) → (mark.cycle ≡ b.cycle) × (a < mark.place) × (mark.place < b.place)
     -- and they were executed in this order, with these replies
-    pub executed : IsExecutedAfter stretch m n record_a.command.call b.command.call line_a line_b
+    pub executed : IsExecutedAfter stretch (8 + m) (8 + n) record_a.command.call b.command.call line_a line_b
 
   -- each record of a command that was answered, from each place on from which it is chained
-  abbrev pub IsExecutedInChain : Plan → List Task → Scope → List Act → List (Stretch State) → Record → Type 0
-  IsExecutedInChain plan commands scope acts stretches b =
+  abbrev pub IsExecutedInChain : Plan → List Task → Scope → List Act → UnderWay State → List (Run State) → Record → Type 0
+  IsExecutedInChain plan commands scope acts u rs b =
       (line : List ℕ) (a : ℕ) → answer_of b.end ≡ Some line → a < b.place → AreChained commands a b.place
-      → IsChainedTo scope.reads (parts_of plan commands (opening plan scope) acts) stretches (stood plan commands scope acts).records a b line
+      → IsChainedTo scope.reads (parts_of plan commands (opening plan scope) acts) (stretches ends u rs) (stood plan commands scope acts).records a b line
 
   -- of a run, each
-  abbrev pub AreExecutedInChain : Plan → List Task → Scope → List Act → List (Stretch State) → Type 0
-  AreExecutedInChain plan commands scope acts stretches = AllByRecursion (IsExecutedInChain plan commands scope acts stretches) (stood plan commands scope acts).records
+  abbrev pub AreExecutedInChain : Plan → List Task → Scope → List Act → UnderWay State → List (Run State) → Type 0
+  AreExecutedInChain plan commands scope acts u rs = AllByRecursion (IsExecutedInChain plan commands scope acts u rs) (stood plan commands scope acts).records
 
 -- for any instrument, every plan, all commands, every run of the station, and all that the line and the instrument may do meanwhile
 abbrev pub ChainsAreExecuted : Type 0 → Type 0
 ChainsAreExecuted State =
     (ends : Ends State) (kept : State → Option KeptReply) → IsAnInstrument ends AnyState kept →
-    (plan : Plan) (commands : List Task) (scope : Scope) (acts : List Act) (stretches : List (Stretch State)) → IsInField ends AnyState kept plan commands scope acts stretches →
-    AreExecutedInChain ends AnyState kept plan commands scope acts stretches
+    (plan : Plan) (commands : List Task) (scope : Scope) (acts : List Act) (u : UnderWay State) (rs : List (Run State)) → IsInField ends AnyState kept plan commands scope acts u rs →
+    AreExecutedInChain ends AnyState kept plan commands scope acts u rs

@@ -11,14 +11,16 @@ use Rattle.gc_station.specs.Links.{AreChained}
 use Rattle.gc_station.specs.Runs.{stood}
 use Rattle.gc_world.specs.World.{Ends}
 use Rattle.gc_field.specs.ChainWitness.{points, reads_all, commands, scope, acts_with, moves_with, records_with}
+use Rattle.gc_field.specs.Begin.{UnderWay, begins, leaves, none_under_way, turned}
+use Rattle.gc_field.specs.Beginnings.{Run}
+use Rattle.gc_field.specs.Begun.{WasMadeOn}
 use Rattle.gc_field.specs.Chains.{HasEffect, IsUndisturbed, behind}
 use Rattle.gc_field.specs.Field.{Move}
 use Rattle.gc_field.specs.Instrument.{IsAnInstrument, KeepsItsReply, AnyState}
-use Rattle.gc_field.specs.Made.{WasMadeOn}
 use Rattle.gc_field.specs.Needed.{Keeper, held, kept, value}
 use Rattle.gc_field.specs.Runs.{IsInField}
-use Rattle.gc_field.specs.Stretches.{Stretch}
-use Rattle.gc_field.specs.Witness.{plan}
+use Rattle.gc_field.specs.Shown.{Stretch}
+use Rattle.gc_field.specs.Witness.{plan, eight}
 
 -- its state: how many requests it has executed since it started, and what it keeps, the last one's id and the count by then
 pub record Counter : Type 0 where
@@ -44,31 +46,36 @@ bare s = record { count = s.count; keeps = None }
 abbrev pub counts : Counter → Call → Counter
 counts s call = record { count = suc s.count; keeps = s.keeps }
 
--- its replies to the null procedure and to the three commands: it had executed 27 requests before
-abbrev pub begun : List ℕ
-begun = codes "%R1P,0,0:0,28"
+-- its replies to the eight null procedures and to the three commands: it had executed 27 requests before
+abbrev pub begun : List (List ℕ)
+begun =
+    codes "%R1P,0,6:0,28" ∷ codes "%R1P,0,5:0,29" ∷ codes "%R1P,0,4:0,30" ∷ codes "%R1P,0,3:0,31" ∷ codes "%R1P,0,2:0,32" ∷ codes "%R1P,0,1:0,33"
+    ∷ codes "%R1P,0,0:0,34" ∷ codes "%R1P,0,7:0,35" ∷ []
 
 abbrev pub first : List ℕ
-first = codes "%R1P,0,1:0,29"
+first = codes "%R1P,0,0:0,36"
 
 abbrev pub second : List ℕ
-second = codes "%R1P,0,2:0,30"
+second = codes "%R1P,0,1:0,37"
 
 abbrev pub third : List ℕ
-third = codes "%R1P,0,3:0,31"
+third = codes "%R1P,0,2:0,38"
 
 abbrev pub acts : List Act
 acts = acts_with begun first second third
 
 abbrev pub moves : List (Move Counter)
-moves = moves_with begun first second third
+moves = moves_with first second third
+
+abbrev pub before : UnderWay Counter
+before = none_under_way (record { count = 27; keeps = None })
 
 -- one stretch, and nothing behind the end
 abbrev pub stretch : Stretch Counter
-stretch = record { state = record { count = 27; keeps = None }; moves = moves }
+stretch = record { from = leaves (turned counting eight (begins before)); moves = moves }
 
-abbrev pub stretches : List (Stretch Counter)
-stretches = stretch ∷ record { state = record { count = 31; keeps = None }; moves = [] } ∷ []
+abbrev pub runs : List (Run Counter)
+runs = record { turns = eight; moves = moves } ∷ record { turns = []; moves = [] } ∷ []
 
 -- all that the law of chains asks is so of it: it is an instrument in each of its states, one that keeps its reply, and that is what a call
 -- makes of it. This is a run in the field, whose third command is of the first one's chain, and nothing disturbs the instrument. So the
@@ -77,13 +84,13 @@ pub record IsCountedInField : Type 0 where
   pub is : IsAnInstrument counting AnyState kept_by
   pub keeps : KeepsItsReply counting AnyState kept_by
   pub effect : HasEffect counting bare counts
-  pub field : IsInField counting AnyState kept_by plan commands scope acts stretches
+  pub field : IsInField counting AnyState kept_by plan commands scope acts before runs
   pub records : (stood plan commands scope acts).records ≡ records_with first second third
   pub chained : AreChained commands 0 2
   pub undisturbed : IsUndisturbed moves
-  pub first_made_on : WasMadeOn WINDOW counting stretch.state moves 1 points first
-  pub third_made_on : WasMadeOn WINDOW counting stretch.state moves 3 reads_all third
-  pub before_first : (behind counting stretch (take 10 moves)).executed ≡ 0 ∷ []
-  pub before_third : (behind counting stretch (take 20 moves)).executed ≡ 0 ∷ 1 ∷ 2 ∷ []
-  pub count_at_first : (behind counting stretch (take 10 moves)).state.count ≡ 28
-  pub count_at_third : (behind counting stretch (take 20 moves)).state.count ≡ 30
+  pub first_made_on : WasMadeOn WINDOW counting stretch.from moves 8 points first
+  pub third_made_on : WasMadeOn WINDOW counting stretch.from moves 10 reads_all third
+  pub before_first : (behind counting stretch (take 3 moves)).executed ≡ []
+  pub before_third : (behind counting stretch (take 13 moves)).executed ≡ 8 ∷ 9 ∷ []
+  pub count_at_first : (behind counting stretch (take 3 moves)).state.count ≡ 35
+  pub count_at_third : (behind counting stretch (take 13 moves)).state.count ≡ 37

@@ -2,22 +2,23 @@
 use Rattle.std.specs.Prelude.{◌≡◌, ℕ, true, false, List, [], ◌∷◌, codes, pos, Some}
 use Rattle.gc_lines.specs.Lines.{with_end}
 use Rattle.gc_catalogue.specs.declared.answer.Answer.TheVariants.{Long}
-use Rattle.gc_catalogue.specs.declared.call.Call.TheVariants.{NullProc, InstrumentNo}
+use Rattle.gc_catalogue.specs.declared.call.Call.TheVariants.{InstrumentNo}
 use Rattle.gc_client.specs.declared.window.TheConstants.{WINDOW}
 use Rattle.gc_instrument.specs.State.{State, IsFittingState, simulator_opening}
 use Rattle.gc_texts.specs.declared.tasks.Task.{Task}
 use Rattle.gc_texts.specs.Endings as end
-use Rattle.gc_links.specs.Acts.{Act, Told, Put, Gave, Silent, Closed, Opened}
+use Rattle.gc_links.specs.Acts.{Act, Told, Put, Gave, Silent, Closed}
 use Rattle.gc_station.specs.Progressing.{is_over}
 use Rattle.gc_station.specs.Runs.{stood}
 use Rattle.gc_world.specs.Clients.{ends}
 use Rattle.gc_world.specs.World.{Up_deliver}
+use Rattle.gc_field.specs.Begin.{UnderWay, begins, leaves, none_under_way, turned}
+use Rattle.gc_field.specs.Beginnings.{Run}
+use Rattle.gc_field.specs.Begun.{WasMadeOn}
 use Rattle.gc_field.specs.Field.{Move, Sends, Tells, Comes, OnLine}
 use Rattle.gc_field.specs.Laws.{kept_of}
-use Rattle.gc_field.specs.Made.{WasMadeOn}
 use Rattle.gc_field.specs.Runs.{IsInField}
-use Rattle.gc_field.specs.Stretches.{Stretch}
-use Rattle.gc_field.specs.Witness.{plan, scope, at, begun}
+use Rattle.gc_field.specs.Witness.{plan, scope, at, begun_with, eight, replies}
 
 -- two requests for the instrument's number
 abbrev pub commands : List Task
@@ -28,43 +29,31 @@ commands =
 
 -- the replies to the two
 abbrev pub late : List ℕ
-late = codes "%R1P,0,1:0,123456"
+late = codes "%R1P,0,0:0,123456"
 
 abbrev pub answer : List ℕ
-answer = codes "%R1P,0,2:0,123456"
+answer = codes "%R1P,0,1:0,123456"
 
--- nothing comes until the first command's deadline; the second one goes out, and then both replies come
+-- it begins; then nothing comes until the first command's deadline; the second one goes out, and then both replies come
 abbrev pub acts : List Act
 acts =
-    Opened
-    ∷ Put (10 ∷ [])
-    ∷ Told (at 0)
-    ∷ Silent (at 10)
-    ∷ Put (with_end (codes "%R1Q,0,0:"))
-    ∷ Told (at 10)
-    ∷ Gave (with_end begun) (at 15)
-    ∷ Told (at 15)
-    ∷ Put (with_end (codes "%R1Q,5003,1:"))
+    begun_with replies (
+    Told (at 15)
+    ∷ Put (with_end (codes "%R1Q,5003,0:"))
     ∷ Told (at 15)
     ∷ Silent (at 115)
-    ∷ Put (with_end (codes "%R1Q,5003,2:"))
+    ∷ Put (with_end (codes "%R1Q,5003,1:"))
     ∷ Told (at 115)
     ∷ Gave (with_end late) (at 120)
     ∷ Gave (with_end answer) (at 125)
     ∷ Closed
     ∷ []
+    )
 
 -- each request reaches the simulator as it is at the start, and each reply comes, that of the first command behind its deadline
 abbrev pub moves : List (Move State)
 moves =
-    Tells 0
-    ∷ Tells 10
-    ∷ Sends 0 NullProc 110
-    ∷ Tells 10
-    ∷ OnLine Up_deliver
-    ∷ Tells 15
-    ∷ Comes begun
-    ∷ Tells 15
+    Tells 15
     ∷ Sends 7 InstrumentNo 115
     ∷ Tells 15
     ∷ OnLine Up_deliver
@@ -78,19 +67,25 @@ moves =
     ∷ Comes answer
     ∷ []
 
--- and behind the end nothing
-abbrev pub stretches : List (Stretch State)
-stretches = record { state = simulator_opening; moves = moves } ∷ record { state = simulator_opening; moves = [] } ∷ []
+-- behind the end nothing; and nothing is under way at the start
+abbrev pub runs : List (Run State)
+runs = record { turns = eight; moves = moves } ∷ record { turns = []; moves = [] } ∷ []
+
+abbrev pub before : UnderWay State
+before = none_under_way simulator_opening
+
+abbrev pub from : UnderWay State
+from = leaves (turned ends eight (begins before))
 
 -- it is a run in the field, behind which no act follows. It has written the first command down as late, and the second one's answer; and
 -- each of these lines was made on executing its own request
 pub record IsLateInField : Type 0 where
-  pub field : IsInField ends IsFittingState kept_of plan commands scope acts stretches
+  pub field : IsInField ends IsFittingState kept_of plan commands scope acts before runs
   pub over : is_over (stood plan commands scope acts).progress ≡ true
   pub records :
       (stood plan commands scope acts).records
       ≡ record { sent = Some 15; utc = 120; cycle = 1; place = 0; command = record { target = 7; call = InstrumentNo }; end = end.Late }
       ∷ record { sent = Some 115; utc = 125; cycle = 1; place = 1; command = record { target = 8; call = InstrumentNo }; end = end.Answered (Some (Long (pos 123456))) answer }
       ∷ []
-  pub late_made_on : WasMadeOn WINDOW ends simulator_opening moves 1 InstrumentNo late
-  pub answer_made_on : WasMadeOn WINDOW ends simulator_opening moves 2 InstrumentNo answer
+  pub late_made_on : WasMadeOn WINDOW ends from moves 8 InstrumentNo late
+  pub answer_made_on : WasMadeOn WINDOW ends from moves 9 InstrumentNo answer

@@ -2,16 +2,13 @@
 use Rattle.std.specs.Prelude.{◌≡◌, ℕ, ◌-◌, ◌<◌, ◌≤◌, List, ◌∷◌, ◌++◌, length, map, Option, Some, slice_get}
 use Rattle.gc_client.specs.declared.window.TheConstants.{WINDOW}
 use Rattle.gc_client.specs.OneForOne.{Asked, begun, course, of_settled, of_pending}
-use Rattle.gc_client.specs.Rule.{ById, Settlement, Answered, Late, fresh, settle}
+use Rattle.gc_client.specs.Rule.{ById, Settlement, Answered, Late, settle}
 use Rattle.gc_instrument.specs.State.{KeptReply, State, IsFittingState}
-use Rattle.gc_links.specs.Acts.{Act}
 use Rattle.gc_world.specs.Clients.{ends, by_ids, by_numbers, ids_open, numbers_open}
 use Rattle.gc_world.specs.Record.{IsBooked, IsOneForOne}
 use Rattle.gc_world.specs.World.{Ends, Numbered, Sent, Wire, World}
-use Rattle.gc_field.specs.Carried.{IsCarried}
 use Rattle.gc_field.specs.Field.{Move, Comes, IsField, moved, moves, seen}
 use Rattle.gc_field.specs.Made.{WasMadeOn}
-use Rattle.gc_field.specs.Meaning.{client_after}
 use Rattle.gc_field.specs.Instrument.{IsAnInstrument, KeepsItsReply, AnyState}
 use Rattle.gc_field.specs.Once.{ActsOnce, IsInOrder}
 
@@ -86,19 +83,3 @@ pub record SimulatorIsAnInstrument : Type 0 where
 abbrev pub SimulatorsAnswersAreTheirOwn : Type 0
 SimulatorsAnswersAreTheirOwn =
     (width : ℕ) → width ≤ WINDOW → (state : State) → IsFittingState state → (ms : List (Move State)) → IsField width ends IsFittingState kept_of state ms → IsFaithful width ends state ms IsFittingState kept_of
-
--- the same of a station's acts: and its client stands where the world's does
-pub record IsStationFaithful {State : Type 0} (ends : Ends State) (Good : State → Type 0) (kept : State → Option KeptReply) (state : State) (ms : List (Move State)) : Type 0 where
-  pub faithful : IsFaithful WINDOW ends state ms Good kept
-  pub client : client_after fresh (seen ms) ≡ (left WINDOW ends state ms).client
-
--- and for a station, whatever its acts are
-abbrev pub StationsAnswersAreTheirOwn : Type 0 → Type 0
-StationsAnswersAreTheirOwn State =
-    (ends : Ends State) (kept : State → Option KeptReply) → IsAnInstrument ends AnyState kept →
-    (state : State) (acts : List Act) (ms : List (Move State)) → IsCarried ends AnyState kept state acts ms → IsStationFaithful ends AnyState kept state ms
-
--- and for a station over the simulated instrument
-abbrev pub SimulatorsStationsAnswersAreTheirOwn : Type 0
-SimulatorsStationsAnswersAreTheirOwn =
-    (state : State) → IsFittingState state → (acts : List Act) (ms : List (Move State)) → IsCarried ends IsFittingState kept_of state acts ms → IsStationFaithful ends IsFittingState kept_of state ms

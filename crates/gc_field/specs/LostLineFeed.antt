@@ -9,10 +9,13 @@ use Rattle.gc_client.specs.declared.window.TheConstants.{WINDOW}
 use Rattle.gc_client.specs.Rule.{Answered}
 use Rattle.gc_instrument.specs.Replying.{IsReplied}
 use Rattle.gc_instrument.specs.State.{State, IsFittingState, simulator_opening}
-use Rattle.gc_world.specs.Clients.{ends, by_ids, ids_open}
+use Rattle.gc_world.specs.Clients.{ends, by_ids}
 use Rattle.gc_world.specs.World.{Up_deliver}
+use Rattle.gc_field.specs.Begin.{none_under_way}
+use Rattle.gc_field.specs.Begun as begun
+use Rattle.gc_field.specs.Begun.{ids_begun}
 use Rattle.gc_field.specs.Field.{Move, Sends, Comes, OnLine, Joins, ArePossible}
-use Rattle.gc_field.specs.Laws.{left, kept_of}
+use Rattle.gc_field.specs.Laws.{kept_of}
 
 -- the reply to what doesn't read, with the id of the request that was cut
 abbrev pub refusal : List ℕ
@@ -22,7 +25,7 @@ refusal = codes "%R1P,3080,1:0"
 abbrev pub joint : List ℕ
 joint = codes "%R1Q,5003,1:%R1Q,0,2:"
 
--- two requests are under way, of which the first was cut
+-- once it has begun, two requests are under way, of which the first was cut
 abbrev pub before : List (Move State)
 before = Sends 0 NullProc 9 ∷ OnLine Up_deliver ∷ Comes (codes "%R1P,0,0:0") ∷ Sends 7 InstrumentNo 9 ∷ Sends 8 NullProc 9 ∷ []
 
@@ -35,9 +38,9 @@ pub record IsBookedJoined : Type 0 where
   -- twelve bytes of the one and the whole of the other are one line, and a request with the id of the first
   pub line : lines (take 12 (with_end (codes "%R1Q,5003,1:")) ++ with_end (codes "%R1Q,0,2:")) ≡ joint ∷ []
   pub reads : request_at joint ≡ Ok (record { rpc = 5003; id = Some 1; params = codes "%R1Q,0,2:" })
-  pub possible : ArePossible ends IsFittingState kept_of (by_ids WINDOW ends) before (ids_open simulator_opening)
+  pub possible : ArePossible ends IsFittingState kept_of (by_ids WINDOW ends) before (ids_begun (none_under_way simulator_opening))
   -- the simulator, as it is by then, answers that line with this refusal, and nothing changes
-  pub replied : IsReplied (left WINDOW ends simulator_opening before).wire.state joint (left WINDOW ends simulator_opening before).wire.state (Some refusal)
+  pub replied : IsReplied (begun.behind WINDOW ends (none_under_way simulator_opening) before).wire.state joint (begun.behind WINDOW ends (none_under_way simulator_opening) before).wire.state (Some refusal)
   -- it wasn't executed
-  pub settled : slice_get (left WINDOW ends simulator_opening (before ++ behind)).wire.settled 1 ≡ Some (record { target = 7; call = InstrumentNo; outcome = Answered refusal })
-  pub executed : (left WINDOW ends simulator_opening (before ++ behind)).wire.executed ≡ 0 ∷ []
+  pub settled : slice_get (begun.behind WINDOW ends (none_under_way simulator_opening) (before ++ behind)).wire.settled 9 ≡ Some (record { target = 7; call = InstrumentNo; outcome = Answered refusal })
+  pub executed : (begun.behind WINDOW ends (none_under_way simulator_opening) (before ++ behind)).wire.executed ≡ 8 ∷ []

@@ -1,6 +1,6 @@
 -- What is asked of an instrument is needed, this project's own: for each clause an instrument that lacks that one alone, and a run in which
 -- an answer is booked for a request that it never executed.
-use Rattle.std.specs.Prelude.{◌≡◌, ℕ, zero, suc, ◌+◌, ◌<◌, ◌⊎◌, Bool, true, false, List, [], ◌∷◌, Option, Some, None, slice_get, if◌then◌else◌, nat_eq}
+use Rattle.std.specs.Prelude.{◌≡◌, ℕ, zero, suc, ◌+◌, ◌<◌, ◌≤◌, ◌⊎◌, Bool, true, false, List, [], ◌∷◌, Option, Some, None, slice_get, if◌then◌else◌, nat_eq}
 use Rattle.std.specs.Fmt.{decimal}
 use Rattle.std.specs.Option.{option_map}
 use Rattle.gc_lines.specs.Replies.{reply_text}
@@ -11,10 +11,13 @@ use Rattle.gc_client.specs.declared.window.TheConstants.{WINDOW, IDS}
 use Rattle.gc_client.specs.Rule.{Answered, heard}
 use Rattle.gc_instrument.specs.Replying.{Handed}
 use Rattle.gc_instrument.specs.State.{KeptReply}
+use Rattle.gc_world.specs.Clients.{by_ids}
 use Rattle.gc_world.specs.World.{Ends, Up_deliver, Up_repeat}
-use Rattle.gc_field.specs.Field.{Move, Sends, Comes, OnLine, Anew, Changes, IsField}
+use Rattle.gc_field.specs.Begin.{none_under_way}
+use Rattle.gc_field.specs.Begun.{IsClean, behind, ids_begun}
+use Rattle.gc_field.specs.Field.{Move, Sends, Comes, OnLine, Anew, Changes, ArePossible}
 use Rattle.gc_field.specs.Instrument.{IsAnInstrument, AnyState, nothing}
-use Rattle.gc_field.specs.Laws.{WasExecuted, left}
+use Rattle.gc_field.specs.Laws.{WasExecuted}
 use Rattle.gc_field.specs.Once.{ActsOnce}
 
 -- the clauses
@@ -42,12 +45,14 @@ pub record IsAllBut {State : Type 0} (x : Clause) (ends : Ends State) (Good : St
   pub stays_good : (x ≡ StaysGood) ⊎ ((state : State) (id : ℕ) (call : Call) → Good state → id < IDS → Good (ends.handed state id call).state)
   pub starts_good : (x ≡ StartsGood) ⊎ ((state : State) → Good state → Good (ends.restarted state))
 
--- in a run in the field request m, which isn't the first, is answered with this line, and wasn't executed
+-- in a run in the field, once it has begun cleanly, with nothing under way, request m, which is the client's, is answered with this line, and
+-- wasn't executed
 pub record IsBookedUnexecuted {State : Type 0} (ends : Ends State) (Good : State → Type 0) (kept : State → Option KeptReply) (state : State) (ms : List (Move State)) (m : ℕ) (call : Call) (line : List ℕ) : Type 0 where
-  pub beyond : 0 < m
-  pub field : IsField WINDOW ends Good kept state ms
-  pub settled : slice_get (left WINDOW ends state ms).wire.settled m ≡ Some (record { target = 7; call = call; outcome = Answered line })
-  pub executed : WasExecuted (left WINDOW ends state ms).wire.executed m → ⊥
+  pub beyond : 8 ≤ m
+  pub clean : IsClean Good kept (none_under_way state)
+  pub field : ArePossible ends Good kept (by_ids WINDOW ends) ms (ids_begun (none_under_way state))
+  pub settled : slice_get (behind WINDOW ends (none_under_way state) ms).wire.settled m ≡ Some (record { target = 7; call = call; outcome = Answered line })
+  pub executed : WasExecuted (behind WINDOW ends (none_under_way state) ms).wire.executed m → ⊥
 
 -- so this clause is needed
 pub record IsNeeded {State : Type 0} (x : Clause) (ends : Ends State) (Good : State → Type 0) (kept : State → Option KeptReply) (state : State) (ms : List (Move State)) (m : ℕ) (call : Call) (line : List ℕ) : Type 0 where
@@ -103,7 +108,7 @@ refuses_or false k id = record { state = k; reply = refusal id; executed = true 
 abbrev pub keeps_older : Ends Keeper
 keeps_older = record keeper { handed = λ k id call. refuses_or (nat_eq (call_fields call).number 0) k id }
 
--- nine requests, each answered before the next one
+-- nine requests, each answered before the next one; the first one's id comes again
 abbrev pub nine : List (Move Keeper)
 nine =
     asks NullProc (value 0 0) (asks InstrumentNo (refusal 1) (asks InstrumentNo (refusal 2) (asks InstrumentNo (refusal 3) (asks InstrumentNo (refusal 4)
@@ -181,23 +186,24 @@ forgets = record mistaken { handed = λ b id call. answers_in false id b }
 pub record IsExecutedTwice {State : Type 0} (ends : Ends State) (Good : State → Type 0) (kept : State → Option KeptReply) (state : State) : Type 0 where
   pub is : IsAnInstrument ends Good kept
   pub good : Good state
-  pub field : IsField WINDOW ends Good kept state comes_twice
-  pub twice : ActsOnce (left WINDOW ends state comes_twice).wire.executed (left WINDOW ends state comes_twice).wire.starts → ⊥
+  pub clean : IsClean Good kept (none_under_way state)
+  pub field : ArePossible ends Good kept (by_ids WINDOW ends) comes_twice (ids_begun (none_under_way state))
+  pub twice : ActsOnce (behind WINDOW ends (none_under_way state) comes_twice).wire.executed (behind WINDOW ends (none_under_way state) comes_twice).wire.starts → ⊥
 
 -- each clause is needed
 pub record IsAllNeeded : Type 0 where
-  pub hears : IsNeeded Hears misheard AnyState nothing false (asks NullProc (value 0 0) (asks_two (value 1 0))) 2 InstrumentNo (value 1 0)
-  pub replies : IsNeeded Replies mistaken AnyState nothing false (asks NullProc (value 0 0) (asks_two (value 2 0))) 2 InstrumentNo (value 2 0)
-  pub repeats : IsNeeded Repeats idle AnyState nothing false (asks NullProc (value 0 0) (asks InstrumentNo (value 1 0) [])) 1 InstrumentNo (value 1 0)
-  pub keeps : IsNeeded Keeps keeps_older AnyState kept None nine 8 NullProc (value 0 0)
-  pub starts : IsNeeded Starts remembers AnyState kept None started 1 InstrumentNo (value 1 27)
-  pub stays_good : IsNeeded StaysGood wears_out InOrder nothing false (asks NullProc (value 0 0) (asks_two (value 2 0))) 2 InstrumentNo (value 2 0)
-  pub starts_good : IsNeeded StartsGood starts_broken InOrder nothing false (asks NullProc (value 0 0) (Anew ∷ asks_two (value 2 0))) 2 InstrumentNo (value 2 0)
+  pub hears : IsNeeded Hears misheard AnyState nothing false (asks NullProc (value 0 0) (asks_two (value 1 0))) 10 InstrumentNo (value 1 0)
+  pub replies : IsNeeded Replies mistaken AnyState nothing false (asks NullProc (value 0 0) (asks_two (value 2 0))) 10 InstrumentNo (value 2 0)
+  pub repeats : IsNeeded Repeats idle AnyState nothing false (asks NullProc (value 0 0) (asks InstrumentNo (value 1 0) [])) 9 InstrumentNo (value 1 0)
+  pub keeps : IsNeeded Keeps keeps_older AnyState kept None nine 16 NullProc (value 0 0)
+  pub starts : IsNeeded Starts remembers AnyState kept None started 9 InstrumentNo (value 1 27)
+  pub stays_good : IsNeeded StaysGood wears_out InOrder nothing false (asks NullProc (value 0 0) (asks_two (value 2 0))) 10 InstrumentNo (value 2 0)
+  pub starts_good : IsNeeded StartsGood starts_broken InOrder nothing false (asks NullProc (value 0 0) (Anew ∷ asks_two (value 2 0))) 10 InstrumentNo (value 2 0)
   -- what may change by itself: not what is kept, which another client changes; and not into a state that isn't a good one
   pub shared_is : IsAnInstrument keeper AnyState kept
-  pub changes_kept : IsBookedUnexecuted keeper AnyState nothing None shared 1 InstrumentNo (value 1 27)
+  pub changes_kept : IsBookedUnexecuted keeper AnyState nothing None shared 9 InstrumentNo (value 1 27)
   pub sound_is : IsAnInstrument sound InOrder nothing
-  pub changes_good : IsBookedUnexecuted sound AnyState nothing false (asks NullProc (value 0 0) (Changes true ∷ asks_two (value 2 0))) 2 InstrumentNo (value 2 0)
+  pub changes_good : IsBookedUnexecuted sound AnyState nothing false (asks NullProc (value 0 0) (Changes true ∷ asks_two (value 2 0))) 10 InstrumentNo (value 2 0)
   -- and for acts once the two clauses of an instrument that keeps its reply: one that lacks the first and has the second, and one that lacks
   -- the second and has the first
   pub again : IsExecutedTwice deals_anew AnyState kept None

@@ -19,10 +19,12 @@ use Rattle.gc_station.specs.Scopes.{Scope}
 use Rattle.gc_station.specs.Standing.{opening}
 use Rattle.gc_station.specs.declared.plan.Plan.{Plan}
 use Rattle.gc_world.specs.Clients.{ends}
+use Rattle.gc_field.specs.Begin.{UnderWay}
+use Rattle.gc_field.specs.Beginnings.{Run}
 use Rattle.gc_field.specs.Chains.{HasEffect, IsChainedTo, IsUndisturbed, behind}
 use Rattle.gc_field.specs.Laws.{kept_of}
 use Rattle.gc_field.specs.Runs.{IsInField}
-use Rattle.gc_field.specs.Stretches.{Stretch}
+use Rattle.gc_field.specs.Shown.{Stretch, stretches}
 
 -- the simulator's state behind a call
 abbrev pub behind_call : State → Call → State
@@ -61,18 +63,18 @@ pub record IsMeasuredWhereItPointed (reads : Call → List ℕ → Reading) (ps 
 -- each record of a command that was answered, from each place on from which it is chained: it was executed behind that one; and where no
 -- command of the places between turns the telescope, and the instrument neither started anew nor changed by itself between the two
 -- executions, it was measured where the telescope pointed
-abbrev pub IsPointedInChain : Plan → List Task → Scope → List Act → List (Stretch State) → Record → Type 0
-IsPointedInChain plan commands scope acts stretches b =
+abbrev pub IsPointedInChain : Plan → List Task → Scope → List Act → UnderWay State → List (Run State) → Record → Type 0
+IsPointedInChain plan commands scope acts u rs b =
     (line : List ℕ) (a : ℕ) → answer_of b.end ≡ Some line → a < b.place → AreChained commands a b.place
-    → (h : IsChainedTo ends IsFittingState kept_of scope.reads (parts_of plan commands (opening plan scope) acts) stretches (stood plan commands scope acts).records a b line)
+    → (h : IsChainedTo ends IsFittingState kept_of scope.reads (parts_of plan commands (opening plan scope) acts) (stretches ends u rs) (stood plan commands scope acts).records a b line)
     × (AreStill commands a b.place → IsUndisturbed h.executed.between
-    → IsMeasuredWhereItPointed scope.reads (parts_of plan commands (opening plan scope) acts) stretches (stood plan commands scope acts).records a b line h)
+    → IsMeasuredWhereItPointed scope.reads (parts_of plan commands (opening plan scope) acts) (stretches ends u rs) (stood plan commands scope acts).records a b line h)
 
 -- for every plan, all commands, every run of the station over the simulator, and all that the line and it may do meanwhile
 abbrev pub ChainsAreMeasuredWhereTheyPointed : Type 0
 ChainsAreMeasuredWhereTheyPointed =
-    (plan : Plan) (commands : List Task) (scope : Scope) (acts : List Act) (stretches : List (Stretch State)) → IsInField ends IsFittingState kept_of plan commands scope acts stretches →
-    AllByRecursion (IsPointedInChain plan commands scope acts stretches) (stood plan commands scope acts).records
+    (plan : Plan) (commands : List Task) (scope : Scope) (acts : List Act) (u : UnderWay State) (rs : List (Run State)) → IsInField ends IsFittingState kept_of plan commands scope acts u rs →
+    AllByRecursion (IsPointedInChain plan commands scope acts u rs) (stood plan commands scope acts).records
 
 -- what a call of the table makes of the simulator is what carrying it out gives, apart from what is kept
 abbrev pub SimulatorHasItsEffect : Type 0

@@ -5,12 +5,14 @@ use Rattle.gc_catalogue.specs.declared.call.Call.TheVariants.{NullProc, SetPrism
 use Rattle.gc_client.specs.declared.window.TheConstants.{WINDOW}
 use Rattle.gc_client.specs.Rule.{Answered}
 use Rattle.gc_instrument.specs.State.{State, IsFittingState, simulator_opening}
-use Rattle.gc_world.specs.Clients.{ends, by_ids, ids_open}
+use Rattle.gc_world.specs.Clients.{ends, by_ids}
 use Rattle.gc_world.specs.World.{Up_deliver, Up_repeat, Down_lose}
+use Rattle.gc_field.specs.Begin.{none_under_way}
+use Rattle.gc_field.specs.Begun.{behind, ids_begun}
 use Rattle.gc_field.specs.Field.{Move, Sends, Comes, OnLine, Anew, ArePossible}
-use Rattle.gc_field.specs.Laws.{left, kept_of}
+use Rattle.gc_field.specs.Laws.{kept_of}
 
--- request 2 comes twice, its first reply is lost, and the instrument starts before it comes again
+-- once it has begun, the client's third request comes twice, its first reply is lost, and the instrument starts before it comes again
 abbrev pub moves : List (Move State)
 moves =
     Sends 0 NullProc 100
@@ -30,6 +32,6 @@ moves =
 
 -- it is executed twice, and its answer is the second execution's, in the state behind the start
 pub record IsExecutedAgain : Type 0 where
-  pub possible : ArePossible ends IsFittingState kept_of (by_ids WINDOW ends) moves (ids_open simulator_opening)
-  pub executed : (left WINDOW ends simulator_opening moves).wire.executed ≡ 0 ∷ 1 ∷ 2 ∷ 2 ∷ []
-  pub settled : slice_get (left WINDOW ends simulator_opening moves).wire.settled 2 ≡ Some (record { target = 7; call = GetPrism; outcome = Answered (codes "%R1P,0,2:0,0") })
+  pub possible : ArePossible ends IsFittingState kept_of (by_ids WINDOW ends) moves (ids_begun (none_under_way simulator_opening))
+  pub executed : (behind WINDOW ends (none_under_way simulator_opening) moves).wire.executed ≡ 8 ∷ 9 ∷ 10 ∷ 10 ∷ []
+  pub settled : slice_get (behind WINDOW ends (none_under_way simulator_opening) moves).wire.settled 10 ≡ Some (record { target = 7; call = GetPrism; outcome = Answered (codes "%R1P,0,2:0,0") })

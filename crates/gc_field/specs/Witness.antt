@@ -1,27 +1,29 @@
--- Some run is one in the field, this project's own: a command, asked over one connection and answered. So what is said of all such runs
--- is said of some.
-use Rattle.std.specs.Prelude.{◌≡◌, ℕ, true, false, List, [], ◌∷◌, codes, pos, Some}
+-- Some run is one in the field, this project's own: over a line with a request and a reply of before under way it begins, and a command is
+-- asked and answered. So what is said of all such runs is said of some.
+use Rattle.std.specs.Prelude.{◌≡◌, ℕ, true, false, List, [], ◌∷◌, codes, drop, pos, Some}
 use Rattle.gc_lines.specs.Lines.{with_end}
 use Rattle.gc_catalogue.specs.declared.answer.Answer.TheVariants.{Long}
 use Rattle.gc_catalogue.specs.declared.answer.Reading.TheVariants.{Value}
-use Rattle.gc_catalogue.specs.declared.call.Call.TheVariants.{NullProc, InstrumentNo}
+use Rattle.gc_catalogue.specs.declared.call.Call.TheVariants.{InstrumentNo}
 use Rattle.gc_client.specs.declared.window.TheConstants.{WINDOW}
 use Rattle.gc_instrument.specs.State.{State, IsFittingState, simulator_opening}
 use Rattle.gc_texts.specs.declared.tasks.Task.{Task}
 use Rattle.gc_texts.specs.Endings as end
 use Rattle.gc_links.specs.declared.link.Moment.{Moment}
 use Rattle.gc_station.specs.declared.plan.Plan.{Plan}
-use Rattle.gc_links.specs.Acts.{Act, Told, Put, Gave, Silent, Closed, Opened}
+use Rattle.gc_links.specs.Acts.{Act, Told, Put, Gave, Closed, Opened}
 use Rattle.gc_station.specs.Progressing.{is_over}
 use Rattle.gc_station.specs.Runs.{stood}
 use Rattle.gc_station.specs.Scopes.{Scope}
 use Rattle.gc_world.specs.Clients.{ends}
 use Rattle.gc_world.specs.World.{Up_deliver}
+use Rattle.gc_field.specs.Begin as turn
+use Rattle.gc_field.specs.Begin.{Turn, Asks, Reaches, UnderWay, begins, leaves, turned}
+use Rattle.gc_field.specs.Beginnings.{Run}
+use Rattle.gc_field.specs.Begun.{WasMadeOn}
 use Rattle.gc_field.specs.Field.{Move, Sends, Tells, Comes, OnLine}
 use Rattle.gc_field.specs.Laws.{kept_of}
-use Rattle.gc_field.specs.Made.{WasMadeOn}
 use Rattle.gc_field.specs.Runs.{IsInField}
-use Rattle.gc_field.specs.Stretches.{Stretch}
 
 -- one at a time, given up after 100 ms, one cycle, quiet after 10, and one new try
 abbrev pub plan : Plan
@@ -31,68 +33,84 @@ plan = record { width = 1; deadline = 100; every = 0; cycles = 1; quiet = 10; re
 abbrev pub commands : List Task
 commands = record { command = record { target = 7; call = InstrumentNo }; deadline = 100; chained = false } ∷ []
 
--- at most twenty acts; what a reply says is this, as that to the command does, and of the other nothing is written
+-- at most fifty acts; what a reply says is this, as that to the command does
 abbrev pub scope : Scope
-scope = record { turns = 20; reads = λ call line. Value (Long (pos 123456)) }
+scope = record { turns = 50; reads = λ call line. Value (Long (pos 123456)) }
 
 abbrev pub at : ℕ → Moment
 at now = record { elapsed = now; utc = now }
 
--- the replies to the null procedure of the beginning, and to the command
-abbrev pub begun : List ℕ
-begun = codes "%R1P,0,0:0"
+-- the null procedures of a beginning, in order, and the simulator's replies to them
+abbrev pub asked : List (List ℕ)
+asked = codes "%R1Q,0,6:" ∷ codes "%R1Q,0,5:" ∷ codes "%R1Q,0,4:" ∷ codes "%R1Q,0,3:" ∷ codes "%R1Q,0,2:" ∷ codes "%R1Q,0,1:" ∷ codes "%R1Q,0,0:" ∷ codes "%R1Q,0,7:" ∷ []
 
+abbrev pub replies : List (List ℕ)
+replies = codes "%R1P,0,6:0" ∷ codes "%R1P,0,5:0" ∷ codes "%R1P,0,4:0" ∷ codes "%R1P,0,3:0" ∷ codes "%R1P,0,2:0" ∷ codes "%R1P,0,1:0" ∷ codes "%R1P,0,0:0" ∷ codes "%R1P,0,7:0" ∷ []
+
+-- at this moment each of these goes out, and has its reply
+abbrev pub exchanged : ℕ → List (List ℕ) → List (List ℕ) → List Act → List Act
+exchanged now (line ∷ others) (reply ∷ later) acts = Put (with_end line) ∷ Told (at now) ∷ Gave (with_end reply) (at now) ∷ exchanged now others later acts
+exchanged now _ _ acts = acts
+
+-- a connection is made and cleared, and all eight are answered at once
+abbrev pub begun_with : List (List ℕ) → List Act → List Act
+begun_with answers acts = Opened ∷ Put (10 ∷ []) ∷ Told (at 0) ∷ exchanged 10 asked answers acts
+
+-- meanwhile each reaches the instrument, and its reply comes
+abbrev pub eight : {S : Type 0} → List (Turn S)
+eight =
+    Asks ∷ Reaches ∷ turn.Comes ∷ Asks ∷ Reaches ∷ turn.Comes ∷ Asks ∷ Reaches ∷ turn.Comes ∷ Asks ∷ Reaches ∷ turn.Comes
+    ∷ Asks ∷ Reaches ∷ turn.Comes ∷ Asks ∷ Reaches ∷ turn.Comes ∷ Asks ∷ Reaches ∷ turn.Comes ∷ Asks ∷ Reaches ∷ turn.Comes ∷ []
+
+-- at the start a reply with id 0 is under way, and a request with that id, the first command's
+abbrev pub before : UnderWay State
+before = record { up = record { id = 0; call = InstrumentNo } ∷ []; down = codes "%R1P,0,0:0,654321" ∷ []; state = simulator_opening }
+
+-- the reply to the command, and that to the request of before
 abbrev pub answer : List ℕ
-answer = codes "%R1P,0,1:0,123456"
+answer = codes "%R1P,0,0:0,123456"
 
--- a connection is made and cleared, and quiet; the null procedure goes out and is answered; so is the command; and it is closed
+-- a connection is made and cleared; the first null procedure goes out, and both lines of before come, which are dropped; all eight are
+-- answered; then the command goes out and is answered; and it is closed
 abbrev pub acts : List Act
 acts =
     Opened
     ∷ Put (10 ∷ [])
     ∷ Told (at 0)
-    ∷ Silent (at 10)
-    ∷ Put (with_end (codes "%R1Q,0,0:"))
-    ∷ Told (at 10)
-    ∷ Gave (with_end begun) (at 15)
-    ∷ Told (at 15)
-    ∷ Put (with_end (codes "%R1Q,5003,1:"))
+    ∷ Put (with_end (codes "%R1Q,0,6:"))
+    ∷ Told (at 0)
+    ∷ Gave (with_end (codes "%R1P,0,0:0,654321")) (at 5)
+    ∷ Gave (with_end answer) (at 5)
+    ∷ Gave (with_end (codes "%R1P,0,6:0")) (at 10)
+    ∷ exchanged 10 (drop 1 asked) (drop 1 replies) (
+    Told (at 15)
+    ∷ Put (with_end (codes "%R1Q,5003,0:"))
     ∷ Told (at 15)
     ∷ Gave (with_end answer) (at 20)
     ∷ Closed
     ∷ []
+    )
 
--- what happens on the line meanwhile: each request reaches the simulator as it is at the start, and each reply comes
+-- what happens on the line meanwhile: each request reaches the simulator as it is at the start, that of before first, and each reply comes
+abbrev pub turns : List (Turn State)
+turns = Asks ∷ turn.Comes ∷ Reaches ∷ turn.Comes ∷ Reaches ∷ turn.Comes ∷ drop 3 eight
+
 abbrev pub moves : List (Move State)
-moves =
-    Tells 0
-    ∷ Tells 10
-    ∷ Sends 0 NullProc 110
-    ∷ Tells 10
-    ∷ OnLine Up_deliver
-    ∷ Tells 15
-    ∷ Comes begun
-    ∷ Tells 15
-    ∷ Sends 7 InstrumentNo 115
-    ∷ Tells 15
-    ∷ OnLine Up_deliver
-    ∷ Tells 20
-    ∷ Comes answer
-    ∷ []
+moves = Tells 15 ∷ Sends 7 InstrumentNo 115 ∷ Tells 15 ∷ OnLine Up_deliver ∷ Tells 20 ∷ Comes answer ∷ []
 
 -- and behind the end nothing
-abbrev pub stretches : List (Stretch State)
-stretches = record { state = simulator_opening; moves = moves } ∷ record { state = simulator_opening; moves = [] } ∷ []
+abbrev pub runs : List (Run State)
+runs = record { turns = turns; moves = moves } ∷ record { turns = []; moves = [] } ∷ []
 
 -- it is a run in the field, behind which no act follows; it has written the command's answer down, and that was made on executing the
 -- command's request
 pub record IsAnsweredInField : Type 0 where
-  pub field : IsInField ends IsFittingState kept_of plan commands scope acts stretches
+  pub field : IsInField ends IsFittingState kept_of plan commands scope acts before runs
   pub over : is_over (stood plan commands scope acts).progress ≡ true
   pub records :
       (stood plan commands scope acts).records
       ≡ record { sent = Some 15; utc = 20; cycle = 1; place = 0; command = record { target = 7; call = InstrumentNo }; end = end.Answered (Some (Long (pos 123456))) answer } ∷ []
-  pub made_on : WasMadeOn WINDOW ends simulator_opening moves 1 InstrumentNo answer
+  pub made_on : WasMadeOn WINDOW ends (leaves (turned ends turns (begins before))) moves 8 InstrumentNo answer
 
 abbrev pub SomeRunIsInField : Type 0
 SomeRunIsInField = IsAnsweredInField

@@ -1,13 +1,15 @@
 //! What is proved of the field. Each function does nothing: its contract is the law.
 
 ghost use Rattle.gc_field.specs.Alone.{TwoAtOnceAreBookedWrong};
+ghost use Rattle.gc_field.specs.Carried.{SimulatorsStationsAnswersAreTheirOwn, StationsAnswersAreTheirOwn};
 ghost use Rattle.gc_field.specs.ChainWitness.{IsPointedInField};
 ghost use Rattle.gc_field.specs.Chains.{ChainsAreExecuted};
 ghost use Rattle.gc_field.specs.CountingChain.{IsCountedInField};
 ghost use Rattle.gc_field.specs.Fronts.{CutRequestsAreWholeOrNothing, JoinedRequestsHaveTheFrontsId};
+ghost use Rattle.gc_field.specs.InARow.{SimulatorsStationsInARowAreFaithful, StationsInARowAreFaithful};
 ghost use Rattle.gc_field.specs.Instrument.{KeepingNothingSuffices};
 ghost use Rattle.gc_field.specs.LateAnswer.{IsLateInField};
-ghost use Rattle.gc_field.specs.Laws.{AnswersAreTheirOwn, StationsAnswersAreTheirOwn, SimulatorIsAnInstrument, SimulatorsAnswersAreTheirOwn, SimulatorsStationsAnswersAreTheirOwn};
+ghost use Rattle.gc_field.specs.Laws.{AnswersAreTheirOwn, SimulatorIsAnInstrument, SimulatorsAnswersAreTheirOwn};
 ghost use Rattle.gc_field.specs.Drifting.{IsAnsweredByDrifting};
 ghost use Rattle.gc_field.specs.LostLineFeed.{IsBookedJoined};
 ghost use Rattle.gc_field.specs.Needed.{IsAllNeeded};
@@ -17,30 +19,42 @@ ghost use Rattle.gc_field.specs.SecondExecution.{IsExecutedAgain};
 ghost use Rattle.gc_field.specs.Stretches.{StretchesAreFaithful, SimulatorsStretchesAreFaithful};
 ghost use Rattle.gc_field.specs.Witness.{SomeRunIsInField};
 
-/// For any instrument: over any number of connections, whenever a client sends, each answer that it settles was made on executing that
-/// very request, but for the first one, which goes out alone; the instrument dealt with each that is late; executions keep the order of
+/// For any instrument, and a client without a beginning, with nothing under way: over any number of connections, whenever it sends, each
+/// answer that it settles was made on executing that very request, but for the first one, which goes out alone; the instrument dealt with each that is late; executions keep the order of
 /// sending; and where the instrument keeps its reply, between two of its starts it executes each request at most once.
 pub fn answers_are_their_own<State>()
     ensures { AnswersAreTheirOwn State }
 {}
 
-/// The same of a station's acts.
+/// For any instrument: of a station's acts once it has begun cleanly, whenever it sends, each answer is its own, from its first request on.
 pub fn stations_answers_are_their_own<State>()
     ensures { StationsAnswersAreTheirOwn State }
 {}
 
-/// The same of any sequence of steps of a client, with restarts among them: of each stretch between two restarts, and what is
+/// `answers_are_their_own` of any sequence of steps of a client, with restarts among them: of each stretch between two restarts, and what is
 /// settled over all of them is what each settled, with what waited at each restart as lost.
 pub fn stretches_are_faithful<State>()
     ensures { StretchesAreFaithful State }
 {}
 
 /// Of every run of a station, for any instrument, over any number of connections, with whatever the line does, and with an instrument
-/// that may start anew and change by itself at any time: each answer that it writes down was made on executing the very request of that
-/// cycle and place; the instrument dealt with each that is late; the records and what waits are the commands sent, one for one; and each
-/// stretch from one beginning to the next is faithful.
+/// that may start anew and change by itself at any time; and whatever is under way at its start, unless the word 6 5 4 3 2 1 0 7 is a
+/// subsequence of the ids of that: it begins cleanly, at first and wherever it begins anew; each answer that it writes down, from its first
+/// command on, was made on executing the very request of that cycle and place; the instrument dealt with each that is late; the records
+/// and what waits are the commands sent, one for one; and each stretch from one beginning to the next is faithful.
 pub fn runs_are_faithful<State>()
     ensures { RunsAreFaithful State }
+{}
+
+/// Of stations one after the other over a line that outlives them, each with its own plan and commands, and killed at any moment: as long
+/// as fewer than six in a row end while they begin, all this is so of each, with no premise on what is under way.
+pub fn stations_in_a_row_are_faithful<State>()
+    ensures { StationsInARowAreFaithful State }
+{}
+
+/// The same over the simulator, in any state that fits.
+pub fn simulators_stations_in_a_row_are_faithful()
+    ensures { SimulatorsStationsInARowAreFaithful }
 {}
 
 /// In every such run, for any instrument, a command of a chain is executed behind each one before it in the chain, whose answer is the
@@ -115,19 +129,20 @@ pub fn a_lost_line_feed_is_booked_wrong()
     ensures { IsBookedJoined }
 {}
 
-/// Why the first request goes out alone: an instrument that keeps a reply with the id of the second one gives that, and it would
+/// Why a client without a beginning sends its first request alone: an instrument that keeps a reply with the id of the second one gives that, and it would
 /// be booked, with nothing executed: a line that was not made on executing its request.
 pub fn two_at_once_are_booked_wrong()
     ensures { TwoAtOnceAreBookedWrong }
 {}
 
-/// Some run is such a run: of one command, over one connection, whose answer, made on executing its request, it writes down.
+/// Some run is such a run: over a line with a request and a reply of before under way, each with the id of its first command, it begins,
+/// and writes down the answer that was made on executing its own request.
 pub fn some_run_is_in_the_field()
     ensures { SomeRunIsInField }
 {}
 
-/// Some run is over an instrument that keeps no reply and changes by itself: with a beginning in vain, a lost reply, a request that is
-/// given up, a start of the instrument and a new connection.
+/// Some run is over an instrument that keeps no reply and changes by itself: with a beginning that goes on over a second connection, a lost
+/// reply, a request that is given up, a start of the instrument and a third connection.
 pub fn some_run_is_over_a_drifting_instrument()
     ensures { IsAnsweredByDrifting }
 {}

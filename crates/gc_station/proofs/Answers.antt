@@ -7,7 +7,7 @@ use Rattle.std.proofs.lemmas.List.{length-drop}
 use Rattle.gc_catalogue.specs.declared.call.Call.{Call}
 use Rattle.gc_catalogue.specs.declared.call.Call.TheVariants.{NullProc}
 use Rattle.gc_client.specs.declared.window.TheConstants.{WINDOW}
-use Rattle.gc_client.specs.Rule.{ById, fresh, id_send, pending_of, sends}
+use Rattle.gc_client.specs.Rule.{ById, id_send, pending_of, sends}
 use Rattle.gc_client.proofs.Digits.{sending}
 use Rattle.gc_texts.specs.declared.commands.Command.{Command}
 use Rattle.gc_texts.specs.declared.tasks.Task.{Task}
@@ -23,13 +23,13 @@ use Rattle.gc_links.specs.Acts.{Act, Told, Untold, Put, Cut, Gave, Silent, Ended
 use Rattle.gc_station.specs.Answers.{IsBefore, first_deadline, deadline_behind, IsTrueRecord}
 use Rattle.gc_station.specs.Ends.{IsTrulyLate, IsTrulyLost}
 use Rattle.gc_station.specs.Deciding.{later}
-use Rattle.gc_station.specs.Probing.{IsAsking}
-use Rattle.gc_station.specs.Progressing.{turned, told, reckoned_early, begun, skipped, skipped_at, cleared, probed, sent, asking, loses_all}
+use Rattle.gc_station.specs.Quiet.{IsAsking}
+use Rattle.gc_station.specs.Progressing.{turned, told, reckoned_early, begun, skipped, skipped_at, cleared, null_sent, renewed, sent, asking, loses_all}
 use Rattle.gc_station.specs.Marks.{commands_in}
 use Rattle.gc_station.specs.Reasons.{IsFor}
 use Rattle.gc_station.specs.Records.{Record}
 use Rattle.gc_station.specs.Runs.{stood}
-use Rattle.gc_station.specs.Standing.{Standing, opening, order_at, waiting_of, mark_next, place_next, request_text, first_text, with_progress, is_heard, client_sent, asks_null, asks_first, asks_next, bound_next, with_records, skips, skips_first, after_clock, after_put, after_open, after_read, Puts, ReadsClock, IsOpening, IsReading, Obeys, moved, Runs}
+use Rattle.gc_station.specs.Standing.{Standing, opening, order_at, waiting_of, mark_next, place_next, request_text, null_text, first_text, with_progress, is_heard, client_sent, asks_null, asks_first, asks_next, bound_next, with_records, skips, skips_first, after_clock, after_put, after_open, after_read, Puts, ReadsClock, IsOpening, IsReading, Obeys, moved, Runs}
 use Rattle.gc_station.proofs.EachRun.{fine_stood}
 use Rattle.gc_station.proofs.Facts.{order_for}
 use Rattle.gc_station.proofs.Fine.{Fine}
@@ -195,7 +195,7 @@ read_honest : (plan : Plan) (commands : List Task) (scope : Scope) (acts : List 
 read_honest plan commands scope acts until Untold tail fine h o ends = still plan commands scope acts Untold _ _ _ (λ d. tt) h
 read_honest plan commands scope acts until (Gave bytes m) tail fine h o ends =
     let s = stood plan commands scope acts in
-    piece_honest plan commands scope acts bytes m (is_heard s.progress.phase) tail ends (record { digit = fine.digit; few = fine.window }) h
+    piece_honest plan commands scope acts bytes m (is_heard s.progress.phase) s.progress.word tail ends (record { digit = fine.digit; few = fine.window }) h
 read_honest plan commands scope acts until (Silent m) tail fine h o ends = moment_told plan commands scope acts (Silent m) m.elapsed _ _ _ (λ d low. low) (λ d past. past) h
 read_honest plan commands scope acts until Ended tail fine h o ends = still plan commands scope acts Ended _ _ _ (λ d. tt) h
 read_honest plan commands scope acts until Broke tail fine h o ends = still plan commands scope acts Broke _ _ _ (λ d. tt) h
@@ -204,9 +204,6 @@ read_honest plan commands scope acts until act tail fine h o ends = absurd o
 close_still : (act : Act) → act ≡ Closed → (d : ℕ) → IsBefore d act
 close_still act is d = subst (λ (x : Act). IsBefore d x) (sym is) tt
 
-nothing_waits : (c : ById) → c ≡ fresh → 0 < length c.waiting → ⊥
-nothing_waits c is above = let none : length c.waiting ≡ 0 = ap (λ (x : ById). length x.waiting) is in omega (arith, none, above)
-
 moved_honest : (plan : Plan) (commands : List Task) (scope : Scope) (acts : List Act) (order : Order) (act : Act) (tail : List Record) → Fine plan commands (stood plan commands scope acts) → IsHonest plan commands scope acts (acts ++ act ∷ []) (stood plan commands scope acts)
     → order_at plan (stood plan commands scope acts) ≡ order → IsFor plan (stood plan commands scope acts).progress (waiting_of (stood plan commands scope acts)) order
     → Obeys commands (stood plan commands scope acts) order act
@@ -214,15 +211,15 @@ moved_honest : (plan : Plan) (commands : List Task) (scope : Scope) (acts : List
     → IsHonest plan commands scope (acts ++ act ∷ []) (acts ++ act ∷ []) (moved plan commands order (with_progress turned (stood plan commands scope acts)) act)
 moved_honest plan commands scope acts orders.ReadClock act tail fine h is needs o ends =
     let s = stood plan commands scope acts in clock_honest plan commands scope acts act (λ m p. reckoned_early plan (commands_in s.marks) (told m p)) s h o
+moved_honest plan commands scope acts orders.Renew act tail fine h is needs o ends = clock_honest plan commands scope acts act (λ m p. reckoned_early plan 0 (renewed m p)) (stood plan commands scope acts) h o
 moved_honest plan commands scope acts orders.Begin act tail fine h is needs o ends = clock_honest plan commands scope acts act (begun plan (length commands)) (stood plan commands scope acts) h o
 moved_honest plan commands scope acts orders.Open act tail fine h is needs o ends = open_honest plan commands scope acts act (stood plan commands scope acts) h o
 moved_honest plan commands scope acts orders.Clear act tail fine h is needs o ends =
     let s = stood plan commands scope acts in
     put_honest plan commands scope (acts ++ act ∷ []) _ (with_progress cleared) (with_progress turned s) act (still plan commands scope acts act _ _ _ (puts_still (10 ∷ []) act o) h)
-moved_honest plan commands scope acts orders.Probe act tail fine h is needs o ends =
+moved_honest plan commands scope acts orders.Ask act tail fine h is needs o ends =
     let s = stood plan commands scope acts in
-    put_honest plan commands scope (acts ++ act ∷ []) _ (λ (x : Standing). with_progress probed (asks_null plan x)) (with_progress turned s) act
-    (null_honest plan commands scope acts act probed fine h needs.1.1 (λ above. absurd (nothing_waits s.client (fine.anew (fine.probing needs.0)).0 above)) o)
+    put_honest plan commands scope (acts ++ act ∷ []) _ (with_progress (null_sent plan)) (with_progress turned s) act (still plan commands scope acts act _ _ _ (puts_still (null_text s.progress.word) act o) h)
 moved_honest plan commands scope acts orders.Send act tail fine h is needs o ends =
     let s = stood plan commands scope acts in
     put_honest plan commands scope (acts ++ act ∷ []) _ (λ (x : Standing). with_progress (sent (bound_next commands x.progress)) (asks_next plan commands x)) (with_progress turned s) act

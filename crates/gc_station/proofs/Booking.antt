@@ -15,7 +15,7 @@ use Rattle.gc_station.specs.declared.mark.Mark.{Mark}
 use Rattle.gc_station.specs.Marks.{answer_as, end_of, record_of, records_of}
 use Rattle.gc_station.specs.Records.{Record}
 use Rattle.gc_station.specs.Standing.{client_sent}
-use Rattle.gc_station.specs.Parts.{Part, only, nothing, joined, asking, IsOf, AreOf, went_out, sent_with, sent_of, timeless}
+use Rattle.gc_station.specs.Parts.{Turn, Part, only_turns, only, nothing, joined, asking, IsOf, AreOf, went_out, sent_with, sent_of, timeless}
 
 -- Steps.
 
@@ -260,6 +260,10 @@ wrote_none reads commands ms rs = record {
 
 pub books_nothing : (reads : Call → List ℕ → Reading) (commands : List Task) (c : ById) (ms : List (Option Mark)) (rs : List Record) → Books reads commands c ms rs nothing c ms rs
 books_nothing reads commands c ms rs = record { client = refl; wrote = wrote_none reads commands ms rs }
+
+-- while it begins no step is taken
+pub books_turns : (reads : Call → List ℕ → Reading) (commands : List Task) (c : ById) (ms : List (Option Mark)) (rs : List Record) (turns : List Turn) → Books reads commands c ms rs (only_turns turns) c ms rs
+books_turns reads commands c ms rs turns = record { client = refl; wrote = wrote_none reads commands ms rs }
 
 pub books_moment : (reads : Call → List ℕ → Reading) (commands : List Task) (c : ById) (ms : List (Option Mark)) (rs : List Record) (now : ℕ) → Books reads commands c ms rs (only (Expire now ∷ [])) (expires c now) ms rs
 books_moment reads commands c ms rs now = record { client = refl; wrote = wrote_none reads commands ms rs }

@@ -11,21 +11,22 @@ use Rattle.gc_station.specs.declared.cause.Cause.{Cause}
 use Rattle.gc_station.specs.declared.cause.Cause.TheVariants as cause
 use Rattle.gc_station.specs.declared.plan.Plan.{Plan}
 use Rattle.gc_station.specs.declared.progress.Order.{Order}
-use Rattle.gc_station.specs.declared.progress.Order.TheVariants.{Begin, Open, Send, Skip, Read, Close, Stop}
+use Rattle.gc_station.specs.declared.progress.Order.TheVariants.{Begin, Renew, Open, Send, Skip, Read, Close, Stop}
 use Rattle.gc_station.specs.declared.progress.Progress.{Progress}
 use Rattle.gc_station.specs.declared.progress.Waiting.{Waiting}
 use Rattle.gc_links.specs.Acts.{Act, Told, Cut, Closed, Opened}
 use Rattle.gc_station.specs.Answers.{IsTrueRecord, answer_of}
 use Rattle.gc_station.specs.Chains.{IsChained, IsLinked}
+use Rattle.gc_station.specs.Deciding.{has_begun}
 use Rattle.gc_station.specs.EachOnce.{Request, of_record, of_task, requests, sent_by}
 use Rattle.gc_station.specs.Marks.{commands_in, is_value, is_well, last_well}
-use Rattle.gc_station.specs.Probing.{KeepsOpen}
+use Rattle.gc_station.specs.Quiet.{KeepsOpen}
 use Rattle.gc_station.specs.Progressing.{failing, turned, begun}
 use Rattle.gc_station.specs.Reasons.{IsFor, MayGo}
 use Rattle.gc_station.specs.Records.{Record}
 use Rattle.gc_station.specs.Runs.{stood}
 use Rattle.gc_station.specs.Scopes.{Scope}
-use Rattle.gc_station.specs.Standing.{Standing, requests_out, Obeys, Puts, Runs, opening, order_at, waiting_of, place_next, cycles_begun, is_chained, bound_next, with_progress, with_rest, moved}
+use Rattle.gc_station.specs.Standing.{Standing, requests_out, Obeys, Puts, Runs, opening, order_at, waiting_of, place_next, cycles_begun, is_chained, bound_next, with_progress, with_rest, moved, after, after_all}
 use Rattle.gc_station.proofs.Answers.{answers_true}
 use Rattle.gc_station.proofs.Counts.{ended_progress}
 use Rattle.gc_station.proofs.Each.{each_settled, sent_next}
@@ -37,6 +38,7 @@ use Rattle.gc_station.proofs.Lists.{all_append}
 use Rattle.gc_station.proofs.Midway.{clash}
 use Rattle.gc_station.proofs.Readings.{stood_reads}
 use Rattle.gc_station.proofs.Walk.{closed_along, is_sent, moved_changed, walk}
+use Rattle.gc_station.proofs.Words.{begun_kept}
 
 -- What an act does to the place in a cycle, and to the chain that is there.
 
@@ -62,6 +64,7 @@ record Anew (count : ℕ) (q : Progress) : Type 0 where
 
 abbrev Steps : ℕ → Bool → Order → Progress → Progress → Type 0
 Steps count bound Begin p q = Still p q ⊎ Anew count q
+Steps count bound Renew p q = Still p q ⊎ (Still p q × (q.whole ≡ false))
 Steps count bound Send p q = Next bound p q
 Steps count bound Skip p q = Still p q ⊎ (Next bound p q × (q.whole ≡ false))
 Steps count bound (Close why) p q = Still p q × (q.whole ≡ false)
@@ -77,6 +80,8 @@ broken p q left unsent missed bound whole = (record { left = left; unsent = unse
 moved_steps : (plan : Plan) (commands : List Task) (order : Order) (s : Standing) (act : Act) → Steps (length commands) (bound_next commands s.progress) order s.progress (moved plan commands order s act).progress
 moved_steps plan commands Begin s (Told m) = inr (record { unsent = refl; whole = refl })
 moved_steps plan commands Begin s act = inl (still s.progress _ refl refl refl refl refl)
+moved_steps plan commands Renew s (Told m) = inr (broken s.progress _ refl refl refl refl refl)
+moved_steps plan commands Renew s act = inl (still s.progress _ refl refl refl refl refl)
 moved_steps plan commands Open s Opened = still s.progress _ refl refl refl refl refl
 moved_steps plan commands Open s act = (broken s.progress _ refl refl refl refl refl).0
 moved_steps plan commands Send s (Cut bytes n) =
@@ -88,7 +93,7 @@ moved_steps plan commands Skip s (Told m) = inr (record { left = refl; unsent = 
 moved_steps plan commands Skip s act = inl (still s.progress _ refl refl refl refl refl)
 moved_steps plan commands (Close why) s act =
     closed_along (λ (q : Progress). Still s.progress q × (q.whole ≡ false)) plan (waiting_of (with_rest [] s)) why s.progress
-    (broken s.progress _ refl refl refl refl refl) (λ anew. broken s.progress _ refl refl refl refl refl) (λ on. broken s.progress _ refl refl refl refl refl)
+    (broken s.progress _ refl refl refl refl refl) (broken s.progress _ refl refl refl refl refl)
 moved_steps plan commands order s act =
     let is = moved_changed plan commands order s act in
     still s.progress _ (ap (λ (x : Standing). x.progress.left) is) (ap (λ (x : Standing). x.progress.unsent) is) (ap (λ (x : Standing). x.progress.missed) is) (ap (λ (x : Standing). x.progress.bound) is)
@@ -107,7 +112,16 @@ stays_open plan commands next s act o other = walk plan commands (λ a (t : Stan
 
 -- What every run keeps of the chain where it stands.
 
--- the command before the next one went out among these acts, and no connection was closed since
+-- behind each of these acts it has begun
+abbrev pub StaysBegun : Plan → List Task → Standing → List Act → Type 0
+StaysBegun plan commands s [] = Unit {0}
+StaysBegun plan commands s (act ∷ acts) = (has_begun (after plan commands s act).progress ≡ true) × StaysBegun plan commands (after plan commands s act) acts
+
+stays_more : (plan : Plan) (commands : List Task) (s : Standing) (acts : List Act) (act : Act) → StaysBegun plan commands s acts → has_begun (after_all plan commands s (acts ++ act ∷ [])).progress ≡ true → StaysBegun plan commands s (acts ++ act ∷ [])
+stays_more plan commands s [] act h e = (e, tt)
+stays_more plan commands s (x ∷ acts) act h e = (h.0, stays_more plan commands (after plan commands s x) acts act h.1 e)
+
+-- the command before the next one went out among these acts, and since then no connection was closed, and it didn't begin anew
 record Whole (plan : Plan) (commands : List Task) (scope : Scope) (acts : List Act) (p : Progress) : Type 0 where
   before : List Act
   request : Act
@@ -117,13 +131,22 @@ record Whole (plan : Plan) (commands : List Task) (scope : Scope) (acts : List A
   cycle : cycles_begun plan p ≡ cycles_begun plan (stood plan commands scope before).progress
   place : place_next commands p ≡ place_next commands (stood plan commands scope before).progress + 1
   stays : AllByRecursion KeepsOpen between
+  begun : has_begun p ≡ true
+  keeps : StaysBegun plan commands (stood plan commands scope before) (request ∷ between)
+
+-- where it stands behind one act more
+begun_there : (plan : Plan) (commands : List Task) (scope : Scope) (before behind all : List Act) (q : Progress) → all ≡ before ++ behind → (stood plan commands scope all).progress ≡ q → has_begun q ≡ true
+    → has_begun (after_all plan commands (stood plan commands scope before) behind).progress ≡ true
+begun_there plan commands scope before behind all q order there begun =
+    ap (λ (x : Standing). has_begun x.progress) (sym (ap (stood plan commands scope) order ∙ after_all-append plan commands (opening plan scope) before behind)) ∙ ap has_begun there ∙ begun
 
 record Chain (plan : Plan) (commands : List Task) (scope : Scope) (acts : List Act) (p : Progress) : Type 0 where
   bound : 0 < place_next commands p → p.bound ≡ (p.missed || is_chained (drop (place_next commands p) commands))
   whole : p.whole ≡ true → Whole plan commands scope acts p
 
-chain_still : (plan : Plan) (commands : List Task) (scope : Scope) (acts : List Act) (act : Act) (p q : Progress) → Still p q → KeepsOpen act → Chain plan commands scope acts p → Chain plan commands scope (acts ++ act ∷ []) q
-chain_still plan commands scope acts act p q k stays h =
+chain_still : (plan : Plan) (commands : List Task) (scope : Scope) (acts : List Act) (act : Act) (p q : Progress) → (stood plan commands scope (acts ++ act ∷ [])).progress ≡ q → Still p q → (has_begun p ≡ true → q.whole ≡ true → has_begun q ≡ true)
+    → KeepsOpen act → Chain plan commands scope acts p → Chain plan commands scope (acts ++ act ∷ []) q
+chain_still plan commands scope acts act p q there k begins stays h =
     let place_is : place_next commands q ≡ place_next commands p = ap (λ (n : ℕ). length commands - n) k.unsent in
     record {
       bound = λ above.
@@ -131,19 +154,25 @@ chain_still plan commands scope acts act p q k stays h =
           ∙ ap (λ (n : ℕ). q.missed || is_chained (drop n commands)) (sym place_is);
       whole = λ e.
           let w = h.whole (k.whole e) in
+          let order = ap (λ xs. xs ++ act ∷ []) w.order ∙ append_assoc w.before (w.request ∷ w.between) (act ∷ []) in
+          let begun = begins w.begun e in
           record {
             before = w.before;
             request = w.request;
             between = w.between ++ act ∷ [];
-            order = ap (λ xs. xs ++ act ∷ []) w.order ∙ append_assoc w.before (w.request ∷ w.between) (act ∷ []);
+            order = order;
             sends = w.sends;
             cycle = ap (λ (n : ℕ). plan.cycles - n) k.left ∙ w.cycle;
             place = place_is ∙ w.place;
             stays = all_append KeepsOpen w.between (act ∷ []) w.stays (stays, tt);
+            begun = begun;
+            keeps =
+                stays_more plan commands (stood plan commands scope w.before) (w.request ∷ w.between) act w.keeps
+                (begun_there plan commands scope w.before (w.request ∷ (w.between ++ act ∷ [])) (acts ++ act ∷ []) q order there begun);
           };
     }
 
--- a connection was closed
+-- a connection was closed, or it began anew
 chain_closed : (plan : Plan) (commands : List Task) (scope : Scope) (acts all : List Act) (p q : Progress) → Still p q → q.whole ≡ false → Chain plan commands scope acts p → Chain plan commands scope all q
 chain_closed plan commands scope acts all p q k broken h =
     let place_is : place_next commands q ≡ place_next commands p = ap (λ (n : ℕ). length commands - n) k.unsent in
@@ -173,9 +202,10 @@ chain_skipped plan commands scope acts p q n broken some within =
     let at = next_place commands p q n.unsent some within in
     record { bound = λ above. next_bound commands p q n at; whole = λ e. absurd (clash q.whole e broken) }
 
-chain_sent : (plan : Plan) (commands : List Task) (scope : Scope) (acts : List Act) (act : Act) (p q : Progress) → p ≡ turned (stood plan commands scope acts).progress → order_at plan (stood plan commands scope acts) ≡ Send
+chain_sent : (plan : Plan) (commands : List Task) (scope : Scope) (acts : List Act) (act : Act) (p q : Progress) → p ≡ turned (stood plan commands scope acts).progress → (stood plan commands scope (acts ++ act ∷ [])).progress ≡ q
+    → order_at plan (stood plan commands scope acts) ≡ Send → (q.whole ≡ true → has_begun q ≡ true)
     → Next (bound_next commands p) p q → 0 < p.unsent → p.unsent ≤ length commands → Chain plan commands scope (acts ++ act ∷ []) q
-chain_sent plan commands scope acts act p q here is n some within =
+chain_sent plan commands scope acts act p q here there is begins n some within =
     let at = next_place commands p q n.unsent some within in
     record {
       bound = λ above. next_bound commands p q n at;
@@ -188,22 +218,32 @@ chain_sent plan commands scope acts act p q here is n some within =
         cycle = ap (λ (k : ℕ). plan.cycles - k) n.left ∙ ap (λ (x : Progress). cycles_begun plan x) here;
         place = at ∙ ap (λ (x : Progress). place_next commands x + 1) here;
         stays = tt;
+        begun = begins e;
+        keeps = (begun_there plan commands scope acts (act ∷ []) (acts ++ act ∷ []) q refl there (begins e), tt);
       };
     }
 
 -- an act of an order
 chain_moved : (plan : Plan) (commands : List Task) (scope : Scope) (acts : List Act) (act : Act) (order : Order) (w : Waiting) (q : Progress) → Fine plan commands (stood plan commands scope acts)
     → order_at plan (stood plan commands scope acts) ≡ order → IsFor plan (stood plan commands scope acts).progress w order → Obeys commands (stood plan commands scope acts) order act
+    → (stood plan commands scope (acts ++ act ∷ [])).progress ≡ q → (has_begun (stood plan commands scope acts).progress ≡ true → q.whole ≡ true → has_begun q ≡ true)
     → Steps (length commands) (bound_next commands (turned (stood plan commands scope acts).progress)) order (turned (stood plan commands scope acts).progress) q
     → Chain plan commands scope acts (turned (stood plan commands scope acts).progress) → Chain plan commands scope (acts ++ act ∷ []) q
-chain_moved plan commands scope acts act Begin w q fine is needs o (inl k) h = chain_still plan commands scope acts act _ q k (stays_open plan commands Begin (stood plan commands scope acts) act o (λ why e. cc)) h
-chain_moved plan commands scope acts act Begin w q fine is needs o (inr a) h = chain_anew plan commands scope (acts ++ act ∷ []) q a
-chain_moved plan commands scope acts act Send w q fine is needs o n h = chain_sent plan commands scope acts act (turned (stood plan commands scope acts).progress) q refl is n needs.2 fine.unsent
-chain_moved plan commands scope acts act Skip w q fine is needs o (inl k) h = chain_still plan commands scope acts act _ q k (stays_open plan commands Skip (stood plan commands scope acts) act o (λ why e. cc)) h
-chain_moved plan commands scope acts act Skip w q fine is needs o (inr n) h = chain_skipped plan commands scope (acts ++ act ∷ []) (turned (stood plan commands scope acts).progress) q n.0 n.1 needs.2 fine.unsent
-chain_moved plan commands scope acts act (Close why) w q fine is needs o k h = chain_closed plan commands scope acts (acts ++ act ∷ []) _ q k.0 k.1 h
-chain_moved plan commands scope acts act (Stop why) w q fine is needs o k h = absurd o
-chain_moved plan commands scope acts act next w q fine is needs o k h = chain_still plan commands scope acts act _ q k (stays_open plan commands next (stood plan commands scope acts) act o (λ why e. cc)) h
+chain_moved plan commands scope acts act Begin w q fine is needs o at begins (inl k) h =
+    chain_still plan commands scope acts act _ q at k begins (stays_open plan commands Begin (stood plan commands scope acts) act o (λ why e. cc)) h
+chain_moved plan commands scope acts act Begin w q fine is needs o at begins (inr a) h = chain_anew plan commands scope (acts ++ act ∷ []) q a
+chain_moved plan commands scope acts act Renew w q fine is needs o at begins (inl k) h =
+    chain_still plan commands scope acts act _ q at k begins (stays_open plan commands Renew (stood plan commands scope acts) act o (λ why e. cc)) h
+chain_moved plan commands scope acts act Renew w q fine is needs o at begins (inr k) h = chain_closed plan commands scope acts (acts ++ act ∷ []) _ q k.0 k.1 h
+chain_moved plan commands scope acts act Send w q fine is needs o at begins n h =
+    chain_sent plan commands scope acts act (turned (stood plan commands scope acts).progress) q refl at is (begins needs.1) n needs.2 fine.unsent
+chain_moved plan commands scope acts act Skip w q fine is needs o at begins (inl k) h =
+    chain_still plan commands scope acts act _ q at k begins (stays_open plan commands Skip (stood plan commands scope acts) act o (λ why e. cc)) h
+chain_moved plan commands scope acts act Skip w q fine is needs o at begins (inr n) h = chain_skipped plan commands scope (acts ++ act ∷ []) (turned (stood plan commands scope acts).progress) q n.0 n.1 needs.2 fine.unsent
+chain_moved plan commands scope acts act (Close why) w q fine is needs o at begins k h = chain_closed plan commands scope acts (acts ++ act ∷ []) _ q k.0 k.1 h
+chain_moved plan commands scope acts act (Stop why) w q fine is needs o at begins k h = absurd o
+chain_moved plan commands scope acts act next w q fine is needs o at begins k h =
+    chain_still plan commands scope acts act _ q at k begins (stays_open plan commands next (stood plan commands scope acts) act o (λ why e. cc)) h
 
 -- and so each run
 chain_along : (plan : Plan) (commands : List Task) (scope : Scope) (done acts : List Act) → Runs plan commands (stood plan commands scope done) acts → Chain plan commands scope done (stood plan commands scope done).progress
@@ -220,10 +260,10 @@ chain_along plan commands scope done (act ∷ acts) runs h =
     let at_turn : Chain plan commands scope done (turned s.progress) = record {
       bound = h.bound;
       whole = λ e.
-          let w = h.whole e in record { before = w.before; request = w.request; between = w.between; order = w.order; sends = w.sends; cycle = w.cycle; place = w.place; stays = w.stays };
+          let w = h.whole e in record { before = w.before; request = w.request; between = w.between; order = w.order; sends = w.sends; cycle = w.cycle; place = w.place; stays = w.stays; begun = w.begun; keeps = w.keeps };
     } in
-    let one = chain_moved plan commands scope done act (order_at plan s) (waiting_of s) t.progress (fine_stood plan commands scope done) refl (order_for plan s.progress (waiting_of s)) runs.0
-    (moved_steps plan commands (order_at plan s) (with_progress turned s) act) at_turn in
+    let one = chain_moved plan commands scope done act (order_at plan s) (waiting_of s) t.progress (fine_stood plan commands scope done) refl (order_for plan s.progress (waiting_of s)) runs.0 far
+    (begun_kept plan commands s (order_at plan s) act runs.0) (moved_steps plan commands (order_at plan s) (with_progress turned s) act) at_turn in
     let here = subst (λ (p : Progress). Chain plan commands scope (done ++ act ∷ []) p) (sym far) one in
     let goes_on = subst (λ (x : Standing). Runs plan commands x acts) (sym next) runs.1 in
     subst (λ (xs : List Act). Chain plan commands scope xs (stood plan commands scope xs).progress) (append_assoc done (act ∷ []) acts) (chain_along plan commands scope (done ++ act ∷ []) acts goes_on here)
@@ -283,9 +323,10 @@ last_sent : (commands : List Task) (begun place : ℕ) (left : List Task) → dr
 last_sent commands begun place [] at some many = absurd (omega (arith, some))
 last_sent commands begun place (task ∷ others) at some many = (task, sent_next commands begun place task others at many)
 
-pub chain_kept : (plan : Plan) (commands : List Task) (scope : Scope) (acts : List Act) → Runs plan commands (opening plan scope) acts
-    → order_at plan (stood plan commands scope acts) ≡ Send → IsChained commands (stood plan commands scope acts) → IsLinked plan commands scope acts
-chain_kept plan commands scope acts runs is chained = of_may needs.4 where
+pub chain_whole : (plan : Plan) (commands : List Task) (scope : Scope) (acts : List Act) → Runs plan commands (opening plan scope) acts
+    → order_at plan (stood plan commands scope acts) ≡ Send → IsChained commands (stood plan commands scope acts)
+    → (l : IsLinked plan commands scope acts) × StaysBegun plan commands (stood plan commands scope l.before) (l.request ∷ l.between)
+chain_whole plan commands scope acts runs is chained = of_may needs.4 where
   s : Standing
   s = stood plan commands scope acts
 
@@ -301,7 +342,7 @@ chain_kept plan commands scope acts runs is chained = of_may needs.4 where
   bound : s.progress.bound ≡ true
   bound = h.bound chained.0 ∙ ap (λ (b : Bool). s.progress.missed || b) chained.1 ∙ or_true s.progress.missed
 
-  of_last : commands_in s.marks ≡ 0 → Last scope.reads s.records → Whole plan commands scope acts s.progress → IsLinked plan commands scope acts
+  of_last : commands_in s.marks ≡ 0 → Last scope.reads s.records → Whole plan commands scope acts s.progress → (l : IsLinked plan commands scope acts) × StaysBegun plan commands (stood plan commands scope l.before) (l.request ∷ l.between)
   of_last settled l w =
       let b = stood plan commands scope w.before in
       let before = fine_stood plan commands scope w.before in
@@ -320,7 +361,7 @@ chain_kept plan commands scope acts runs is chained = of_may needs.4 where
       sym (map-append of_record l.earlier (l.answer ∷ [])) ∙ ap (map of_record) (sym l.last) ∙ all ∙ there ∙ sym sent.1 in
       let own = end_same (map of_record l.earlier) (sent_by commands cycle place) (of_record l.answer) (record { cycle = cycle; place = place; asked = of_task sent.0 }) ends in
       let true_one = all_last (IsTrueRecord plan commands scope acts) l.earlier l.answer (subst (λ (rs : List Record). AllByRecursion (IsTrueRecord plan commands scope acts) rs) l.last (answers_true plan commands scope acts runs)) in
-      record {
+      let linked : IsLinked plan commands scope acts = record {
         before = w.before;
         request = w.request;
         between = w.between;
@@ -339,8 +380,13 @@ chain_kept plan commands scope acts runs is chained = of_may needs.4 where
         answered = l.answered;
         well = l.well;
         in_time = true_one l.line (ap answer_of l.answered);
-      }
+      } in
+      (linked, w.keeps)
 
-  of_may : MayGo s.progress (waiting_of s) → IsLinked plan commands scope acts
+  of_may : MayGo s.progress (waiting_of s) → (l : IsLinked plan commands scope acts) × StaysBegun plan commands (stood plan commands scope l.before) (l.request ∷ l.between)
   of_may (inl free) = absurd (clash s.progress.bound bound free)
   of_may (inr it) = of_last it.0 (last_of scope.reads s.records (ap (λ (reads : Call → List ℕ → Reading). last_well reads false s.records) (sym (stood_reads plan commands scope acts)) ∙ it.1)) (h.whole it.2)
+
+pub chain_kept : (plan : Plan) (commands : List Task) (scope : Scope) (acts : List Act) → Runs plan commands (opening plan scope) acts
+    → order_at plan (stood plan commands scope acts) ≡ Send → IsChained commands (stood plan commands scope acts) → IsLinked plan commands scope acts
+chain_kept plan commands scope acts runs is chained = (chain_whole plan commands scope acts runs is chained).0

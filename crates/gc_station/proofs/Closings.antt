@@ -1,31 +1,33 @@
 -- A connection is closed, and a run stops, only for a cause: whatever decides the end, the act that did it shows.
-use Rattle.std.proofs.Common.{◌≡◌, ℕ, ◌⊎◌, inl, inr, ◌&&◌, ◌||◌, Bool, true, false, not, List, [], ◌∷◌, ◌++◌, drop, Option, Some, None, if◌then◌else◌, nat_lt, nat_eq, refl, sym, ap, ◌∙◌, subst, arith}
+use Rattle.std.proofs.Common.{◌≡◌, ℕ, ◌⊎◌, inl, inr, ◌&&◌, ◌||◌, Bool, true, false, not, List, [], ◌∷◌, ◌++◌, length, drop, Option, Some, None, if◌then◌else◌, nat_lt, nat_eq, refl, sym, ap, ◌∙◌, subst, arith}
 use Rattle.std.proofs.lemmas.Bool.Decides.{nat_tests}
+use Rattle.std.proofs.lemmas.List.{nil_from_length}
 use Rattle.gc_catalogue.specs.declared.call.Call.TheVariants.{NullProc}
+use Rattle.gc_client.specs.Rule.{ById}
 use Rattle.gc_texts.specs.declared.tasks.Task.{Task}
 use Rattle.gc_station.specs.declared.plan.Plan.{Plan}
 use Rattle.gc_station.specs.declared.cause.Cause.{Cause}
 use Rattle.gc_station.specs.declared.cause.Cause.TheVariants as cause
 use Rattle.gc_station.specs.declared.progress.Phase.{Phase}
-use Rattle.gc_station.specs.declared.progress.Phase.TheVariants.{Pausing, Draining, Probing, Ready, Closing, Over, Down}
+use Rattle.gc_station.specs.declared.progress.Phase.TheVariants.{Pausing, Draining, Ready, Closing, Over, Down}
 use Rattle.gc_station.specs.declared.progress.Order.{Order}
 use Rattle.gc_station.specs.declared.progress.Order.TheVariants as order
 use Rattle.gc_station.specs.declared.progress.Progress.{Progress}
 use Rattle.gc_station.specs.declared.progress.Waiting.{Waiting}
 use Rattle.gc_links.specs.Acts.{Act, Untold, Cut, Ended, Broke, Closed}
-use Rattle.gc_station.specs.Deciding.{is_up, is_past, order_in}
+use Rattle.gc_station.specs.Deciding.{has_begun, is_up, is_past, order_in}
 use Rattle.gc_station.specs.Marks.{commands_in}
-use Rattle.gc_station.specs.Progressing.{turned, told, failing, quieted, time_passed, is_finished, is_idle, begins_anew, closed_again, closed, is_spared}
-use Rattle.gc_station.specs.Closing.{IsAlone, IsReasoned, Shows, ClosesForACause, EndsDone, EndsBehind, EndsGone, Ends, StopsForACause, commands_behind}
+use Rattle.gc_station.specs.Progressing.{turned, told, failing, quieted, time_passed, is_finished, is_idle, cleared, closed, is_spared}
+use Rattle.gc_station.specs.Closing.{IsAlone, IsReasoned, Shows, ClosesForACause, EndsDone, EndsBehind, EndsGone, Ends, StopsForACause}
 use Rattle.gc_station.specs.Reasons.{IsFor, IsAtItsEnd}
 use Rattle.gc_station.specs.Runs.{stood}
-use Rattle.gc_station.specs.Standing.{Standing, requests_out, request_text, first_text, waiting_of, opening, order_at, place_next, with_progress, with_moment, is_heard, came, Obeys, moved, after, after_all, Runs}
+use Rattle.gc_station.specs.Standing.{Standing, requests_out, request_text, null_text, first_text, waiting_of, opening, order_at, place_next, with_progress, with_moment, is_heard, lines_behind, came, Obeys, moved, after, after_all, Runs}
 use Rattle.gc_station.proofs.Counts.{ended_progress}
 use Rattle.gc_station.proofs.EachRun.{fine_stood}
 use Rattle.gc_station.proofs.Facts.{order_for}
-use Rattle.gc_station.proofs.Fine.{Fine, is_bare, says_done}
+use Rattle.gc_station.proofs.Fine.{Fine, says_done}
 use Rattle.gc_station.proofs.Going.{after_all-append}
-use Rattle.gc_station.proofs.Walk.{came_along, quieted_along, walk}
+use Rattle.gc_station.proofs.Walk.{asked_along, came_along, quieted_along, walk}
 use Rattle.gc_station.proofs.Turns.{again_down, closed_down}
 use Rattle.gc_station.specs.Scopes.{Scope}
 
@@ -52,10 +54,6 @@ fail_decides before at false why c act is shows down e = let same : why ≡ c = 
 failed : {Other : Type 0} (s : Standing) (why c : Cause) (act : Act) → Shows why act → end_of (with_progress (failing why) s).progress.phase ≡ Some c → Decides Other s.progress.phase (with_progress (failing why) s).progress.phase c act
 failed s why c act shows e = fail_decides s.progress.phase s.progress.phase (is_up s.progress.phase) why c act refl shows (λ d. d) e
 
-drained_none : (p : Progress) (anew : Bool) (c : Cause) → end_of (if anew then Probing else Ready) ≡ Some c → ⊥
-drained_none p true c e = cc
-drained_none p false c e = cc
-
 paused_same : (at : Phase) (b : Bool) (c : Cause) → end_of (if b then Down else at) ≡ Some c → (if b then Down else at) ≡ at
 paused_same at true c e = cc
 paused_same at false c e = refl
@@ -63,11 +61,12 @@ paused_same at false c e = refl
 quiet_same : (plan : Plan) (phase : Phase) (p : Progress) (c : Cause) → end_of (quieted plan phase p).phase ≡ Some c → (quieted plan phase p).phase ≡ p.phase
 quiet_same plan phase p c =
     quieted_along (λ (q : Progress). end_of q.phase ≡ Some c → q.phase ≡ p.phase) plan phase p
-    (λ e. paused_same p.phase (is_past p.pause p && not (is_idle plan p)) c e) (λ e. absurd (drained_none p p.anew c e)) (λ e. refl)
+    (λ e. paused_same p.phase (is_past p.pause p && not (is_idle plan p)) c e) (λ e. cc) (λ e. refl)
 
 -- no line changes the phase
-pub came_phase : (heard : Bool) (piece : List ℕ) (s : Standing) → (came heard piece s).progress.phase ≡ s.progress.phase
-came_phase heard piece s = came_along (λ (t : Standing). t.progress.phase ≡ s.progress.phase) (λ t line e. e) heard piece s refl refl
+pub came_phase : (heard : Bool) (word piece : List ℕ) (s : Standing) → (came heard word piece s).progress.phase ≡ s.progress.phase
+came_phase heard word piece s =
+    came_along (λ (t : Standing). t.progress.phase ≡ s.progress.phase) (λ t line e. e) heard word piece s refl (asked_along (λ (q : Progress). q.phase ≡ s.progress.phase) (λ q line e. e) s.progress (lines_behind s.rest piece) refl) refl
 
 none_left : (a b n : ℕ) → nat_eq a 0 && nat_eq b 0 && nat_eq n 0 ≡ true → (a ≡ 0) × (b ≡ 0) × (n ≡ 0)
 none_left a b n e = grind (arith, nat_tests, e)
@@ -87,27 +86,16 @@ again_ends plan other c n p true some finished tries e = let none = none_left p.
 again_ends plan other c n p false true finished tries e = cc
 again_ends plan other c n p false false finished tries e = let none = no_try (is_spared plan other p) p.tries tries in inr (cc, finished, none.0, none.1)
 
--- and where one was closed, to begin anew or not
-closed_again_ends : (plan : Plan) (w : Waiting) (other c : Cause) (p : Progress) (anew : Bool) → end_of (closed_again plan w other anew (turned p)).phase ≡ Some c → EndsAgain plan p (if anew then 0 else w.commands) other c
-closed_again_ends plan w cause.Open c p true e = again_ends plan cause.Open c 0 p (is_finished 0 p) (nat_lt 0 p.tries) refl refl e
-closed_again_ends plan w cause.Open c p false e = again_ends plan cause.Open c w.commands p (is_finished w.commands p) (nat_lt 0 p.tries) refl refl e
-closed_again_ends plan w other c p true e = again_ends plan other c 0 p (is_finished 0 p) (is_idle plan p || nat_lt 0 p.tries) refl refl e
-closed_again_ends plan w other c p false e = again_ends plan other c w.commands p (is_finished w.commands p) (is_idle plan p || nat_lt 0 p.tries) refl refl e
-
-none_behind : (anew : Bool) (n : ℕ) → n ≡ 0 → (if anew then 0 else n) ≡ 0
-none_behind true n e = refl
-none_behind false n e = e
-
 -- nothing is left to be sent, and no command waits
 abbrev NoneLeft : Progress → ℕ → Type 0
 NoneLeft p n = (p.left ≡ 0) × (p.unsent ≡ 0) × (n ≡ 0)
 
-closed_ends : (plan : Plan) (w : Waiting) (other c : Cause) (p : Progress) → (other ≡ cause.Done → NoneLeft p w.commands) → end_of (closed plan w other (turned p)).phase ≡ Some c
-    → EndsBehind plan p (commands_behind w other p) other c
-closed_ends plan w cause.Done c p done e = let none = done refl in (cc, none.0, none.1, none_behind (p.alone || p.anew) w.commands none.2)
+closed_ends : (plan : Plan) (w : Waiting) (other c : Cause) (p : Progress) → (other ≡ cause.Done → NoneLeft p w.commands) → end_of (closed plan w other (turned p)).phase ≡ Some c → EndsBehind plan p w.commands other c
+closed_ends plan w cause.Done c p done e = let none = done refl in (cc, none.0, none.1, none.2)
 closed_ends plan w cause.Clock c p done e = cc
 closed_ends plan w cause.Turns c p done e = cc
-closed_ends plan w other c p done e = closed_again_ends plan w other c p (begins_anew other p) e
+closed_ends plan w cause.Open c p done e = again_ends plan cause.Open c w.commands p (is_finished w.commands p) (nat_lt 0 p.tries) refl refl e
+closed_ends plan w other c p done e = again_ends plan other c w.commands p (is_finished w.commands p) (is_idle plan p || nat_lt 0 p.tries) refl refl e
 
 -- there is no connection behind an act that closed it, or made none, and no other is made
 abbrev pub Gone : Plan → Standing → Order → Phase → Cause → Act → Type 0
@@ -115,6 +103,14 @@ Gone plan s next behind c act = (is_up behind ≡ false) × EndsGone plan s.prog
 
 abbrev DecidesSo : Plan → Standing → Order → Cause → Act → Standing → Type 0
 DecidesSo plan s next c act t = end_of t.progress.phase ≡ Some c → Decides (Gone plan s next t.progress.phase c act) s.progress.phase t.progress.phase c act
+
+cleared_none : (begun : Bool) (c : Cause) → end_of (if begun then Draining else Ready) ≡ Some c → ⊥
+cleared_none true c e = cc
+cleared_none false c e = cc
+
+cleared_up : (begun : Bool) → is_up (if begun then Draining else Ready) ≡ false → ⊥
+cleared_up true e = cc
+cleared_up false e = cc
 
 moved_decides : (plan : Plan) (commands : List Task) (next : Order) (s : Standing) (act : Act) (c : Cause) → Obeys commands s next act → (next ≡ order.Close cause.Done → NoneLeft s.progress (commands_in s.marks))
     → end_of (moved plan commands next (with_progress turned s) act).progress.phase ≡ Some c
@@ -125,12 +121,17 @@ moved_decides plan commands order.Open s act c o done e =
     walk plan commands (DecidesSo plan s order.Open c) order.Open (with_progress turned s) act o
     (λ m g. cc, λ k g. inr (inl (again_down plan n cause.Open p, inr (refl, again_ends plan cause.Open c n p (is_finished n p) (nat_lt 0 p.tries) refl refl g)))) e
 moved_decides plan commands order.Clear s act c o done e =
-    walk plan commands (DecidesSo plan s order.Clear c) order.Clear (with_progress turned s) act o
-    (λ m g. cc, λ n g. fail_decides s.progress.phase Draining true (cause.Write (requests_out plan commands (turned s.progress)) n) c (Cut (10 ∷ []) n) refl (10 ∷ [], refl) (λ d. cc) g) e
-moved_decides plan commands order.Probe s act c o done e =
-    let text = request_text s.client NullProc in
-    walk plan commands (DecidesSo plan s order.Probe c) order.Probe (with_progress turned s) act o
-    (λ m g. cc, λ n g. fail_decides s.progress.phase Ready true (cause.Write (requests_out plan commands (turned s.progress)) n) c (Cut text n) refl (text, refl) (λ d. cc) g) e
+    let at = (cleared (turned s.progress)).phase in
+    walk plan commands (DecidesSo plan s order.Clear c) order.Clear (with_progress turned s) act o (
+      λ m g. absurd (cleared_none (has_begun s.progress) c g),
+      λ n g. fail_decides s.progress.phase at (is_up at) (cause.Write (requests_out plan commands (turned s.progress)) n) c (Cut (10 ∷ []) n) refl (10 ∷ [], refl)
+          (λ d. absurd (cleared_up (has_begun s.progress) d)) g,
+    ) e
+moved_decides plan commands order.Ask s act c o done e =
+    let text = null_text s.progress.word in
+    let at = s.progress.phase in
+    walk plan commands (DecidesSo plan s order.Ask c) order.Ask (with_progress turned s) act o
+    (λ m g. inr (inr refl), λ n g. fail_decides at at (is_up at) (cause.Write (requests_out plan commands (turned s.progress)) n) c (Cut text n) refl (text, refl) (λ d. d) g) e
 moved_decides plan commands order.Send s act c o done e =
     let text = first_text s.client (drop (place_next commands s.progress) commands) in
     let at = s.progress.phase in
@@ -144,7 +145,7 @@ moved_decides plan commands order.Flush s act c o done e =
 moved_decides plan commands (order.Read until) s act c o done e =
     let t = with_progress turned s in
     walk plan commands (DecidesSo plan s (order.Read until) c) (order.Read until) t act o (
-      λ bytes m g. inr (inr (came_phase (is_heard s.progress.phase) bytes (with_moment m (with_progress (told m) t)))),
+      λ bytes m g. inr (inr (came_phase (is_heard s.progress.phase) s.progress.word bytes (with_moment m (with_progress (told m) t)))),
       λ m g. inr (inr (quiet_same plan s.progress.phase (time_passed until m t.progress) c g)),
       λ g. failed t cause.End c Ended refl g,
       λ g. failed t cause.Read c Broke refl g,
@@ -188,9 +189,9 @@ pub runs_split : (plan : Plan) (commands : List Task) (s : Standing) (earlier la
 runs_split plan commands s [] later act runs = (tt, runs.0)
 runs_split plan commands s (x ∷ xs) later act runs = let r = runs_split plan commands (after plan commands s x) xs later act runs.1 in ((runs.0, r.0), r.1)
 
--- the null procedure with which it begins anew goes out where nothing waits
+-- the null procedures of a beginning go out where nothing waits
 goes_alone : (plan : Plan) (commands : List Task) (s : Standing) (next : Order) → Fine plan commands s → IsFor plan s.progress (waiting_of s) next → IsAlone next s
-goes_alone plan commands s order.Probe fine needs = ((fine.anew (fine.probing needs.0)).0, fine.rest (ap is_bare needs.0))
+goes_alone plan commands s order.Ask fine needs = let new = fine.begins needs.1 in (new, nil_from_length s.marks (fine.paired ∙ ap (λ (c : ById). length c.waiting) new))
 goes_alone plan commands s next fine needs = tt
 
 pub act_reasoned : (plan : Plan) (commands : List Task) (scope : Scope) (earlier later : List Act) (act : Act) → Runs plan commands (opening plan scope) (earlier ++ act ∷ later) → IsReasoned plan commands (stood plan commands scope earlier) act

@@ -46,11 +46,12 @@ moved_counts plan commands order s act =
     kept s.progress _ (ap (λ (x : Standing). x.progress.turns) is) (ap (λ (x : Standing). x.progress.left) is) (ap (λ (x : Standing). x.progress.unsent) is)
 
 -- that all are lost changes no progress
+pub losing_progress : (b : Bool) (s : Standing) → (losing b s).progress ≡ s.progress
+losing_progress true s = refl
+losing_progress false s = refl
+
 pub ended_progress : (s : Standing) → (ended s).progress ≡ s.progress
-ended_progress s = lost_progress (loses_all s.progress) where
-  lost_progress : (b : Bool) → (losing b s).progress ≡ s.progress
-  lost_progress true = refl
-  lost_progress false = refl
+ended_progress s = losing_progress (loses_all s.progress) s
 
 -- no turn is taken
 pub turns_kept : (plan : Plan) (commands : List Task) (order : Order) (s : Standing) (act : Act) → (moved plan commands order s act).progress.turns ≡ s.progress.turns

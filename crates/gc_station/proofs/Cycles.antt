@@ -14,10 +14,10 @@ use Rattle.gc_texts.specs.declared.tasks.Task.{Task}
 use Rattle.gc_links.specs.Acts.{Act, Told, Untold, Gave, Silent, Ended, Broke, Closed, Opened, Unopened}
 use Rattle.gc_links.specs.declared.link.Moment.{Moment}
 use Rattle.gc_station.specs.Cycles.{Rises, due_behind, BeginsAt, BeginsLate, LastBegan, CyclesBeginWhenDue, SentOnlyInTime, IsMissedIn, IsSkippedIn, IsTrulyUnsent, UnsentForACause}
-use Rattle.gc_station.specs.Deciding.{is_up, is_quiet, is_dead, is_due, has_room, order_of, order_in, order_on, order_told, may_go, order_ready, order_sent, order_settled, order_done, order_room, order_waiting, order_up}
+use Rattle.gc_station.specs.Deciding.{is_up, is_idle, has_begun, is_dead, is_due, has_room, order_of, order_in, order_on, order_told, may_go, order_ready, order_begun, order_beginning, order_sent, order_settled, order_done, order_room, order_waiting, order_up}
 use Rattle.gc_station.specs.Marks.{answer_as, end_of, records_of}
 use Rattle.gc_station.specs.Parts.{went_out}
-use Rattle.gc_station.specs.Progressing.{turned, told, begun, skipped_at, beginning, failing, time_passed, quieted, quiet_renewed, closed, loses_all}
+use Rattle.gc_station.specs.Progressing.{turned, told, begun, skipped_at, beginning, failing, time_passed, quieted, closed, loses_all}
 use Rattle.gc_station.specs.Reasons.{IsFor, MayGo}
 use Rattle.gc_station.specs.Records.{Record}
 use Rattle.gc_station.specs.Runs.{stood}
@@ -42,7 +42,7 @@ use Rattle.gc_station.proofs.Facts.{either, order_for}
 use Rattle.gc_station.proofs.Fine.{Fine}
 use Rattle.gc_station.proofs.Going.{after_all-append}
 use Rattle.gc_station.proofs.Lists.{all_append, all_on}
-use Rattle.gc_station.proofs.Walk.{lines_along, came_along, quieted_along, closed_along, moved_changed, walk}
+use Rattle.gc_station.proofs.Walk.{lines_along, asked_along, came_along, quieted_along, closed_along, moved_changed, walk}
 
 -- A cycle begins only where it is due.
 
@@ -52,8 +52,8 @@ BeginsDue plan p next = next ≡ orders.Begin → is_due plan p ≡ true
 module _ (plan : Plan) (p : Progress) (w : Waiting) where
   waits_not : BeginsDue plan p (order_waiting plan p w)
   waits_not =
-      either (BeginsDue plan p) (orders.Close cause.Silence) (if is_dead plan p w then orders.Close cause.Dead else orders.Read Limit) (nat_eq w.current 0 && is_quiet plan p) (λ e b. cc)
-      (λ e. either (BeginsDue plan p) (orders.Close cause.Dead) (orders.Read Limit) (is_dead plan p w) (λ d b. cc) (λ d b. cc))
+      either (BeginsDue plan p) (orders.Close cause.Dead) (if nat_eq w.current 0 then orders.Renew else orders.Read Limit) (is_dead plan p w) (λ d b. cc)
+      (λ d. either (BeginsDue plan p) orders.Renew (orders.Read Limit) (nat_eq w.current 0) (λ e b. cc) (λ e b. cc))
 
   room_not : (next : Order) → BeginsDue plan p next → BeginsDue plan p (order_room plan p w next)
   room_not next not = either (BeginsDue plan p) next (order_waiting plan p w) (has_room plan w) (λ e. not) (λ e. waits_not)
@@ -73,13 +73,22 @@ module _ (plan : Plan) (p : Progress) (w : Waiting) where
       either (BeginsDue plan p) (order_settled plan p w) (if nat_eq w.current 0 then order_room plan p w orders.Flush else order_waiting plan p w) (nat_eq w.commands 0) (λ e. settled_due)
       (λ e. either (BeginsDue plan p) (order_room plan p w orders.Flush) (order_waiting plan p w) (nat_eq w.current 0) (λ d. room_not orders.Flush (λ b. cc)) (λ d. waits_not))
 
+  begun_due : BeginsDue plan p (order_begun plan p w)
+  begun_due =
+      either (BeginsDue plan p) (order_room plan p w orders.Send) (order_sent plan p w) (nat_lt 0 p.unsent && not p.bound) (λ d. room_not orders.Send (λ b. cc)) (λ d. sent_due)
+
+  asks_not : BeginsDue plan p (if nat_le p.again p.moment.elapsed then orders.Ask else orders.Read Limit)
+  asks_not = either (BeginsDue plan p) orders.Ask (orders.Read Limit) (nat_le p.again p.moment.elapsed) (λ e b. cc) (λ e b. cc)
+
+  beginning_due : BeginsDue plan p (order_beginning plan p w)
+  beginning_due =
+      either (BeginsDue plan p) (orders.Read Due) _ (is_idle plan p) (λ e b. cc)
+      (λ e. either (BeginsDue plan p) (orders.Close cause.Dead) _ (is_dead plan p w) (λ d b. cc) (λ d. asks_not))
+
   ready_due : BeginsDue plan p (order_ready plan p w)
-  ready_due =
-      either (BeginsDue plan p) (order_waiting plan p w) (if nat_lt 0 p.unsent && not p.bound then order_room plan p w orders.Send else order_sent plan p w) p.alone (λ e. waits_not)
-      (λ e. either (BeginsDue plan p) (order_room plan p w orders.Send) (order_sent plan p w) (nat_lt 0 p.unsent && not p.bound) (λ d. room_not orders.Send (λ b. cc)) (λ d. sent_due))
+  ready_due = either (BeginsDue plan p) (order_begun plan p w) (order_beginning plan p w) (has_begun p) (λ e. begun_due) (λ e. beginning_due)
 
   told_due : (at : Phase) → BeginsDue plan p (order_told plan at p w)
-  told_due phase.Probing = room_not orders.Probe (λ b. cc)
   told_due phase.Ready = ready_due
   told_due phase.Down = λ b. cc
   told_due phase.Pausing = λ b. cc
@@ -104,7 +113,6 @@ module _ (plan : Plan) (p : Progress) (w : Waiting) where
   in_due phase.Pausing = on_due
   in_due phase.Clearing = on_due
   in_due phase.Draining = on_due
-  in_due phase.Probing = on_due
   in_due phase.Ready = on_due
 
 begin_due : (plan : Plan) (p : Progress) (w : Waiting) → order_of plan p w ≡ orders.Begin → is_due plan p ≡ true
@@ -427,18 +435,18 @@ module _ (plan : Plan) (commands : List Task) (scope : Scope) (some : 0 < plan.e
       let is = moved_changed plan commands (orders.Read until) s (Gave bytes m) in (
         stays s.progress _ (ap (λ (x : Standing). x.progress.left) is) (ap (λ (x : Standing). x.progress.unsent) is) (ap (λ (x : Standing). x.progress.missed) is) (ap (λ (x : Standing). x.progress.due) is)
             (ap (λ (x : Standing). x.progress.bound) is) (inl (ap (λ (x : Standing). x.progress.whole) is)),
-        came_along (λ (x : Standing). (x.progress.moment ≡ m) × (x.progress.began ≡ min s.progress.began m.elapsed)) (λ x line e. e) heard_there bytes mid (refl, refl) (refl, refl),
+        came_along (λ (x : Standing). (x.progress.moment ≡ m) × (x.progress.began ≡ min s.progress.began m.elapsed)) (λ x line e. e) heard_there s.progress.word bytes mid (refl, refl)
+            (asked_along (λ (q : Progress). (q.moment ≡ m) × (q.began ≡ min s.progress.began m.elapsed)) (λ q line e. e) mid.progress (lines_behind s.rest bytes) (refl, refl)) (refl, refl),
       )
 
-  silent_same : (at : Phase) (p : Progress) (until : Until) (gave_up : Bool) (m : Moment) → Same p (Silent m) (quiet_renewed gave_up m (quieted plan at (time_passed until m p)))
-  silent_same at p until gave_up m =
-      quieted_along (λ (q : Progress). Same p (Silent m) (quiet_renewed gave_up m q)) plan at (time_passed until m p)
+  silent_same : (at : Phase) (p : Progress) (until : Until) (m : Moment) → Same p (Silent m) (quieted plan at (time_passed until m p))
+  silent_same at p until m =
+      quieted_along (λ (q : Progress). Same p (Silent m) q) plan at (time_passed until m p)
       (stays p _ refl refl refl refl refl (inl refl), (refl, refl)) (stays p _ refl refl refl refl refl (inl refl), (refl, refl)) (stays p _ refl refl refl refl refl (inl refl), (refl, refl))
 
   closed_same : (s : Standing) (why : Cause) → Same s.progress Closed (closed plan (waiting_of s) why s.progress)
   closed_same s why =
-      closed_along (λ (q : Progress). Same s.progress Closed q) plan (waiting_of s) why s.progress (stays s.progress _ refl refl refl refl refl (inr refl), (refl, refl))
-      (λ anew. (stays s.progress _ refl refl refl refl refl (inr refl), (refl, refl))) (λ on. (stays s.progress _ refl refl refl refl refl (inr refl), (refl, refl)))
+      closed_along (λ (q : Progress). Same s.progress Closed q) plan (waiting_of s) why s.progress (stays s.progress _ refl refl refl refl refl (inr refl), (refl, refl)) (stays s.progress _ refl refl refl refl refl (inr refl), (refl, refl))
 
   not_missed : (acts : List Act) (p : Progress) (w : Waiting) → 0 < p.unsent → MayGo p w → Begun acts p → p.missed ≡ false
   not_missed acts p w here may (inl none) = let nothing = none.1 in absurd (omega (arith, nothing, here))
@@ -455,6 +463,10 @@ module _ (plan : Plan) (commands : List Task) (scope : Scope) (some : 0 < plan.e
       let s = with_progress turned (stood plan commands scope acts) in
       walk plan commands (On acts s.progress) orders.ReadClock s act o
       (λ m. on_same acts s.progress (Told m) _ h (stays s.progress _ refl refl refl refl refl (inl refl), (refl, refl)), λ n. fails acts s Untold cause.Clock h (refl, refl))
+  on_moved acts orders.Renew act is o fine needs h =
+      let s = with_progress turned (stood plan commands scope acts) in
+      walk plan commands (On acts s.progress) orders.Renew s act o
+      (λ m. on_same acts s.progress (Told m) _ h (stays s.progress _ refl refl refl refl refl (inr refl), (refl, refl)), λ n. fails acts s Untold cause.Clock h (refl, refl))
   on_moved acts orders.Begin act is o fine needs h =
       let s = with_progress turned (stood plan commands scope acts) in
       walk plan commands (On acts s.progress) orders.Begin s act o
@@ -478,7 +490,7 @@ module _ (plan : Plan) (commands : List Task) (scope : Scope) (some : 0 < plan.e
       let s = with_progress turned (stood plan commands scope acts) in
       walk plan commands (On acts s.progress) (orders.Read until) s act o (
         λ bytes m. on_same acts s.progress (Gave bytes m) (piece_at plan until bytes m s).progress h (gave_same until s bytes m),
-        λ m. on_same acts s.progress (Silent m) (moved plan commands (orders.Read until) s (Silent m)).progress h (silent_same s.progress.phase s.progress until _ m),
+        λ m. on_same acts s.progress (Silent m) (moved plan commands (orders.Read until) s (Silent m)).progress h (silent_same s.progress.phase s.progress until m),
         fails acts s Ended cause.End h (refl, refl),
         fails acts s Broke cause.Read h (refl, refl),
         fails acts s Untold cause.Clock h (refl, refl),
@@ -612,9 +624,10 @@ module _ (plan : Plan) (commands : List Task) (scope : Scope) (some : 0 < plan.e
       lines_along (λ (x : Standing). AllByRecursion (Truly acts) x.records)
       (λ x line all. all_append (Truly acts) x.records _ all (settled_truly acts x.reads x.progress.moment.utc x.marks (hears x.client line (heard line)).settlements)) s lines h
 
-  came_truly : (acts : List Act) (b : Bool) (piece : List ℕ) (s : Standing) → AllByRecursion (Truly acts) s.records → AllByRecursion (Truly acts) (came b piece s).records
-  came_truly acts true piece s h = lines_truly acts (with_rest (rest_behind s.rest piece) s) (lines_behind s.rest piece) h
-  came_truly acts false piece s h = h
+  came_truly : (acts : List Act) (b : Bool) (word piece : List ℕ) (s : Standing) → AllByRecursion (Truly acts) s.records → AllByRecursion (Truly acts) (came b word piece s).records
+  came_truly acts true (asked ∷ others) piece s h = h
+  came_truly acts true [] piece s h = lines_truly acts (with_rest (rest_behind s.rest piece) s) (lines_behind s.rest piece) h
+  came_truly acts false word piece s h = h
 
   losing_truly : (acts : List Act) (b : Bool) (s : Standing) → AllByRecursion (Truly acts) s.records → AllByRecursion (Truly acts) (losing b s).records
   losing_truly acts true s h = all_append (Truly acts) s.records _ h (settled_truly acts s.reads s.progress.moment.utc s.marks (restarts s.client).settlements)
@@ -692,7 +705,7 @@ module _ (plan : Plan) (commands : List Task) (scope : Scope) (some : 0 < plan.e
   moved_truly acts orders.Skip act begun is all = all_append (Truly (acts ++ act ∷ [])) (stood plan commands scope acts).records [] all tt
   moved_truly acts (orders.Read until) (Gave bytes m) begun is all =
       let s = with_progress turned (stood plan commands scope acts) in
-      came_truly (acts ++ Gave bytes m ∷ []) (is_heard s.progress.phase) bytes (with_moment m (with_progress (told m) s)) all
+      came_truly (acts ++ Gave bytes m ∷ []) (is_heard s.progress.phase) s.progress.word bytes (with_moment m (with_progress (told m) s)) all
   moved_truly acts (orders.Read until) act begun is all = all
   moved_truly acts next act begun is all =
       let t = with_progress turned (stood plan commands scope acts) in

@@ -1,8 +1,7 @@
 -- Each order, and so each run, keeps them.
-use Rattle.std.proofs.Common.{◌≡◌, ℕ, ◌-◌, ◌<◌, ◌⊎◌, inl, inr, ◌||◌, ◌&&◌, Bool, true, false, not, List, [], ◌∷◌, ◌++◌, length, drop, map, nat_eq, Option, None, refl, sym, ap, ◌∙◌, subst, arith, append-nil, if◌then◌else◌}
-use Rattle.std.proofs.lemmas.List.{length-drop, nil_from_length}
+use Rattle.std.proofs.Common.{◌≡◌, ℕ, ◌-◌, ◌<◌, ◌⊎◌, inl, inr, ◌||◌, ◌&&◌, Bool, true, false, not, List, [], ◌∷◌, length, drop, map, nat_eq, Option, refl, sym, ap, ◌∙◌, subst, arith, append-nil, if◌then◌else◌}
+use Rattle.std.proofs.lemmas.List.{length-drop}
 use Rattle.gc_catalogue.specs.declared.call.Call.TheVariants.{NullProc}
-use Rattle.gc_client.specs.Rule.{ById, fresh}
 use Rattle.gc_texts.specs.declared.tasks.Task.{Task}
 use Rattle.gc_links.specs.declared.link.Moment.{Moment}
 use Rattle.gc_station.specs.declared.mark.Mark.{Mark}
@@ -10,16 +9,16 @@ use Rattle.gc_station.specs.declared.plan.Plan.{Plan}
 use Rattle.gc_station.specs.declared.cause.Cause.{Cause}
 use Rattle.gc_station.specs.declared.cause.Cause.TheVariants as cause
 use Rattle.gc_station.specs.declared.progress.Phase.{Phase}
-use Rattle.gc_station.specs.declared.progress.Phase.TheVariants.{Clearing, Probing, Ready, Over}
+use Rattle.gc_station.specs.declared.progress.Phase.TheVariants.{Clearing, Draining, Ready, Over}
 use Rattle.gc_station.specs.declared.progress.Order.{Order}
 use Rattle.gc_station.specs.declared.progress.Order.TheVariants as order
 use Rattle.gc_station.specs.declared.progress.Progress.{Progress}
 use Rattle.gc_station.specs.declared.progress.Waiting.{Waiting}
 use Rattle.gc_links.specs.Acts.{Act, Told}
-use Rattle.gc_station.specs.Deciding.{later, is_up}
+use Rattle.gc_station.specs.Deciding.{later, has_begun, is_up}
 use Rattle.gc_station.specs.EachOnce.{EachOnce, sent_by, of_record, all_cycles}
 use Rattle.gc_station.specs.Marks.{commands_in}
-use Rattle.gc_station.specs.Progressing.{turned, told, skipped_at, reckoned_early, begun, skipped, cleared, asking, probed, sent, is_over, is_over_in}
+use Rattle.gc_station.specs.Progressing.{turned, told, skipped_at, reckoned_early, begun, skipped, cleared, asking, null_sent, renewed, sent, is_over, is_over_in}
 use Rattle.gc_station.specs.Reasons.{IsFor}
 use Rattle.gc_station.specs.Records.{Record}
 use Rattle.gc_station.specs.Runs.{stood}
@@ -36,107 +35,71 @@ use Rattle.gc_station.specs.Scopes.{Scope}
 mid_nothing : (plan : Plan) (commands : List Task) (s : Standing) → Mid plan commands s → Mid plan commands (with_records [] s)
 mid_nothing plan commands s mid = subst (λ (rs : List Record). Mid plan commands (record s { records = rs })) (sym (append-nil s.records)) mid
 
--- while requests go out, and no null procedure of a beginning waits
-going_placed : (phase : Phase) (anew alone : Bool) (left unsent : ℕ) (rest : List ℕ) (next : ℕ) (marks : List (Option Mark)) → phase ≡ Ready → anew ≡ false → alone ≡ false → Placed phase anew alone left unsent rest next marks
-going_placed phase anew alone left unsent rest next marks is begun single = record {
-  begins = λ e. single;
-  ready = λ e. begun;
-  probing = λ e. let other : Ready ≡ Probing = sym is ∙ e in cc;
-  lone = λ e up. absurd (clash alone e single);
-  bare = λ e. single;
-  empty = λ e. absurd (clash (is_bare phase) e (ap is_bare is));
-  finished = λ e. absurd (clash (says_done phase) e (ap says_done is));
-}
+-- while requests go out
+going_placed : (phase : Phase) (left unsent : ℕ) (rest : List ℕ) (marks : List (Option Mark)) → phase ≡ Ready → Placed phase left unsent rest marks
+going_placed phase left unsent rest marks is = record { empty = λ e. absurd (clash (is_bare phase) e (ap is_bare is)); finished = λ e. absurd (clash (says_done phase) e (ap says_done is)) }
 
 -- the clock was read, and a cycle begins
-mid_begun : (plan : Plan) (commands : List Task) (s : Standing) (m : Moment) → s.progress.phase ≡ Ready → s.progress.alone ≡ false → s.progress.unsent ≡ 0 → commands_in s.marks ≡ 0 → 0 < s.progress.left → Mid plan commands s
+mid_begun : (plan : Plan) (commands : List Task) (s : Standing) (m : Moment) → s.progress.phase ≡ Ready → s.progress.unsent ≡ 0 → commands_in s.marks ≡ 0 → 0 < s.progress.left → Mid plan commands s
     → Mid plan commands (with_progress (begun plan (length commands) m) s)
-mid_begun plan commands s m is single none settled some mid =
+mid_begun plan commands s m is none settled some mid =
     let p = s.progress in (
       sound_begun plan commands p.left p.unsent s.client s.marks s.records none settled some mid.0,
-      going_placed p.phase p.anew p.alone (p.left - 1) (length commands) s.rest s.client.next s.marks is (mid.1.ready is) single,
+      going_placed p.phase (p.left - 1) (length commands) s.rest s.marks is,
     )
 
 -- the line feed went out
 mid_cleared : (plan : Plan) (commands : List Task) (s : Standing) → s.progress.phase ≡ Clearing → Mid plan commands s → Mid plan commands (with_progress cleared s)
-mid_cleared plan commands s is mid =
-    let placed = mid.1 in
-    let here : is_bare s.progress.phase ≡ true = ap is_bare is in (
-      mid.0,
-      record {
-        begins = placed.begins;
-        ready = λ e. cc;
-        probing = λ e. cc;
-        lone = λ e up. absurd (clash s.progress.alone e (placed.bare here));
-        bare = λ e. placed.bare here;
-        empty = λ e. placed.empty here;
-        finished = λ e. cc;
-      },
-    )
-
--- the null procedure of a beginning is sent
-mid_probed : (plan : Plan) (commands : List Task) (s : Standing) → s.client ≡ fresh → length s.client.waiting < 7 → Mid plan commands s → Mid plan commands (with_progress probed (asks_null plan s))
-mid_probed plan commands s fresh_is room mid =
-    let p = s.progress in
-    let sound = mid.0 in
-    let none : length s.marks ≡ 0 = sound.paired ∙ ap (λ (c : ById). length c.waiting) fresh_is in (
-      sound_null plan commands p.left p.unsent s.client s.marks s.records 0 NullProc (later p.moment.elapsed plan.deadline) room sound,
-      record {
-        begins = λ e. cc;
-        ready = λ e. refl;
-        probing = λ e. cc;
-        lone = λ e up. (ap (λ (ms : List (Option Mark)). ms ++ None ∷ []) (nil_from_length s.marks none), ap (λ (c : ById). (asks_null plan (record s { client = c })).client.next) fresh_is);
-        bare = λ e. cc;
-        empty = λ e. cc;
-        finished = λ e. cc;
-      },
-    )
+mid_cleared plan commands s is mid = (mid.0, by_word (has_begun s.progress)) where
+  by_word : (begun : Bool) → Placed (if begun then Draining else Ready) s.progress.left s.progress.unsent s.rest s.marks
+  by_word true = record { empty = λ e. mid.1.empty (ap is_bare is); finished = λ e. cc }
+  by_word false = record { empty = λ e. cc; finished = λ e. cc }
 
 -- a null procedure is sent behind those that are given up
-mid_flushed : (plan : Plan) (commands : List Task) (s : Standing) → s.progress.phase ≡ Ready → s.progress.alone ≡ false → length s.client.waiting < 7 → Mid plan commands s → Mid plan commands (with_progress asking (asks_null plan s))
-mid_flushed plan commands s is single room mid =
+mid_flushed : (plan : Plan) (commands : List Task) (s : Standing) → s.progress.phase ≡ Ready → length s.client.waiting < 7 → Mid plan commands s → Mid plan commands (with_progress asking (asks_null plan s))
+mid_flushed plan commands s is room mid =
     let p = s.progress in (
       sound_null plan commands p.left p.unsent s.client s.marks s.records 0 NullProc (later p.moment.elapsed plan.deadline) room mid.0,
-      going_placed p.phase p.anew p.alone p.left p.unsent s.rest (asks_null plan s).client.next (asks_null plan s).marks is (mid.1.ready is) single,
+      going_placed p.phase p.left p.unsent s.rest (asks_null plan s).marks is,
     )
 
 -- the next command is sent
 mid_first : (plan : Plan) (commands : List Task) (bound : Bool) (s : Standing) (left : List Task) → drop (place_next commands s.progress) commands ≡ left
-    → s.progress.phase ≡ Ready → s.progress.alone ≡ false → 0 < s.progress.unsent → length s.client.waiting < 7 → Mid plan commands s → Mid plan commands (with_progress (sent bound) (asks_first (mark_next plan commands s.progress) left s))
-mid_first plan commands bound s [] at is single some room mid =
+    → s.progress.phase ≡ Ready → 0 < s.progress.unsent → length s.client.waiting < 7 → Mid plan commands s → Mid plan commands (with_progress (sent bound) (asks_first (mark_next plan commands s.progress) left s))
+mid_first plan commands bound s [] at is some room mid =
     let sound = mid.0 in
     let n : length commands - place_next commands s.progress ≡ 0 = sym (length-drop (place_next commands s.progress) commands) ∙ ap length at in
     absurd (omega (arith, n, some, sound.unsents))
-mid_first plan commands bound s (task ∷ others) at is single some room mid =
+mid_first plan commands bound s (task ∷ others) at is some room mid =
     let p = s.progress in
     let t = asks_first (mark_next plan commands p) (task ∷ others) s in (
       sound_sent plan commands p.left p.unsent s.client s.marks s.records p.moment.utc (later p.moment.elapsed task.deadline) task others room some at mid.0,
-      going_placed p.phase p.anew p.alone p.left (p.unsent - 1) s.rest t.client.next t.marks is (mid.1.ready is) single,
+      going_placed p.phase p.left (p.unsent - 1) s.rest t.marks is,
     )
 
-mid_sent : (plan : Plan) (commands : List Task) (bound : Bool) (s : Standing) → s.progress.phase ≡ Ready → s.progress.alone ≡ false → 0 < s.progress.unsent → length s.client.waiting < 7 → Mid plan commands s → Mid plan commands (with_progress (sent bound) (asks_next plan commands s))
-mid_sent plan commands bound s is single some room mid = mid_first plan commands bound s (drop (place_next commands s.progress) commands) refl is single some room mid
+mid_sent : (plan : Plan) (commands : List Task) (bound : Bool) (s : Standing) → s.progress.phase ≡ Ready → 0 < s.progress.unsent → length s.client.waiting < 7 → Mid plan commands s → Mid plan commands (with_progress (sent bound) (asks_next plan commands s))
+mid_sent plan commands bound s is some room mid = mid_first plan commands bound s (drop (place_next commands s.progress) commands) refl is some room mid
 
 -- the next command isn't sent
 mid_skips : (plan : Plan) (commands : List Task) (bound : Bool) (s : Standing) (m : Moment) (left : List Task) → drop (place_next commands s.progress) commands ≡ left
-    → s.progress.phase ≡ Ready → s.progress.alone ≡ false → 0 < s.progress.unsent → commands_in s.marks ≡ 0 → Mid plan commands s
+    → s.progress.phase ≡ Ready → 0 < s.progress.unsent → commands_in s.marks ≡ 0 → Mid plan commands s
     → Mid plan commands (with_progress (λ p. reckoned_early plan (commands_in s.marks) (skipped bound m p)) (with_records (skips_first s.progress m (mark_next plan commands s.progress) left) s))
-mid_skips plan commands bound s m [] at is single some none mid =
+mid_skips plan commands bound s m [] at is some none mid =
     let sound = mid.0 in
     let n : length commands - place_next commands s.progress ≡ 0 = sym (length-drop (place_next commands s.progress) commands) ∙ ap length at in
     absurd (omega (arith, n, some, sound.unsents))
-mid_skips plan commands bound s m (task ∷ others) at is single some none mid =
+mid_skips plan commands bound s m (task ∷ others) at is some none mid =
     let p = s.progress in (
       sound_skipped plan commands p.left p.unsent s.client s.marks s.records (skipped_at m p) (if p.missed then Missed else Skipped) task others none some at mid.0,
-      going_placed p.phase p.anew p.alone p.left (p.unsent - 1) s.rest s.client.next s.marks is (mid.1.ready is) single,
+      going_placed p.phase p.left (p.unsent - 1) s.rest s.marks is,
     )
 
-mid_skip : (plan : Plan) (commands : List Task) (bound : Bool) (s : Standing) (act : Act) → s.progress.phase ≡ Ready → s.progress.alone ≡ false → 0 < s.progress.unsent → commands_in s.marks ≡ 0 → Mid plan commands s
+mid_skip : (plan : Plan) (commands : List Task) (bound : Bool) (s : Standing) (act : Act) → s.progress.phase ≡ Ready → 0 < s.progress.unsent → commands_in s.marks ≡ 0 → Mid plan commands s
     → Mid plan commands (after_clock (λ m p. reckoned_early plan (commands_in s.marks) (skipped bound m p)) (with_records (skips plan commands s.progress act) s) act)
-mid_skip plan commands bound s (Told m) is single some none mid =
+mid_skip plan commands bound s (Told m) is some none mid =
     mid_moment plan commands (with_progress (λ p. reckoned_early plan (commands_in s.marks) (skipped bound m p)) (with_records (skips plan commands s.progress (Told m)) s)) m
-    (mid_skips plan commands bound s m (drop (place_next commands s.progress) commands) refl is single some none mid)
-mid_skip plan commands bound s act is single some none mid = mid_fail plan commands (with_records [] s) cause.Clock refl (mid_nothing plan commands s mid)
+    (mid_skips plan commands bound s m (drop (place_next commands s.progress) commands) refl is some none mid)
+mid_skip plan commands bound s act is some none mid = mid_fail plan commands (with_records [] s) cause.Clock refl (mid_nothing plan commands s mid)
 
 -- a close for being done
 close_done : (plan : Plan) (commands : List Task) (s : Standing) (w : Waiting) (why : Cause) → Fine plan commands s → IsFor plan s.progress w (order.Close why) → why ≡ cause.Done → (s.progress.left ≡ 0) × (s.progress.unsent ≡ 0)
@@ -149,27 +112,27 @@ pub mid_moved : (plan : Plan) (commands : List Task) (s : Standing) (order : Ord
     → Mid plan commands (moved plan commands order (with_progress turned s) act)
 mid_moved plan commands s order.ReadClock act fine is =
     let t = with_progress turned s in mid_clock plan commands (λ m p. reckoned_early plan (commands_in t.marks) (told m p)) t act (mid_of plan commands s fine) (λ m. mid_of plan commands s fine)
+mid_moved plan commands s order.Renew act fine is =
+    let t = with_progress turned s in mid_clock plan commands (λ m p. reckoned_early plan 0 (renewed m p)) t act (mid_of plan commands s fine) (λ m. mid_of plan commands s fine)
 mid_moved plan commands s order.Begin act fine is =
     let t = with_progress turned s in
     let mid = mid_of plan commands s fine in
-    mid_clock plan commands (begun plan (length commands)) t act mid (λ m. mid_begun plan commands t m is.0 is.1 is.2 is.3 is.4 mid)
+    mid_clock plan commands (begun plan (length commands)) t act mid (λ m. mid_begun plan commands t m is.0 is.2 is.3 is.4 mid)
 mid_moved plan commands s order.Open act fine is = mid_open plan commands (with_progress turned s) act is (mid_of plan commands s fine)
 mid_moved plan commands s order.Clear act fine is =
     let t = with_progress turned s in mid_put plan commands _ (with_progress cleared) t act (mid_cleared plan commands t is (mid_of plan commands s fine))
-mid_moved plan commands s order.Probe act fine is =
-    let t = with_progress turned s in
-    mid_put plan commands _ (λ (x : Standing). with_progress probed (asks_null plan x)) t act (mid_probed plan commands t (fine.anew (fine.probing is.0)).0 is.1.1 (mid_of plan commands s fine))
+mid_moved plan commands s order.Ask act fine is = let t = with_progress turned s in mid_put plan commands _ (with_progress (null_sent plan)) t act (let mid = mid_of plan commands s fine in (mid.0, mid.1))
 mid_moved plan commands s order.Send act fine is =
     let t = with_progress turned s in
     mid_put plan commands _ (λ (x : Standing). with_progress (sent (bound_next commands x.progress)) (asks_next plan commands x)) t act
-    (mid_sent plan commands (bound_next commands t.progress) t is.0 is.1 is.2 is.3.1 (mid_of plan commands s fine))
+    (mid_sent plan commands (bound_next commands t.progress) t is.0 is.2 is.3.1 (mid_of plan commands s fine))
 mid_moved plan commands s order.Skip act fine is =
     let t = with_progress turned s in
     let bound = bound_next commands t.progress in
-    mid_skip plan commands bound t act is.0 is.1 is.2 is.3 (mid_of plan commands s fine)
+    mid_skip plan commands bound t act is.0 is.2 is.3 (mid_of plan commands s fine)
 mid_moved plan commands s order.Flush act fine is =
     let t = with_progress turned s in
-    mid_put plan commands _ (λ (x : Standing). with_progress asking (asks_null plan x)) t act (mid_flushed plan commands t is.0 is.1 is.5.1 (mid_of plan commands s fine))
+    mid_put plan commands _ (λ (x : Standing). with_progress asking (asks_null plan x)) t act (mid_flushed plan commands t is.0 is.5.1 (mid_of plan commands s fine))
 mid_moved plan commands s (order.Read until) act fine is = mid_read plan commands until (with_progress turned s) act (mid_of plan commands s fine)
 mid_moved plan commands s (order.Close why) act fine is = mid_close plan commands (with_progress turned s) why (close_done plan commands s (waiting_of s) why fine is) (mid_of plan commands s fine)
 mid_moved plan commands s (order.Stop why) act fine is = mid_of plan commands s fine
@@ -192,11 +155,7 @@ fine_opening plan commands scope =
       paired = refl;
       window = omega arith;
       digit = omega arith;
-      anew = λ e. (refl, refl);
-      ready = λ e. cc;
-      probing = λ e. refl;
-      alone = λ e up. cc;
-      bare = λ e. refl;
+      begins = λ e. refl;
       rest = λ e. refl;
       over = λ e. refl;
       finished = λ e. cc;

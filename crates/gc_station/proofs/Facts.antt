@@ -1,20 +1,20 @@
 -- What holds where an order is next: its reasons, whether the moment was told, and that a request has room. One walk over the decision.
-use Rattle.std.proofs.Common.{◌≡◌, ℕ, ◌<◌, ◌⊎◌, ◌&&◌, ◌||◌, Bool, true, false, not, if◌then◌else◌, nat_lt, nat_eq, refl, sym, ap, ◌∙◌, inl, inr, arith}
-use Rattle.std.proofs.lemmas.Bool.{ltb-true, ltb-false, eqb-true}
+use Rattle.std.proofs.Common.{◌≡◌, ℕ, ◌<◌, ◌≤◌, ◌⊎◌, ◌&&◌, ◌||◌, Bool, true, false, not, if◌then◌else◌, nat_lt, nat_le, nat_eq, refl, sym, ap, ◌∙◌, inl, inr, arith}
+use Rattle.std.proofs.lemmas.Bool.{ltb-true, ltb-false, leb-true, eqb-true}
 use Rattle.std.proofs.lemmas.Bool.Decides.{nat_tests}
 use Rattle.gc_client.specs.declared.window.TheConstants.{WINDOW}
 use Rattle.gc_station.specs.declared.plan.Plan.{Plan}
 use Rattle.gc_station.specs.declared.cause.Cause.{Cause}
 use Rattle.gc_station.specs.declared.cause.Cause.TheVariants as cause
 use Rattle.gc_station.specs.declared.progress.Phase.{Phase}
-use Rattle.gc_station.specs.declared.progress.Phase.TheVariants.{Down, Pausing, Clearing, Draining, Probing, Ready, Closing, Over}
+use Rattle.gc_station.specs.declared.progress.Phase.TheVariants.{Down, Pausing, Clearing, Draining, Ready, Closing, Over}
 use Rattle.gc_station.specs.declared.progress.Order.{Order}
 use Rattle.gc_station.specs.declared.progress.Order.TheVariants as order
 use Rattle.gc_station.specs.declared.progress.Progress.{Progress}
 use Rattle.gc_station.specs.declared.progress.Until.TheVariants.{Limit, Due}
 use Rattle.gc_station.specs.declared.progress.Waiting.{Waiting}
 use Rattle.gc_station.specs.Reasons.{IsFor, IsHeld, HasRoom, NothingMayGo}
-use Rattle.gc_station.specs.Deciding.{width_of, is_up, is_quiet, is_dead, is_due, has_room, order_of, order_in, order_on, order_told, may_go, order_ready, order_sent, order_settled, order_done, order_room, order_waiting, order_up}
+use Rattle.gc_station.specs.Deciding.{width_of, has_begun, is_up, is_dead, is_due, is_idle, has_room, order_of, order_in, order_on, order_told, may_go, order_ready, order_begun, order_beginning, order_sent, order_settled, order_done, order_room, order_waiting, order_up}
 use Rattle.gc_station.specs.Stations.{IsFitting}
 
 -- what holds of both holds of the one that a test takes
@@ -65,16 +65,16 @@ Timely p order.Open = p.stale ≡ false
 Timely p (order.Read until) = Reads p
 Timely p _ = Unit {0}
 
--- Requests go out, and a connection is closed for silence or for a dead line, only where requests may go, behind a moment that was told.
+-- Requests go out, it begins anew, and a connection is closed for a dead line, only where requests may go, behind a moment that was told.
 
 abbrev pub Awake : Progress → Type 0
-Awake p = (p.stale ≡ false) × ((p.phase ≡ Probing) ⊎ (p.phase ≡ Ready))
+Awake p = (p.stale ≡ false) × (p.phase ≡ Ready)
 
 abbrev pub Wakes : Progress → Order → Type 0
-Wakes p order.Probe = Awake p
+Wakes p order.Renew = Awake p
+Wakes p order.Ask = Awake p
 Wakes p order.Send = Awake p
 Wakes p order.Flush = Awake p
-Wakes p (order.Close cause.Silence) = (p.phase ≡ Closing cause.Silence) ⊎ Awake p
 Wakes p (order.Close cause.Dead) = (p.phase ≡ Closing cause.Dead) ⊎ Awake p
 Wakes p _ = Unit {0}
 
@@ -83,52 +83,60 @@ abbrev Holds : Plan → Progress → Waiting → Order → Type 0
 Holds plan p w next = IsFor plan p w next × Timely p next × Wakes p next
 
 awake_up : (p : Progress) → Awake p → is_up p.phase ≡ true
-awake_up p (now, inl is) = ap is_up is
-awake_up p (now, inr is) = ap is_up is
+awake_up p (now, is) = ap is_up is
 
 awake_reads : (p : Progress) → Awake p → Reads p
-awake_reads p (now, inl is) = (now, λ c. let other : Probing ≡ Clearing = sym is ∙ c in cc)
-awake_reads p (now, inr is) = (now, λ c. let other : Ready ≡ Clearing = sym is ∙ c in cc)
+awake_reads p (now, is) = (now, λ c. let other : Ready ≡ Clearing = sym is ∙ c in cc)
 
-waits : (plan : Plan) (p : Progress) (w : Waiting) → Awake p → NothingMayGo plan p w → Holds plan p w (order_waiting plan p w)
-waits plan p w awake nothing =
+-- where seven wait, if all that wait are given up
+abbrev Full : Waiting → Type 0
+Full w = w.current ≡ 0 → WINDOW ≤ w.all
+
+waits : (plan : Plan) (p : Progress) (w : Waiting) → Awake p → has_begun p ≡ true → NothingMayGo plan p w → Full w → Holds plan p w (order_waiting plan p w)
+waits plan p w awake begun nothing full =
     let P = Holds plan p w in
     let up = awake_up p awake in
-    either P (order.Close cause.Silence) _ (nat_eq w.current 0 && is_quiet plan p)
-    (λ e. let it = both_true (nat_eq w.current 0) (is_quiet plan p) e in ((up, inr (eqb-true w.current 0 it.0, nothing, it.1)), tt, inr awake))
-    (λ e. either P (order.Close cause.Dead) (order.Read Limit) (is_dead plan p w) (λ d. ((up, inr (nothing, d)), tt, inr awake)) (λ d. (tt, awake_reads p awake, tt)))
+    either P (order.Close cause.Dead) _ (is_dead plan p w) (λ d. ((up, inr (nothing, d)), tt, inr awake))
+    (λ d. either P order.Renew (order.Read Limit) (nat_eq w.current 0) (λ e. let none = eqb-true w.current 0 e in ((awake.1, begun, none, full none), tt, awake)) (λ e. (tt, awake_reads p awake, tt)))
 
-room_for : (plan : Plan) (p : Progress) (w : Waiting) (o : Order) → Awake p → (HasRoom plan w → Holds plan p w o) → Holds plan p w (order_room plan p w o)
-room_for plan p w o awake step =
+some_wide : (plan : Plan) → 0 < width_of plan
+some_wide plan = omega arith
+
+no_room_full : (plan : Plan) (w : Waiting) → (nat_lt w.current (width_of plan) ≡ false) ⊎ (nat_lt w.all WINDOW ≡ false) → Full w
+no_room_full plan w (inl e) none = let few : width_of plan ≤ w.current = ltb-false w.current (width_of plan) e in absurd (omega (arith, none, few, some_wide plan))
+no_room_full plan w (inr e) none = ltb-false w.all WINDOW e
+
+room_for : (plan : Plan) (p : Progress) (w : Waiting) (o : Order) → Awake p → has_begun p ≡ true → (HasRoom plan w → Holds plan p w o) → Holds plan p w (order_room plan p w o)
+room_for plan p w o awake begun step =
     either (Holds plan p w) o _ (has_room plan w) (λ e. step (room_there plan w e))
-    (λ e. waits plan p w awake (no_room plan p w (one_false (nat_lt w.current (width_of plan)) (nat_lt w.all WINDOW) e)))
+    (λ e. let none = one_false (nat_lt w.current (width_of plan)) (nat_lt w.all WINDOW) e in waits plan p w awake begun (no_room plan p w none) (no_room_full plan w none))
 
-done_for : (plan : Plan) (p : Progress) (w : Waiting) → Awake p → p.phase ≡ Ready → p.alone ≡ false → p.unsent ≡ 0 → w.commands ≡ 0 → Holds plan p w (order_done plan p)
-done_for plan p w awake is alone sent settled =
+done_for : (plan : Plan) (p : Progress) (w : Waiting) → Awake p → has_begun p ≡ true → p.unsent ≡ 0 → w.commands ≡ 0 → Holds plan p w (order_done plan p)
+done_for plan p w awake begun sent settled =
     let P = Holds plan p w in
-    either P (order.Close cause.Done) _ (nat_eq p.left 0) (λ e. ((ap is_up is, inr (eqb-true p.left 0 e, sent, settled)), tt, tt))
-    (λ e. either P order.Begin (order.Read Due) (is_due plan p) (λ d. ((is, alone, sent, settled, some_left p.left e), tt, tt)) (λ d. (tt, awake_reads p awake, tt)))
+    either P (order.Close cause.Done) _ (nat_eq p.left 0) (λ e. ((awake_up p awake, inr (eqb-true p.left 0 e, sent, settled)), tt, tt))
+    (λ e. either P order.Begin (order.Read Due) (is_due plan p) (λ d. ((awake.1, begun, sent, settled, some_left p.left e), tt, tt)) (λ d. (tt, awake_reads p awake, tt)))
 
 -- of what is held, what isn't the end of the cycle is of a chain
 chained : (p : Progress) → IsHeld p → nat_eq p.unsent 0 ≡ false → p.bound ≡ true
 chained p (inl none) e = let some : 0 < p.unsent = some_left p.unsent e in absurd (omega (arith, none, some))
 chained p (inr bound) e = bound
 
-settled_for : (plan : Plan) (p : Progress) (w : Waiting) → Awake p → p.phase ≡ Ready → p.alone ≡ false → IsHeld p → w.commands ≡ 0 → Holds plan p w (order_settled plan p w)
-settled_for plan p w awake is alone held settled =
+settled_for : (plan : Plan) (p : Progress) (w : Waiting) → Awake p → has_begun p ≡ true → IsHeld p → w.commands ≡ 0 → Holds plan p w (order_settled plan p w)
+settled_for plan p w awake begun held settled =
     let P = Holds plan p w in
-    either P _ _ (nat_eq p.unsent 0) (λ e. done_for plan p w awake is alone (eqb-true p.unsent 0 e) settled)
+    either P _ _ (nat_eq p.unsent 0) (λ e. done_for plan p w awake begun (eqb-true p.unsent 0 e) settled)
     (λ e. either P _ order.Skip (may_go p w)
-    (λ well. let it = both_true w.well p.whole well in room_for plan p w order.Send awake (λ room. ((is, alone, some_left p.unsent e, room, inr (settled, it.0, it.1)), tt, awake)))
-    (λ broken. ((is, alone, some_left p.unsent e, settled, chained p held e, broken), tt, tt)))
+    (λ well. let it = both_true w.well p.whole well in room_for plan p w order.Send awake begun (λ room. ((awake.1, begun, some_left p.unsent e, room, inr (settled, it.0, it.1)), tt, awake)))
+    (λ broken. ((awake.1, begun, some_left p.unsent e, settled, chained p held e, broken), tt, tt)))
 
-sent_for : (plan : Plan) (p : Progress) (w : Waiting) → Awake p → p.phase ≡ Ready → p.alone ≡ false → IsHeld p → Holds plan p w (order_sent plan p w)
-sent_for plan p w awake is alone held =
+sent_for : (plan : Plan) (p : Progress) (w : Waiting) → Awake p → has_begun p ≡ true → IsHeld p → Holds plan p w (order_sent plan p w)
+sent_for plan p w awake begun held =
     let P = Holds plan p w in
-    either P _ _ (nat_eq w.commands 0) (λ e. settled_for plan p w awake is alone held (eqb-true w.commands 0 e))
+    either P _ _ (nat_eq w.commands 0) (λ e. settled_for plan p w awake begun held (eqb-true w.commands 0 e))
     (λ e. either P _ _ (nat_eq w.current 0)
-    (λ given. room_for plan p w order.Flush awake (λ room. ((is, alone, held, some_left w.commands e, eqb-true w.current 0 given, room), tt, awake)))
-    (λ some. waits plan p w awake (inr (inr (inr (held, some_left w.commands e, some_left w.current some))))))
+    (λ given. room_for plan p w order.Flush awake begun (λ room. ((awake.1, begun, held, some_left w.commands e, eqb-true w.current 0 given, room), tt, awake)))
+    (λ some. let many = some_left w.current some in waits plan p w awake begun (inr (inr (inr (held, some_left w.commands e, many)))) (λ none. absurd (omega (arith, none, many)))))
 
 -- what may not go at once is held
 held_so : (p : Progress) → (nat_lt 0 p.unsent && not p.bound) ≡ false → IsHeld p
@@ -145,16 +153,23 @@ free_so : (b : Bool) → not b ≡ true → b ≡ false
 free_so true e = cc
 free_so false e = refl
 
-ready : (plan : Plan) (p : Progress) (w : Waiting) → Awake p → p.phase ≡ Ready → Holds plan p w (order_ready plan p w)
-ready plan p w awake is =
+begun_for : (plan : Plan) (p : Progress) (w : Waiting) → Awake p → has_begun p ≡ true → Holds plan p w (order_begun plan p w)
+begun_for plan p w awake begun =
+    either (Holds plan p w) _ _ (nat_lt 0 p.unsent && not p.bound)
+    (λ some. let it = both_true (nat_lt 0 p.unsent) (not p.bound) some in room_for plan p w order.Send awake begun (λ room. ((awake.1, begun, ltb-true 0 p.unsent it.0, room, inl (free_so p.bound it.1)), tt, awake)))
+    (λ none. sent_for plan p w awake begun (held_so p none))
+
+beginning_for : (plan : Plan) (p : Progress) (w : Waiting) → Awake p → has_begun p ≡ false → Holds plan p w (order_beginning plan p w)
+beginning_for plan p w awake begun =
     let P = Holds plan p w in
-    either P _ _ p.alone (λ alone. waits plan p w awake (inl alone))
-    (λ alone. either P _ _ (nat_lt 0 p.unsent && not p.bound)
-    (λ some. let it = both_true (nat_lt 0 p.unsent) (not p.bound) some in room_for plan p w order.Send awake (λ room. ((is, alone, ltb-true 0 p.unsent it.0, room, inl (free_so p.bound it.1)), tt, awake)))
-    (λ none. sent_for plan p w awake is alone (held_so p none)))
+    either P (order.Read Due) _ (is_idle plan p) (λ idle. (tt, awake_reads p awake, tt))
+    (λ busy. either P (order.Close cause.Dead) _ (is_dead plan p w) (λ d. ((awake_up p awake, inr (inl begun, d)), tt, inr awake))
+    (λ d. either P order.Ask (order.Read Limit) (nat_le p.again p.moment.elapsed) (λ e. ((awake.1, begun, leb-true p.again p.moment.elapsed e, busy), tt, awake)) (λ e. (tt, awake_reads p awake, tt))))
+
+ready : (plan : Plan) (p : Progress) (w : Waiting) → Awake p → Holds plan p w (order_ready plan p w)
+ready plan p w awake = either (Holds plan p w) _ _ (has_begun p) (λ begun. begun_for plan p w awake begun) (λ begun. beginning_for plan p w awake begun)
 
 closing_wakes : (p : Progress) (why : Cause) → p.phase ≡ Closing why → Wakes p (order.Close why)
-closing_wakes p cause.Silence is = inl is
 closing_wakes p cause.Dead is = inl is
 closing_wakes p why is = tt
 
@@ -163,8 +178,7 @@ told_for plan Down p w is now = (is, now, tt)
 told_for plan Pausing p w is now = (tt, (now, λ c. let other : Pausing ≡ Clearing = sym is ∙ c in cc), tt)
 told_for plan Clearing p w is now = (is, tt, tt)
 told_for plan Draining p w is now = (tt, (now, λ c. let other : Draining ≡ Clearing = sym is ∙ c in cc), tt)
-told_for plan Probing p w is now = room_for plan p w order.Probe (now, inl is) (λ room. ((is, room), tt, (now, inl is)))
-told_for plan Ready p w is now = ready plan p w (now, inr is) is
+told_for plan Ready p w is now = ready plan p w (now, is)
 told_for plan (Closing why) p w is now = ((ap is_up is, inl is), tt, closing_wakes p why is)
 told_for plan (Over why) p w is now = ((ap is_up is, inl is), tt, tt)
 
@@ -194,7 +208,7 @@ order_wakes plan p w = (in_for plan p.phase p w refl).2
 
 -- where a request is to be sent, the window has room, and where it is a command's, one is left
 fits : (plan : Plan) (p : Progress) (w : Waiting) (next : Order) → IsFor plan p w next → IsFitting p w.all next
-fits plan p w order.Probe is = is.1.1
+fits plan p w order.Ask is = is.1
 fits plan p w order.Send is = (is.2, is.3.1)
 fits plan p w order.Skip is = is.2
 fits plan p w order.Flush is = is.5.1

@@ -1,13 +1,13 @@
 -- What every run keeps: the records and the requests that wait are the commands that were sent, whatever the link tells.
-use Rattle.std.proofs.Common.{◌≡◌, ◌<◌, ◌≤◌, Bool, true, false, List, [], ◌∷◌, length, None}
+use Rattle.std.proofs.Common.{◌≡◌, ◌<◌, ◌≤◌, Bool, true, false, List, [], length}
 use Rattle.gc_client.specs.Rule.{fresh}
 use Rattle.gc_texts.specs.declared.tasks.Task.{Task}
 use Rattle.gc_station.specs.declared.plan.Plan.{Plan}
 use Rattle.gc_station.specs.declared.cause.Cause.{Cause}
 use Rattle.gc_station.specs.declared.cause.Cause.TheVariants as cause
 use Rattle.gc_station.specs.declared.progress.Phase.{Phase}
-use Rattle.gc_station.specs.declared.progress.Phase.TheVariants.{Down, Pausing, Clearing, Draining, Probing, Ready, Closing, Over}
-use Rattle.gc_station.specs.Deciding.{is_up}
+use Rattle.gc_station.specs.declared.progress.Phase.TheVariants.{Down, Pausing, Clearing, Draining, Ready, Closing, Over}
+use Rattle.gc_station.specs.Deciding.{has_begun}
 use Rattle.gc_station.specs.Marks.{commands_in}
 use Rattle.gc_station.specs.Progressing.{is_over}
 use Rattle.gc_station.specs.EachOnce.{IsEachOnce}
@@ -19,7 +19,6 @@ is_bare Down = true
 is_bare Pausing = true
 is_bare Clearing = true
 is_bare Draining = true
-is_bare Probing = true
 is_bare Ready = false
 is_bare (Closing why) = false
 is_bare (Over why) = false
@@ -42,12 +41,8 @@ pub record Fine (plan : Plan) (commands : List Task) (s : Standing) : Type 0 whe
   pub paired : length s.marks ≡ length s.client.waiting
   pub window : length s.client.waiting ≤ 7
   pub digit : s.client.next < 8
-  pub anew : s.progress.anew ≡ true → (s.client ≡ fresh) × (s.progress.alone ≡ false)
-  pub ready : s.progress.phase ≡ Ready → s.progress.anew ≡ false
-  pub probing : s.progress.phase ≡ Probing → s.progress.anew ≡ true
-  -- while the null procedure of a beginning waits, nothing else does. Where a run is over that was cut so, it is lost
-  pub alone : s.progress.alone ≡ true → is_up s.progress.phase ≡ true → (s.marks ≡ None ∷ []) × (s.client.next ≡ 1)
-  pub bare : is_bare s.progress.phase ≡ true → s.progress.alone ≡ false
+  -- while it begins nothing waits, and the client is new
+  pub begins : has_begun s.progress ≡ false → s.client ≡ fresh
   pub rest : is_bare s.progress.phase ≡ true → s.rest ≡ []
   pub over : is_over s.progress ≡ true → s.client.waiting ≡ []
   pub finished : says_done s.progress.phase ≡ true → (s.progress.left ≡ 0) × (s.progress.unsent ≡ 0) × (commands_in s.marks ≡ 0)

@@ -1,26 +1,26 @@
 -- A run, part by part: what is written down of each.
-use Rattle.std.proofs.Common.{◌≡◌, ℕ, ◌&&◌, ◌||◌, Bool, true, false, not, List, [], ◌∷◌, ◌++◌, length, map, drop, Option, refl, sym, ◌∙◌, ap, subst, append_assoc, append-nil, inl, inr, ◌⊎◌}
+use Rattle.std.proofs.Common.{◌≡◌, ℕ, ◌&&◌, Bool, true, false, List, [], ◌∷◌, ◌++◌, length, map, drop, Option, refl, sym, ◌∙◌, ap, subst, append_assoc, append-nil}
 use Rattle.std.proofs.lemmas.List.{nil_from_length}
 use Rattle.gc_catalogue.specs.declared.answer.Reading.{Reading}
 use Rattle.gc_catalogue.specs.declared.call.Call.{Call}
-use Rattle.gc_client.specs.OneForOne.{Step, Send, Hear, Expire, Restart}
+use Rattle.gc_client.specs.OneForOne.{Step}
 use Rattle.gc_client.specs.Rule.{ById, fresh, lost}
 use Rattle.gc_texts.specs.declared.tasks.Task.{Task}
 use Rattle.gc_station.specs.declared.mark.Mark.{Mark}
 use Rattle.gc_station.specs.declared.plan.Plan.{Plan}
 use Rattle.gc_links.specs.Acts.{Act}
+use Rattle.gc_station.specs.Deciding.{has_begun}
 use Rattle.gc_station.specs.Marks.{records_of}
-use Rattle.gc_station.specs.Parts.{Part, nothing, joined, acting, in_front, parts_of, sent_of}
-use Rattle.gc_station.specs.Progressing.{turned, is_over, loses_all}
+use Rattle.gc_station.specs.Parts.{Turn, Part, nothing, joined, acting, in_front, parts_of, sent_of}
+use Rattle.gc_station.specs.Progressing.{turned, loses_all}
 use Rattle.gc_station.specs.Records.{Record}
 use Rattle.gc_station.specs.Standing.{Standing, order_at, waiting_of, with_progress, moved, losing, after, after_all, Runs}
-use Rattle.gc_station.proofs.Booking.{Books, client_after, books_both, books_nothing, books_restart, records_none, sent_records, restarting}
+use Rattle.gc_station.proofs.Booking.{Books, books_both, books_nothing, books_restart, records_none, sent_records, restarting}
+use Rattle.gc_station.proofs.Counts.{losing_progress}
 use Rattle.gc_station.proofs.EachRun.{fine_after, mid_moved}
 use Rattle.gc_station.proofs.Facts.{order_for}
-use Rattle.gc_station.proofs.Beginning.{Quiet, IsQuiet, IsProbed, begins}
 use Rattle.gc_station.proofs.Fine.{Fine}
-use Rattle.gc_station.proofs.Parting.{Leads, leads}
-use Rattle.gc_station.proofs.Probing.{losing_progress}
+use Rattle.gc_station.proofs.Parting.{Leads, leads, keeps_order}
 use Rattle.gc_station.proofs.Readings.{moved_reads, ended_reads}
 
 -- parts of a run, from a client on: behind each but the last it restarts
@@ -32,8 +32,9 @@ Follows reads commands c ms rs (p ∷ q ∷ ps) end =
 
 joined_assoc : (p q r : Part) → joined (joined p q) r ≡ joined p (joined q r)
 joined_assoc p q r =
-    ap (λ (steps : List Step). record { steps = steps; marks = (p.marks ++ q.marks) ++ r.marks }) (append_assoc p.steps q.steps r.steps)
-    ∙ ap (λ (marks : List (Option Mark)). record { steps = p.steps ++ (q.steps ++ r.steps); marks = marks }) (append_assoc p.marks q.marks r.marks)
+    ap (λ (turns : List Turn). record { turns = turns; steps = (p.steps ++ q.steps) ++ r.steps; marks = (p.marks ++ q.marks) ++ r.marks }) (append_assoc p.turns q.turns r.turns)
+    ∙ ap (λ (steps : List Step). record { turns = p.turns ++ (q.turns ++ r.turns); steps = steps; marks = (p.marks ++ q.marks) ++ r.marks }) (append_assoc p.steps q.steps r.steps)
+    ∙ ap (λ (marks : List (Option Mark)). record { turns = p.turns ++ (q.turns ++ r.turns); steps = p.steps ++ (q.steps ++ r.steps); marks = marks }) (append_assoc p.marks q.marks r.marks)
 
 -- a part ends
 follows_cut : (reads : Call → List ℕ → Reading) (commands : List Task) (c : ById) (ms : List (Option Mark)) (rs mid : List Record) (p : Part) (ps : List Part) (end : Standing)
@@ -78,17 +79,11 @@ idle_lost : (commands : List Task) (t : Standing) (b : Bool) → t.client ≡ fr
 idle_lost commands t true is = leads_idle t.reads commands t.client t.marks t.records t.progress.moment.utc is
 idle_lost commands t false is = books_nothing t.reads commands t.client t.marks (sent_of t.records)
 
-quiet_fresh : (steps : List Step) → Quiet steps → client_after fresh steps ≡ fresh
-quiet_fresh [] q = refl
-quiet_fresh (Expire now ∷ steps) q = quiet_fresh steps q
-quiet_fresh (Send target call deadline ∷ steps) q = absurd q
-quiet_fresh (Hear line ∷ steps) q = absurd q
-quiet_fresh (Restart ∷ steps) q = absurd q
-
 joined_nothing : (p : Part) → joined p nothing ≡ p
 joined_nothing p =
-    ap (λ (steps : List Step). record { steps = steps; marks = p.marks ++ [] }) (append-nil p.steps)
-    ∙ ap (λ (marks : List (Option Mark)). record { steps = p.steps; marks = marks }) (append-nil p.marks)
+    ap (λ (turns : List Turn). record { turns = turns; steps = p.steps ++ []; marks = p.marks ++ [] }) (append-nil p.turns)
+    ∙ ap (λ (steps : List Step). record { turns = p.turns; steps = steps; marks = p.marks ++ [] }) (append-nil p.steps)
+    ∙ ap (λ (marks : List (Option Mark)). record { turns = p.turns; steps = p.steps; marks = marks }) (append-nil p.marks)
 
 -- from one standing to another, where replies say this
 abbrev LeadsBy : (Call → List ℕ → Reading) → List Task → Standing → Part → Standing → Type 0
@@ -98,30 +93,27 @@ leads_by : (reads : Call → List ℕ → Reading) (commands : List Task) (s : S
 leads_by reads commands s p t is h = subst (λ (r : Call → List ℕ → Reading). LeadsBy r commands s p t) is h
 
 module _ (plan : Plan) (commands : List Task) (reads : Call → List ℕ → Reading) where
-  -- where it begins anew, and goes on to
-  leads_anew : (s : Standing) (act : Act) (p : Part) (t : Standing) → t.reads ≡ reads → Fine plan commands s → s.progress.anew ≡ true → LeadsBy reads commands s p t → IsQuiet p t ⊎ IsProbed p t → LeadsBy reads commands s p (losing (loses_all t.progress) t)
-  leads_anew s act p t same fine w h (inl q) =
+  -- while it begins nothing waits, so that nothing is lost
+  leads_idly : (s : Standing) (p : Part) (t : Standing) → t.reads ≡ reads → t.client ≡ fresh → LeadsBy reads commands s p t → LeadsBy reads commands s p (losing (loses_all t.progress) t)
+  leads_idly s p t same is h =
       let u = losing (loses_all t.progress) t in
-      let is : t.client ≡ fresh = sym h.client ∙ ap (λ c. client_after c p.steps) (fine.anew w).0 ∙ quiet_fresh p.steps q.steps in
       subst (λ (x : Part). LeadsBy reads commands s x u) (joined_nothing p)
       (books_both reads commands s.client t.client u.client s.marks t.marks u.marks (sent_of s.records) (sent_of t.records) (sent_of u.records) p nothing h (leads_by reads commands t nothing u same (idle_lost commands t (loses_all t.progress) is)))
-  leads_anew s act p t same fine w h (inr q) =
-      subst (λ (x : Standing). LeadsBy reads commands s p x) (sym (kept_same t (loses_all t.progress) (ap (λ b. b || is_over t.progress) q.anew ∙ q.goes_on))) h
 
   -- an act in front of the others
-  one_more : (s : Standing) (p : Part) (t : Standing) (ps : List Part) (end : Standing) (anew lost_all : Bool) → t.reads ≡ reads → s.progress.anew ≡ anew → loses_all t.progress ≡ lost_all
+  one_more : (s : Standing) (p : Part) (t : Standing) (ps : List Part) (end : Standing) (begun lost_all : Bool) → t.reads ≡ reads → has_begun s.progress ≡ begun → loses_all t.progress ≡ lost_all
       → Fine plan commands s → Fine plan commands (losing (loses_all t.progress) t) → length t.marks ≡ length t.client.waiting
-      → LeadsBy reads commands s p t → (s.progress.anew ≡ true → LeadsBy reads commands s p (losing (loses_all t.progress) t))
+      → LeadsBy reads commands s p t → (has_begun s.progress ≡ false → LeadsBy reads commands s p (losing (loses_all t.progress) t))
       → (let u = losing (loses_all t.progress) t in Follows reads commands u.client u.marks (sent_of u.records) ps end)
-      → Follows reads commands s.client s.marks (sent_of s.records) (in_front p (not anew && lost_all) ps) end
-  one_more s p t ps end true lost_all same w l fine later paired h k others =
+      → Follows reads commands s.client s.marks (sent_of s.records) (in_front p (begun && lost_all) ps) end
+  one_more s p t ps end false lost_all same w l fine later paired h k others =
       let u = losing (loses_all t.progress) t in
       follows_on reads commands s.client u.client s.marks u.marks (sent_of s.records) (sent_of u.records) p ps end (k w) others
-  one_more s p t ps end false false same w l fine later paired h k others =
+  one_more s p t ps end true false same w l fine later paired h k others =
       let kept = kept_same t (loses_all t.progress) l in
       follows_on reads commands s.client t.client s.marks t.marks (sent_of s.records) (sent_of t.records) p ps end h
       (subst (λ (u : Standing). Follows reads commands u.client u.marks (sent_of u.records) ps end) kept others)
-  one_more s p t ps end false true same w l fine later paired h k others =
+  one_more s p t ps end true true same w l fine later paired h k others =
       let u = losing (loses_all t.progress) t in
       let new : u.client ≡ fresh = lost_fresh t (loses_all t.progress) l in
       let none : u.marks ≡ [] = nil_from_length u.marks (later.paired ∙ ap (λ (c : ById). length c.waiting) new) in
@@ -147,7 +139,7 @@ module _ (plan : Plan) (commands : List Task) (reads : Call → List ℕ → Rea
       let later = fine_after plan commands s act fine in
       let same : t.reads ≡ reads = moved_reads plan commands o (with_progress turned s) act ∙ is_so in
       let h = leads_by reads commands s p t is_so (leads plan commands s o act fine is runs.0) in
-      subst (λ b. Follows reads commands s.client s.marks (sent_of s.records) (in_front p (not s.progress.anew && b) ps) end) (sym (ap loses_all (losing_progress (loses_all t.progress) t)))
-      (one_more s p t ps end s.progress.anew (loses_all t.progress) same refl refl fine later (mid_moved plan commands s o act fine is).0.paired h
-      (λ w. leads_anew s act p t same fine w h (begins plan commands s o act fine is runs.0 w))
+      subst (λ b. Follows reads commands s.client s.marks (sent_of s.records) (in_front p (has_begun s.progress && b) ps) end) (sym (ap loses_all (losing_progress (loses_all t.progress) t)))
+      (one_more s p t ps end (has_begun s.progress) (loses_all t.progress) same refl refl fine later (mid_moved plan commands s o act fine is).0.paired h
+      (λ w. leads_idly s p t same (keeps_order plan commands s o act is runs.0 w (fine.begins w)).0 h)
       (follows u acts (ended_reads (loses_all t.progress) t ∙ same) later runs.1))

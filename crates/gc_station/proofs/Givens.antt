@@ -20,9 +20,10 @@ rest_with heard (Gave piece m) rest = if heard then rest_behind rest piece else 
 rest_with heard Closed rest = []
 rest_with heard act rest = rest
 
-came_rest : (heard : Bool) (piece : List ℕ) (s : Standing) → (came heard piece s).rest ≡ (if heard then rest_behind s.rest piece else s.rest)
-came_rest true piece s = lines_along (λ (t : Standing). t.rest ≡ rest_behind s.rest piece) (λ t line e. e) (with_rest (rest_behind s.rest piece) s) (lines_behind s.rest piece) refl
-came_rest false piece s = refl
+came_rest : (heard : Bool) (word piece : List ℕ) (s : Standing) → (came heard word piece s).rest ≡ (if heard then rest_behind s.rest piece else s.rest)
+came_rest true [] piece s = lines_along (λ (t : Standing). t.rest ≡ rest_behind s.rest piece) (λ t line e. e) (with_rest (rest_behind s.rest piece) s) (lines_behind s.rest piece) refl
+came_rest true (asked ∷ others) piece s = refl
+came_rest false word piece s = refl
 
 -- an act leaves it so
 abbrev LeavesSo : Standing → Act → Standing → Type 0
@@ -31,7 +32,7 @@ LeavesSo s act t = t.rest ≡ rest_with (is_heard s.progress.phase) act s.rest
 moved_rest : (plan : Plan) (commands : List Task) (next : Order) (s : Standing) (act : Act) → Obeys commands s next act → LeavesSo s act (moved plan commands next (with_progress turned s) act)
 moved_rest plan commands (orders.Read until) s act o =
     walk plan commands (LeavesSo s) (orders.Read until) (with_progress turned s) act o
-    (λ bytes m. came_rest (is_heard s.progress.phase) bytes (with_moment m (with_progress (told m) (with_progress turned s))), λ m. refl, refl, refl, refl)
+    (λ bytes m. came_rest (is_heard s.progress.phase) s.progress.word bytes (with_moment m (with_progress (told m) (with_progress turned s))), λ m. refl, refl, refl, refl)
 moved_rest plan commands (orders.Close why) s act o = walk plan commands (LeavesSo s) (orders.Close why) (with_progress turned s) act o refl
 moved_rest plan commands (orders.Stop why) s act o = absurd o
 moved_rest plan commands next s act o = walk plan commands (LeavesSo s) next (with_progress turned s) act o (λ m. refl, λ n. refl)

@@ -26,13 +26,14 @@ pub losing_records : (b : Bool) (s : Standing) → Grew s.records (losing b s).r
 losing_records true s = (records_of s.reads s.progress.moment.utc s.marks (map lost s.client.waiting), refl)
 losing_records false s = grew_none s.records
 
-came_grew : (heard : Bool) (piece : List ℕ) (s : Standing) → Grew s.records (came heard piece s).records
-came_grew true piece s = lines_records (with_rest (rest_behind s.rest piece) s) (lines_behind s.rest piece)
-came_grew false piece s = grew_none s.records
+came_grew : (heard : Bool) (word piece : List ℕ) (s : Standing) → Grew s.records (came heard word piece s).records
+came_grew true [] piece s = lines_records (with_rest (rest_behind s.rest piece) s) (lines_behind s.rest piece)
+came_grew true (asked ∷ others) piece s = grew_none s.records
+came_grew false word piece s = grew_none s.records
 
 pub moved_grew : (plan : Plan) (commands : List Task) (order : Order) (s : Standing) (act : Act) → Grew s.records (moved plan commands order s act).records
 moved_grew plan commands orders.Skip s (Told m) = (skips plan commands s.progress (Told m), refl)
 moved_grew plan commands orders.Skip s act = ([], refl)
-moved_grew plan commands (orders.Read until) s (Gave bytes m) = came_grew (is_heard s.progress.phase) bytes (with_moment m (with_progress (told m) s))
+moved_grew plan commands (orders.Read until) s (Gave bytes m) = came_grew (is_heard s.progress.phase) s.progress.word bytes (with_moment m (with_progress (told m) s))
 moved_grew plan commands (orders.Read until) s act = grew_none s.records
 moved_grew plan commands order s act = subst (λ (t : Standing). Grew s.records t.records) (sym (moved_changed plan commands order s act)) (grew_none s.records)

@@ -28,9 +28,10 @@ use Rattle.gc_station.specs.declared.progress.Until.{Until}
 use Rattle.gc_station.specs.declared.progress.Waiting.{Waiting}
 use Rattle.gc_station.specs.declared.station.Station.{Station}
 use Rattle.gc_station.specs.Marks.{commands_in, records_of, last_well}
-use Rattle.gc_station.specs.Progressing.{noted, gave, reckoned_early, again, begins_anew, beginning_anew, closed, closed_again}
+use Rattle.gc_station.specs.Deciding.{is_none_left}
+use Rattle.gc_station.specs.Progressing.{noted, gave, reckoned_early, again, closed, lines_asked, line_asked}
 use Rattle.gc_station.specs.Records.{Record, texts_of, WritesPart, WritesAll}
-use Rattle.gc_station.specs.Standing.{Standing, line_came, lines_came, lines_behind, with_rest, with_progress, with_moment, waiting_of, settles, piece_came}
+use Rattle.gc_station.specs.Standing.{Standing, line_came, lines_came, lines_behind, with_rest, with_progress, with_moment, waiting_of, settles, piece_came, piece_asked, came}
 use Rattle.gc_station.specs.Stations.{waiting_in, Stands, Took, TookPart, Follows}
 use Rattle.gc_station.specs.Scopes.{AreReadings}
 use Rattle.gc_station.specs.Tallies.{none_yet, tallied}
@@ -280,14 +281,69 @@ reckoned_same plan until b b' w w' p p' eb ea ec ep =
       early before all commands p = reckoned_early plan commands (gave plan until before (record { all = all; current = 0; commands = commands; well = false }) p)
 
 -- and once its connection was closed
-pub closed_same : (plan : Plan) (w w' : Waiting) (why : Cause) (p p' : Progress) → w.all ≡ w'.all → w.commands ≡ w'.commands → p ≡ p' → closed plan w why p ≡ closed plan w' why p'
-closed_same plan w w' why p p' ea ec ep = kept why ∙ ap (closed plan w' why) ep where
-  anew_kept : (why : Cause) (b : Bool) → closed_again plan w why b p ≡ closed_again plan w' why b p
-  anew_kept why true = ap (λ n. again plan 0 why (beginning_anew n p)) ea
-  anew_kept why false = ap (λ n. again plan n why p) ec
-
+pub closed_same : (plan : Plan) (w w' : Waiting) (why : Cause) (p p' : Progress) → w.commands ≡ w'.commands → p ≡ p' → closed plan w why p ≡ closed plan w' why p'
+closed_same plan w w' why p p' ec ep = kept why ∙ ap (closed plan w' why) ep where
   kept : (why : Cause) → closed plan w why p ≡ closed plan w' why p
   kept cause.Done = refl
   kept cause.Clock = refl
   kept cause.Turns = refl
-  kept why = anew_kept why (begins_anew why p)
+  kept why = ap (λ n. again plan n why p) ec
+
+-- While it begins.
+
+pub lines_asked-append : (p : Progress) (xs ys : List (List ℕ)) → lines_asked p (xs ++ ys) ≡ lines_asked (lines_asked p xs) ys
+lines_asked-append p [] ys = refl
+lines_asked-append p (x ∷ xs) ys = lines_asked-append (line_asked p x) xs ys
+
+-- after some of a piece: hearing what is left of it comes to what hearing the whole piece comes to
+pub record Asking (station : Station) (s : Standing) (piece left : List ℕ) : Type 0 where
+  pub now : Standing
+  pub stands : Stands station now
+  pub goes : piece_asked left now ≡ piece_asked piece s
+
+-- a frame's line first, and then what is left
+pub asked_first : (s : Standing) (left later rest : List ℕ) (frame : Frame)
+    → frames_behind s.rest left ≡ completed frame ++ frames_behind rest later → rest_behind s.rest left ≡ rest_behind rest later
+    → piece_asked left s ≡ piece_asked later (with_progress (λ p. lines_asked p (option_to_list (line_in frame))) (with_rest rest s))
+asked_first s left later rest frame seen rests =
+    let line = option_to_list (line_in frame) in
+    let lines : lines_behind s.rest left ≡ line ++ lines_behind rest later = ap (filter_map line_in) seen ∙ lines_split frame (frames_behind rest later) in
+    ap (λ r. shown r (lines_asked s.progress (lines_behind s.rest left))) rests
+    ∙ ap (λ xs. shown (rest_behind rest later) (lines_asked s.progress xs)) lines
+    ∙ ap (shown (rest_behind rest later)) (lines_asked-append s.progress line (lines_behind rest later)) where
+      shown : List ℕ → Progress → Standing
+      shown r p = record s { rest = r; progress = p }
+
+-- one more frame
+pub asking_on : (station station' : Station) (s : Standing) (piece left : List ℕ) (used : ℕ) (frame : Frame) (kept : Kept)
+    → (h : Asking station s piece left) → (t : Takes h.now.rest left used frame kept)
+    → station' ≡ record station { assembler = kept; progress = lines_asked station.progress (option_to_list (line_in frame)) }
+    → Asking station' s piece (drop used left)
+asking_on station station' s piece left used frame kept h t is =
+    let line = option_to_list (line_in frame) in
+    let mid : Standing = with_rest t.now h.now in
+    let taken : Station = record station { assembler = kept } in
+    let there = with_kept station kept t.now h.now h.stands t.stands in
+    record {
+      now = with_progress (λ p. lines_asked p line) mid;
+      stands = subst (λ (x : Station). Stands x (with_progress (λ p. lines_asked p line) mid)) (sym is) (record {
+        progress = ap (λ p. lines_asked p line) there.progress;
+        ids = there.ids;
+        width = there.width;
+        marks = there.marks;
+        paired = there.paired;
+        assembles = there.assembles;
+        tally = there.tally;
+        well = there.well;
+      });
+      goes = sym (asked_first h.now left (drop used left) t.now frame t.seen t.rests) ∙ h.goes;
+    }
+
+-- a piece comes while it begins, or once it has begun
+pub came_asked : (word piece : List ℕ) (s : Standing) → is_none_left word ≡ false → came true word piece s ≡ piece_asked piece s
+came_asked [] piece s e = cc
+came_asked (asked ∷ others) piece s e = refl
+
+pub came_begun : (word piece : List ℕ) (s : Standing) → is_none_left word ≡ true → came true word piece s ≡ piece_came piece s
+came_begun [] piece s e = refl
+came_begun (asked ∷ others) piece s e = cc

@@ -1,15 +1,12 @@
 pub mod Acting
 mod Always
 mod Answers
-pub mod Beginning
 mod Beginnings
 pub mod Booking
 mod Chaining
 mod Closings
 mod Connected
 mod Counts
-mod Drained
-mod Drains
 pub mod Each
 pub mod EachRun
 pub mod Facts
@@ -21,7 +18,6 @@ mod Going
 mod Growing
 pub mod Hearing
 mod Lists
-pub mod Lone
 mod Losing
 mod Making
 pub mod Meant
@@ -31,17 +27,19 @@ mod Mute
 mod Opens
 pub mod Parting
 mod Pieces
-pub mod Probing
 mod Quiets
 pub mod Readings
 mod Records
 mod Silences
 mod Since
+pub mod Starting
 mod Tries
-mod Turns
+pub mod Turns
 mod Used
 mod Waiting
 mod Walk
+pub mod Words
+pub mod Asked
 pub mod Linking
 mod Codes
 mod Counting

@@ -1,23 +1,21 @@
 -- Chains by the parts of a run.
-use Rattle.std.proofs.Common.{◌≡◌, ◌⊎◌, inl, inr, ℕ, zero, suc, ◌+◌, ◌-◌, ◌<◌, ◌≤◌, ◌&&◌, ◌||◌, Bool, true, false, not, List, [], ◌∷◌, ◌++◌, length, drop, Option, Some, None, nat_eq, refl, sym, ◌∙◌, ap, subst, arith, append_assoc}
+use Rattle.std.proofs.Common.{◌≡◌, ◌⊎◌, inl, inr, ℕ, zero, suc, ◌+◌, ◌-◌, ◌<◌, ◌≤◌, ◌&&◌, ◌||◌, Bool, true, false, not, List, [], ◌∷◌, ◌++◌, length, drop, Option, Some, None, nat_eq, if◌then◌else◌, refl, sym, ◌∙◌, ap, subst, arith, append_assoc}
 use Rattle.std.specs.Prelude.{slice_get, unwrap_or}
-use Rattle.std.specs.List.{AllByRecursion}
 use Rattle.std.proofs.lemmas.List.{length-append, length-drop}
 use Rattle.gc_texts.specs.declared.tasks.Task.{Task}
 use Rattle.gc_station.specs.declared.mark.Mark.{Mark}
 use Rattle.gc_station.specs.declared.plan.Plan.{Plan}
 use Rattle.gc_station.specs.declared.progress.Order.{Order}
-use Rattle.gc_station.specs.declared.progress.Order.TheVariants.{Probe, Send, Flush, Close, Stop}
+use Rattle.gc_station.specs.declared.progress.Order.TheVariants.{Ask, Send, Flush, Read}
 use Rattle.gc_station.specs.declared.progress.Phase.TheVariants as phase
 use Rattle.gc_station.specs.declared.progress.Progress.{Progress}
-use Rattle.gc_links.specs.Acts.{Act, Put, Cut}
+use Rattle.gc_links.specs.Acts.{Act, Put, Cut, Gave}
 use Rattle.gc_station.specs.Chains.{IsLinked}
-use Rattle.gc_station.specs.Deciding.{is_up}
+use Rattle.gc_station.specs.Deciding.{has_begun, is_up}
 use Rattle.gc_station.specs.EachOnce.{IsFurther}
 use Rattle.gc_station.specs.Links.{AreChained, IsBefore, IsAnsweredBack, ChainsStay, MarksGoOn, RecordsStay, parts}
 use Rattle.gc_station.specs.Marks.{is_value}
-use Rattle.gc_station.specs.Parts.{Part, nothing, joined, asking_first, putting, acting, ends_part, in_front, parts_of, mark_of}
-use Rattle.gc_station.specs.Probing.{KeepsOpen}
+use Rattle.gc_station.specs.Parts.{Part, nothing, joined, asking_first, putting, doing, beginning, acting, ends_part, in_front, parts_of, mark_of}
 use Rattle.gc_station.specs.Progressing.{turned, begun, is_over, is_over_in, loses_all}
 use Rattle.gc_station.specs.Reasons.{IsFor}
 use Rattle.gc_station.specs.Records.{Record}
@@ -26,16 +24,14 @@ use Rattle.gc_station.specs.Scopes.{Scope}
 use Rattle.gc_station.specs.Standing.{Standing, Obeys, Puts, Runs, opening, order_at, waiting_of, place_next, cycles_begun, mark_next, with_progress, first_text, moved, after, after_all}
 use Rattle.gc_texts.specs.Endings.{Answered}
 use Rattle.gc_catalogue.specs.declared.answer.Answer.{Answer}
-use Rattle.gc_station.proofs.Beginning.{over_stays}
-use Rattle.gc_station.proofs.Chaining.{chain_kept, puts_open}
+use Rattle.gc_station.proofs.Chaining.{StaysBegun, chain_whole}
 use Rattle.gc_station.proofs.EachRun.{fine_stood}
-use Rattle.gc_station.proofs.Facts.{order_for}
+use Rattle.gc_station.proofs.Facts.{either, order_for}
 use Rattle.gc_station.proofs.Further.{send_goes_on}
-use Rattle.gc_station.proofs.Walk.{moved_changed}
 use Rattle.gc_station.proofs.Going.{after_all-append, runs_behind}
 use Rattle.gc_station.proofs.Growing.{losing_records, moved_grew}
-use Rattle.gc_station.proofs.Probing.{losing_progress}
 use Rattle.gc_station.proofs.Records.{Grew, grew_none}
+use Rattle.gc_station.proofs.Turns.{over_stays}
 
 -- Lists.
 
@@ -113,14 +109,27 @@ IsSend plan commands s o n mark = (n ≡ 0) × (o ≡ Send) × (mark ≡ mark_ne
 
 putting_mark : (plan : Plan) (commands : List Task) (s : Standing) (o : Order) (n : ℕ) (mark : Mark) → slice_get (putting plan commands s o).marks n ≡ Some (Some mark) → IsSend plan commands s o n mark
 putting_mark plan commands s Send n mark e = let h = put_mark plan commands s (drop (place_next commands s.progress) commands) n mark e in (h.0, refl, h.1)
-putting_mark plan commands s Probe n mark e = absurd (null_mark n mark e)
 putting_mark plan commands s Flush n mark e = absurd (null_mark n mark e)
 putting_mark plan commands s o n mark e = absurd (none_is_not (Some mark) e)
 
+doing_mark : (plan : Plan) (commands : List Task) (s : Standing) (o : Order) (act : Act) (n : ℕ) (mark : Mark) → slice_get (doing plan commands s o act).marks n ≡ Some (Some mark) → IsSend plan commands s o n mark
+doing_mark plan commands s o (Put bytes) n mark e = putting_mark plan commands s o n mark e
+doing_mark plan commands s o (Cut bytes count) n mark e = putting_mark plan commands s o n mark e
+doing_mark plan commands s o act n mark e = absurd (none_is_not (Some mark) e)
+
+-- while it begins no request is a command
+beginning_mark : (s : Standing) (o : Order) (act : Act) (n : ℕ) (mark : Mark) → slice_get (beginning s o act).marks n ≡ Some (Some mark) → ⊥
+beginning_mark s Ask (Put bytes) n mark e = none_is_not (Some mark) e
+beginning_mark s Ask (Cut bytes count) n mark e = none_is_not (Some mark) e
+beginning_mark s Ask act n mark e = none_is_not (Some mark) e
+beginning_mark s (Read until) (Gave piece m) n mark e = none_is_not (Some mark) e
+beginning_mark s (Read until) act n mark e = none_is_not (Some mark) e
+beginning_mark s o act n mark e = none_is_not (Some mark) e
+
 acting_mark : (plan : Plan) (commands : List Task) (s : Standing) (o : Order) (act : Act) (n : ℕ) (mark : Mark) → slice_get (acting plan commands s o act).marks n ≡ Some (Some mark) → IsSend plan commands s o n mark
-acting_mark plan commands s o (Put bytes) n mark e = putting_mark plan commands s o n mark e
-acting_mark plan commands s o (Cut bytes count) n mark e = putting_mark plan commands s o n mark e
-acting_mark plan commands s o act n mark e = absurd (none_is_not (Some mark) e)
+acting_mark plan commands s o act n mark =
+    either (λ (p : Part). slice_get p.marks n ≡ Some (Some mark) → IsSend plan commands s o n mark) (doing plan commands s o act) (beginning s o act) (has_begun s.progress)
+    (λ begun e. doing_mark plan commands s o act n mark e) (λ begins e. absurd (beginning_mark s o act n mark e))
 
 record SentAt (plan : Plan) (commands : List Task) (s : Standing) (acts : List Act) (i n : ℕ) (mark : Mark) : Type 0 where
   before : List Act
@@ -326,16 +335,7 @@ marks_go_on plan commands scope acts runs i j m n p q a b e f g h l =
     let at_x = mark_next plan commands (stood plan commands scope x.before).progress in
     subst (λ (u : Mark). IsBefore u.cycle u.place b.cycle b.place) (sym x.is) (subst (λ (u : Mark). IsBefore at_x.cycle at_x.place u.cycle u.place) (sym y.is) (further_than plan commands scope acts i j m n a b l x y))
 
--- While no connection is closed it begins anew nowhere.
-
-moved_begun : (plan : Plan) (commands : List Task) (o : Order) (s t : Standing) (act : Act) → Obeys commands t o act → KeepsOpen act → s.progress.anew ≡ false → (moved plan commands o s act).progress.anew ≡ false
-moved_begun plan commands Probe s t (Cut bytes n) obeys keeps w = refl
-moved_begun plan commands Probe s t act obeys keeps w = refl
-moved_begun plan commands (Close why) s t act obeys keeps w = absurd (subst KeepsOpen obeys keeps)
-moved_begun plan commands (Stop why) s t act obeys keeps w = absurd obeys
-moved_begun plan commands o s t act obeys keeps w = ap (λ (x : Standing). x.progress.anew) (moved_changed plan commands o s act) ∙ w
-
--- So all of it is of one part.
+-- While it doesn't begin anew all of it is of one part.
 
 runs_front : (plan : Plan) (commands : List Task) (s : Standing) (xs ys : List Act) → Runs plan commands s (xs ++ ys) → Runs plan commands s xs
 runs_front plan commands s [] ys h = tt
@@ -346,24 +346,19 @@ goes_on plan commands u acts false e runs end = e
 goes_on plan commands u [] true e runs end = end
 goes_on plan commands u (act ∷ acts) true e runs end = absurd (over_stays plan commands u act e runs.0)
 
-neither : (begun anew over : Bool) → anew ≡ false → over ≡ false → (not begun && (anew || over)) ≡ false
-neither true anew over a o = refl
-neither false true over a o = cc
-neither false false over a o = o
+neither : (begun later over : Bool) → later ≡ true → over ≡ false → (begun && (not later || over)) ≡ false
+neither true true over a o = o
+neither true false over a o = cc
+neither false later over a o = refl
 
-single : (plan : Plan) (commands : List Task) (s : Standing) (acts : List Act) → Runs plan commands s acts → s.progress.anew ≡ false → AllByRecursion KeepsOpen acts → is_over (after_all plan commands s acts).progress ≡ false
-    → length (parts_of plan commands s acts) ≡ 1
-single plan commands s [] runs begun keeps end = refl
-single plan commands s (act ∷ acts) runs begun keeps end =
-    let o = order_at plan s in
-    let t = moved plan commands o (with_progress turned s) act in
+single : (plan : Plan) (commands : List Task) (s : Standing) (acts : List Act) → Runs plan commands s acts → StaysBegun plan commands s acts → is_over (after_all plan commands s acts).progress ≡ false → length (parts_of plan commands s acts) ≡ 1
+single plan commands s [] runs keeps end = refl
+single plan commands s (act ∷ acts) runs keeps end =
     let u = after plan commands s act in
-    let p = acting plan commands s o act in
-    let same : u.progress ≡ t.progress = losing_progress (loses_all t.progress) t in
-    let anew : u.progress.anew ≡ false = ap (λ (x : Progress). x.anew) same ∙ moved_begun plan commands o (with_progress turned s) s act runs.0 keeps.0 begun in
+    let p = acting plan commands s (order_at plan s) act in
     let over = goes_on plan commands u acts (is_over u.progress) refl runs.1 end in
-    let ends : ends_part plan commands s act ≡ false = neither s.progress.anew u.progress.anew (is_over u.progress) anew over in
-    subst (λ b. length (in_front p b (parts_of plan commands u acts)) ≡ 1) (sym ends) (joined_length p (parts_of plan commands u acts) 0 (single plan commands u acts runs.1 anew keeps.1 end))
+    let ends : ends_part plan commands s act ≡ false = neither (has_begun s.progress) (has_begun u.progress) (is_over u.progress) keeps.0 over in
+    subst (λ b. length (in_front p b (parts_of plan commands u acts)) ≡ 1) (sym ends) (joined_length p (parts_of plan commands u acts) 0 (single plan commands u acts runs.1 keeps.1 end))
 
 front_length : (p : Part) (b : Bool) (ps qs : List Part) → length ps ≡ length qs → length (in_front p b ps) ≡ length (in_front p b qs)
 front_length p true ps qs e = ap suc e
@@ -389,16 +384,13 @@ puts_text : (commands : List Task) (plan : Plan) (s : Standing) (act : Act) → 
 puts_text commands plan s act is obeys = subst (λ (o : Order). Obeys commands s o act) is obeys
 
 same_part : (plan : Plan) (commands : List Task) (scope : Scope) (before between : List Act) (request : Act) → Runs plan commands (opening plan scope) (before ++ request ∷ between) → order_at plan (stood plan commands scope before) ≡ Send
-    → AllByRecursion KeepsOpen between → order_at plan (stood plan commands scope (before ++ request ∷ between)) ≡ Send → length (parts plan commands scope (before ++ request ∷ between)) ≡ length (parts plan commands scope before)
+    → StaysBegun plan commands (stood plan commands scope before) (request ∷ between) → order_at plan (stood plan commands scope (before ++ request ∷ between)) ≡ Send → length (parts plan commands scope (before ++ request ∷ between)) ≡ length (parts plan commands scope before)
 same_part plan commands scope before between request runs sends keeps next =
     let s = stood plan commands scope before in
     let on = runs_behind plan commands (opening plan scope) before (request ∷ between) runs in
-    let fine = fine_stood plan commands scope before in
-    let begun : s.progress.anew ≡ false = fine.ready (needs_send plan s sends).0 in
-    let put = puts_open (first_text s.client (drop (place_next commands s.progress) commands)) request (puts_text commands plan s request sends on.0) in
     let last = over_ready (stood plan commands scope (before ++ request ∷ between)).progress (needs_send plan (stood plan commands scope (before ++ request ∷ between)) next).0 in
     let end = subst (λ (t : Standing). is_over t.progress ≡ false) (after_all-append plan commands (opening plan scope) before (request ∷ between)) last in
-    parts_more plan commands (opening plan scope) before (request ∷ between) (single plan commands s (request ∷ between) on begun (put, keeps) end)
+    parts_more plan commands (opening plan scope) before (request ∷ between) (single plan commands s (request ∷ between) on keeps end)
 
 -- The mark of a request.
 
@@ -406,11 +398,13 @@ asked_mark : (now : ℕ) (mark : Mark) (left : List Task) → 0 < length left �
 asked_mark now mark [] some = absurd (omega (arith, some))
 asked_mark now mark (task ∷ others) some = refl
 
-put_asks : (plan : Plan) (commands : List Task) (s : Standing) (act : Act) (bytes : List ℕ) → Puts bytes act → 0 < length (drop (place_next commands s.progress) commands)
+put_asks : (plan : Plan) (commands : List Task) (s : Standing) (act : Act) (bytes : List ℕ) → Puts bytes act → has_begun s.progress ≡ true → 0 < length (drop (place_next commands s.progress) commands)
     → slice_get (acting plan commands s Send act).marks 0 ≡ Some (Some (mark_next plan commands s.progress))
-put_asks plan commands s (Put out) bytes puts some = asked_mark s.progress.moment.elapsed (mark_next plan commands s.progress) (drop (place_next commands s.progress) commands) some
-put_asks plan commands s (Cut out count) bytes puts some = asked_mark s.progress.moment.elapsed (mark_next plan commands s.progress) (drop (place_next commands s.progress) commands) some
-put_asks plan commands s act bytes puts some = absurd puts
+put_asks plan commands s act bytes puts begun some = subst (λ (b : Bool). slice_get (if b then doing plan commands s Send act else beginning s Send act).marks 0 ≡ Some (Some (mark_next plan commands s.progress))) (sym begun) (by_act act puts) where
+  by_act : (a : Act) → Puts bytes a → slice_get (doing plan commands s Send a).marks 0 ≡ Some (Some (mark_next plan commands s.progress))
+  by_act (Put out) puts = asked_mark s.progress.moment.elapsed (mark_next plan commands s.progress) (drop (place_next commands s.progress) commands) some
+  by_act (Cut out count) puts = asked_mark s.progress.moment.elapsed (mark_next plan commands s.progress) (drop (place_next commands s.progress) commands) some
+  by_act a puts = absurd puts
 
 abbrev Has : List Part → ℕ → Mark → Type 0
 Has ps i mark = (part : Part) × (slice_get ps i ≡ Some part) × (m : ℕ) × (slice_get part.marks m ≡ Some (Some mark))
@@ -511,13 +505,14 @@ module _ (plan : Plan) (commands : List Task) (scope : Scope) where
   get_last (y ∷ xs) x = get_last xs x
 
   -- the one before
-  same_link : (acts : List Act) → Runs plan commands (opening plan scope) acts → order_at plan (at acts) ≡ Send → (l : IsLinked plan commands scope acts) → length (parts plan commands scope acts) ≡ length (parts plan commands scope l.before)
-  same_link acts runs next l =
+  same_link : (acts : List Act) → Runs plan commands (opening plan scope) acts → order_at plan (at acts) ≡ Send → (l : IsLinked plan commands scope acts)
+      → StaysBegun plan commands (at l.before) (l.request ∷ l.between) → length (parts plan commands scope acts) ≡ length (parts plan commands scope l.before)
+  same_link acts runs next l keeps =
       subst (λ xs. length (parts plan commands scope xs) ≡ length (parts plan commands scope l.before)) (sym l.order)
-      (same_part plan commands scope l.before l.between l.request (subst (λ xs. Runs plan commands (opening plan scope) xs) l.order runs) l.sends l.stays (subst (λ xs. order_at plan (at xs) ≡ Send) l.order next))
+      (same_part plan commands scope l.before l.between l.request (subst (λ xs. Runs plan commands (opening plan scope) xs) l.order runs) l.sends keeps (subst (λ xs. order_at plan (at xs) ≡ Send) l.order next))
 
-  one_back : (acts : List Act) (a : ℕ) → Runs plan commands (opening plan scope) acts → order_at plan (at acts) ≡ Send → place_next commands (at acts).progress ≡ a + 1 → (l : IsLinked plan commands scope acts) → Back acts (cycles_begun plan (at acts).progress) a
-  one_back acts a runs next place l =
+  one_back : (acts : List Act) (a : ℕ) → Runs plan commands (opening plan scope) acts → order_at plan (at acts) ≡ Send → place_next commands (at acts).progress ≡ a + 1 → (l : IsLinked plan commands scope acts) → StaysBegun plan commands (at l.before) (l.request ∷ l.between) → Back acts (cycles_begun plan (at acts).progress) a
+  one_back acts a runs next place l keeps =
       let t = l.in_time in
       let one : t.before ≡ l.before = same_send acts t.before _ l.before (l.request ∷ l.between) t.order l.order t.sends l.sends (sym t.cycle ∙ l.own_cycle) (sym t.place ∙ l.own_place) in
       let utc : l.answer.sent ≡ Some (at l.before).progress.moment.utc = t.sent ∙ ap (λ xs. Some (at xs).progress.moment.utc) one in
@@ -542,12 +537,12 @@ module _ (plan : Plan) (commands : List Task) (scope : Scope) where
             ap (λ c. record { cycle = c; place = l.answer.place; sent = unwrap_or l.answer.sent 0 }) l.own_cycle
             ∙ ap (λ p. record { cycle = cycles_begun plan (at l.before).progress; place = p; sent = unwrap_or l.answer.sent 0 }) l.own_place
             ∙ ap (λ o. record { cycle = cycles_begun plan (at l.before).progress; place = place_next commands (at l.before).progress; sent = unwrap_or o 0 }) utc;
-        same = same_link acts runs next l;
+        same = same_link acts runs next l keeps;
       }
 
   -- and each before that
-  more_back : (acts : List Act) (a : ℕ) → Runs plan commands (opening plan scope) acts → order_at plan (at acts) ≡ Send → (l : IsLinked plan commands scope acts) → Back l.before (cycles_begun plan (at l.before).progress) a → Back acts (cycles_begun plan (at acts).progress) a
-  more_back acts a runs next l h =
+  more_back : (acts : List Act) (a : ℕ) → Runs plan commands (opening plan scope) acts → order_at plan (at acts) ≡ Send → (l : IsLinked plan commands scope acts) → StaysBegun plan commands (at l.before) (l.request ∷ l.between) → Back l.before (cycles_begun plan (at l.before).progress) a → Back acts (cycles_begun plan (at acts).progress) a
+  more_back acts a runs next l keeps h =
       let grown = records_stay plan commands scope l.before (l.request ∷ l.between) in
       record {
         k = h.k;
@@ -565,17 +560,19 @@ module _ (plan : Plan) (commands : List Task) (scope : Scope) where
         order = l.order ∙ ap (λ xs. xs ++ l.request ∷ l.between) h.order ∙ append_assoc h.start (h.act ∷ h.rest) (l.request ∷ l.between);
         sends = h.sends;
         mark = h.mark;
-        same = same_link acts runs next l ∙ h.same;
+        same = same_link acts runs next l keeps ∙ h.same;
       }
 
   back_to : (d a : ℕ) (acts : List Act) → Runs plan commands (opening plan scope) acts → order_at plan (at acts) ≡ Send → place_next commands (at acts).progress ≡ a + suc d → AreChained commands a (place_next commands (at acts).progress)
       → Back acts (cycles_begun plan (at acts).progress) a
   back_to zero a acts runs next place chained =
-      one_back acts a runs next (omega (arith, place)) (chain_kept plan commands scope acts runs next (omega (arith, place), chained (place_next commands (at acts).progress) (omega (arith, place)) (omega arith)))
+      let x = chain_whole plan commands scope acts runs next (omega (arith, place), chained (place_next commands (at acts).progress) (omega (arith, place)) (omega arith)) in
+      one_back acts a runs next (omega (arith, place)) x.0 x.1
   back_to (suc d) a acts runs next place chained =
-      let l = chain_kept plan commands scope acts runs next (omega (arith, place), chained (place_next commands (at acts).progress) (omega (arith, place)) (omega arith)) in
+      let x = chain_whole plan commands scope acts runs next (omega (arith, place), chained (place_next commands (at acts).progress) (omega (arith, place)) (omega arith)) in
+      let l = x.0 in
       let on : place_next commands (at acts).progress ≡ place_next commands (at l.before).progress + 1 = l.place in
-      more_back acts a runs next l
+      more_back acts a runs next l x.1
       (back_to d a l.before (runs_front plan commands (opening plan scope) l.before (l.request ∷ l.between) (subst (λ xs. Runs plan commands (opening plan scope) xs) l.order runs)) l.sends (omega (arith, on, place))
       (λ p above upto. chained p above (omega (arith, on, upto))))
 
@@ -589,7 +586,7 @@ module _ (plan : Plan) (commands : List Task) (scope : Scope) where
       let needs = needs_send plan s h.sends in
       let unsent : 0 < s.progress.unsent = needs.2 in
       let many : length (drop (place_next commands s.progress) commands) ≡ length commands - place_next commands s.progress = length-drop (place_next commands s.progress) commands in
-      let asks = put_asks plan commands s h.act _ (puts_text commands plan s h.act h.sends on.0) (omega (arith, many, unsent, fine.unsent)) in
+      let asks = put_asks plan commands s h.act _ (puts_text commands plan s h.act h.sends on.0) needs.1 (omega (arith, many, unsent, fine.unsent)) in
       let asks_here = subst (λ (o : Order). slice_get (acting plan commands s o h.act).marks 0 ≡ Some (Some (mark_next plan commands s.progress))) (sym h.sends) asks in
       let has = mark_there plan commands (opening plan scope) h.start h.act h.rest i (sym h.same ∙ last) asks_here in
       let same : has.0 ≡ first = some_is has.0 first (sym has.1 ∙ ap (λ xs. slice_get (parts plan commands scope xs) i) (sym h.order) ∙ of_parts) in

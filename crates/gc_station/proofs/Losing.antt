@@ -1,5 +1,5 @@
 -- All that wait are lost for a cause: behind the act the station begins anew, or no act follows.
-use Rattle.std.proofs.Common.{◌≡◌, ◌⊎◌, inl, inr, ℕ, ◌&&◌, ◌||◌, Bool, true, false, not, List, [], ◌∷◌, ◌++◌, length, map, Option, Some, None, if◌then◌else◌, nat_eq, nat_lt, refl, sym, ap, ◌∙◌, subst, append_assoc}
+use Rattle.std.proofs.Common.{◌≡◌, ◌⊎◌, inl, inr, ℕ, ◌&&◌, ◌||◌, Bool, true, false, not, List, [], ◌∷◌, ◌++◌, length, map, Option, Some, if◌then◌else◌, nat_eq, refl, sym, ap, ◌∙◌, subst, append_assoc}
 use Rattle.std.specs.List.{AllByRecursion}
 use Rattle.std.proofs.lemmas.List.{nil_from_length}
 use Rattle.gc_catalogue.specs.declared.answer.Reading.{Reading}
@@ -18,36 +18,29 @@ use Rattle.gc_station.specs.declared.progress.Phase.TheVariants.{Down, Pausing, 
 use Rattle.gc_station.specs.declared.progress.Order.{Order}
 use Rattle.gc_station.specs.declared.progress.Order.TheVariants as orders
 use Rattle.gc_station.specs.declared.progress.Progress.{Progress}
-use Rattle.gc_station.specs.declared.progress.Until.{Until}
 use Rattle.gc_station.specs.declared.progress.Waiting.{Waiting}
-use Rattle.gc_links.specs.Acts.{Act, Cut, Closed}
-use Rattle.gc_station.specs.Deciding.{is_up, order_of, order_in, order_up}
+use Rattle.gc_links.specs.Acts.{Act, Cut}
+use Rattle.gc_station.specs.Deciding.{has_begun, is_up, order_of, order_in, order_up}
 use Rattle.gc_station.specs.Ends.{IsWrittenAt, BeginsAnew, IsLast, IsLostIn}
 use Rattle.gc_station.specs.Marks.{records_of}
-use Rattle.gc_station.specs.Progressing.{turned, told, sent, failing, closed_again, closed, is_over, is_over_in, loses_all, beginning_anew, is_finished, is_spared}
+use Rattle.gc_station.specs.Progressing.{turned, sent, failing, is_over, is_over_in, loses_all}
 use Rattle.gc_station.specs.Reasons.{IsFor}
 use Rattle.gc_station.specs.Records.{Record}
 use Rattle.gc_station.specs.Runs.{stood}
-use Rattle.gc_station.specs.Standing.{Standing, opening, order_at, waiting_of, request_text, Puts, Obeys, is_heard, with_progress, with_moment, with_rest, asks_next, bound_next, after_put, moved, losing, ended, after}
+use Rattle.gc_station.specs.Standing.{Standing, opening, order_at, waiting_of, request_text, Puts, Obeys, with_progress, asks_next, bound_next, after_put, moved, losing, ended, after}
 use Rattle.gc_station.proofs.Counts.{ended_progress}
 use Rattle.gc_station.proofs.Facts.{order_for}
 use Rattle.gc_station.proofs.Fine.{Fine}
 use Rattle.gc_station.proofs.Going.{after_all-append}
 use Rattle.gc_station.proofs.Growing.{moved_grew}
-use Rattle.gc_station.proofs.Lists.{none_dropped, all_append, all_split, Cut as CutOf, AtEnd, Before, cut_at, rows_all}
+use Rattle.gc_station.proofs.Lists.{all_append, all_split, Cut as CutOf, AtEnd, Before, cut_at, rows_all}
 use Rattle.gc_station.proofs.Meets.{IsRecordOf, records_all, was_answered, was_late}
 use Rattle.gc_station.proofs.Midway.{clash}
 use Rattle.gc_station.proofs.Waiting.{Asked, Stayed, Waits, IsTrue, IsHonest}
-use Rattle.gc_station.proofs.Walk.{came_along, is_sent, moved_changed, walk}
+use Rattle.gc_station.proofs.Parting.{keeps_order}
+use Rattle.gc_station.proofs.Walk.{is_sent, moved_changed}
+use Rattle.gc_station.proofs.Words.{renews_only, renews_needs}
 use Rattle.gc_station.specs.Scopes.{Scope}
-
--- A station begins anew behind a close for silence, or no command waits.
-
--- where none waits, none waits behind a read
-read_marks : (plan : Plan) (commands : List Task) (until : Until) (s : Standing) (act : Act) → Obeys commands s (orders.Read until) act → s.marks ≡ [] → (moved plan commands (orders.Read until) s act).marks ≡ []
-read_marks plan commands until s act o none =
-    walk plan commands (λ a (t : Standing). t.marks ≡ []) (orders.Read until) s act o
-    (λ bytes m. came_along (λ (t : Standing). t.marks ≡ []) (λ t line e. none_dropped _ t.marks e) (is_heard s.progress.phase) bytes (with_moment m (with_progress (told m) s)) none none, λ m. none, none, none, none)
 
 -- no record is written of those with these marks
 abbrev Unwritten : List (Option Mark) → Type 0
@@ -55,54 +48,6 @@ Unwritten marks = (reads : Call → List ℕ → Reading) (utc : ℕ) (settlemen
 
 unwritten_none : (marks : List (Option Mark)) → marks ≡ [] → Unwritten marks
 unwritten_none marks is reads utc settlements = ap (λ (ms : List (Option Mark)). records_of reads utc ms settlements) is
-
-unwritten_null : (marks : List (Option Mark)) → marks ≡ None ∷ [] → Unwritten marks
-unwritten_null marks is reads utc settlements = ap (λ (ms : List (Option Mark)). records_of reads utc ms settlements) is ∙ of_null settlements where
-  of_null : (settlements : List Settlement) → records_of reads utc (None ∷ []) settlements ≡ []
-  of_null [] = refl
-  of_null (x ∷ xs) = refl
-
--- none waits where it begins anew already
-none_waits : (plan : Plan) (commands : List Task) (s : Standing) → Fine plan commands s → s.progress.anew ≡ true → s.marks ≡ []
-none_waits plan commands s fine e = nil_from_length s.marks (fine.paired ∙ ap (λ (c : ById). length c.waiting) (fine.anew e).0)
-
-unwritten_left : (plan : Plan) (commands : List Task) (s : Standing) (anew : Bool) (marks : List (Option Mark)) → Fine plan commands s → anew ≡ s.progress.anew → (s.marks ≡ [] → marks ≡ []) → anew ≡ true → Unwritten marks
-unwritten_left plan commands s anew marks fine same left e = unwritten_none marks (left (none_waits plan commands s fine (sym same ∙ e)))
-
--- a close for a cause
-again_unwritten : (plan : Plan) (commands : List Task) (s : Standing) (w : Waiting) (why : Cause) (b : Bool) → Fine plan commands s → is_up s.progress.phase ≡ true → (s.progress.alone || s.progress.anew) ≡ b
-    → (closed_again plan w why b (turned s.progress)).anew ≡ true → Unwritten s.marks
-again_unwritten plan commands s w why true fine up is e = one_of s.progress.alone refl is where
-  one_of : (b : Bool) → s.progress.alone ≡ b → (b || s.progress.anew) ≡ true → Unwritten s.marks
-  one_of true single either = unwritten_null s.marks (fine.alone single up).0
-  one_of false other either = unwritten_none s.marks (none_waits plan commands s fine either)
-again_unwritten plan commands s w why false fine up is e = unwritten_none s.marks (none_waits plan commands s fine e)
-
--- for silence, or no command waited
-abbrev SilenceOr : Order → Act → List (Option Mark) → Type 0
-SilenceOr order act marks = Unwritten marks ⊎ ((order ≡ orders.Close cause.Silence) × (act ≡ Closed))
-
-close_why : (plan : Plan) (commands : List Task) (s : Standing) (w : Waiting) (why : Cause) (act : Act) → Fine plan commands s → is_up s.progress.phase ≡ true → act ≡ Closed → (closed plan w why (turned s.progress)).anew ≡ true
-    → SilenceOr (orders.Close why) act s.marks
-close_why plan commands s w cause.Done act fine up is e = inl (unwritten_none s.marks (none_waits plan commands s fine e))
-close_why plan commands s w cause.Clock act fine up is e = inl (unwritten_none s.marks (none_waits plan commands s fine e))
-close_why plan commands s w cause.Turns act fine up is e = inl (unwritten_none s.marks (none_waits plan commands s fine e))
-close_why plan commands s w cause.Silence act fine up is e = inr (refl, is)
-close_why plan commands s w why act fine up is e = inl (again_unwritten plan commands s w why (s.progress.alone || s.progress.anew) fine up refl e)
-
-anew_why : (plan : Plan) (commands : List Task) (s : Standing) (order : Order) (act : Act) → Fine plan commands s → IsFor plan s.progress (waiting_of s) order → Obeys commands s order act
-    → (moved plan commands order (with_progress turned s) act).progress.anew ≡ true → SilenceOr order act (moved plan commands order (with_progress turned s) act).marks
-anew_why plan commands s orders.Probe act fine needs o e = absurd (clash _ e (walk plan commands (λ a (t : Standing). t.progress.anew ≡ false) orders.Probe (with_progress turned s) act o (λ m. refl, λ n. refl)))
-anew_why plan commands s orders.Send act fine needs o e = absurd (clash _ e (ap (λ (t : Standing). t.progress.anew) (moved_changed plan commands orders.Send (with_progress turned s) act) ∙ fine.ready needs.0))
-anew_why plan commands s orders.Flush act fine needs o e = absurd (clash _ e (ap (λ (t : Standing). t.progress.anew) (moved_changed plan commands orders.Flush (with_progress turned s) act) ∙ fine.ready needs.0))
-anew_why plan commands s (orders.Read until) act fine needs o e =
-    let is = moved_changed plan commands (orders.Read until) (with_progress turned s) act in
-    inl (unwritten_left plan commands s _ _ fine (ap (λ (t : Standing). t.progress.anew) is) (read_marks plan commands until (with_progress turned s) act o) e)
-anew_why plan commands s (orders.Close why) act fine needs o e = close_why plan commands s (waiting_of (with_rest [] (with_progress turned s))) why act fine needs.0 o e
-anew_why plan commands s (orders.Stop why) act fine needs o e = absurd o
-anew_why plan commands s order act fine needs o e =
-    let is = moved_changed plan commands order (with_progress turned s) act in
-    inl (unwritten_left plan commands s _ _ fine (ap (λ (t : Standing). t.progress.anew) is) (λ none. ap (λ (t : Standing). t.marks) is ∙ none) e)
 
 -- where no act follows, the run stops
 over_stops : (plan : Plan) (p : Progress) (w : Waiting) → is_over p ≡ true → (why : Cause) × (order_of plan p w ≡ orders.Stop why)
@@ -116,20 +61,9 @@ over_stops plan p w over = by_phase p.phase refl over where
   by_phase (Over why) is e = (why, refl)
   by_phase phase is e = cc
 
--- behind a close for silence it pauses, unless no act follows
-pauses_behind : (done some : Bool) (n : ℕ)
-    → (is_over_in (if done then Over cause.Done else if some then Pausing else Over cause.Silence) || (not (is_up (if done then Over cause.Done else if some then Pausing else Over cause.Silence)) && nat_eq n 0)) ≡ false
-    → (if done then Over cause.Done else if some then Pausing else Over cause.Silence) ≡ Pausing
-pauses_behind true some n e = cc
-pauses_behind false true n e = refl
-pauses_behind false false n e = cc
-
-silence_pauses : (plan : Plan) (w : Waiting) (p : Progress) → is_over (closed plan w cause.Silence p) ≡ false → (closed plan w cause.Silence p).phase ≡ Pausing
-silence_pauses plan w p e = let q = beginning_anew w.all p in pauses_behind (is_finished 0 q) (is_spared plan cause.Silence q || nat_lt 0 q.tries) q.turns e
-
-only_first : (a : Bool) → (a || false) ≡ true → a ≡ true
-only_first true e = refl
-only_first false e = cc
+only_first : (a : Bool) → (not a || false) ≡ true → a ≡ false
+only_first true e = cc
+only_first false e = refl
 
 -- where all that wait are lost, and a record is written of one
 loses_why : (plan : Plan) (commands : List Task) (scope : Scope) (acts : List Act) (act : Act) → Fine plan commands (stood plan commands scope acts)
@@ -147,26 +81,25 @@ loses_why plan commands scope acts act fine obeys loses = by_test (is_over t.pro
   next : stood plan commands scope (acts ++ act ∷ []) ≡ ended t
   next = after_all-append plan commands (opening plan scope) acts (act ∷ [])
 
-  far : (stood plan commands scope (acts ++ act ∷ [])).progress ≡ t.progress
-  far = ap (λ (x : Standing). x.progress) next ∙ ended_progress t
+  -- while it begins none waits
+  none_waits : has_begun s.progress ≡ false → Unwritten t.marks
+  none_waits begins =
+      let new = fine.begins begins in
+      unwritten_none t.marks
+      ((keeps_order plan commands s (order_at plan s) act (order_for plan s.progress (waiting_of s)) obeys begins new).1 ∙ nil_from_length s.marks (fine.paired ∙ ap (λ (c : ById). length c.waiting) new))
 
-  pauses : order_at plan s ≡ orders.Close cause.Silence → is_over t.progress ≡ false → t.progress.phase ≡ Pausing
-  pauses is on =
-      let w = waiting_of (with_rest [] (with_progress turned s)) in
-      let there : t.progress ≡ closed plan w cause.Silence (turned s.progress) = ap (λ (o : Order). (moved plan commands o (with_progress turned s) act).progress) is in
-      ap (λ (p : Progress). p.phase) there ∙ silence_pauses plan w (turned s.progress) (sym (ap is_over there) ∙ on)
+  renews : (begun : Bool) → has_begun s.progress ≡ begun → has_begun t.progress ≡ false → Unwritten t.marks ⊎ (BeginsAnew plan commands scope acts act ⊎ IsLast plan commands scope acts act [])
+  renews false begun begins = inl (none_waits begun)
+  renews true begun begins =
+      let it = renews_only plan commands s (order_at plan s) act obeys begun begins in
+      let full = renews_needs plan commands s (order_at plan s) fine it.0 (order_for plan s.progress (waiting_of s)) in
+      inr (inl (record { renews = it.0; moment = it.1; told = it.2; seven = full.0; given_up = full.1 }))
 
-  begins : t.progress.anew ≡ true → is_over t.progress ≡ false → SilenceOr (order_at plan s) act t.marks → Unwritten t.marks ⊎ (BeginsAnew plan commands scope acts act ⊎ IsLast plan commands scope acts act [])
-  begins anew on (inl none) = inl none
-  begins anew on (inr both) = inr (inl (record { closes = both.0; closed = both.1; pauses = ap (λ (p : Progress). p.phase) far ∙ pauses both.0 on; anew = ap (λ (p : Progress). p.anew) far ∙ anew }))
-
-  by_test : (b : Bool) → is_over t.progress ≡ b → (t.progress.anew || b) ≡ true → Unwritten t.marks ⊎ (BeginsAnew plan commands scope acts act ⊎ IsLast plan commands scope acts act [])
+  by_test : (b : Bool) → is_over t.progress ≡ b → (not (has_begun t.progress) || b) ≡ true → Unwritten t.marks ⊎ (BeginsAnew plan commands scope acts act ⊎ IsLast plan commands scope acts act [])
   by_test true over e =
       let stops = over_stops plan (ended t).progress (waiting_of (ended t)) (ap is_over (ended_progress t) ∙ over) in
       inr (inr (record { none = refl; why = stops.0; stops = ap (λ (x : Standing). order_at plan x) next ∙ stops.1 }))
-  by_test false on e =
-      let anew = only_first t.progress.anew e in
-      begins anew on (anew_why plan commands s (order_at plan s) act fine (order_for plan s.progress (waiting_of s)) obeys anew)
+  by_test false on e = renews (has_begun s.progress) refl (only_first (has_begun t.progress) e)
 
 -- nothing is lost where a command goes out
 going_on : (p : Progress) → p.phase ≡ Ready → is_over p ≡ false
@@ -179,15 +112,15 @@ put_goes : (requests : ℕ) (f : Standing → Standing) (s : Standing) (act : Ac
 put_goes requests f s (Cut bytes n) is = failing_goes (cause.Write requests n) (f s).progress is
 put_goes requests f s act is = going_on (f s).progress is
 
-neither : (a b : Bool) → a ≡ false → b ≡ false → (a || b) ≡ false
-neither true b x y = cc
-neither false b x y = y
+neither : (a b : Bool) → a ≡ true → b ≡ false → (not a || b) ≡ false
+neither true b x y = y
+neither false b x y = cc
 
 send_loses_none : (plan : Plan) (commands : List Task) (s : Standing) (act : Act) → Fine plan commands s → IsFor plan s.progress (waiting_of s) orders.Send → loses_all (moved plan commands orders.Send (with_progress turned s) act).progress ≡ false
 send_loses_none plan commands s act fine needs =
     let t = with_progress turned s in
     let f = λ (x : Standing). with_progress (sent (bound_next commands x.progress)) (asks_next plan commands x) in
-    neither (moved plan commands orders.Send t act).progress.anew _ (ap (λ (x : Standing). x.progress.anew) (moved_changed plan commands orders.Send t act) ∙ fine.ready needs.0)
+    neither (has_begun (moved plan commands orders.Send t act).progress) _ (ap (λ (x : Standing). has_begun x.progress) (moved_changed plan commands orders.Send t act) ∙ needs.1)
     (put_goes _ f t act (sym (ap (λ (x : Standing). x.progress.phase) (is_sent plan commands t)) ∙ needs.0))
 
 -- The records of those that are lost.

@@ -23,7 +23,7 @@ use Rattle.gc_station.specs.Deciding.{later}
 use Rattle.gc_station.specs.Marks.{is_well, last_well}
 use Rattle.gc_station.specs.Progressing.{failing, skipped_at}
 use Rattle.gc_station.specs.Records.{Record}
-use Rattle.gc_station.specs.Standing.{Standing, is_nil, Puts, IsReading, client_sent, asks, asks_first, skips_first, with_progress, with_records, after_put, after_read, moved}
+use Rattle.gc_station.specs.Standing.{Standing, Puts, IsReading, client_sent, asks, asks_first, skips_first, with_progress, with_records, after_put, after_read, moved}
 use Rattle.gc_station.specs.Stations.{Stands, Took, Makes, Made, Follows, cut_progress, seen}
 use Rattle.gc_station.specs.Tallies.{none_yet, tallied}
 use Rattle.gc_station.proofs.Records.{tallied-append, last-append}
@@ -162,7 +162,3 @@ pub made_read : {X E : Type 0} (plan : Plan) (commands : List Task) (until : Unt
     → Made commands (Read until) (moved plan commands (Read until)) (seen told text taken station) (seen told' text taken' new) result
 made_read plan commands until text told told' taken taken' station new act (Ok r) tells reads goes = makes_read plan commands until text told told' taken taken' station new act tells reads goes
 made_read plan commands until text told told' taken taken' station new act (Err r) tells reads goes = record { act = act; tells = tells; goes = λ s start stands so. (reads, goes s start stands so) }
-
-pub nil_count : (xs : List ℕ) → nat_eq (length xs) 0 ≡ is_nil xs
-nil_count [] = refl
-nil_count (x ∷ xs) = ne_eqb (length (x ∷ xs)) 0 (λ e. omega (arith, e))

@@ -9,12 +9,13 @@ use Rattle.gc_station.specs.declared.plan.Plan.{Plan}
 use Rattle.gc_station.specs.declared.progress.Order.{Order}
 use Rattle.gc_station.specs.declared.progress.Order.TheVariants as order
 use Rattle.gc_links.specs.Acts.{Act, Put, Cut, Gave, Closed}
-use Rattle.gc_station.specs.Deciding.{later}
-use Rattle.gc_station.specs.Parts.{Part, nothing, asking, asking_first, putting}
+use Rattle.gc_station.specs.Deciding.{later, has_begun}
+use Rattle.gc_station.specs.Parts.{Asks, Part, only_turns, nothing, asking, asking_first, putting, beginning}
 use Rattle.gc_station.specs.Reasons.{IsFor}
-use Rattle.gc_station.specs.Standing.{Standing, order_at, waiting_of, place_next, mark_next, request_text, first_text, Puts, ReadsClock, IsOpening, IsReading, Obeys, is_heard, after}
+use Rattle.gc_station.specs.Standing.{Standing, order_at, waiting_of, place_next, mark_next, request_text, null_text, first_text, Puts, ReadsClock, IsOpening, IsReading, Obeys, is_heard, after}
 use Rattle.gc_station.proofs.Facts.{order_for}
 use Rattle.gc_station.proofs.Fine.{Fine}
+use Rattle.gc_station.proofs.Midway.{clash}
 use Rattle.gc_station.proofs.Givens.{rest_with, after_rest}
 
 -- a request goes out, and this is its line
@@ -71,25 +72,52 @@ module _ (plan : Plan) (commands : List Task) where
   null_put : (s : Standing) (bytes : List ℕ) → length s.client.waiting < 7 → bytes ≡ request_text s.client NullProc → IsSent s bytes (asking 0 NullProc (later s.progress.moment.elapsed plan.deadline) None)
   null_put s bytes room e = record { target = 0; call = NullProc; deadline = later s.progress.moment.elapsed plan.deadline; mark = None; part = refl; text = e; room = room }
 
-  put_order : (s : Standing) (o : Order) (act : Act) (bytes : List ℕ) → Fine plan commands s → IsFor plan s.progress (waiting_of s) o → Obeys commands s o act → put_by act ≡ Some bytes → IsPut s bytes (putting plan commands s o)
-  put_order s order.Clear act bytes fine is obeys e = inl (puts_same (10 ∷ []) bytes act e obeys, refl)
-  put_order s order.Probe act bytes fine is obeys e = inr (null_put s bytes is.1.1 (puts_same (request_text s.client NullProc) bytes act e obeys))
-  put_order s order.Flush act bytes fine is obeys e = inr (null_put s bytes is.5.1 (puts_same (request_text s.client NullProc) bytes act e obeys))
-  put_order s order.Send act bytes fine is obeys e =
+  put_order : (s : Standing) (o : Order) (act : Act) (bytes : List ℕ) → Fine plan commands s → IsFor plan s.progress (waiting_of s) o → Obeys commands s o act → put_by act ≡ Some bytes → has_begun s.progress ≡ true → IsPut s bytes (putting plan commands s o)
+  put_order s order.Clear act bytes fine is obeys e begun = inl (puts_same (10 ∷ []) bytes act e obeys, refl)
+  put_order s order.Ask act bytes fine is obeys e begun = absurd (clash (has_begun s.progress) begun is.1)
+  put_order s order.Renew act bytes fine is obeys e begun = absurd (never_puts act bytes e (inl obeys))
+  put_order s order.Flush act bytes fine is obeys e begun = inr (null_put s bytes is.5.1 (puts_same (request_text s.client NullProc) bytes act e obeys))
+  put_order s order.Send act bytes fine is obeys e begun =
       let left = drop (place_next commands s.progress) commands in
       let many : length left ≡ length commands - place_next commands s.progress = length-drop (place_next commands s.progress) commands in
       inr (first_put s left bytes (omega (arith, many, is.2, fine.unsent)) is.3.1 (puts_same (first_text s.client left) bytes act e obeys))
-  put_order s order.ReadClock act bytes fine is obeys e = absurd (never_puts act bytes e (inl obeys))
-  put_order s order.Skip act bytes fine is obeys e = absurd (never_puts act bytes e (inl obeys))
-  put_order s order.Begin act bytes fine is obeys e = absurd (never_puts act bytes e (inl obeys))
-  put_order s order.Open act bytes fine is obeys e = absurd (never_puts act bytes e (inr (inl obeys)))
-  put_order s (order.Read until) act bytes fine is obeys e = absurd (never_puts act bytes e (inr (inr (inl obeys))))
-  put_order s (order.Close why) act bytes fine is obeys e = absurd (never_puts act bytes e (inr (inr (inr obeys))))
-  put_order s (order.Stop why) act bytes fine is obeys e = absurd obeys
+  put_order s order.ReadClock act bytes fine is obeys e begun = absurd (never_puts act bytes e (inl obeys))
+  put_order s order.Skip act bytes fine is obeys e begun = absurd (never_puts act bytes e (inl obeys))
+  put_order s order.Begin act bytes fine is obeys e begun = absurd (never_puts act bytes e (inl obeys))
+  put_order s order.Open act bytes fine is obeys e begun = absurd (never_puts act bytes e (inr (inl obeys)))
+  put_order s (order.Read until) act bytes fine is obeys e begun = absurd (never_puts act bytes e (inr (inr (inl obeys))))
+  put_order s (order.Close why) act bytes fine is obeys e begun = absurd (never_puts act bytes e (inr (inr (inr obeys))))
+  put_order s (order.Stop why) act bytes fine is obeys e begun = absurd obeys
 
-  -- of an act of a run
-  pub put_is : (s : Standing) (act : Act) (bytes : List ℕ) → Fine plan commands s → Obeys commands s (order_at plan s) act → put_by act ≡ Some bytes → IsPut s bytes (putting plan commands s (order_at plan s))
-  put_is s act bytes fine obeys e = put_order s (order_at plan s) act bytes fine (order_for plan s.progress (waiting_of s)) obeys e
+  -- of an act of a run, once it has begun
+  pub put_is : (s : Standing) (act : Act) (bytes : List ℕ) → Fine plan commands s → Obeys commands s (order_at plan s) act → put_by act ≡ Some bytes → has_begun s.progress ≡ true → IsPut s bytes (putting plan commands s (order_at plan s))
+  put_is s act bytes fine obeys e begun = put_order s (order_at plan s) act bytes fine (order_for plan s.progress (waiting_of s)) obeys e begun
+
+  -- and while it begins: a line feed, or the null procedure that is asked for
+  abbrev pub IsAsked : Standing → List ℕ → Part → Type 0
+  IsAsked s bytes p = ((bytes ≡ 10 ∷ []) × (p ≡ nothing)) ⊎ ((bytes ≡ null_text s.progress.word) × (p ≡ only_turns (Asks ∷ [])))
+
+  asked_turn : (s : Standing) (act : Act) (bytes : List ℕ) → put_by act ≡ Some bytes → beginning s order.Ask act ≡ only_turns (Asks ∷ [])
+  asked_turn s (Put out) bytes e = refl
+  asked_turn s (Cut out count) bytes e = refl
+  asked_turn s act bytes e = cc
+
+  asked_order : (s : Standing) (o : Order) (act : Act) (bytes : List ℕ) → IsFor plan s.progress (waiting_of s) o → Obeys commands s o act → put_by act ≡ Some bytes → has_begun s.progress ≡ false → IsAsked s bytes (beginning s o act)
+  asked_order s order.Clear act bytes is obeys e begins = inl (puts_same (10 ∷ []) bytes act e obeys, refl)
+  asked_order s order.Ask act bytes is obeys e begins = inr (puts_same (null_text s.progress.word) bytes act e obeys, asked_turn s act bytes e)
+  asked_order s order.Flush act bytes is obeys e begins = absurd (clash (has_begun s.progress) is.1 begins)
+  asked_order s order.Send act bytes is obeys e begins = absurd (clash (has_begun s.progress) is.1 begins)
+  asked_order s order.Renew act bytes is obeys e begins = absurd (never_puts act bytes e (inl obeys))
+  asked_order s order.ReadClock act bytes is obeys e begins = absurd (never_puts act bytes e (inl obeys))
+  asked_order s order.Skip act bytes is obeys e begins = absurd (never_puts act bytes e (inl obeys))
+  asked_order s order.Begin act bytes is obeys e begins = absurd (never_puts act bytes e (inl obeys))
+  asked_order s order.Open act bytes is obeys e begins = absurd (never_puts act bytes e (inr (inl obeys)))
+  asked_order s (order.Read until) act bytes is obeys e begins = absurd (never_puts act bytes e (inr (inr (inl obeys))))
+  asked_order s (order.Close why) act bytes is obeys e begins = absurd (never_puts act bytes e (inr (inr (inr obeys))))
+  asked_order s (order.Stop why) act bytes is obeys e begins = absurd obeys
+
+  pub asked_is : (s : Standing) (act : Act) (bytes : List ℕ) → Obeys commands s (order_at plan s) act → put_by act ≡ Some bytes → has_begun s.progress ≡ false → IsAsked s bytes (beginning s (order_at plan s) act)
+  asked_is s act bytes obeys e begins = asked_order s (order_at plan s) act bytes (order_for plan s.progress (waiting_of s)) obeys e begins
 
   -- What is left of a line.
 

@@ -16,9 +16,8 @@ use Rattle.gc_texts.specs.Endings.{End}
 use Rattle.gc_station.specs.declared.mark.Mark.{Mark}
 use Rattle.gc_station.specs.declared.plan.Plan.{Plan}
 use Rattle.gc_station.specs.declared.progress.Phase.{Phase}
-use Rattle.gc_station.specs.declared.progress.Phase.TheVariants.{Probing, Ready, Over}
 use Rattle.gc_station.specs.declared.progress.Progress.{Progress}
-use Rattle.gc_station.specs.Deciding.{is_up}
+use Rattle.gc_station.specs.Deciding.{has_begun, is_up}
 use Rattle.gc_station.specs.EachOnce.{sent_by}
 use Rattle.gc_station.specs.Marks.{commands_in, records_of}
 use Rattle.gc_station.specs.Progressing.{is_over_in, is_over, loses_all}
@@ -38,24 +37,19 @@ pub record Sound (plan : Plan) (commands : List Task) (left unsent : ℕ) (clien
   pub each : EachIs marks client.waiting records (sent_by commands (plan.cycles - left) (length commands - unsent))
 
 -- what the phase says of the others
-pub record Placed (phase : Phase) (anew alone : Bool) (left unsent : ℕ) (rest : List ℕ) (next : ℕ) (marks : List (Option Mark)) : Type 0 where
-  pub begins : anew ≡ true → alone ≡ false
-  pub ready : phase ≡ Ready → anew ≡ false
-  pub probing : phase ≡ Probing → anew ≡ true
-  pub lone : alone ≡ true → is_up phase ≡ true → (marks ≡ None ∷ []) × (next ≡ 1)
-  pub bare : is_bare phase ≡ true → alone ≡ false
+pub record Placed (phase : Phase) (left unsent : ℕ) (rest : List ℕ) (marks : List (Option Mark)) : Type 0 where
   pub empty : is_bare phase ≡ true → rest ≡ []
   pub finished : says_done phase ≡ true → (left ≡ 0) × (unsent ≡ 0) × ((is_over_in phase ≡ true) ⊎ (commands_in marks ≡ 0))
 
 abbrev pub SoundAt : Plan → List Task → Progress → ById → List (Option Mark) → List Record → Type 0
 SoundAt plan commands p client marks records = Sound plan commands p.left p.unsent client marks records
 
-abbrev pub PlacedAt : Progress → List ℕ → ℕ → List (Option Mark) → Type 0
-PlacedAt p rest next marks = Placed p.phase p.anew p.alone p.left p.unsent rest next marks
+abbrev pub PlacedAt : Progress → List ℕ → List (Option Mark) → Type 0
+PlacedAt p rest marks = Placed p.phase p.left p.unsent rest marks
 
 -- both, of a standing
 abbrev pub Mid : Plan → List Task → Standing → Type 0
-Mid plan commands s = SoundAt plan commands s.progress s.client s.marks s.records × PlacedAt s.progress s.rest s.client.next s.marks
+Mid plan commands s = SoundAt plan commands s.progress s.client s.marks s.records × PlacedAt s.progress s.rest s.marks
 
 pub mid_of : (plan : Plan) (commands : List Task) (s : Standing) → Fine plan commands s → Mid plan commands s
 mid_of plan commands s fine = (
@@ -69,11 +63,6 @@ mid_of plan commands s fine = (
     each = fine.each;
   },
   record {
-    begins = λ e. (fine.anew e).1;
-    ready = fine.ready;
-    probing = fine.probing;
-    lone = fine.alone;
-    bare = fine.bare;
     empty = fine.rest;
     finished = λ e. let it = fine.finished e in (it.0, it.1, inr it.2);
   },
@@ -211,28 +200,9 @@ sound_begun plan commands left unsent client marks records none settled some sou
 
 -- The end of what waits.
 
-over_down : (p : Progress) (o : Bool) → is_over_in p.phase ≡ o → is_over p ≡ true → is_up p.phase ≡ false
-over_down p true is e = phase_down p.phase is where
-  phase_down : (phase : Phase) → is_over_in phase ≡ true → is_up phase ≡ false
-  phase_down (Over why) e = refl
-  phase_down phase e = cc
-over_down p false is e = not_up (is_up p.phase) (nat_eq p.turns 0) (sym (ap (λ b. b || (not (is_up p.phase) && nat_eq p.turns 0)) is) ∙ e) where
-  not_up : (up none : Bool) → (false || (not up && none)) ≡ true → up ≡ false
-  not_up true none e = cc
-  not_up false none e = refl
-
--- where all that wait are lost, it begins anew or is over
-lost_for : (a o : Bool) → (a || o) ≡ true → (a ≡ true) ⊎ (o ≡ true)
-lost_for true o e = inl refl
-lost_for false o e = inr e
-
-kept_for : (a o : Bool) → (a || o) ≡ false → (a ≡ false) × (o ≡ false)
-kept_for true o e = cc
-kept_for false o e = (refl, e)
-
-never_lone : (p : Progress) → (p.anew ≡ true → p.alone ≡ false) → (p.anew ≡ true) ⊎ (is_over p ≡ true) → p.alone ≡ true → is_up p.phase ≡ true → ⊥
-never_lone p begins (inl anew) alone up = clash p.alone alone (begins anew)
-never_lone p begins (inr over) alone up = clash (is_up p.phase) up (over_down p (is_over_in p.phase) refl over)
+kept_for : (a o : Bool) → (not a || o) ≡ false → (a ≡ true) × (o ≡ false)
+kept_for true o e = (refl, e)
+kept_for false o e = cc
 
 still_finished : (p : Progress) (marks : List (Option Mark)) → is_over p ≡ false → (p.left ≡ 0) × (p.unsent ≡ 0) × ((is_over_in p.phase ≡ true) ⊎ (commands_in marks ≡ 0)) → (p.left ≡ 0) × (p.unsent ≡ 0) × (commands_in marks ≡ 0)
 still_finished p marks not_over (left, unsent, inl over) = absurd (clash (is_over p) (ap (λ b. b || (not (is_up p.phase) && nat_eq p.turns 0)) over) not_over)
@@ -251,11 +221,7 @@ fine_losing plan commands s true is (sound, placed) =
       paired = x.paired;
       window = x.window;
       digit = x.digit;
-      anew = λ e. (refl, placed.begins e);
-      ready = placed.ready;
-      probing = placed.probing;
-      alone = λ e up. absurd (never_lone p placed.begins (lost_for p.anew (is_over p) is) e up);
-      bare = placed.bare;
+      begins = λ e. refl;
       rest = placed.empty;
       over = λ e. refl;
       finished = λ e. let it = placed.finished e in (it.0, it.1, ap commands_in nothing);
@@ -266,7 +232,7 @@ fine_losing plan commands s true is (sound, placed) =
       append_none (x ∷ xs) = ap (λ ys. x ∷ ys) (append_none xs)
 fine_losing plan commands s false is (sound, placed) =
     let p = s.progress in
-    let kept = kept_for p.anew (is_over p) is in
+    let kept = kept_for (has_begun p) (is_over p) is in
     record {
       unsent = sound.unsents;
       left = sound.lefts;
@@ -274,11 +240,7 @@ fine_losing plan commands s false is (sound, placed) =
       paired = sound.paired;
       window = sound.window;
       digit = sound.digit;
-      anew = λ e. absurd (clash p.anew e kept.0);
-      ready = placed.ready;
-      probing = placed.probing;
-      alone = placed.lone;
-      bare = placed.bare;
+      begins = λ e. absurd (clash (has_begun p) kept.0 e);
       rest = placed.empty;
       over = λ e. absurd (clash (is_over p) e kept.1);
       finished = λ e. still_finished p s.marks kept.1 (placed.finished e);

@@ -1,10 +1,14 @@
 -- A connection is closed for a dead line only where no reply line came for so long.
-use Rattle.std.proofs.Common.{◌≡◌, ℕ, ◌-◌, ◌<◌, ◌≤◌, ◌⊎◌, inl, inr, Bool, true, false, List, [], ◌∷◌, ◌++◌, length, drop, if◌then◌else◌, nat_lt, nat_le, min, refl, sym, ap, ◌∙◌, subst, arith, append_assoc}
+use Rattle.std.proofs.Common.{◌≡◌, ℕ, ◌-◌, ◌<◌, ◌≤◌, ◌⊎◌, inl, inr, ◌||◌, Bool, true, false, List, [], ◌∷◌, ◌++◌, length, drop, Option, None, Result, Ok, Err, if◌then◌else◌, nat_lt, nat_le, min, refl, sym, ap, ◌∙◌, subst, arith, append_assoc}
 use Rattle.std.specs.List.{AllByRecursion}
 use Rattle.std.proofs.Math.Nat.{min-eq_left, min-eq_right}
 use Rattle.std.proofs.lemmas.Bool.{leb-true, leb-false, ltb-true}
 use Rattle.gc_lines.specs.Frames.{rest_behind}
-use Rattle.gc_client.specs.Rule.{ById}
+use Rattle.gc_lines.specs.declared.fault.LineFault.{LineFault}
+use Rattle.gc_lines.specs.Replies.{ReplyFields}
+use Rattle.gc_lines.specs.Readers.{reply_at}
+use Rattle.gc_client.specs.Beginning.{the_word, is_answered, left_by}
+use Rattle.gc_client.specs.Rule.{ById, heard, id_in}
 use Rattle.gc_catalogue.specs.declared.call.Call.TheVariants.{NullProc}
 use Rattle.gc_texts.specs.declared.tasks.Task.{Task}
 use Rattle.gc_links.specs.declared.link.Moment.{Moment}
@@ -16,39 +20,25 @@ use Rattle.gc_station.specs.declared.progress.Order.{Order}
 use Rattle.gc_station.specs.declared.progress.Order.TheVariants as orders
 use Rattle.gc_station.specs.declared.progress.Progress.{Progress}
 use Rattle.gc_links.specs.Acts.{Act, Told, Put, Gave, Silent}
-use Rattle.gc_station.specs.Deciding.{patience_of}
-use Rattle.gc_station.specs.Progressing.{turned, told, asking}
-use Rattle.gc_station.specs.Quiet.{TellsMoment, IsListening, IsSilent, StaysConnected}
+use Rattle.gc_station.specs.Deciding.{has_begun, is_none_left, later, patience_of}
+use Rattle.gc_station.specs.Progressing.{turned, told, line_asked, lines_asked}
+use Rattle.gc_station.specs.Quiet.{TellsMoment, IsListening, StaysConnected}
 use Rattle.gc_station.specs.Reasons.{IsFor}
 use Rattle.gc_station.specs.Runs.{stood}
 use Rattle.gc_station.specs.Silences.{latest, IsNoReply, BringsNoReply, IsMute, WentBack, IsMuteFor}
-use Rattle.gc_station.specs.Standing.{Standing, request_text, first_text, opening, order_at, waiting_of, with_progress, with_moment, with_rest, line_came, lines_came, lines_behind, came, is_heard, is_reply, place_next, Obeys, moved, after, after_all, Runs}
+use Rattle.gc_station.specs.Standing.{Standing, request_text, null_text, first_text, opening, order_at, waiting_of, with_progress, with_moment, with_rest, line_came, lines_came, lines_behind, came, is_heard, is_ok, is_reply, place_next, Obeys, moved, after, after_all, Runs}
 use Rattle.gc_station.proofs.Always.{always_far}
 use Rattle.gc_station.proofs.Connected.{is_in_use, OnLine, on_line}
 use Rattle.gc_station.proofs.Midway.{clash}
 use Rattle.gc_station.proofs.Since.{Since, since_now, since_on, cut_on}
 use Rattle.gc_station.proofs.EachRun.{fine_stood}
-use Rattle.gc_station.proofs.Facts.{both_true, order_for, order_wakes, Awake, Wakes}
+use Rattle.gc_station.proofs.Facts.{both_true, either_true, or_true, order_for, order_wakes, Awake, Wakes}
 use Rattle.gc_station.proofs.Going.{after_all-append}
 use Rattle.gc_station.proofs.Lists.{all_append}
-use Rattle.gc_station.proofs.Silences.{IsHushed, latest_more, hush_stood, awake_hushed, not_closing, end_here, awake_here}
-use Rattle.gc_station.proofs.Walk.{lines_along}
+use Rattle.gc_station.proofs.Silences.{LastTells, latest_more, awake_last, not_closing, end_here, awake_here}
+use Rattle.gc_station.proofs.Fine.{Fine}
+use Rattle.gc_station.proofs.Walk.{lines_along, asked_along, came_along}
 use Rattle.gc_station.specs.Scopes.{Scope}
-
--- The act that told the last moment.
-
-abbrev LastTells : ℕ → List Act → Type 0
-LastTells now acts = (front : List Act) × (last : Act) × (acts ≡ front ++ last ∷ []) × TellsMoment now last
-
-silent_last : (front : List Act) (start : Act) (since now : ℕ) (silence : List Act) → TellsMoment since start → AllByRecursion IsSilent silence → latest since silence ≡ now → LastTells now (front ++ start ∷ silence)
-silent_last front start since now [] tells silent is = (front, start, refl, subst (λ n. TellsMoment n start) is tells)
-silent_last front start since now (Silent m ∷ silence) tells silent is =
-    let on = silent_last (front ++ start ∷ []) (Silent m) m.elapsed now silence refl silent.1 is in
-    (on.0, on.1, sym (append_assoc front (start ∷ []) (Silent m ∷ silence)) ∙ on.2, on.3)
-silent_last front start since now (act ∷ silence) tells silent is = absurd silent.0
-
-hushed_last : (plan : Plan) (commands : List Task) (scope : Scope) (since now : ℕ) (acts : List Act) → IsHushed plan commands scope since now acts → LastTells now acts
-hushed_last plan commands scope since now acts h = subst (LastTells now) (sym h.order) (silent_last h.before h.start since now h.behind h.holds.0 h.holds.1 h.holds.2)
 
 -- The lines of a piece: none reads as a reply, or the line was alive at that moment.
 
@@ -71,6 +61,58 @@ lines_alive s (line ∷ others) = on (is_reply line) refl (lines_alive (line_cam
   on b e (inr now) = inr now
   on true e (inl none) = inr (none.1 ∙ here true e, none.2 ∙ asks true e)
   on false e (inl none) = inl ((e, none.0), none.1 ∙ here false e, none.2 ∙ asks false e)
+
+-- a line that doesn't read as a reply has no id, and answers nothing
+no_reply : (line : List ℕ) → is_reply line ≡ false → heard line ≡ None
+no_reply line e = by_reply (reply_at line) e where
+  by_reply : (r : Result ReplyFields LineFault) → is_ok r ≡ false → id_in r ≡ None
+  by_reply (Ok fields) e = cc
+  by_reply (Err fault) e = refl
+
+left_same : (word : List ℕ) (id : Option ℕ) → id ≡ None → left_by word id ≡ word
+left_same [] id e = refl
+left_same (asked ∷ others) id e = ap (λ (i : Option ℕ). left_by (asked ∷ others) i) e
+
+again_same : (word : List ℕ) (id : Option ℕ) (again : ℕ) → id ≡ None → (if is_answered word id then 0 else again) ≡ again
+again_same [] id again e = refl
+again_same (asked ∷ others) id again e = ap (λ (i : Option ℕ). if is_answered (asked ∷ others) i then 0 else again) e
+
+-- the same while it begins
+abbrev AliveAsked : Progress → List (List ℕ) → Progress → Type 0
+AliveAsked p lines q =
+    (AllByRecursion IsNoReply lines × (q.alive ≡ p.alive) × (q.asked ≡ p.asked) × (q.word ≡ p.word) × (q.again ≡ p.again)) ⊎ ((q.alive ≡ p.moment.elapsed) × (q.asked ≡ false))
+
+asked_alive : (p : Progress) (lines : List (List ℕ)) → AliveAsked p lines (lines_asked p lines)
+asked_alive p [] = inl (tt, refl, refl, refl, refl)
+asked_alive p (line ∷ others) = on (is_reply line) refl (asked_alive (line_asked p line) others) where
+  q : Progress
+  q = lines_asked (line_asked p line) others
+
+  here : (b : Bool) → is_reply line ≡ b → (line_asked p line).alive ≡ (if b then p.moment.elapsed else p.alive)
+  here b e = ap (λ (x : Bool). if x then p.moment.elapsed else p.alive) e
+
+  asks : (b : Bool) → is_reply line ≡ b → (line_asked p line).asked ≡ (if b then false else p.asked)
+  asks b e = ap (λ (x : Bool). if x then false else p.asked) e
+
+  on : (b : Bool) → is_reply line ≡ b → AliveAsked (line_asked p line) others q → AliveAsked p (line ∷ others) q
+  on b e (inr now) = inr now
+  on true e (inl none) = inr (none.1 ∙ here true e, none.2 ∙ asks true e)
+  on false e (inl none) =
+      let silent = no_reply line e in
+      inl ((e, none.0), none.1 ∙ here false e, none.2 ∙ asks false e, none.3 ∙ left_same p.word (heard line) silent, none.4 ∙ again_same p.word (heard line) p.again silent)
+
+-- where a reply line may come on the connection: it has begun, or a null procedure went out on it
+abbrev is_sought : List ℕ → ℕ → Bool → Bool
+is_sought word again asked = is_none_left word || (nat_lt 0 again || asked)
+
+sought_begun : (word : List ℕ) (again : ℕ) (asked : Bool) → is_none_left word ≡ true → is_sought word again asked ≡ true
+sought_begun word again asked e = ap (λ b. b || (nat_lt 0 again || asked)) e
+
+sought_again : (word : List ℕ) (again : ℕ) (asked : Bool) → nat_lt 0 again ≡ true → is_sought word again asked ≡ true
+sought_again word again asked e = ap (λ b. is_none_left word || (b || asked)) e ∙ or_true (is_none_left word)
+
+sought_asked : (word : List ℕ) (again : ℕ) (asked : Bool) → asked ≡ true → is_sought word again asked ≡ true
+sought_asked word again asked e = ap (λ b. is_none_left word || (nat_lt 0 again || b)) e ∙ ap (λ b. is_none_left word || b) (or_true (nat_lt 0 again)) ∙ or_true (is_none_left word)
 
 -- since when no reply line came: where no request went out since the last one, none behind that moment; else one went out at once, or the
 -- clock went back then
@@ -172,66 +214,93 @@ module _ (plan : Plan) (commands : List Task) (scope : Scope) where
 
   -- By the phase.
 
-  abbrev Mute : Bool → ℕ → ℕ → Phase → List Act → Type 0
-  Mute asked alive now phase.Probing acts = asked ≡ false
-  Mute asked alive now phase.Ready acts = IsMuted asked alive now acts
-  Mute asked alive now _ acts = Unit {0}
+  abbrev Mute : Bool → Bool → ℕ → ℕ → Phase → List Act → Type 0
+  Mute sought asked alive now phase.Ready acts = sought ≡ true → IsMuted asked alive now acts
+  Mute sought asked alive now _ acts = Unit {0}
 
   abbrev MuteAt : Progress → List Act → Type 0
-  MuteAt p acts = Mute p.asked p.alive p.moment.elapsed p.phase acts
+  MuteAt p acts = Mute (is_sought p.word p.again p.asked) p.asked p.alive p.moment.elapsed p.phase acts
 
   -- What each act leaves.
 
-  mute_none : (asked : Bool) (alive now : ℕ) (at : Phase) (acts : List Act) → is_in_use at ≡ false → Mute asked alive now at acts
-  mute_none asked alive now phase.Probing acts none = cc
-  mute_none asked alive now phase.Ready acts none = cc
-  mute_none asked alive now at acts none = tt
+  mute_none : (sought asked : Bool) (alive now : ℕ) (at : Phase) (acts : List Act) → is_in_use at ≡ false → Mute sought asked alive now at acts
+  mute_none sought asked alive now phase.Ready acts none = cc
+  mute_none sought asked alive now at acts none = tt
 
   -- a moment is told, and no reply line came with it
-  mute_told : (asked : Bool) (alive now : ℕ) (m : Moment) (at : Phase) (acts : List Act) (act : Act) → TellsMoment m.elapsed act → latest now (act ∷ []) ≡ m.elapsed → StaysConnected act → IsListening act → (at ≡ phase.Ready → BringsNoReply (stood plan commands scope acts).rest act)
-      → Mute asked alive now at acts → Mute asked (min alive m.elapsed) m.elapsed at (acts ++ act ∷ [])
-  mute_told asked alive now m phase.Probing acts act tells is stays listens none q = q
-  mute_told asked alive now m phase.Ready acts act tells is stays listens none q = muted_clock asked alive now m acts act (nat_le alive m.elapsed) refl tells is stays listens (none refl) q
-  mute_told asked alive now m at acts act tells is stays listens none q = tt
-
-  anew_mute : (anew : Bool) (m : Moment) (acts : List Act) → Mute false m.elapsed m.elapsed (if anew then phase.Probing else phase.Ready) (acts ++ Silent m ∷ [])
-  anew_mute true m acts = refl
-  anew_mute false m acts = muted_now m.elapsed acts (Silent m) refl
+  mute_told : (sought sought' asked : Bool) (alive now : ℕ) (m : Moment) (at : Phase) (acts : List Act) (act : Act) → (at ≡ phase.Ready → sought' ≡ true → sought ≡ true) → TellsMoment m.elapsed act → latest now (act ∷ []) ≡ m.elapsed → StaysConnected act → IsListening act
+      → BringsNoReply (stood plan commands scope acts).rest act → Mute sought asked alive now at acts → Mute sought' asked (min alive m.elapsed) m.elapsed at (acts ++ act ∷ [])
+  mute_told sought sought' asked alive now m phase.Ready acts act back tells is stays listens none q = λ so. muted_clock asked alive now m acts act (nat_le alive m.elapsed) refl tells is stays listens none (q (back refl so))
+  mute_told sought sought' asked alive now m at acts act back tells is stays listens none q = tt
 
   -- a piece was heard: with a reply line the line was alive at this moment
-  heard_mute : (s : Standing) (bytes : List ℕ) (m : Moment) (acts : List Act) (lines : List (List ℕ)) (mid : Standing) → mid.progress.alive ≡ min s.progress.alive m.elapsed → mid.progress.asked ≡ s.progress.asked → mid.progress.moment ≡ m
-      → (stood plan commands scope acts).rest ≡ s.rest → lines ≡ lines_behind s.rest bytes → IsMuted s.progress.asked s.progress.alive s.progress.moment.elapsed acts
-      → IsMuted (lines_came mid lines).progress.asked (lines_came mid lines).progress.alive (lines_came mid lines).progress.moment.elapsed (acts ++ Gave bytes m ∷ [])
-  heard_mute s bytes m acts lines mid alive asked moment rest are q = by_alive (lines_alive mid lines) where
-    now : (lines_came mid lines).progress.moment.elapsed ≡ m.elapsed
-    now = ap (λ (x : Moment). x.elapsed) (lines_moment mid lines ∙ moment)
+  heard_mute : (s : Standing) (bytes : List ℕ) (m : Moment) (acts : List Act) (q : Progress) → (stood plan commands scope acts).rest ≡ s.rest → q.moment.elapsed ≡ m.elapsed
+      → (AllByRecursion IsNoReply (lines_behind s.rest bytes) × (q.alive ≡ min s.progress.alive m.elapsed) × (q.asked ≡ s.progress.asked) × IsMuted s.progress.asked s.progress.alive s.progress.moment.elapsed acts)
+      ⊎ ((q.alive ≡ m.elapsed) × (q.asked ≡ false))
+      → IsMuted q.asked q.alive q.moment.elapsed (acts ++ Gave bytes m ∷ [])
+  heard_mute s bytes m acts q rest now h = by_alive h where
+    carried : (b : Bool) (a : ℕ) → q.asked ≡ b → q.alive ≡ a → IsMuted b a m.elapsed (acts ++ Gave bytes m ∷ []) → IsMuted q.asked q.alive q.moment.elapsed (acts ++ Gave bytes m ∷ [])
+    carried b a eb ea x =
+        subst (λ c. IsMuted c q.alive q.moment.elapsed (acts ++ Gave bytes m ∷ [])) (sym eb)
+        (subst (λ c. IsMuted b c q.moment.elapsed (acts ++ Gave bytes m ∷ [])) (sym ea) (subst (λ c. IsMuted b a c (acts ++ Gave bytes m ∷ [])) (sym now) x))
 
-    carried : (b : Bool) (a n : ℕ) → (lines_came mid lines).progress.asked ≡ b → (lines_came mid lines).progress.alive ≡ a → (lines_came mid lines).progress.moment.elapsed ≡ n → IsMuted b a n (acts ++ Gave bytes m ∷ [])
-        → IsMuted (lines_came mid lines).progress.asked (lines_came mid lines).progress.alive (lines_came mid lines).progress.moment.elapsed (acts ++ Gave bytes m ∷ [])
-    carried b a n eb ea en x =
-        subst (λ c. IsMuted c (lines_came mid lines).progress.alive (lines_came mid lines).progress.moment.elapsed (acts ++ Gave bytes m ∷ [])) (sym eb)
-        (subst (λ c. IsMuted b c (lines_came mid lines).progress.moment.elapsed (acts ++ Gave bytes m ∷ [])) (sym ea) (subst (λ c. IsMuted b a c (acts ++ Gave bytes m ∷ [])) (sym en) x))
-
-    by_alive : Alive mid lines (lines_came mid lines).progress
-        → IsMuted (lines_came mid lines).progress.asked (lines_came mid lines).progress.alive (lines_came mid lines).progress.moment.elapsed (acts ++ Gave bytes m ∷ [])
+    by_alive : (AllByRecursion IsNoReply (lines_behind s.rest bytes) × (q.alive ≡ min s.progress.alive m.elapsed) × (q.asked ≡ s.progress.asked) × IsMuted s.progress.asked s.progress.alive s.progress.moment.elapsed acts)
+        ⊎ ((q.alive ≡ m.elapsed) × (q.asked ≡ false)) → IsMuted q.asked q.alive q.moment.elapsed (acts ++ Gave bytes m ∷ [])
     by_alive (inl none) =
-        let quiet = subst (λ r. AllByRecursion IsNoReply (lines_behind r bytes)) (sym rest) (subst (AllByRecursion IsNoReply) are none.0) in
-        carried s.progress.asked (min s.progress.alive m.elapsed) m.elapsed (none.2 ∙ asked) (none.1 ∙ alive) now
-        (muted_clock s.progress.asked s.progress.alive s.progress.moment.elapsed m acts (Gave bytes m) (nat_le s.progress.alive m.elapsed) refl refl refl tt tt quiet q)
-    by_alive (inr reply) = carried false m.elapsed m.elapsed reply.1 (reply.0 ∙ ap (λ (x : Moment). x.elapsed) moment) now (muted_now m.elapsed acts (Gave bytes m) refl)
+        let quiet = subst (λ r. AllByRecursion IsNoReply (lines_behind r bytes)) (sym rest) none.0 in
+        carried s.progress.asked (min s.progress.alive m.elapsed) none.2 none.1
+        (muted_clock s.progress.asked s.progress.alive s.progress.moment.elapsed m acts (Gave bytes m) (nat_le s.progress.alive m.elapsed) refl refl refl tt tt quiet none.3)
+    by_alive (inr reply) = carried false m.elapsed reply.1 reply.0 (muted_now m.elapsed acts (Gave bytes m) refl)
 
-  lines_phase : (s : Standing) (lines : List (List ℕ)) → (lines_came s lines).progress.phase ≡ s.progress.phase
-  lines_phase s lines = lines_along (λ (t : Standing). t.progress.phase ≡ s.progress.phase) (λ t line e. e) s lines refl
+  came_moment : (h : Bool) (word bytes : List ℕ) (s : Standing) → ((came h word bytes s).progress.phase ≡ s.progress.phase) × ((came h word bytes s).progress.moment ≡ s.progress.moment)
+  came_moment h word bytes s =
+      came_along (λ (t : Standing). (t.progress.phase ≡ s.progress.phase) × (t.progress.moment ≡ s.progress.moment)) (λ t line e. e) h word bytes s (refl, refl)
+      (asked_along (λ (q : Progress). (q.phase ≡ s.progress.phase) × (q.moment ≡ s.progress.moment)) (λ q line e. e) s.progress (lines_behind s.rest bytes) (refl, refl)) (refl, refl)
 
-  gave_mute : (s : Standing) (bytes : List ℕ) (m : Moment) (at : Phase) (acts : List Act) → s.progress.phase ≡ at → (stood plan commands scope acts).rest ≡ s.rest → Mute s.progress.asked s.progress.alive s.progress.moment.elapsed at acts
-      → MuteAt (came (is_heard at) bytes (with_moment m (with_progress (told m) s))).progress (acts ++ Gave bytes m ∷ [])
-  gave_mute s bytes m phase.Ready acts is rest q =
-      let mid = with_rest (rest_behind s.rest bytes) (with_moment m (with_progress (told m) s)) in
-      let lines = lines_behind s.rest bytes in
-      let p = (lines_came mid lines).progress in
-      subst (λ (x : Phase). Mute p.asked p.alive p.moment.elapsed x (acts ++ Gave bytes m ∷ [])) (sym (lines_phase mid lines ∙ is)) (heard_mute s bytes m acts lines mid refl refl refl rest refl q)
-  gave_mute s bytes m phase.Probing acts is rest q = subst (λ (x : Phase). Mute s.progress.asked (min s.progress.alive m.elapsed) m.elapsed x (acts ++ Gave bytes m ∷ [])) (sym is) q
-  gave_mute s bytes m at acts is rest q = subst (λ (x : Phase). Mute s.progress.asked (min s.progress.alive m.elapsed) m.elapsed x (acts ++ Gave bytes m ∷ [])) (sym is) tt
+  -- while requests may go out
+  ready_mute : (s : Standing) (bytes : List ℕ) (m : Moment) (acts : List Act) (word : List ℕ) → s.progress.word ≡ word → (stood plan commands scope acts).rest ≡ s.rest
+      → (is_sought s.progress.word s.progress.again s.progress.asked ≡ true → IsMuted s.progress.asked s.progress.alive s.progress.moment.elapsed acts)
+      → (let q = (came true word bytes (with_moment m (with_progress (told m) s))).progress in is_sought q.word q.again q.asked ≡ true → IsMuted q.asked q.alive q.moment.elapsed (acts ++ Gave bytes m ∷ []))
+  ready_mute s bytes m acts [] e rest h so = heard_mute s bytes m acts (lines_came mid lines).progress rest (ap (λ (x : Moment). x.elapsed) (lines_moment mid lines)) (by_lines (lines_alive mid lines)) where
+    mid : Standing
+    mid = with_rest (rest_behind s.rest bytes) (with_moment m (with_progress (told m) s))
+
+    lines : List (List ℕ)
+    lines = lines_behind s.rest bytes
+
+    by_lines : Alive mid lines (lines_came mid lines).progress
+        → (AllByRecursion IsNoReply lines × ((lines_came mid lines).progress.alive ≡ min s.progress.alive m.elapsed) × ((lines_came mid lines).progress.asked ≡ s.progress.asked) × IsMuted s.progress.asked s.progress.alive s.progress.moment.elapsed acts)
+        ⊎ (((lines_came mid lines).progress.alive ≡ m.elapsed) × ((lines_came mid lines).progress.asked ≡ false))
+    by_lines (inl none) = inl (none.0, none.1, none.2, h (sought_begun s.progress.word s.progress.again s.progress.asked (ap is_none_left e)))
+    by_lines (inr now) = inr now
+  ready_mute s bytes m acts (first ∷ others) e rest h so = heard_mute s bytes m acts q rest (ap (λ (x : Moment). x.elapsed) (came_moment true (first ∷ others) bytes mid).1) (by_lines (asked_alive mid.progress lines)) where
+    mid : Standing
+    mid = with_moment m (with_progress (told m) s)
+
+    lines : List (List ℕ)
+    lines = lines_behind s.rest bytes
+
+    q : Progress
+    q = lines_asked mid.progress lines
+
+    by_lines : AliveAsked mid.progress lines q
+        → (AllByRecursion IsNoReply lines × (q.alive ≡ min s.progress.alive m.elapsed) × (q.asked ≡ s.progress.asked) × IsMuted s.progress.asked s.progress.alive s.progress.moment.elapsed acts) ⊎ ((q.alive ≡ m.elapsed) × (q.asked ≡ false))
+    by_lines (inl none) =
+        let same : is_sought s.progress.word s.progress.again s.progress.asked ≡ is_sought q.word q.again q.asked =
+        ap (λ w. is_sought w s.progress.again s.progress.asked) (sym none.3) ∙ ap (λ n. is_sought q.word n s.progress.asked) (sym none.4) ∙ ap (λ b. is_sought q.word q.again b) (sym none.2) in
+        inl (none.0, none.1, none.2, h (same ∙ so))
+    by_lines (inr now) = inr now
+
+  gave_mute : (s : Standing) (bytes : List ℕ) (m : Moment) (at : Phase) (acts : List Act) → s.progress.phase ≡ at → (stood plan commands scope acts).rest ≡ s.rest
+      → Mute (is_sought s.progress.word s.progress.again s.progress.asked) s.progress.asked s.progress.alive s.progress.moment.elapsed at acts
+      → MuteAt (came (is_heard at) s.progress.word bytes (with_moment m (with_progress (told m) s))).progress (acts ++ Gave bytes m ∷ [])
+  gave_mute s bytes m phase.Ready acts is rest h =
+      let q = (came true s.progress.word bytes (with_moment m (with_progress (told m) s))).progress in
+      subst (λ (x : Phase). Mute (is_sought q.word q.again q.asked) q.asked q.alive q.moment.elapsed x (acts ++ Gave bytes m ∷ [])) (sym ((came_moment true s.progress.word bytes (with_moment m (with_progress (told m) s))).0 ∙ is))
+      (ready_mute s bytes m acts s.progress.word refl rest h)
+  gave_mute s bytes m at acts is rest h =
+      let q = (came (is_heard at) s.progress.word bytes (with_moment m (with_progress (told m) s))).progress in
+      subst (λ (x : Phase). Mute (is_sought q.word q.again q.asked) q.asked q.alive q.moment.elapsed x (acts ++ Gave bytes m ∷ [])) (sym ((came_moment (is_heard at) s.progress.word bytes (with_moment m (with_progress (told m) s))).0 ∙ is)) tt
 
   -- a request goes out
   muted_asks : (asked : Bool) (alive now : ℕ) (acts : List Act) (out : List ℕ) → LastTells now acts → (asked ≡ true → IsMuted true alive now acts) → IsMuted true (if asked then alive else now) now (acts ++ Put out ∷ [])
@@ -240,42 +309,53 @@ module _ (plan : Plan) (commands : List Task) (scope : Scope) where
 
   -- where requests go out, the moment was told last
   abbrev Tells : Progress → List Act → Order → Type 0
-  Tells p acts orders.Probe = LastTells p.moment.elapsed acts
+  Tells p acts orders.Ask = LastTells p.moment.elapsed acts
   Tells p acts orders.Send = LastTells p.moment.elapsed acts
   Tells p acts orders.Flush = LastTells p.moment.elapsed acts
   Tells p acts _ = Unit {0}
 
-  in_phase : (p : Progress) (at : Phase) (acts : List Act) → p.phase ≡ at → MuteAt p acts → Mute p.asked p.alive p.moment.elapsed at acts
-  in_phase p at acts is q = subst (λ (x : Phase). Mute p.asked p.alive p.moment.elapsed x acts) is q
+  in_phase : (p : Progress) (at : Phase) (acts : List Act) → p.phase ≡ at → MuteAt p acts → Mute (is_sought p.word p.again p.asked) p.asked p.alive p.moment.elapsed at acts
+  in_phase p at acts is q = subst (λ (x : Phase). Mute (is_sought p.word p.again p.asked) p.asked p.alive p.moment.elapsed x acts) is q
 
-  told_mute : (p : Progress) (m : Moment) (acts : List Act) → MuteAt p acts → Mute p.asked (min p.alive m.elapsed) m.elapsed p.phase (acts ++ Told m ∷ [])
-  told_mute p m acts q = mute_told p.asked p.alive p.moment.elapsed m p.phase acts (Told m) refl refl tt tt (λ e. tt) q
+  told_mute : (sought : Bool) (p : Progress) (m : Moment) (acts : List Act) → (p.phase ≡ phase.Ready → sought ≡ true → is_sought p.word p.again p.asked ≡ true) → MuteAt p acts → Mute sought p.asked (min p.alive m.elapsed) m.elapsed p.phase (acts ++ Told m ∷ [])
+  told_mute sought p m acts back q = mute_told (is_sought p.word p.again p.asked) sought p.asked p.alive p.moment.elapsed m p.phase acts (Told m) back refl refl tt tt tt q
 
-  asks_mute : (p : Progress) (acts : List Act) (out : List ℕ) → p.phase ≡ phase.Ready → LastTells p.moment.elapsed acts → MuteAt p acts → MuteAt (asking p) (acts ++ Put out ∷ [])
-  asks_mute p acts out is tells q =
-      subst (λ (x : Phase). Mute true (if p.asked then p.alive else p.moment.elapsed) p.moment.elapsed x (acts ++ Put out ∷ [])) (sym is)
-      (muted_asks p.asked p.alive p.moment.elapsed acts out tells (λ e. subst (λ b. IsMuted b p.alive p.moment.elapsed acts) e (in_phase p phase.Ready acts is q)))
+  asks_mute : (sought : Bool) (p : Progress) (acts : List Act) (out : List ℕ) → p.phase ≡ phase.Ready → LastTells p.moment.elapsed acts → MuteAt p acts
+      → Mute sought true (if p.asked then p.alive else p.moment.elapsed) p.moment.elapsed p.phase (acts ++ Put out ∷ [])
+  asks_mute sought p acts out is tells q =
+      subst (λ (x : Phase). Mute sought true (if p.asked then p.alive else p.moment.elapsed) p.moment.elapsed x (acts ++ Put out ∷ [])) (sym is)
+      (λ so. muted_asks p.asked p.alive p.moment.elapsed acts out tells (λ e. subst (λ b. IsMuted b p.alive p.moment.elapsed acts) e (in_phase p phase.Ready acts is q (sought_asked p.word p.again p.asked e))))
+
+  -- a beginning goes on without a drain: no null procedure went out on this connection
+  cleared_mute : (begun : Bool) (p : Progress) (acts : List Act) → has_begun p ≡ begun → Mute (is_sought p.word 0 false) false p.alive p.moment.elapsed (if begun then phase.Draining else phase.Ready) acts
+  cleared_mute true p acts e = tt
+  cleared_mute false p acts e = λ so. absurd (clash (is_sought p.word 0 false) so (ap (λ b. b || false) e))
 
   mute_line : (next : Order) (s : Standing) (acts : List Act) → IsFor plan s.progress (waiting_of s) next → Tells s.progress acts next → (stood plan commands scope acts).rest ≡ s.rest
       → MuteAt s.progress acts → OnLine plan commands MuteAt next (with_progress turned s) acts
   mute_line orders.Open s acts needs tells rest q = λ m. tt
-  mute_line orders.Clear s acts needs tells rest q = λ m. tt
-  mute_line orders.Probe s acts needs tells rest q =
-      let p = s.progress in
-      λ m. muted_asks p.asked p.alive p.moment.elapsed acts (request_text s.client NullProc) tells (λ e. absurd (clash p.asked e (in_phase p phase.Probing acts needs.0 q)))
-  mute_line orders.Send s acts needs tells rest q = λ m. asks_mute s.progress acts (first_text s.client (drop (place_next commands s.progress) commands)) needs.0 tells q
-  mute_line orders.Flush s acts needs tells rest q = λ m. asks_mute s.progress acts (request_text s.client NullProc) needs.0 tells q
+  mute_line orders.Clear s acts needs tells rest q = λ m. cleared_mute (has_begun s.progress) s.progress (acts ++ Put (10 ∷ []) ∷ []) refl
+  mute_line orders.Renew s acts needs tells rest q =
+      let p = s.progress in λ m. told_mute (is_sought the_word 0 p.asked) p m acts (λ ready so. sought_begun p.word p.again p.asked needs.1) q
+  mute_line orders.Ask s acts needs tells rest q =
+      let p = s.progress in λ m. asks_mute (is_sought p.word (later p.moment.elapsed plan.deadline) true) p acts (null_text p.word) needs.0 tells q
+  mute_line orders.Send s acts needs tells rest q =
+      let p = s.progress in λ m. asks_mute (is_sought p.word p.again true) p acts (first_text s.client (drop (place_next commands p) commands)) needs.0 tells q
+  mute_line orders.Flush s acts needs tells rest q = let p = s.progress in λ m. asks_mute (is_sought p.word p.again true) p acts (request_text s.client NullProc) needs.0 tells q
   mute_line (orders.Read until) s acts needs tells rest q =
       let p = s.progress in
-      (λ bytes m. gave_mute (with_progress turned s) bytes m p.phase acts refl rest q, λ m. (mute_told p.asked p.alive p.moment.elapsed m p.phase acts (Silent m) refl refl tt tt (λ e. tt) q, λ draining past. anew_mute p.anew m acts))
+      let sought = is_sought p.word p.again p.asked in (
+        λ bytes m. gave_mute (with_progress turned s) bytes m p.phase acts refl rest q,
+        λ m. (mute_told sought sought p.asked p.alive p.moment.elapsed m p.phase acts (Silent m) (λ ready so. so) refl refl tt tt tt q, λ draining past so. muted_now m.elapsed acts (Silent m) refl),
+      )
   mute_line (orders.Close why) s acts needs tells rest q = tt
   mute_line (orders.Stop why) s acts needs tells rest q = tt
-  mute_line next s acts needs tells rest q = λ m. told_mute s.progress m acts q
+  mute_line next s acts needs tells rest q = let p = s.progress in λ m. told_mute (is_sought p.word p.again p.asked) p m acts (λ ready so. so) q
 
   -- Whole runs.
 
   tells_in : (p : Progress) (acts : List Act) (next : Order) → Wakes p next → (Awake p → LastTells p.moment.elapsed acts) → Tells p acts next
-  tells_in p acts orders.Probe awake last = last awake
+  tells_in p acts orders.Ask awake last = last awake
   tells_in p acts orders.Send awake last = last awake
   tells_in p acts orders.Flush awake last = last awake
   tells_in p acts next awake last = tt
@@ -287,12 +367,39 @@ module _ (plan : Plan) (commands : List Task) (scope : Scope) where
     step done act runs o q =
         let s = stood plan commands scope done in
         let p = s.progress in
-        let hush = hush_stood plan commands scope done runs in
-        let tells = tells_in p done (order_at plan s) (order_wakes plan p (waiting_of s)) (λ awake. hushed_last plan commands scope p.since p.moment.elapsed done (awake_hushed plan commands scope p done awake hush)) in
-        on_line plan commands MuteAt (λ x acts none. mute_none x.asked x.alive x.moment.elapsed x.phase acts none) (order_at plan s) s act done o (mute_line (order_at plan s) s done (order_for plan p (waiting_of s)) tells refl q)
+        let tells = tells_in p done (order_at plan s) (order_wakes plan p (waiting_of s)) (λ awake. awake_last plan commands scope done runs awake) in
+        on_line plan commands MuteAt (λ x acts none. mute_none (is_sought x.word x.again x.asked) x.asked x.alive x.moment.elapsed x.phase acts none) (order_at plan s) s act done o (mute_line (order_at plan s) s done (order_for plan p (waiting_of s)) tells refl q)
+
+  -- where something waits, or the null procedure that is asked for went out, a reply may come
+  sought_dead : (s : Standing) → Fine plan commands s → (nat_lt 0 (length s.client.waiting) || nat_lt 0 s.progress.again) ≡ true → is_sought s.progress.word s.progress.again s.progress.asked ≡ true
+  sought_dead s fine e = by_again (nat_lt 0 s.progress.again) refl where
+    p : Progress
+    p = s.progress
+
+    by_begun : (b : Bool) → has_begun p ≡ b → nat_lt 0 (length s.client.waiting) ≡ true → is_sought p.word p.again p.asked ≡ true
+    by_begun true begun some = sought_begun p.word p.again p.asked begun
+    by_begun false begins some =
+        let none : length s.client.waiting ≡ 0 = ap (λ (c : ById). length c.waiting) (fine.begins begins) in
+        let many = ltb-true 0 (length s.client.waiting) some in
+        absurd (omega (arith, none, many))
+
+    by_again : (b : Bool) → nat_lt 0 p.again ≡ b → is_sought p.word p.again p.asked ≡ true
+    by_again true again = sought_again p.word p.again p.asked again
+    by_again false again = by_begun (has_begun p) refl (either_true (nat_lt 0 (length s.client.waiting)) (nat_lt 0 p.again) e again)
 
   pub mute_close : (acts : List Act) → Runs plan commands (opening plan scope) acts → order_at plan (stood plan commands scope acts) ≡ orders.Close cause.Dead → IsMuteFor (patience_of plan) plan commands scope acts
-  mute_close acts runs is = by_phase awake.1 where
+  mute_close acts runs is = record {
+    before = q.before;
+    start = q.start;
+    from = s.progress.alive;
+    behind = q.behind;
+    order = q.order;
+    starts = q.holds.0;
+    stays = q.holds.1;
+    mute = q.holds.2;
+    asked = asks_any s.progress.asked s.progress.alive q.before q.behind q.holds.3;
+    long = subst (λ n. patience_of plan ≤ n - s.progress.alive) (sym q.holds.4) (leb-true (patience_of plan) (s.progress.moment.elapsed - s.progress.alive) dead.1);
+  } where
     s : Standing
     s = stood plan commands scope acts
 
@@ -302,27 +409,8 @@ module _ (plan : Plan) (commands : List Task) (scope : Scope) where
     awake : Awake s.progress
     awake = awake_here s.progress cause.Dead (subst (λ (next : Order). Wakes s.progress next) is (order_wakes plan s.progress (waiting_of s))) never
 
-    dead : (nat_lt 0 (length s.client.waiting) ≡ true) × (nat_le (patience_of plan) (s.progress.moment.elapsed - s.progress.alive) ≡ true)
-    dead = both_true (nat_lt 0 (length s.client.waiting)) (nat_le (patience_of plan) (s.progress.moment.elapsed - s.progress.alive)) (end_here plan s cause.Dead is never).1
+    dead : ((nat_lt 0 (length s.client.waiting) || nat_lt 0 s.progress.again) ≡ true) × (nat_le (patience_of plan) (s.progress.moment.elapsed - s.progress.alive) ≡ true)
+    dead = both_true (nat_lt 0 (length s.client.waiting) || nat_lt 0 s.progress.again) (nat_le (patience_of plan) (s.progress.moment.elapsed - s.progress.alive)) (end_here plan s cause.Dead is never).1
 
-    by_phase : (s.progress.phase ≡ phase.Probing) ⊎ (s.progress.phase ≡ phase.Ready) → IsMuteFor (patience_of plan) plan commands scope acts
-    by_phase (inl probing) =
-        let fine = fine_stood plan commands scope acts in
-        let none : length s.client.waiting ≡ 0 = ap (λ (c : ById). length c.waiting) (fine.anew (fine.probing probing)).0 in
-        let some = ltb-true 0 (length s.client.waiting) dead.0 in
-        absurd (omega (arith, none, some))
-    by_phase (inr ready) =
-        let q = in_phase s.progress phase.Ready acts ready (mute_stood acts runs) in
-        let long : patience_of plan ≤ s.progress.moment.elapsed - s.progress.alive = leb-true (patience_of plan) (s.progress.moment.elapsed - s.progress.alive) dead.1 in
-        record {
-          before = q.before;
-          start = q.start;
-          from = s.progress.alive;
-          behind = q.behind;
-          order = q.order;
-          starts = q.holds.0;
-          stays = q.holds.1;
-          mute = q.holds.2;
-          asked = asks_any s.progress.asked s.progress.alive q.before q.behind q.holds.3;
-          long = subst (λ n. patience_of plan ≤ n - s.progress.alive) (sym q.holds.4) long;
-        }
+    q : IsMuted s.progress.asked s.progress.alive s.progress.moment.elapsed acts
+    q = in_phase s.progress phase.Ready acts awake.1 (mute_stood acts runs) (sought_dead s (fine_stood plan commands scope acts) dead.0)

@@ -1,5 +1,5 @@
 -- Each connection that ends was asked for, and so was each that couldn't be made.
-use Rattle.std.proofs.Common.{◌≡◌, ◌+◌, Bool, true, false, List, [], ◌∷◌, if◌then◌else◌, refl, sym, ap, arith}
+use Rattle.std.proofs.Common.{◌≡◌, ◌+◌, Bool, true, false, List, [], ◌∷◌, if◌then◌else◌, refl, sym, ap, ◌∙◌, arith}
 use Rattle.gc_texts.specs.declared.tasks.Task.{Task}
 use Rattle.gc_station.specs.declared.plan.Plan.{Plan}
 use Rattle.gc_station.specs.declared.cause.Cause.{Cause}
@@ -8,9 +8,9 @@ use Rattle.gc_station.specs.declared.progress.Phase.TheVariants as phase
 use Rattle.gc_station.specs.declared.progress.Order.{Order}
 use Rattle.gc_station.specs.declared.progress.Order.TheVariants as orders
 use Rattle.gc_links.specs.Acts.{Act, Closed, Unopened}
-use Rattle.gc_station.specs.Deciding.{is_up}
+use Rattle.gc_station.specs.Deciding.{has_begun, is_up}
 use Rattle.gc_station.specs.Marks.{commands_in}
-use Rattle.gc_station.specs.Progressing.{failing, turned, told, time_passed, closed}
+use Rattle.gc_station.specs.Progressing.{failing, turned, told, cleared, time_passed, closed}
 use Rattle.gc_station.specs.Reasons.{IsFor}
 use Rattle.gc_station.specs.Standing.{Standing, requests_out, waiting_of, with_progress, with_moment, is_heard, after_open, Obeys, moved}
 use Rattle.gc_station.specs.Tries.{ends_in, opens_in}
@@ -46,16 +46,22 @@ counted_moved plan commands orders.Open s act o needs =
     let again : up_count (is_up (after_open plan (with_progress turned s) Unopened).progress.phase) ≡ 0 = ap up_count (again_down plan (commands_in s.marks) cause.Open (turned s.progress)) in
     walk plan commands (Counts s) orders.Open (with_progress turned s) act o (λ m. omega (arith, down), λ n. omega (arith, down, again))
 counted_moved plan commands orders.Clear s act o needs =
-    let up = calm (is_up s.progress.phase) true (sym (ap is_up needs)) in walk plan commands (Counts s) orders.Clear (with_progress turned s) act o (λ m. up, λ n. up)
-counted_moved plan commands orders.Probe s act o needs =
-    let up = calm (is_up s.progress.phase) true (sym (ap is_up needs.0)) in walk plan commands (Counts s) orders.Probe (with_progress turned s) act o (λ m. up, λ n. up)
+    let at = (cleared (turned s.progress)).phase in
+    let up : is_up at ≡ is_up s.progress.phase = cleared_up (has_begun s.progress) ∙ sym (ap is_up needs) in
+    walk plan commands (Counts s) orders.Clear (with_progress turned s) act o
+    (λ m. calm (is_up s.progress.phase) (is_up at) up, λ n. calm (is_up s.progress.phase) _ (fails (is_up at) (cause.Write (requests_out plan commands (turned s.progress)) n) ∙ up)) where
+      cleared_up : (begun : Bool) → is_up (if begun then phase.Draining else phase.Ready) ≡ true
+      cleared_up true = refl
+      cleared_up false = refl
+counted_moved plan commands orders.Ask s act o needs =
+    walk plan commands (Counts s) orders.Ask (with_progress turned s) act o (λ m. refl, λ n. failed s (cause.Write (requests_out plan commands (turned s.progress)) n))
 counted_moved plan commands orders.Send s act o needs =
     walk plan commands (Counts s) orders.Send (with_progress turned s) act o (λ m. refl, λ n. failed s (cause.Write (requests_out plan commands (turned s.progress)) n))
 counted_moved plan commands orders.Flush s act o needs =
     walk plan commands (Counts s) orders.Flush (with_progress turned s) act o (λ m. refl, λ n. failed s (cause.Write (requests_out plan commands (turned s.progress)) n))
 counted_moved plan commands (orders.Read until) s act o needs =
     walk plan commands (Counts s) (orders.Read until) (with_progress turned s) act o (
-      λ bytes m. calm (is_up s.progress.phase) _ (ap is_up (came_phase (is_heard s.progress.phase) bytes (with_moment m (with_progress (told m) (with_progress turned s))))),
+      λ bytes m. calm (is_up s.progress.phase) _ (ap is_up (came_phase (is_heard s.progress.phase) s.progress.word bytes (with_moment m (with_progress (told m) (with_progress turned s))))),
       λ m. calm (is_up s.progress.phase) _ (quieted_up plan s.progress.phase (time_passed until m (turned s.progress)) refl),
       failed s cause.End,
       failed s cause.Read,

@@ -1,11 +1,11 @@
 -- What each act is to the client, and what is written down at it.
-use Rattle.std.proofs.Common.{◌≡◌, ℕ, zero, suc, ◌-◌, ◌<◌, Bool, true, false, List, [], ◌∷◌, length, map, drop, Some, None, refl, sym, ap, ◌∙◌, ◌++◌, subst, arith, append-nil, if◌then◌else◌, length-drop}
+use Rattle.std.proofs.Common.{◌≡◌, ℕ, zero, suc, ◌-◌, ◌<◌, Bool, true, false, List, [], ◌∷◌, length, map, drop, Option, Some, None, refl, sym, ap, ◌∙◌, ◌++◌, subst, arith, append-nil, if◌then◌else◌, length-drop}
 use Rattle.std.specs.Prelude.{slice_get}
 use Rattle.std.proofs.lemmas.List.{length-map}
 use Rattle.gc_lines.specs.Frames.{rest_behind}
 use Rattle.gc_catalogue.specs.declared.call.Call.TheVariants.{NullProc}
 use Rattle.gc_client.specs.OneForOne.{Hear, Expire}
-use Rattle.gc_client.specs.Rule.{heard, hears, expired, expires}
+use Rattle.gc_client.specs.Rule.{ById, fresh, heard, hears, expired, expires}
 use Rattle.gc_texts.specs.declared.tasks.Task.{Task}
 use Rattle.gc_texts.specs.Endings.{Skipped, Missed}
 use Rattle.gc_links.specs.declared.link.Moment.{Moment}
@@ -14,17 +14,19 @@ use Rattle.gc_station.specs.declared.progress.Order.{Order}
 use Rattle.gc_station.specs.declared.progress.Order.TheVariants as order
 use Rattle.gc_station.specs.declared.progress.Progress.{Progress}
 use Rattle.gc_station.specs.declared.progress.Until.{Until}
-use Rattle.gc_links.specs.Acts.{Act, Told, Gave}
-use Rattle.gc_station.specs.Deciding.{later}
-use Rattle.gc_station.specs.Parts.{Part, only, nothing, putting, asking, asking_first, hearing, acting, sent_of}
+use Rattle.gc_links.specs.Acts.{Act, Told, Put, Cut, Gave}
+use Rattle.gc_station.specs.Deciding.{later, has_begun, is_none_left}
+use Rattle.gc_station.specs.Parts.{Turn, Part, only_turns, only, nothing, putting, asking, asking_first, hearing, doing, beginning, acting, sent_of}
 use Rattle.gc_station.specs.Progressing.{told, turned, skipped_at}
 use Rattle.gc_station.specs.Reasons.{IsFor}
 use Rattle.gc_station.specs.Records.{Record}
 use Rattle.gc_station.specs.declared.mark.Mark.{Mark}
 use Rattle.gc_station.specs.Standing.{Standing, waiting_of, place_next, mark_next, Obeys, with_progress, with_moment, with_rest, asks_null, asks_first, skips, skips_first, line_came, lines_came, lines_behind, is_heard, came, after_read, moved}
-use Rattle.gc_station.proofs.Booking.{Books, sent_both, sent_records, books_both, books_nothing, books_moment, books_line, books_send}
+use Rattle.gc_station.proofs.Booking.{Books, books_turns, sent_both, sent_records, books_both, books_nothing, books_moment, books_line, books_send}
+use Rattle.gc_station.proofs.Facts.{either}
 use Rattle.gc_station.proofs.Fine.{Fine}
 use Rattle.gc_station.proofs.Hearing.{hears_paired}
+use Rattle.gc_station.proofs.Midway.{clash}
 use Rattle.gc_station.proofs.Walk.{is_sent, walk}
 
 -- from one standing to another
@@ -55,21 +57,22 @@ module _ (plan : Plan) (commands : List Task) where
       (leads_lines t others (hears_paired s.marks s.client line (heard line) paired))
 
   -- a piece is heard or dropped
-  leads_came : (h : Bool) (piece : List ℕ) (s : Standing) → Paired s → Leads commands s (only (hearing h s.rest piece)) (came h piece s)
-  leads_came true piece s paired = leads_lines (with_rest (rest_behind s.rest piece) s) (lines_behind s.rest piece) paired
-  leads_came false piece s paired = books_nothing s.reads commands s.client s.marks (sent_of s.records)
+  leads_came : (h : Bool) (word piece : List ℕ) (s : Standing) → is_none_left word ≡ true → Paired s → Leads commands s (only (hearing h s.rest piece)) (came h word piece s)
+  leads_came true (asked ∷ others) piece s begun paired = cc
+  leads_came true [] piece s begun paired = leads_lines (with_rest (rest_behind s.rest piece) s) (lines_behind s.rest piece) paired
+  leads_came false word piece s begun paired = books_nothing s.reads commands s.client s.marks (sent_of s.records)
 
   paired_told : (s : Standing) (m : ℕ) → Paired s → length s.marks ≡ length (map (expired m) s.client.waiting)
   paired_told s m paired = paired ∙ sym (length-map s.client.waiting (expired m))
 
   -- a read gave bytes
-  leads_gave : (s : Standing) (until : Until) (bytes : List ℕ) (m : Moment) → Paired s → Leads commands s (acting plan commands s (order.Read until) (Gave bytes m)) (after_read plan until (with_progress turned s) (Gave bytes m))
-  leads_gave s until bytes m paired =
+  leads_gave : (s : Standing) (until : Until) (bytes : List ℕ) (m : Moment) → has_begun s.progress ≡ true → Paired s → Leads commands s (doing plan commands s (order.Read until) (Gave bytes m)) (after_read plan until (with_progress turned s) (Gave bytes m))
+  leads_gave s until bytes m begun paired =
       let x = with_moment m (with_progress (told m) (with_progress turned s)) in
-      let t = came (is_heard s.progress.phase) bytes x in
+      let t = came (is_heard s.progress.phase) s.progress.word bytes x in
       books_both s.reads commands s.client x.client t.client s.marks s.marks t.marks (sent_of s.records) (sent_of s.records) (sent_of t.records) (only (Expire m.elapsed ∷ [])) (only (hearing (is_heard s.progress.phase) s.rest bytes))
       (books_moment s.reads commands s.client s.marks (sent_of s.records) m.elapsed)
-      (leads_came (is_heard s.progress.phase) bytes x (paired_told s m.elapsed paired))
+      (leads_came (is_heard s.progress.phase) s.progress.word bytes x begun (paired_told s m.elapsed paired))
 
   -- the command at a place
   at_place : (n : ℕ) (xs : List Task) (command : Task) (others : List Task) → drop n xs ≡ command ∷ others → slice_get xs n ≡ Some command
@@ -107,7 +110,7 @@ module _ (plan : Plan) (commands : List Task) where
 
   -- the part that an act of an order does
   abbrev LeadsSo : Order → Standing → Act → Standing → Type 0
-  LeadsSo o s act t = Leads commands s (acting plan commands s o act) t
+  LeadsSo o s act t = Leads commands s (doing plan commands s o act) t
 
   none_booked : (s : Standing) → Leads commands s nothing s
   none_booked s = books_nothing s.reads commands s.client s.marks (sent_of s.records)
@@ -115,32 +118,92 @@ module _ (plan : Plan) (commands : List Task) where
   moment_booked : (s : Standing) (m : Moment) → Leads commands s (only (Expire m.elapsed ∷ [])) (with_moment m s)
   moment_booked s m = books_moment s.reads commands s.client s.marks (sent_of s.records) m.elapsed
 
-  -- an act of each order
-  leads_order : (s : Standing) (o : Order) (act : Act) → Fine plan commands s → IsFor plan s.progress (waiting_of s) o → Obeys commands s o act
-      → Leads commands s (acting plan commands s o act) (moved plan commands o (with_progress turned s) act)
-  leads_order s order.Open act fine is obeys = walk plan commands (LeadsSo order.Open s) order.Open (with_progress turned s) act obeys (λ m. none_booked s, λ n. none_booked s)
-  leads_order s order.Clear act fine is obeys = walk plan commands (LeadsSo order.Clear s) order.Clear (with_progress turned s) act obeys (λ m. none_booked s, λ n. none_booked s)
-  leads_order s order.Probe act fine is obeys = walk plan commands (LeadsSo order.Probe s) order.Probe (with_progress turned s) act obeys (λ m. leads_null s is.1.1, λ n. leads_null s is.1.1)
-  leads_order s order.Flush act fine is obeys = walk plan commands (LeadsSo order.Flush s) order.Flush (with_progress turned s) act obeys (λ m. leads_null s is.5.1, λ n. leads_null s is.5.1)
-  leads_order s order.Send act fine is obeys =
+  -- an act of each order, once it has begun
+  leads_order : (s : Standing) (o : Order) (act : Act) → Fine plan commands s → IsFor plan s.progress (waiting_of s) o → Obeys commands s o act → has_begun s.progress ≡ true
+      → Leads commands s (doing plan commands s o act) (moved plan commands o (with_progress turned s) act)
+  leads_order s order.Open act fine is obeys begun = walk plan commands (LeadsSo order.Open s) order.Open (with_progress turned s) act obeys (λ m. none_booked s, λ n. none_booked s)
+  leads_order s order.Clear act fine is obeys begun = walk plan commands (LeadsSo order.Clear s) order.Clear (with_progress turned s) act obeys (λ m. none_booked s, λ n. none_booked s)
+  leads_order s order.Ask act fine is obeys begun = absurd (clash (has_begun s.progress) begun is.1)
+  leads_order s order.Flush act fine is obeys begun = walk plan commands (LeadsSo order.Flush s) order.Flush (with_progress turned s) act obeys (λ m. leads_null s is.5.1, λ n. leads_null s is.5.1)
+  leads_order s order.Send act fine is obeys begun =
       let left = drop (place_next commands s.progress) commands in
       let many : length left ≡ length commands - place_next commands s.progress = length-drop (place_next commands s.progress) commands in
       let sends = subst (λ (t : Standing). Leads commands s (putting plan commands s order.Send) t) (sym (is_sent plan commands (with_progress turned s))) (leads_first s left refl (omega (arith, many, is.2, fine.unsent)) is.3.1) in
       walk plan commands (LeadsSo order.Send s) order.Send (with_progress turned s) act obeys (λ m. sends, λ n. sends)
-  leads_order s order.Skip act fine is obeys =
+  leads_order s order.Skip act fine is obeys begun =
       let books = Books s.reads commands s.client s.marks (sent_of s.records) in
       walk plan commands (LeadsSo order.Skip s) order.Skip (with_progress turned s) act obeys (
         λ m. subst (λ (rs : List Record). books (only (Expire m.elapsed ∷ [])) (expires s.client m.elapsed) s.marks rs)
             (sym (none_sent s.records (skips plan commands (turned s.progress) (Told m)) (skips_unsent (with_progress turned s) m))) (moment_booked s m),
         λ n. subst (λ (rs : List Record). books nothing s.client s.marks rs) (sym (none_sent s.records [] refl)) (none_booked s),
       )
-  leads_order s (order.Read until) act fine is obeys =
+  leads_order s (order.Read until) act fine is obeys begun =
       walk plan commands (LeadsSo (order.Read until) s) (order.Read until) (with_progress turned s) act obeys
-      (λ bytes m. leads_gave s until bytes m fine.paired, λ m. moment_booked s m, none_booked s, none_booked s, none_booked s)
-  leads_order s (order.Close why) act fine is obeys = walk plan commands (LeadsSo (order.Close why) s) (order.Close why) (with_progress turned s) act obeys (none_booked s)
-  leads_order s (order.Stop why) act fine is obeys = absurd obeys
-  leads_order s o act fine is obeys = walk plan commands (LeadsSo o s) o (with_progress turned s) act obeys (λ m. moment_booked s m, λ n. none_booked s)
+      (λ bytes m. leads_gave s until bytes m begun fine.paired, λ m. moment_booked s m, none_booked s, none_booked s, none_booked s)
+  leads_order s (order.Close why) act fine is obeys begun = walk plan commands (LeadsSo (order.Close why) s) (order.Close why) (with_progress turned s) act obeys (none_booked s)
+  leads_order s (order.Stop why) act fine is obeys begun = absurd obeys
+  leads_order s o act fine is obeys begun = walk plan commands (LeadsSo o s) o (with_progress turned s) act obeys (λ m. moment_booked s m, λ n. none_booked s)
+
+  -- While it begins no step is taken.
+
+  -- an act leaves the client new, and the marks and the records as they are
+  abbrev Keeps : Standing → Act → Standing → Type 0
+  Keeps s act t = (t.client ≡ fresh) × (t.marks ≡ s.marks) × (t.records ≡ s.records)
+
+  keeps_came : (h : Bool) (word piece : List ℕ) (s : Standing) → is_none_left word ≡ false → s.client ≡ fresh
+      → ((came h word piece s).client ≡ fresh) × ((came h word piece s).marks ≡ s.marks) × ((came h word piece s).records ≡ s.records)
+  keeps_came true [] piece s begins new = cc
+  keeps_came true (asked ∷ others) piece s begins new = (new, refl, refl)
+  keeps_came false word piece s begins new = (new, refl, refl)
+
+  -- a moment gives nothing up
+  new_told : (s : Standing) (m : Moment) → s.client ≡ fresh → expires s.client m.elapsed ≡ fresh
+  new_told s m new = ap (λ c. expires c m.elapsed) new
+
+  pub keeps_order : (s : Standing) (o : Order) (act : Act) → IsFor plan s.progress (waiting_of s) o → Obeys commands s o act → has_begun s.progress ≡ false → s.client ≡ fresh → Keeps s act (moved plan commands o (with_progress turned s) act)
+  keeps_order s order.Renew act is obeys begins new = absurd (clash (has_begun s.progress) is.1 begins)
+  keeps_order s order.Begin act is obeys begins new = absurd (clash (has_begun s.progress) is.1 begins)
+  keeps_order s order.Send act is obeys begins new = absurd (clash (has_begun s.progress) is.1 begins)
+  keeps_order s order.Skip act is obeys begins new = absurd (clash (has_begun s.progress) is.1 begins)
+  keeps_order s order.Flush act is obeys begins new = absurd (clash (has_begun s.progress) is.1 begins)
+  keeps_order s order.ReadClock act is obeys begins new = walk plan commands (Keeps s) order.ReadClock (with_progress turned s) act obeys (λ m. (new_told s m new, refl, refl), λ n. (new, refl, refl))
+  keeps_order s (order.Read until) act is obeys begins new =
+      walk plan commands (Keeps s) (order.Read until) (with_progress turned s) act obeys (
+        λ bytes m. keeps_came (is_heard s.progress.phase) s.progress.word bytes (with_moment m (with_progress (told m) (with_progress turned s))) begins (new_told s m new),
+        λ m. (new_told s m new, refl, refl),
+        (new, refl, refl),
+        (new, refl, refl),
+        (new, refl, refl),
+      )
+  keeps_order s (order.Close why) act is obeys begins new = walk plan commands (Keeps s) (order.Close why) (with_progress turned s) act obeys (new, refl, refl)
+  keeps_order s (order.Stop why) act is obeys begins new = absurd obeys
+  keeps_order s o act is obeys begins new = walk plan commands (Keeps s) o (with_progress turned s) act obeys (λ m. (new, refl, refl), λ n. (new, refl, refl))
+
+  only_of : (s : Standing) (o : Order) (act : Act) → beginning s o act ≡ only_turns (beginning s o act).turns
+  only_of s order.Ask (Put bytes) = refl
+  only_of s order.Ask (Cut bytes count) = refl
+  only_of s order.Ask act = refl
+  only_of s (order.Read until) (Gave piece m) = refl
+  only_of s (order.Read until) act = refl
+  only_of s o act = refl
+
+  same_led : (s : Standing) (turns : List Turn) (t : Standing) → s.client ≡ t.client → s.marks ≡ t.marks → s.records ≡ t.records → Leads commands s (only_turns turns) t
+  same_led s turns t c ms rs =
+      let books = Books s.reads commands s.client s.marks (sent_of s.records) (only_turns turns) in
+      subst (λ (x : ById). books x t.marks (sent_of t.records)) c
+      (subst (λ (x : List (Option Mark)). books s.client x (sent_of t.records)) ms
+      (subst (λ (x : List Record). books s.client s.marks (sent_of x)) rs (books_turns s.reads commands s.client s.marks (sent_of s.records) turns)))
+
+  leads_begins : (s : Standing) (o : Order) (act : Act) → Fine plan commands s → IsFor plan s.progress (waiting_of s) o → Obeys commands s o act → has_begun s.progress ≡ false
+      → Leads commands s (beginning s o act) (moved plan commands o (with_progress turned s) act)
+  leads_begins s o act fine is obeys begins =
+      let t = moved plan commands o (with_progress turned s) act in
+      let new = fine.begins begins in
+      let k = keeps_order s o act is obeys begins new in
+      subst (λ (p : Part). Leads commands s p t) (sym (only_of s o act)) (same_led s (beginning s o act).turns t (new ∙ sym k.0) (sym k.1) (sym k.2))
 
   pub leads : (s : Standing) (o : Order) (act : Act) → Fine plan commands s → IsFor plan s.progress (waiting_of s) o → Obeys commands s o act
       → Leads commands s (acting plan commands s o act) (moved plan commands o (with_progress turned s) act)
-  leads s o act fine is obeys = leads_order s o act fine is obeys
+  leads s o act fine is obeys =
+      either (λ (p : Part). Leads commands s p (moved plan commands o (with_progress turned s) act)) (doing plan commands s o act) (beginning s o act) (has_begun s.progress)
+      (λ begun. leads_order s o act fine is obeys begun) (λ begins. leads_begins s o act fine is obeys begins)

@@ -17,7 +17,7 @@ use Rattle.gc_links.specs.Acts.{Act, Gave}
 use Rattle.gc_station.specs.Answers.{IsBefore, IsAnsweredIn}
 use Rattle.gc_station.specs.Ends.{IsPast, TellsPast, IsOwnRequest, Brings, IsWrittenAt, IsLateIn, IsOvertaken}
 use Rattle.gc_station.specs.Marks.{records_of}
-use Rattle.gc_station.specs.Probing.{IsAsking}
+use Rattle.gc_station.specs.Quiet.{IsAsking}
 use Rattle.gc_station.specs.Progressing.{turned, told}
 use Rattle.gc_station.specs.Records.{Record}
 use Rattle.gc_station.specs.Runs.{stood}
@@ -275,15 +275,18 @@ behind_piece plan commands scope acts piece m x h = record {
 abbrev pub piece_before : Moment → Standing → Standing
 piece_before m s = with_moment m (with_progress (told m) (with_progress turned s))
 
-pub piece_honest : (plan : Plan) (commands : List Task) (scope : Scope) (acts : List Act) (piece : List ℕ) (m : Moment) (b : Bool) (tail : List Record)
-    → (stood plan commands scope (acts ++ Gave piece m ∷ [])).records ≡ (came b piece (piece_before m (stood plan commands scope acts))).records ++ tail
+pub piece_honest : (plan : Plan) (commands : List Task) (scope : Scope) (acts : List Act) (piece : List ℕ) (m : Moment) (b : Bool) (word : List ℕ) (tail : List Record)
+    → (stood plan commands scope (acts ++ Gave piece m ∷ [])).records ≡ (came b word piece (piece_before m (stood plan commands scope acts))).records ++ tail
     → IsWindow (stood plan commands scope acts).client
     → IsHonest plan commands scope acts (acts ++ Gave piece m ∷ []) (stood plan commands scope acts)
-    → IsHonest plan commands scope (acts ++ Gave piece m ∷ []) (acts ++ Gave piece m ∷ []) (came b piece (piece_before m (stood plan commands scope acts)))
-piece_honest plan commands scope acts piece m false tail ends window h =
+    → IsHonest plan commands scope (acts ++ Gave piece m ∷ []) (acts ++ Gave piece m ∷ []) (came b word piece (piece_before m (stood plan commands scope acts)))
+piece_honest plan commands scope acts piece m false word tail ends window h =
     let s = stood plan commands scope acts in
     moment_told plan commands scope acts (Gave piece m) m.elapsed s.client s.marks s.records (λ d low. low) (λ d past. past) h
-piece_honest plan commands scope acts piece m true tail ends window h =
+piece_honest plan commands scope acts piece m true (asked ∷ others) tail ends window h =
+    let s = stood plan commands scope acts in
+    moment_told plan commands scope acts (Gave piece m) m.elapsed s.client s.marks s.records (λ d low. low) (λ d past. past) h
+piece_honest plan commands scope acts piece m true [] tail ends window h =
     let s = stood plan commands scope acts in
     behind_piece plan commands scope acts piece m _
     (hear_all plan commands scope acts piece m [] (lines_behind s.rest piece) (with_rest (rest_behind s.rest piece) (piece_before m s)) tail refl ends

@@ -7,13 +7,13 @@ use Rattle.gc_station.specs.declared.progress.Order.TheVariants as orders
 use Rattle.gc_station.specs.declared.progress.Progress.{Progress}
 use Rattle.gc_station.specs.declared.progress.Waiting.{Waiting}
 use Rattle.gc_station.specs.Reasons.{IsFor, HasRoom}
-use Rattle.gc_station.specs.Room.{IsPutting, RequestsHaveRoom}
+use Rattle.gc_station.specs.Quiet.{IsAsking}
+use Rattle.gc_station.specs.Room.{RequestsHaveRoom}
 use Rattle.gc_station.specs.Runs.{stood}
 use Rattle.gc_station.specs.Standing.{order_at, waiting_of}
 use Rattle.gc_station.proofs.Facts.{order_for}
 
-room_of : (plan : Plan) (p : Progress) (w : Waiting) (next : Order) → IsPutting next → IsFor plan p w next → HasRoom plan w
-room_of plan p w orders.Probe puts is = is.1
+room_of : (plan : Plan) (p : Progress) (w : Waiting) (next : Order) → IsAsking next → IsFor plan p w next → HasRoom plan w
 room_of plan p w orders.Send puts is = is.3
 room_of plan p w orders.Flush puts is = is.5
 room_of plan p w next puts is = absurd puts

@@ -1,5 +1,5 @@
 -- A run stops for want of tries only where as many connections ended since a read settled a command.
-use Rattle.std.proofs.Common.{◌≡◌, ◌≢◌, ◌⊎◌, inl, inr, ℕ, suc, ◌+◌, ◌-◌, ◌<◌, ◌≤◌, Bool, true, false, List, [], ◌∷◌, ◌++◌, length, map, Option, Some, None, if◌then◌else◌, nat_lt, refl, sym, ap, ◌∙◌, subst, arith, append_assoc, append-nil}
+use Rattle.std.proofs.Common.{◌≡◌, ◌≢◌, ◌⊎◌, inl, inr, ℕ, suc, ◌+◌, ◌-◌, ◌<◌, ◌≤◌, Bool, true, false, not, List, [], ◌∷◌, ◌++◌, length, map, Option, Some, None, if◌then◌else◌, nat_lt, refl, sym, ap, ◌∙◌, subst, arith, append_assoc, append-nil}
 use Rattle.std.proofs.lemmas.Bool.{ltb-true, ltb-false}
 use Rattle.std.proofs.lemmas.List.{length-map, length-append, nil_from_length}
 use Rattle.gc_client.specs.declared.pending.Pending.{Pending}
@@ -18,16 +18,15 @@ use Rattle.gc_station.specs.declared.progress.Progress.{Progress}
 use Rattle.gc_station.specs.declared.progress.Until.{Until}
 use Rattle.gc_station.specs.declared.progress.Waiting.{Waiting}
 use Rattle.gc_links.specs.Acts.{Act, Gave, Closed, Opened, Unopened}
-use Rattle.gc_station.specs.Closing.{Shows, EndsDone, EndsBehind, commands_behind}
-use Rattle.gc_station.specs.Deciding.{is_up}
+use Rattle.gc_station.specs.Closing.{Shows, EndsDone, EndsBehind}
+use Rattle.gc_station.specs.Deciding.{has_begun, is_up}
 use Rattle.gc_station.specs.EachOnce.{still_waiting, of_record, sent_by}
 use Rattle.gc_station.specs.Marks.{commands_in}
-use Rattle.gc_station.specs.Progressing.{is_spared, beginning_anew, turned, told, time_passed, quieted, closed, is_over, loses_all}
+use Rattle.gc_station.specs.Progressing.{is_spared, turned, told, time_passed, quieted, closed, is_over, loses_all}
 use Rattle.gc_station.specs.Records.{Record}
 use Rattle.gc_station.specs.Runs.{stood}
-use Rattle.gc_station.specs.Standing.{Standing, opening, order_at, waiting_of, place_next, with_progress, with_moment, came, is_heard, piece_at, Obeys, moved, losing, after, after_all, Runs}
+use Rattle.gc_station.specs.Standing.{Standing, opening, order_at, waiting_of, place_next, with_progress, with_moment, lines_behind, came, is_heard, piece_at, Obeys, moved, losing, after, after_all, Runs}
 use Rattle.gc_station.specs.Tries.{IsTried, IsEnding, ends_in, opens_in, SettlesNone, NoneSettled, EndsSettled, AllTried}
-use Rattle.gc_station.proofs.Beginning.{over_stays}
 use Rattle.gc_station.proofs.Closings.{runs_split, needs_of, end_of, Decided, after_decided, done_sent}
 use Rattle.gc_station.proofs.Counts.{ended_progress}
 use Rattle.gc_station.proofs.Always.{always}
@@ -38,17 +37,18 @@ use Rattle.gc_station.proofs.Going.{after_all-append}
 use Rattle.gc_station.proofs.Growing.{losing_records, moved_grew}
 use Rattle.gc_station.proofs.Opens.{Counted, counted_moved}
 use Rattle.gc_station.proofs.Records.{Grew}
-use Rattle.gc_station.proofs.Turns.{up_count}
-use Rattle.gc_station.proofs.Walk.{came_along, closed_along, moved_changed, quieted_along, walk}
+use Rattle.gc_station.proofs.Turns.{over_stays, up_count}
+use Rattle.gc_station.proofs.Words.{begins_before}
+use Rattle.gc_station.proofs.Walk.{asked_along, came_along, closed_along, moved_changed, quieted_along, walk}
 use Rattle.gc_station.specs.Scopes.{Scope}
 
 -- Each end of a connection takes a try at most, and only a read gives tries back.
 
--- what a piece leaves: the counts of commands that went out, whether it begins anew, and the tries, by whether fewer commands wait
+-- what a piece leaves: the counts of commands that went out, whether it has begun, and the tries, by whether fewer commands wait
 record Hears (plan : Plan) (s t : Standing) : Type 0 where
   left : t.progress.left ≡ s.progress.left
   unsent : t.progress.unsent ≡ s.progress.unsent
-  anew : t.progress.anew ≡ s.progress.anew
+  begins : has_begun t.progress ≡ false → has_begun s.progress ≡ false
   tries : ((commands_in t.marks < commands_in s.marks) × (t.progress.tries ≡ plan.retries)) ⊎ ((commands_in s.marks ≤ commands_in t.marks) × (t.progress.tries ≡ s.progress.tries))
 
 abbrev Took : Plan → Standing → Act → Standing → Type 0
@@ -64,13 +64,14 @@ gave_took plan until s bytes m =
     let heard = is_heard s.progress.phase in
     let mid = with_moment m (with_progress (told m) s) in
     let is = moved_changed plan [] (orders.Read until) s (Gave bytes m) in
-    let t = came heard bytes mid in
+    let t = came heard s.progress.word bytes mid in
     record {
       left = ap (λ (x : Standing). x.progress.left) is;
       unsent = ap (λ (x : Standing). x.progress.unsent) is;
-      anew = ap (λ (x : Standing). x.progress.anew) is;
+      begins = λ e. begins_before heard s.progress.word bytes mid refl e;
       tries = given_back (nat_lt (commands_in t.marks) (commands_in s.marks)) (commands_in t.marks) (commands_in s.marks) plan.retries t.progress.tries s.progress.tries refl
-          (came_along (λ (x : Standing). x.progress.tries ≡ s.progress.tries) (λ x line e. e) heard bytes mid refl refl);
+          (came_along (λ (x : Standing). x.progress.tries ≡ s.progress.tries) (λ x line e. e) heard s.progress.word bytes mid refl
+          (asked_along (λ (q : Progress). q.tries ≡ s.progress.tries) (λ q line e. e) mid.progress (lines_behind s.rest bytes) refl) refl);
     }
 
 silent_took : (plan : Plan) (at : Phase) (p : Progress) → (quieted plan at p).tries ≡ p.tries
@@ -82,7 +83,7 @@ one_less false n = omega arith
 
 close_took : (plan : Plan) (w : Waiting) (why : Cause) (p : Progress) → p.tries ≤ (closed plan w why p).tries + 1
 close_took plan w why p =
-    closed_along (λ (q : Progress). p.tries ≤ q.tries + 1) plan w why p (omega arith) (λ anew. one_less (is_spared plan why (beginning_anew w.all p)) p.tries) (λ on. one_less (is_spared plan why p) p.tries)
+    closed_along (λ (q : Progress). p.tries ≤ q.tries + 1) plan w why p (omega arith) (one_less (is_spared plan why p) p.tries)
 
 took_moved : (plan : Plan) (commands : List Task) (next : Order) (s : Standing) (act : Act) → Obeys commands s next act → Took plan (with_progress turned s) act (moved plan commands next (with_progress turned s) act)
 took_moved plan commands (orders.Read until) s act o =
@@ -94,7 +95,7 @@ took_moved plan commands next s act o = walk plan commands (Took plan (with_prog
 
 -- a turn takes no try
 untook : (plan : Plan) (s t : Standing) (act : Act) → Took plan (with_progress turned s) act t → Took plan s act t
-untook plan s t (Gave bytes m) h = record { left = h.left; unsent = h.unsent; anew = h.anew; tries = h.tries }
+untook plan s t (Gave bytes m) h = record { left = h.left; unsent = h.unsent; begins = h.begins; tries = h.tries }
 untook plan s t act h = h
 
 -- A read gives tries back where, and only where, it settled a command.
@@ -147,13 +148,16 @@ settling_by plan s t mid old grew same kept (inr more) = inr (grew_none s.record
   by_kept (inr none) = omega (arith, none, same)
 
 -- what waits is lost only where the run is over, or it begins anew, and then nothing waits
-kept_marks : (plan : Plan) (commands : List Task) (s t : Standing) (b : Bool) → loses_all t.progress ≡ b → is_over t.progress ≡ false → t.progress.anew ≡ s.progress.anew → Fine plan commands s
+kept_marks : (plan : Plan) (commands : List Task) (s t : Standing) (b : Bool) → loses_all t.progress ≡ b → is_over t.progress ≡ false → (has_begun t.progress ≡ false → has_begun s.progress ≡ false) → Fine plan commands s
     → (commands_in (losing b t).marks ≡ commands_in t.marks) ⊎ (commands_in s.marks ≡ 0)
-kept_marks plan commands s t false e goes anew fine = inl refl
-kept_marks plan commands s t true e goes anew fine =
-    let begins : s.progress.anew ≡ true = sym anew ∙ either_true t.progress.anew (is_over t.progress) e goes in
-    let none : length s.marks ≡ 0 = fine.paired ∙ ap (λ (c : ById). length c.waiting) (fine.anew begins).0 in
-    inr (ap commands_in (nil_from_length s.marks none))
+kept_marks plan commands s t false e goes begins fine = inl refl
+kept_marks plan commands s t true e goes begins fine =
+    let new = fine.begins (begins (negated (has_begun t.progress) (either_true (not (has_begun t.progress)) (is_over t.progress) e goes))) in
+    let none : length s.marks ≡ 0 = fine.paired ∙ ap (λ (c : ById). length c.waiting) new in
+    inr (ap commands_in (nil_from_length s.marks none)) where
+      negated : (b : Bool) → not b ≡ true → b ≡ false
+      negated true e = cc
+      negated false e = refl
 
 gave_settles : (plan : Plan) (commands : List Task) (s t u : Standing) → Fine plan commands s → Fine plan commands u → Hears plan s t → Grew s.records u.records → u.progress ≡ t.progress
     → (commands_in u.marks ≡ commands_in t.marks) ⊎ (commands_in s.marks ≡ 0) → Settling plan s u
@@ -290,7 +294,7 @@ try_after plan commands scope done act o trying not_over =
     let not_over_mid : is_over t.progress ≡ false = sym (ap is_over same) ∙ not_over in
     try_step plan commands scope done act s u t refl (behind_one plan commands scope done act) refl same (untook plan s t act (took_moved plan commands (order_at plan s) s act o))
     (counted_moved plan commands (order_at plan s) s act o (order_for plan s.progress (waiting_of s)))
-    (λ gave h. gave_settles plan commands s t u fine (fine_after plan commands s act fine) h (after_grew plan commands s act) same (kept_marks plan commands s t (loses_all t.progress) refl not_over_mid h.anew fine))
+    (λ gave h. gave_settles plan commands s t u fine (fine_after plan commands s act fine) h (after_grew plan commands s act) same (kept_marks plan commands s t (loses_all t.progress) refl not_over_mid h.begins fine))
     (trying goes)
 
 try_stood : (plan : Plan) (commands : List Task) (scope : Scope) (acts : List Act) → Runs plan commands (opening plan scope) acts → Try plan commands scope acts (stood plan commands scope acts)
@@ -402,5 +406,5 @@ stop_tried plan commands scope acts last why runs stop tried ending = by_decided
 
   by_decided : Decided plan s (after plan commands s last).progress.phase why last → AllTried plan commands scope (acts ++ last ∷ [])
   by_decided (inl failed) = absurd (ending_shows why last ending failed.1)
-  by_decided (inr (down, inl (other, closes, next, ends))) = used (no_try plan s.progress (commands_behind (waiting_of s) other s.progress) other why tried ends)
+  by_decided (inr (down, inl (other, closes, next, ends))) = used (no_try plan s.progress (commands_in s.marks) other why tried ends)
   by_decided (inr (down, inr (unopened, ends))) = used (no_try plan s.progress (commands_in s.marks) cause.Open why tried ends)

@@ -1,5 +1,5 @@
 -- Each act takes a turn, so a run ends.
-use Rattle.std.proofs.Common.{◌≡◌, ℕ, zero, suc, ◌+◌, ◌*◌, ◌-◌, ◌<◌, ◌≤◌, ◌||◌, Bool, true, false, List, if◌then◌else◌, nat_lt, nat_eq, refl, sym, ap, ◌∙◌, arith}
+use Rattle.std.proofs.Common.{◌≡◌, ℕ, zero, suc, ◌+◌, ◌*◌, ◌-◌, ◌<◌, ◌≤◌, ◌&&◌, ◌||◌, Bool, true, false, not, List, if◌then◌else◌, nat_lt, nat_eq, refl, sym, ap, ◌∙◌, subst, arith}
 use Rattle.gc_texts.specs.declared.tasks.Task.{Task}
 use Rattle.gc_station.specs.declared.plan.Plan.{Plan}
 use Rattle.gc_station.specs.declared.cause.Cause.{Cause}
@@ -7,11 +7,12 @@ use Rattle.gc_station.specs.declared.cause.Cause.TheVariants as cause
 use Rattle.gc_station.specs.declared.progress.Phase.{Phase}
 use Rattle.gc_station.specs.declared.progress.Phase.TheVariants as phase
 use Rattle.gc_station.specs.declared.progress.Order.{Order}
+use Rattle.gc_station.specs.declared.progress.Order.TheVariants as orders
 use Rattle.gc_station.specs.declared.progress.Progress.{Progress}
 use Rattle.gc_station.specs.declared.progress.Waiting.{Waiting}
 use Rattle.gc_links.specs.Acts.{Act}
-use Rattle.gc_station.specs.Deciding.{is_up, order_in, order_of, order_up}
-use Rattle.gc_station.specs.Progressing.{turned, is_finished, is_spared, again, beginning_anew, closed}
+use Rattle.gc_station.specs.Deciding.{is_up, order_in, order_on, order_of, order_up}
+use Rattle.gc_station.specs.Progressing.{turned, is_finished, is_spared, again, closed, is_over_in, is_over}
 use Rattle.gc_station.specs.Standing.{Standing, waiting_of, order_at, Obeys, moved, after, with_progress}
 use Rattle.gc_station.specs.Stations.{stepped}
 use Rattle.gc_station.proofs.Counts.{turns_kept, ended_progress}
@@ -39,7 +40,7 @@ pub again_down : (plan : Plan) (commands : ℕ) (why : Cause) (p : Progress) →
 again_down plan commands why p = phase_down (is_finished commands p) (is_spared plan why p || nat_lt 0 p.tries) why
 
 pub closed_down : (plan : Plan) (w : Waiting) (why : Cause) (p : Progress) → is_up (closed plan w why p).phase ≡ false
-closed_down plan w why p = closed_along (λ (q : Progress). is_up q.phase ≡ false) plan w why p refl (λ anew. again_down plan 0 why (beginning_anew w.all p)) (λ on. again_down plan w.commands why p)
+closed_down plan w why p = closed_along (λ (q : Progress). is_up q.phase ≡ false) plan w why p refl (again_down plan w.commands why p)
 
 -- once all turns are used up, an act closes the connection
 up_closes : (plan : Plan) (commands : List Task) (s t : Standing) (up : Bool) (act : Act) → Obeys commands t (order_up up) act
@@ -83,3 +84,24 @@ less_stepped plan commands s w act obeys =
 
 pub less_to_do : (plan : Plan) (commands : List Task) (s : Standing) (act : Act) → Obeys commands s (order_at plan s) act → left_to_do (after plan commands s act).progress < left_to_do s.progress
 less_to_do plan commands s act obeys = less_stepped plan commands s (waiting_of s) act obeys
+
+-- Where it is over no act follows.
+
+module _ (plan : Plan) (commands : List Task) where
+  pub over_stops : (s : Standing) (act : Act) → Obeys commands s (order_at plan s) act → (why : Cause) → s.progress.phase ≡ phase.Over why → ⊥
+  over_stops s act o why is = subst (λ (at : Phase). Obeys commands s (order_in at plan s.progress (waiting_of s)) act) is o
+
+  pub over_stays : (s : Standing) (act : Act) → is_over s.progress ≡ true → Obeys commands s (order_at plan s) act → ⊥
+  over_stays s act over obeys = by_phase s.progress.phase refl over where
+    none_left : (up zero_left : Bool) → is_up s.progress.phase ≡ up → nat_eq s.progress.turns 0 ≡ zero_left → (not up && zero_left) ≡ true → order_on plan s.progress (waiting_of s) ≡ orders.Stop cause.Turns
+    none_left true z e f both = cc
+    none_left false false e f both = cc
+    none_left false true e f both = rw (f, e) refl
+
+    stops : order_at plan s ≡ order_on plan s.progress (waiting_of s) → (not (is_up s.progress.phase) && nat_eq s.progress.turns 0) ≡ true → ⊥
+    stops e both = subst (λ (o : Order). Obeys commands s o act) (e ∙ none_left (is_up s.progress.phase) (nat_eq s.progress.turns 0) refl refl both) obeys
+
+    by_phase : (at : Phase) → s.progress.phase ≡ at → (is_over_in s.progress.phase || (not (is_up s.progress.phase) && nat_eq s.progress.turns 0)) ≡ true → ⊥
+    by_phase (phase.Closing why) is o = let never : false ≡ true = sym (ap (λ at. is_over_in at || (not (is_up at) && nat_eq s.progress.turns 0)) is) ∙ o in cc
+    by_phase (phase.Over why) is o = over_stops s act obeys why is
+    by_phase other is o = stops (ap (λ at. order_in at plan s.progress (waiting_of s)) is) (sym (ap (λ at. is_over_in at || (not (is_up s.progress.phase) && nat_eq s.progress.turns 0)) is) ∙ o)

@@ -8,7 +8,7 @@ use Rattle.gc_station.specs.declared.cause.Cause.TheVariants as cause
 use Rattle.gc_station.specs.declared.progress.Order.TheVariants as orders
 use Rattle.gc_station.specs.declared.progress.Progress.{Progress}
 use Rattle.gc_links.specs.Acts.{Act}
-use Rattle.gc_station.specs.Closing.{EndsBehind, Ends, commands_behind}
+use Rattle.gc_station.specs.Closing.{EndsBehind, Ends}
 use Rattle.gc_station.specs.Progressing.{turned}
 use Rattle.gc_station.specs.Runs.{stood}
 use Rattle.gc_station.specs.Standing.{Standing, opening, order_at, waiting_of, with_progress, moved, after, after_all, Runs}
@@ -55,7 +55,7 @@ stop_used plan commands scope acts runs is = by_shown (stopped_for plan commands
   by_end earlier last order (inl failed) = absurd failed.1
   by_end earlier last order (inr (inl (other, closed, next, ends))) =
       let s = stood plan commands scope earlier in
-      before earlier last order (next ∙ ap orders.Close (turns_only plan s.progress (commands_behind (waiting_of s) other s.progress) other ends))
+      before earlier last order (next ∙ ap orders.Close (turns_only plan s.progress (waiting_of s).commands other ends))
   by_end earlier last order (inr (inr (unopened, ends))) =
       let s = stood plan commands scope earlier in
       let both = turns_only plan s.progress (waiting_of s).commands cause.Open ends in cc

@@ -15,7 +15,7 @@ use Rattle.gc_station.specs.declared.progress.Order.TheVariants as orders
 use Rattle.gc_links.specs.Acts.{Act, Gave}
 use Rattle.gc_station.specs.Answers.{IsBefore, deadline_behind, IsTrueRecord}
 use Rattle.gc_station.specs.Ends.{IsPast, TellsPast, IsTrulyLate, IsTrulyLost, IsOvertaken, BeginsAnew, IsLast, IsLostIn}
-use Rattle.gc_station.specs.Probing.{IsAsking}
+use Rattle.gc_station.specs.Quiet.{IsAsking}
 use Rattle.gc_station.specs.Records.{Record}
 use Rattle.gc_station.specs.Runs.{stood}
 use Rattle.gc_station.specs.Standing.{Standing, order_at, cycles_begun, place_next, request_text, Puts, Obeys}

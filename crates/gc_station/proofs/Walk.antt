@@ -1,9 +1,8 @@
 -- One walk over the orders: which fields an act of each order changes, and what has to hold for a fact to hold behind it. A new order is a
 -- row in each of these tables; a fact about all orders is an instance.
-use Rattle.std.proofs.Common.{◌≡◌, ℕ, Bool, true, false, List, [], ◌∷◌, drop, length, if◌then◌else◌, not, refl, sym, subst}
+use Rattle.std.proofs.Common.{◌≡◌, ℕ, Bool, true, false, List, [], ◌∷◌, drop, length, if◌then◌else◌, refl, sym, subst}
 use Rattle.gc_lines.specs.Frames.{rest_behind}
 use Rattle.gc_catalogue.specs.declared.call.Call.TheVariants.{NullProc}
-use Rattle.gc_client.specs.Rule.{expiring}
 use Rattle.gc_texts.specs.declared.tasks.Task.{Task}
 use Rattle.gc_links.specs.declared.link.Moment.{Moment}
 use Rattle.gc_station.specs.declared.mark.Mark.{Mark}
@@ -13,15 +12,15 @@ use Rattle.gc_station.specs.declared.cause.Cause.TheVariants as cause
 use Rattle.gc_station.specs.declared.progress.Phase.{Phase}
 use Rattle.gc_station.specs.declared.progress.Phase.TheVariants.{Pausing, Draining}
 use Rattle.gc_station.specs.declared.progress.Order.{Order}
-use Rattle.gc_station.specs.declared.progress.Order.TheVariants.{ReadClock, Begin, Open, Clear, Probe, Send, Skip, Flush, Read, Close, Stop}
+use Rattle.gc_station.specs.declared.progress.Order.TheVariants.{ReadClock, Renew, Begin, Open, Clear, Ask, Send, Skip, Flush, Read, Close, Stop}
 use Rattle.gc_station.specs.declared.progress.Progress.{Progress}
 use Rattle.gc_station.specs.declared.progress.Until.{Until}
 use Rattle.gc_station.specs.declared.progress.Waiting.{Waiting}
 use Rattle.gc_links.specs.Acts.{Act, Told, Untold, Put, Cut, Gave, Silent, Ended, Broke, Closed, Opened, Unopened}
-use Rattle.gc_station.specs.Deciding.{is_past, drain_of}
+use Rattle.gc_station.specs.Deciding.{is_quiet}
 use Rattle.gc_station.specs.Marks.{commands_in}
-use Rattle.gc_station.specs.Progressing.{told, begun, skipped, failing, opened, again, cleared, asking, probed, sent, pause_ended, drained, quieted, time_passed, quiet_renewed, reckoned_early, begins_anew, beginning_anew, closed_again, ended_for, closed}
-use Rattle.gc_station.specs.Standing.{Standing, waiting_of, place_next, mark_next, requests_out, request_text, first_text, bound_next, Puts, Obeys, is_nil, is_heard, with_progress, with_moment, with_rest, with_records, asks_null, asks_first, asks_next, skips, line_came, lines_came, lines_behind, came, reckoned, piece_at, after_read, after_put, after_close, moved}
+use Rattle.gc_station.specs.Progressing.{told, begun, skipped, failing, opened, again, cleared, asking, null_sent, renewed, sent, line_asked, lines_asked, pause_ended, drained, quieted, time_passed, reckoned_early, ended_for, closed}
+use Rattle.gc_station.specs.Standing.{Standing, waiting_of, place_next, mark_next, requests_out, request_text, null_text, first_text, bound_next, Puts, Obeys, is_heard, with_progress, with_moment, with_rest, with_records, asks_null, asks_first, asks_next, skips, line_came, lines_came, lines_behind, piece_asked, came, reckoned, piece_at, after_read, after_put, after_close, moved}
 
 -- Parts of an act.
 
@@ -30,30 +29,33 @@ pub lines_along : (P : Standing → Type 0) → ((t : Standing) (line : List ℕ
 lines_along P step s [] p = p
 lines_along P step s (line ∷ others) p = lines_along P step (line_came s line) others (step s line p)
 
--- a piece is heard, or dropped
-pub came_along : (P : Standing → Type 0) → ((t : Standing) (line : List ℕ) → P t → P (line_came t line)) → (heard : Bool) (piece : List ℕ) (s : Standing) → P (with_rest (rest_behind s.rest piece) s) → P s → P (came heard piece s)
-came_along P step true piece s hears drops = lines_along P step (with_rest (rest_behind s.rest piece) s) (lines_behind s.rest piece) hears
-came_along P step false piece s hears drops = drops
+-- the same while it begins, where lines change how far it is alone
+pub asked_along : (P : Progress → Type 0) → ((q : Progress) (line : List ℕ) → P q → P (line_asked q line)) → (p : Progress) (lines : List (List ℕ)) → P p → P (lines_asked p lines)
+asked_along P step p [] h = h
+asked_along P step p (line ∷ others) h = asked_along P step (line_asked p line) others (step p line h)
+
+-- a piece is heard, once it has begun or while it begins, or dropped
+pub came_along : (P : Standing → Type 0) → ((t : Standing) (line : List ℕ) → P t → P (line_came t line)) → (heard : Bool) (word piece : List ℕ) (s : Standing)
+    → P (with_rest (rest_behind s.rest piece) s) → P (piece_asked piece s) → P s → P (came heard word piece s)
+came_along P step true [] piece s hears begins drops = lines_along P step (with_rest (rest_behind s.rest piece) s) (lines_behind s.rest piece) hears
+came_along P step true (asked ∷ others) piece s hears begins drops = begins
+came_along P step false word piece s hears begins drops = drops
 
 -- nothing came
 pub quieted_along : (P : Progress → Type 0) (plan : Plan) (at : Phase) (p : Progress) → P (pause_ended plan p) → P (drained p) → P p → P (quieted plan at p)
 quieted_along P plan Pausing p paused quiet same = paused
-quieted_along P plan Draining p paused quiet same = by_test (is_past (drain_of plan p) p) where
+quieted_along P plan Draining p paused quiet same = by_test (is_quiet plan p) where
   by_test : (b : Bool) → P (if b then drained p else p)
   by_test true = quiet
   by_test false = same
 quieted_along P plan at p paused quiet same = same
 
--- a connection was closed: for good, to begin anew, or to go on
-pub closed_along : (P : Progress → Type 0) (plan : Plan) (w : Waiting) (why : Cause) (p : Progress) → P (ended_for why p) → (begins_anew why p ≡ true → P (again plan 0 why (beginning_anew w.all p)))
-    → (begins_anew why p ≡ false → P (again plan w.commands why p)) → P (closed plan w why p)
-closed_along P plan w cause.Done p ends anew on = ends
-closed_along P plan w cause.Clock p ends anew on = ends
-closed_along P plan w cause.Turns p ends anew on = ends
-closed_along P plan w why p ends anew on = by_test (begins_anew why p) refl where
-  by_test : (b : Bool) → begins_anew why p ≡ b → P (closed_again plan w why b p)
-  by_test true e = anew e
-  by_test false e = on e
+-- a connection was closed: for good, or to be made again
+pub closed_along : (P : Progress → Type 0) (plan : Plan) (w : Waiting) (why : Cause) (p : Progress) → P (ended_for why p) → P (again plan w.commands why p) → P (closed plan w why p)
+closed_along P plan w cause.Done p ends on = ends
+closed_along P plan w cause.Clock p ends on = ends
+closed_along P plan w cause.Turns p ends on = ends
+closed_along P plan w why p ends on = on
 
 -- The next command was sent, whatever it is.
 
@@ -79,23 +81,25 @@ asking_of p q = record p { phase = q.phase; alive = q.alive; asked = q.asked; st
 -- how far a station is behind an act, and before it
 abbrev progress_of : Order → Progress → Progress → Progress
 progress_of ReadClock p q = told_of p q
+progress_of Renew p q = record (told_of p q) { word = q.word; again = q.again; whole = q.whole }
 progress_of Begin p q = record (told_of p q) { due = q.due; missed = q.missed; left = q.left; unsent = q.unsent; bound = q.bound; whole = q.whole }
 progress_of Open p q = record p { phase = q.phase; stale = q.stale; tries = q.tries; pause = q.pause; whole = q.whole }
-progress_of Clear p q = record p { phase = q.phase; stale = q.stale }
-progress_of Probe p q = record (asking_of p q) { anew = q.anew; alone = q.alone }
+progress_of Clear p q = record p { phase = q.phase; again = q.again; asked = q.asked; stale = q.stale }
+progress_of Ask p q = record (asking_of p q) { again = q.again }
 progress_of Send p q = record (asking_of p q) { unsent = q.unsent; bound = q.bound; whole = q.whole }
 progress_of Skip p q = record (told_of p q) { unsent = q.unsent; bound = q.bound; whole = q.whole }
 progress_of Flush p q = asking_of p q
-progress_of (Read until) p q = record (told_of p q) { asked = q.asked; alone = q.alone; tries = q.tries; pause = q.pause }
-progress_of (Close why) p q = record p { phase = q.phase; anew = q.anew; alone = q.alone; drain = q.drain; stale = q.stale; tries = q.tries; pause = q.pause; whole = q.whole }
+progress_of (Read until) p q = record (told_of p q) { word = q.word; again = q.again; asked = q.asked; tries = q.tries; pause = q.pause }
+progress_of (Close why) p q = record p { phase = q.phase; stale = q.stale; tries = q.tries; pause = q.pause; whole = q.whole }
 progress_of (Stop why) p q = p
 
 abbrev changed_by : Order → Standing → Standing → Standing
 changed_by ReadClock s t = record s { client = t.client }
+changed_by Renew s t = record s { client = t.client }
 changed_by Begin s t = record s { client = t.client }
 changed_by Open s t = s
 changed_by Clear s t = s
-changed_by Probe s t = record s { client = t.client; marks = t.marks }
+changed_by Ask s t = s
 changed_by Send s t = record s { client = t.client; marks = t.marks }
 changed_by Skip s t = record s { client = t.client; records = t.records }
 changed_by Flush s t = record s { client = t.client; marks = t.marks }
@@ -107,40 +111,48 @@ changed_by (Stop why) s t = s
 abbrev pub changed : Order → Standing → Standing → Standing
 changed order s t = record (changed_by order s t) { progress = record (progress_of order s.progress t.progress) { turns = s.progress.turns }; reads = s.reads }
 
+-- behind lines that were heard while it begins
+abbrev asked_of : Progress → Progress → Progress
+asked_of p q = record p { word = q.word; again = q.again; alive = q.alive; asked = q.asked }
+
+lines_changed : (p : Progress) (lines : List (List ℕ)) → lines_asked p lines ≡ asked_of p (lines_asked p lines)
+lines_changed p lines = asked_along (λ (q : Progress). q ≡ asked_of p q) (λ q line e. subst (λ (r : Progress). line_asked r line ≡ asked_of p (line_asked r line)) (sym e) refl) p lines refl
+
 -- behind a read that gave bytes
 abbrev piece_of : Standing → Standing → Standing
-piece_of s t = record s { progress = record s.progress { alive = t.progress.alive; asked = t.progress.asked }; rest = t.rest; client = t.client; marks = t.marks; records = t.records }
+piece_of s t = record s { progress = asked_of s.progress t.progress; rest = t.rest; client = t.client; marks = t.marks; records = t.records }
 
 gave_changed : (plan : Plan) (until : Until) (s : Standing) (bytes : List ℕ) (m : Moment) → piece_at plan until bytes m s ≡ changed (Read until) s (piece_at plan until bytes m s)
 gave_changed plan until s bytes m =
     let mid = with_moment m (with_progress (told m) s) in
     let heard = is_heard s.progress.phase in
     let n = commands_in s.marks in
-    let is = came_along (λ (t : Standing). t ≡ piece_of mid t) (λ t line e. subst (λ (u : Standing). line_came u line ≡ piece_of mid (line_came u line)) (sym e) refl) heard bytes mid refl refl in
-    subst (λ (u : Standing). reckoned plan until n u ≡ changed (Read until) s (reckoned plan until n u)) (sym is) refl
+    let is = came_along (λ (t : Standing). t ≡ piece_of mid t) (λ t line e. subst (λ (u : Standing). line_came u line ≡ piece_of mid (line_came u line)) (sym e) refl) heard s.progress.word bytes mid refl (begins mid (lines_behind s.rest bytes) (rest_behind s.rest bytes)) refl in
+    subst (λ (u : Standing). reckoned plan until n u ≡ changed (Read until) s (reckoned plan until n u)) (sym is) refl where
+      begins : (t : Standing) (lines : List (List ℕ)) (rest : List ℕ) → record t { progress = lines_asked t.progress lines; rest = rest } ≡ piece_of t (record t { progress = lines_asked t.progress lines; rest = rest })
+      begins t lines rest = subst (λ (q : Progress). record t { progress = q; rest = rest } ≡ piece_of t (record t { progress = q; rest = rest })) (sym (lines_changed t.progress lines)) refl
 
 silent_changed : (plan : Plan) (until : Until) (s : Standing) (m : Moment) → after_read plan until s (Silent m) ≡ changed (Read until) s (after_read plan until s (Silent m))
 silent_changed plan until s m =
-    let gave_up = not (is_nil (expiring m.elapsed s.client.waiting)) in
-    quieted_along
-    (λ (q : Progress). with_moment m (with_progress (λ p. quiet_renewed gave_up m q) s) ≡ changed (Read until) s (with_moment m (with_progress (λ p. quiet_renewed gave_up m q) s)))
-    plan s.progress.phase (time_passed until m s.progress) refl refl refl
+    quieted_along (λ (q : Progress). with_moment m (record s { progress = q }) ≡ changed (Read until) s (with_moment m (record s { progress = q }))) plan s.progress.phase (time_passed until m s.progress) refl refl refl
 
 closed_changed : (plan : Plan) (why : Cause) (s : Standing) → after_close plan why s ≡ changed (Close why) s (after_close plan why s)
 closed_changed plan why s =
-    closed_along (λ (q : Progress). record s { progress = q; rest = [] } ≡ changed (Close why) s (record s { progress = q; rest = [] })) plan (waiting_of s) why s.progress refl (λ e. refl) (λ e. refl)
+    closed_along (λ (q : Progress). record s { progress = q; rest = [] } ≡ changed (Close why) s (record s { progress = q; rest = [] })) plan (waiting_of s) why s.progress refl refl
 
 pub moved_changed : (plan : Plan) (commands : List Task) (order : Order) (s : Standing) (act : Act) → moved plan commands order s act ≡ changed order s (moved plan commands order s act)
 moved_changed plan commands ReadClock s (Told m) = refl
 moved_changed plan commands ReadClock s act = refl
+moved_changed plan commands Renew s (Told m) = refl
+moved_changed plan commands Renew s act = refl
 moved_changed plan commands Begin s (Told m) = refl
 moved_changed plan commands Begin s act = refl
 moved_changed plan commands Open s Opened = refl
 moved_changed plan commands Open s act = refl
 moved_changed plan commands Clear s (Cut bytes n) = refl
 moved_changed plan commands Clear s act = refl
-moved_changed plan commands Probe s (Cut bytes n) = refl
-moved_changed plan commands Probe s act = refl
+moved_changed plan commands Ask s (Cut bytes n) = refl
+moved_changed plan commands Ask s act = refl
 moved_changed plan commands Send s (Cut bytes n) =
     let cut = with_progress (failing (cause.Write (requests_out plan commands s.progress) n)) in
     subst (λ (u : Standing). cut u ≡ changed Send s (cut u)) (is_sent plan commands s) refl
@@ -165,10 +177,11 @@ Putting P requests bytes t = ((m : Moment) → P (Put bytes) t) × ((n : ℕ) �
 abbrev pub Behind : Plan → List Task → (Act → Standing → Type 0) → Order → Standing → Type 0
 Behind plan commands P ReadClock s =
     ((m : Moment) → P (Told m) (with_moment m (with_progress (λ p. reckoned_early plan (commands_in s.marks) (told m p)) s))) × ((n : ℕ) → P Untold (with_progress (failing cause.Clock) s))
+Behind plan commands P Renew s = ((m : Moment) → P (Told m) (with_moment m (with_progress (λ p. reckoned_early plan 0 (renewed m p)) s))) × ((n : ℕ) → P Untold (with_progress (failing cause.Clock) s))
 Behind plan commands P Begin s = ((m : Moment) → P (Told m) (with_moment m (with_progress (begun plan (length commands) m) s))) × ((n : ℕ) → P Untold (with_progress (failing cause.Clock) s))
 Behind plan commands P Open s = ((m : Moment) → P Opened (with_progress opened s)) × ((n : ℕ) → P Unopened (with_progress (again plan (commands_in s.marks) cause.Open) s))
 Behind plan commands P Clear s = Putting P (requests_out plan commands s.progress) (10 ∷ []) (with_progress cleared s)
-Behind plan commands P Probe s = Putting P (requests_out plan commands s.progress) (request_text s.client NullProc) (with_progress probed (asks_null plan s))
+Behind plan commands P Ask s = Putting P (requests_out plan commands s.progress) (null_text s.progress.word) (with_progress (null_sent plan) s)
 Behind plan commands P Send s = Putting P (requests_out plan commands s.progress) (first_text s.client (drop (place_next commands s.progress) commands)) (sending plan commands s)
 Behind plan commands P Skip s =
     ((m : Moment) → P (Told m) (with_moment m (with_progress (λ p. reckoned_early plan (commands_in s.marks) (skipped (bound_next commands s.progress) m p)) (with_records (skips plan commands s.progress (Told m)) s))))
@@ -189,6 +202,9 @@ pub walk : (plan : Plan) (commands : List Task) (P : Act → Standing → Type 0
 walk plan commands P ReadClock s (Told m) o h = h.0 m
 walk plan commands P ReadClock s Untold o h = h.1 0
 walk plan commands P ReadClock s act o h = absurd o
+walk plan commands P Renew s (Told m) o h = h.0 m
+walk plan commands P Renew s Untold o h = h.1 0
+walk plan commands P Renew s act o h = absurd o
 walk plan commands P Begin s (Told m) o h = h.0 m
 walk plan commands P Begin s Untold o h = h.1 0
 walk plan commands P Begin s act o h = absurd o
@@ -196,7 +212,7 @@ walk plan commands P Open s Opened o h = h.0 (record { elapsed = 0; utc = 0 })
 walk plan commands P Open s Unopened o h = h.1 0
 walk plan commands P Open s act o h = absurd o
 walk plan commands P Clear s act o h = put_walk P (requests_out plan commands s.progress) (10 ∷ []) (with_progress cleared) s act o h
-walk plan commands P Probe s act o h = put_walk P (requests_out plan commands s.progress) (request_text s.client NullProc) (λ (x : Standing). with_progress probed (asks_null plan x)) s act o h
+walk plan commands P Ask s act o h = put_walk P (requests_out plan commands s.progress) (null_text s.progress.word) (λ (x : Standing). with_progress (null_sent plan) x) s act o h
 walk plan commands P Send s act o h =
     let requests = requests_out plan commands s.progress in
     let text = first_text s.client (drop (place_next commands s.progress) commands) in

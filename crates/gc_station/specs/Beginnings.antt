@@ -1,59 +1,76 @@
--- Where a station begins anew, this project's own, in terms of the acts: the null procedure goes out first, and is answered before any other
--- request goes out.
-use Rattle.std.specs.Prelude.{◌≡◌, ◌⊎◌, ℕ, ◌*◌, true, false, List, [], ◌∷◌, ◌++◌, length, min, Some}
-use Rattle.std.specs.List.{AllByRecursion}
-use Rattle.gc_lines.specs.Frames.{lines}
-use Rattle.gc_catalogue.specs.declared.call.Call.TheVariants.{NullProc}
-use Rattle.gc_client.specs.Rule.{fresh, heard}
+-- Beginnings, this project's own: eight null procedures go out first, one after the other, each the same until a reply with its id came;
+-- and then commands. A connection is cleared in any case, and drained where it isn't a beginning that goes on with it.
+use Rattle.std.specs.Prelude.{◌≡◌, ℕ, true, false, List, [], ◌∷◌, ◌++◌, length, if◌then◌else◌}
+use Rattle.std.specs.List.{AllByRecursion, filter_map}
+use Rattle.gc_client.specs.Beginning.{IsSubsequence, the_word, left_by}
+use Rattle.gc_client.specs.Rule.{deadlines, fresh, heard}
+use Rattle.gc_client.specs.declared.window.TheConstants.{WINDOW}
 use Rattle.gc_texts.specs.declared.tasks.Task.{Task}
 use Rattle.gc_station.specs.declared.plan.Plan.{Plan}
-use Rattle.gc_links.specs.Acts.{Act, Put, Gave, Closed}
-use Rattle.gc_station.specs.Quiet.{AsksNothing, StaysConnected, IsClearedAndQuiet}
+use Rattle.gc_station.specs.declared.progress.Order.TheVariants.{Renew}
+use Rattle.gc_links.specs.declared.link.Moment.{Moment}
+use Rattle.gc_links.specs.Acts.{Act, Told, Put, Gave, Opened}
+use Rattle.gc_station.specs.Deciding.{has_begun}
+use Rattle.gc_station.specs.Quiet.{IsAsking, IsRequest, IsQuietFirst, StaysConnected}
 use Rattle.gc_station.specs.Runs.{stood}
-use Rattle.gc_station.specs.Standing.{Puts, request_text}
 use Rattle.gc_station.specs.Scopes.{Scope}
+use Rattle.gc_station.specs.Standing.{Standing, Puts, Runs, after, is_heard, lines_behind, null_text, opening, order_at}
 
--- the null procedure with id 0
-abbrev pub null_text : List ℕ
-null_text = request_text fresh NullProc
+-- the lines that an act brings, where they are heard
+abbrev pub heard_at : Standing → Act → List (List ℕ)
+heard_at s (Gave piece m) = if is_heard s.progress.phase then lines_behind s.rest piece else []
+heard_at s act = []
 
--- behind these acts there is a connection that was cleared and quiet, and no request went out on it
-abbrev pub IsUnasked : ℕ → List Act → Type 0
-IsUnasked quiet acts = (c : IsClearedAndQuiet quiet acts) × AllByRecursion AsksNothing c.behind
+-- the lines that these acts bring, in order, from where a station stands
+abbrev pub heard_behind : Plan → List Task → Standing → List Act → List (List ℕ)
+heard_behind plan commands s [] = []
+heard_behind plan commands s (act ∷ acts) = heard_at s act ++ heard_behind plan commands (after plan commands s act) acts
 
--- the null procedure with id 0 goes out, whole or in part, as the first request of its connection, which was cleared and quiet
-abbrev pub IsFirst : ℕ → List Act → Act → Type 0
-IsFirst quiet acts act = Puts null_text act × IsUnasked quiet acts
+-- what isn't answered of a beginning behind these lines
+abbrev pub left_behind : List ℕ → List (List ℕ) → List ℕ
+left_behind word [] = word
+left_behind word (line ∷ others) = left_behind (left_by word (heard line)) others
 
--- the bytes that these acts gave
-abbrev pub bytes_in : List Act → List ℕ
-bytes_in [] = []
-bytes_in (Gave piece m ∷ acts) = piece ++ bytes_in acts
-bytes_in (act ∷ acts) = bytes_in acts
+-- Where a command goes out, or a null procedure behind commands that are all given up, replies came with the ids of all null procedures
+-- that weren't answered before, in their order. At the start of a run, and where it begins anew, these are all eight
+abbrev pub NoneBeforeTheLastAnswer : Type 0
+NoneBeforeTheLastAnswer =
+    (plan : Plan) (commands : List Task) (scope : Scope) (earlier between : List Act) → Runs plan commands (opening plan scope) (earlier ++ between)
+    → IsAsking (order_at plan (stood plan commands scope (earlier ++ between)))
+    → IsSubsequence (stood plan commands scope earlier).progress.word (filter_map heard (heard_behind plan commands (stood plan commands scope earlier) between))
 
--- among these acts the null procedure with id 0 went out whole, and then, on the same connection and before any other request, a line with
--- id 0 came
-pub record IsAnsweredAmong (acts : List Act) : Type 0 where
-  pub first : List Act
-  pub waits : List Act
+-- an act while it begins: nothing waits, and the client is new; what goes out is the null procedure of the first id that isn't answered;
+-- and the next one is asked for exactly where a line came with that id, in whatever order of acts, also over closes
+pub record IsOfBeginning (plan : Plan) (commands : List Task) (scope : Scope) (acts : List Act) (act : Act) : Type 0 where
+  pub client : (stood plan commands scope acts).client ≡ fresh
+  pub marks : (stood plan commands scope acts).marks ≡ []
+  pub asks : IsRequest act → Puts (null_text (stood plan commands scope acts).progress.word) act
+  pub left : (stood plan commands scope (acts ++ act ∷ [])).progress.word
+      ≡ left_behind (stood plan commands scope acts).progress.word (heard_at (stood plan commands scope acts) act)
+
+-- at an act a station begins anew: it reads the clock where seven wait, all of them given up; then nothing waits, and no null procedure is
+-- answered
+pub record IsAnew (plan : Plan) (commands : List Task) (scope : Scope) (acts : List Act) (act : Act) : Type 0 where
+  pub renews : order_at plan (stood plan commands scope acts) ≡ Renew
+  pub moment : Moment
+  pub told : act ≡ Told moment
+  pub seven : length (stood plan commands scope acts).client.waiting ≡ WINDOW
+  pub given_up : deadlines (stood plan commands scope acts).client.waiting ≡ []
+  pub word : (stood plan commands scope (acts ++ act ∷ [])).progress.word ≡ the_word
+  pub client : (stood plan commands scope (acts ++ act ∷ [])).client ≡ fresh
+
+-- A run begins with all eight null procedures; each act while it begins is so; and behind that it begins anew only so
+pub record BeginsSo (plan : Plan) (commands : List Task) (scope : Scope) (acts : List Act) (act : Act) : Type 0 where
+  pub starts : (stood plan commands scope []).progress.word ≡ the_word
+  pub begins : has_begun (stood plan commands scope acts).progress ≡ false → IsOfBeginning plan commands scope acts act
+  pub anew : has_begun (stood plan commands scope acts).progress ≡ true → has_begun (stood plan commands scope (acts ++ act ∷ [])).progress ≡ false
+      → IsAnew plan commands scope acts act
+
+-- behind these acts there is a connection that was cleared: as soon as it was made, a lone line feed went out whole. Where the station had
+-- begun by then, it was quiet before anything else went out on it
+pub record IsClearedAndQuiet (plan : Plan) (commands : List Task) (scope : Scope) (acts : List Act) : Type 0 where
+  pub before : List Act
   pub behind : List Act
-  pub order : acts ≡ first ++ Put null_text ∷ (waits ++ behind)
-  pub stays : AllByRecursion StaysConnected waits
-  pub alone : AllByRecursion AsksNothing waits
-  pub front : List (List ℕ)
-  pub line : List ℕ
-  pub others : List (List ℕ)
-  pub came : lines (bytes_in waits) ≡ front ++ line ∷ others
-  pub id : heard line ≡ Some 0
-
--- behind these acts a station begins anew, while so many requests wait: at the start, where one does for the drain; or at a close behind
--- which the next connection begins anew, and before which none was to
-abbrev pub BeginsWith : Plan → List Task → Scope → List Act → ℕ → Type 0
-BeginsWith plan commands scope acts waiting =
-    ((acts ≡ []) × (waiting ≡ 1))
-    ⊎ ((front : List Act) × (acts ≡ front ++ Closed ∷ []) × ((stood plan commands scope front).progress.anew ≡ false) × ((stood plan commands scope acts).progress.anew ≡ true)
-    × (waiting ≡ length (stood plan commands scope front).client.waiting))
-
--- so many quiet times, or as long as there are moments
-abbrev pub quiet_times : Plan → ℕ → ℕ
-quiet_times plan n = min (n * plan.quiet) 18446744073709551615
+  pub order : acts ≡ before ++ Opened ∷ Put (10 ∷ []) ∷ behind
+  pub stays : AllByRecursion StaysConnected behind
+  pub quiet : has_begun (stood plan commands scope before).progress ≡ true → IsQuietFirst plan.quiet behind

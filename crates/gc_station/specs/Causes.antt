@@ -3,11 +3,10 @@ use Rattle.std.specs.Prelude.{Option, Some, None}
 use Rattle.gc_texts.specs.declared.fault.RunFault.{RunFault}
 use Rattle.gc_texts.specs.declared.fault.RunFault.TheVariants as fault
 use Rattle.gc_station.specs.declared.cause.Cause.{Cause}
-use Rattle.gc_station.specs.declared.cause.Cause.TheVariants.{Done, Silence, Dead, Read, End, Write, Clock, Open, Turns}
+use Rattle.gc_station.specs.declared.cause.Cause.TheVariants.{Done, Dead, Read, End, Write, Clock, Open, Turns}
 
 abbrev pub fault_of : Cause → Option RunFault
 fault_of Done = None
-fault_of Silence = Some fault.Mute
 fault_of Dead = Some fault.Mute
 fault_of Read = Some fault.Read
 fault_of End = Some fault.LinkClosed

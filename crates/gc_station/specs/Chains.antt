@@ -10,7 +10,7 @@ use Rattle.gc_station.specs.declared.progress.Order.TheVariants.{Send}
 use Rattle.gc_links.specs.Acts.{Act}
 use Rattle.gc_station.specs.Answers.{IsAnsweredIn}
 use Rattle.gc_station.specs.Marks.{is_value}
-use Rattle.gc_station.specs.Probing.{KeepsOpen}
+use Rattle.gc_station.specs.Quiet.{KeepsOpen}
 use Rattle.gc_station.specs.Records.{Record}
 use Rattle.gc_station.specs.Runs.{stood}
 use Rattle.gc_station.specs.Scopes.{Scope}

@@ -1,25 +1,25 @@
 -- Why each act is made, and why a connection is closed: this project's own.
-use Rattle.std.specs.Prelude.{◌≡◌, ◌⊎◌, ℕ, false, List, [], ◌∷◌, ◌++◌, if◌then◌else◌}
+use Rattle.std.specs.Prelude.{◌≡◌, ◌⊎◌, ℕ, false, List, [], ◌∷◌, ◌++◌}
 use Rattle.gc_client.specs.Rule.{fresh}
 use Rattle.gc_texts.specs.declared.tasks.Task.{Task}
 use Rattle.gc_station.specs.declared.cause.Cause.{Cause}
 use Rattle.gc_station.specs.declared.cause.Cause.TheVariants as cause
 use Rattle.gc_station.specs.declared.plan.Plan.{Plan}
 use Rattle.gc_station.specs.declared.progress.Order.{Order}
-use Rattle.gc_station.specs.declared.progress.Order.TheVariants.{Probe, Close}
+use Rattle.gc_station.specs.declared.progress.Order.TheVariants.{Ask, Close}
 use Rattle.gc_station.specs.declared.progress.Progress.{Progress}
 use Rattle.gc_station.specs.declared.progress.Waiting.{Waiting}
 use Rattle.gc_links.specs.Acts.{Act, Untold, Cut, Ended, Broke, Closed, Unopened}
 use Rattle.gc_station.specs.Deciding.{is_up}
-use Rattle.gc_station.specs.Progressing.{is_finished, is_spared, begins_anew}
+use Rattle.gc_station.specs.Progressing.{is_finished, is_spared}
 use Rattle.gc_station.specs.Reasons.{IsFor, IsAtItsEnd}
 use Rattle.gc_station.specs.Runs.{stood}
 use Rattle.gc_station.specs.Standing.{Standing, waiting_of, order_at, Obeys}
 use Rattle.gc_station.specs.Scopes.{Scope}
 
--- the null procedure with which it begins anew goes out where nothing waits, ids begin anew and no bytes of a line are kept: it has id 0
+-- the null procedures of a beginning go out where nothing waits, and the client is new: the first command behind them has id 0
 abbrev pub IsAlone : Order → Standing → Type 0
-IsAlone Probe s = (s.client ≡ fresh) × (s.rest ≡ [])
+IsAlone Ask s = (s.client ≡ fresh) × (s.marks ≡ [])
 IsAlone _ s = Unit {0}
 
 -- an act is that of the order that is next, and what that order needs is so
@@ -36,7 +36,7 @@ Shows cause.Clock act = act ≡ Untold
 Shows (cause.Write requests bytes) act = (text : List ℕ) × (act ≡ Cut text bytes)
 Shows _ act = ⊥
 
--- a connection is closed for a cause: the run's end, a quiet line or a dead one, or what the last act shows
+-- a connection is closed for a cause: the run's end, a dead line, or what the last act shows
 pub record ClosesForACause (plan : Plan) (commands : List Task) (scope : Scope) (acts : List Act) : Type 0 where
   pub why : Cause
   pub closes : order_at plan (stood plan commands scope acts) ≡ Close why
@@ -57,14 +57,10 @@ EndsBehind plan p commands cause.Turns why = why ≡ cause.Turns
 EndsBehind plan p commands other why =
     EndsDone p commands why ⊎ ((why ≡ other) × (is_finished commands p ≡ false) × (is_spared plan other p ≡ false) × (p.tries ≡ 0))
 
--- how many commands wait behind a close for a cause: none where the next connection would begin anew, since they are lost then
-abbrev pub commands_behind : Waiting → Cause → Progress → ℕ
-commands_behind w why p = if begins_anew why p then 0 else w.commands
-
 -- the connection was closed for a cause, or none could be made, and no other is made
 abbrev pub EndsGone : Plan → Progress → Waiting → Order → Cause → Act → Type 0
 EndsGone plan p w next why act =
-    ((other : Cause) × (act ≡ Closed) × (next ≡ Close other) × EndsBehind plan p (commands_behind w other p) other why)
+    ((other : Cause) × (act ≡ Closed) × (next ≡ Close other) × EndsBehind plan p w.commands other why)
     ⊎ ((act ≡ Unopened) × EndsBehind plan p w.commands cause.Open why)
 
 -- an act ends a run for a cause: a call failed where there was no connection, or the connection is gone, and no other is made

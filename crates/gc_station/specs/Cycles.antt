@@ -76,8 +76,8 @@ pub record IsMissedIn (plan : Plan) (commands : List Task) (scope : Scope) (acts
   pub due : r.utc ≡ moment.utc - late
 
 -- the command of a record is skipped: it is of a chain, and not its first; its cycle began before the next one was due; it wasn't sent,
--- since the one before it wasn't answered well, or a connection was closed since that went out; and the record has the moment at which that
--- was seen
+-- since the one before it wasn't answered well, or since that went out a connection was closed, or it began anew; and the record has the
+-- moment at which that was seen
 pub record IsSkippedIn (plan : Plan) (commands : List Task) (scope : Scope) (acts : List Act) (r : Record) : Type 0 where
   pub before : List Act
   pub moment : Moment

@@ -1,13 +1,13 @@
 -- What a station does next, this project's own. It is a function of how far the station is, and of how many requests wait: in all,
 -- of those that aren't given up, and of commands.
-use Rattle.std.specs.Prelude.{ℕ, ◌+◌, ◌-◌, ◌*◌, ◌&&◌, Bool, true, false, not, if◌then◌else◌, nat_lt, nat_le, nat_eq, min, max}
+use Rattle.std.specs.Prelude.{ℕ, ◌+◌, ◌-◌, ◌&&◌, ◌||◌, Bool, true, false, not, if◌then◌else◌, nat_lt, nat_le, nat_eq, min, max, List, [], ◌∷◌}
 use Rattle.gc_client.specs.declared.window.TheConstants.{WINDOW}
 use Rattle.gc_station.specs.declared.plan.Plan.{Plan}
-use Rattle.gc_station.specs.declared.cause.Cause.TheVariants.{Done, Silence, Dead, Turns}
+use Rattle.gc_station.specs.declared.cause.Cause.TheVariants.{Done, Dead, Turns}
 use Rattle.gc_station.specs.declared.progress.Phase.{Phase}
 use Rattle.gc_station.specs.declared.progress.Phase.TheVariants as phase
 use Rattle.gc_station.specs.declared.progress.Order.{Order}
-use Rattle.gc_station.specs.declared.progress.Order.TheVariants.{ReadClock, Begin, Open, Clear, Probe, Send, Skip, Flush, Read, Close, Stop}
+use Rattle.gc_station.specs.declared.progress.Order.TheVariants.{ReadClock, Renew, Begin, Open, Clear, Ask, Send, Skip, Flush, Read, Close, Stop}
 use Rattle.gc_station.specs.declared.progress.Progress.{Progress}
 use Rattle.gc_station.specs.declared.progress.Until.TheVariants.{Limit, Due}
 use Rattle.gc_station.specs.declared.progress.Waiting.{Waiting}
@@ -26,7 +26,6 @@ is_up phase.Down = false
 is_up phase.Pausing = false
 is_up phase.Clearing = true
 is_up phase.Draining = true
-is_up phase.Probing = true
 is_up phase.Ready = true
 is_up (phase.Closing cause) = true
 is_up (phase.Over cause) = false
@@ -39,25 +38,42 @@ is_past wait p = nat_le wait (p.moment.elapsed - p.since)
 abbrev pub is_quiet : Plan → Progress → Bool
 is_quiet plan p = is_past plan.quiet p
 
--- how long a new connection is drained: the quiet time, and where it begins anew once for each request that waited before
-abbrev pub drain_of : Plan → Progress → ℕ
-drain_of plan p = if p.anew then min (p.drain * plan.quiet) 18446744073709551615 else plan.quiet
+-- whether it has begun: no null procedure of its beginning is left that isn't answered
+abbrev pub is_none_left : List ℕ → Bool
+is_none_left [] = true
+is_none_left (asked ∷ others) = false
 
--- how long no reply line has to come before the line is dead: twice the deadline, and the quiet time
+abbrev pub has_begun : Progress → Bool
+has_begun p = is_none_left p.word
+
+-- how long no reply line has to come before the line is dead: twice the longest deadline
 abbrev pub patience_of : Plan → ℕ
-patience_of plan = later (later plan.deadline plan.deadline) plan.quiet
+patience_of plan = later plan.deadline plan.deadline
 
--- something waits, and no reply line came for so long, since the last one or since the first request behind it
+-- something waits, or the null procedure that is asked for went out on this connection, and no reply line came for so long, since the last
+-- one or since the first request behind it
 abbrev pub is_dead : Plan → Progress → Waiting → Bool
-is_dead plan p w = nat_lt 0 w.all && nat_le (patience_of plan) (p.moment.elapsed - p.alive)
+is_dead plan p w = (nat_lt 0 w.all || nat_lt 0 p.again) && nat_le (patience_of plan) (p.moment.elapsed - p.alive)
 
--- nothing may go out: a reply may still come, unless all that wait are given up and the line is quiet, or the line is dead
+-- nothing may go out: a reply may still come, unless the line is dead; and where all that wait are given up, it begins anew
 abbrev pub order_waiting : Plan → Progress → Waiting → Order
-order_waiting plan p w = if nat_eq w.current 0 && is_quiet plan p then Close Silence else if is_dead plan p w then Close Dead else Read Limit
+order_waiting plan p w = if is_dead plan p w then Close Dead else if nat_eq w.current 0 then Renew else Read Limit
 
 -- the first cycle begins at once, and each other one so long after the one before it began
 abbrev pub is_due : Plan → Progress → Bool
 is_due plan p = if nat_eq p.left plan.cycles then true else nat_le plan.every (p.moment.elapsed - p.began)
+
+-- the cycle was done before the next was due, and that isn't due yet: nothing goes out, and no connection is wanted
+abbrev pub is_idle : Plan → Progress → Bool
+is_idle plan p = p.early && not (is_due plan p)
+
+-- it begins: the null procedure that is asked for goes out, and again at its deadline
+abbrev pub order_beginning : Plan → Progress → Waiting → Order
+order_beginning plan p w =
+    if is_idle plan p then Read Due
+    else if is_dead plan p w then Close Dead
+    else if nat_le p.again p.moment.elapsed then Ask
+    else Read Limit
 
 -- each command of the cycle is settled
 abbrev pub order_done : Plan → Progress → Order
@@ -71,7 +87,8 @@ has_room plan w = nat_lt w.current (width_of plan) && nat_lt w.all WINDOW
 abbrev pub order_room : Plan → Progress → Waiting → Order → Order
 order_room plan p w order = if has_room plan w then order else order_waiting plan p w
 
--- the next command of a chain goes out where the one before it was answered well, and no connection was closed since that went out
+-- the next command of a chain goes out where the one before it was answered well, and since that went out no connection was closed, and
+-- it didn't begin anew
 abbrev pub may_go : Progress → Waiting → Bool
 may_go p w = w.well && p.whole
 
@@ -90,12 +107,13 @@ order_sent plan p w =
     else if nat_eq w.current 0 then order_room plan p w Flush
     else order_waiting plan p w
 
--- requests go out, once the null procedure with which it began is answered
+-- it has begun: commands go out
+abbrev pub order_begun : Plan → Progress → Waiting → Order
+order_begun plan p w = if nat_lt 0 p.unsent && not p.bound then order_room plan p w Send else order_sent plan p w
+
+-- the null procedures of its beginning go out first
 abbrev pub order_ready : Plan → Progress → Waiting → Order
-order_ready plan p w =
-    if p.alone then order_waiting plan p w
-    else if nat_lt 0 p.unsent && not p.bound then order_room plan p w Send
-    else order_sent plan p w
+order_ready plan p w = if has_begun p then order_begun plan p w else order_beginning plan p w
 
 -- with turns left, and a moment that was told after all that was done
 abbrev pub order_told : Plan → Phase → Progress → Waiting → Order
@@ -103,7 +121,6 @@ order_told plan phase.Down p w = Open
 order_told plan phase.Pausing p w = Read Limit
 order_told plan phase.Clearing p w = Clear
 order_told plan phase.Draining p w = Read Limit
-order_told plan phase.Probing p w = order_room plan p w Probe
 order_told plan phase.Ready p w = order_ready plan p w
 order_told plan (phase.Closing cause) p w = Close cause
 order_told plan (phase.Over cause) p w = Stop cause

@@ -1,22 +1,21 @@
 -- How a request ends that has no answer, in an operator's words, this project's own. Late: its own request went out, then a moment at or
 -- past its deadline was told, and only then a line came with its id. Lost: its own request went out, and at the act that wrote it down as
--- lost a line came with the id of a request that was put behind it, or a connection was closed behind which the station begins anew, or
--- the run stopped.
-use Rattle.std.specs.Prelude.{◌≡◌, ◌⊎◌, ℕ, ◌≤◌, true, List, [], ◌∷◌, ◌++◌, Some}
+-- lost a line came with the id of a request that was put behind it, or the station begins anew, since seven wait that are all given up, or the
+-- run stopped.
+use Rattle.std.specs.Prelude.{◌≡◌, ◌⊎◌, ℕ, ◌≤◌, List, [], ◌∷◌, ◌++◌, length, Some}
 use Rattle.gc_catalogue.specs.declared.call.Call.{Call}
 use Rattle.gc_client.specs.Ids.{Waits}
-use Rattle.gc_client.specs.Rule.{heard}
+use Rattle.gc_client.specs.Rule.{deadlines, heard}
+use Rattle.gc_client.specs.declared.window.TheConstants.{WINDOW}
 use Rattle.gc_texts.specs.Endings.{Late, Lost}
 use Rattle.gc_texts.specs.declared.tasks.Task.{Task}
 use Rattle.gc_station.specs.declared.cause.Cause.{Cause}
-use Rattle.gc_station.specs.declared.cause.Cause.TheVariants as cause
 use Rattle.gc_links.specs.declared.link.Moment.{Moment}
 use Rattle.gc_station.specs.declared.plan.Plan.{Plan}
-use Rattle.gc_station.specs.declared.progress.Order.TheVariants.{Send, Close, Stop}
-use Rattle.gc_station.specs.declared.progress.Phase.TheVariants as phase
-use Rattle.gc_links.specs.Acts.{Act, Told, Gave, Silent, Closed}
+use Rattle.gc_station.specs.declared.progress.Order.TheVariants.{Renew, Send, Stop}
+use Rattle.gc_links.specs.Acts.{Act, Told, Gave, Silent}
 use Rattle.gc_station.specs.Answers.{deadline_behind}
-use Rattle.gc_station.specs.Probing.{IsAsking}
+use Rattle.gc_station.specs.Quiet.{IsAsking}
 use Rattle.gc_station.specs.Records.{Record}
 use Rattle.gc_station.specs.Runs.{stood}
 use Rattle.gc_station.specs.Standing.{Puts, order_at, cycles_begun, place_next, request_text, lines_behind}
@@ -90,13 +89,13 @@ pub record IsOvertaken (plan : Plan) (commands : List Task) (scope : Scope) (bef
   pub reads : act ≡ Gave piece moment
   pub came : Brings plan commands scope (before ++ request ∷ between) piece (stood plan commands scope (before ++ request ∷ first)).client.next
 
--- behind these acts, this act closes the connection since nothing may go out, all that wait are given up, and the line is quiet; then the
--- station pauses, and its next connection begins anew
+-- behind these acts the station begins anew at this act: it reads the clock, and seven wait, which are all given up
 pub record BeginsAnew (plan : Plan) (commands : List Task) (scope : Scope) (acts : List Act) (act : Act) : Type 0 where
-  pub closes : order_at plan (stood plan commands scope acts) ≡ Close cause.Silence
-  pub closed : act ≡ Closed
-  pub pauses : (stood plan commands scope (acts ++ act ∷ [])).progress.phase ≡ phase.Pausing
-  pub anew : (stood plan commands scope (acts ++ act ∷ [])).progress.anew ≡ true
+  pub renews : order_at plan (stood plan commands scope acts) ≡ Renew
+  pub moment : Moment
+  pub told : act ≡ Told moment
+  pub seven : length (stood plan commands scope acts).client.waiting ≡ WINDOW
+  pub given_up : deadlines (stood plan commands scope acts).client.waiting ≡ []
 
 -- behind these acts, this act is the last one: none follows, and the run stops
 pub record IsLast (plan : Plan) (commands : List Task) (scope : Scope) (acts : List Act) (act : Act) (behind : List Act) : Type 0 where
@@ -105,7 +104,7 @@ pub record IsLast (plan : Plan) (commands : List Task) (scope : Scope) (acts : L
   pub stops : order_at plan (stood plan commands scope (acts ++ act ∷ [])) ≡ Stop why
 
 -- among these acts the very request of a record was put, and behind it an act wrote the record down: it brought a line with the id of a
--- request that was put behind that one, or behind it the station begins anew, or it is the last act
+-- request that was put behind that one, or the station begins anew at it, or it is the last act
 pub record IsLostIn (plan : Plan) (commands : List Task) (scope : Scope) (acts : List Act) (r : Record) : Type 0 where
   pub before : List Act
   pub request : Act

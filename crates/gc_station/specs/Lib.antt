@@ -2,6 +2,7 @@ pub mod Causes
 pub mod Scopes
 pub mod Records
 pub mod Marks
+pub mod Lines
 pub mod Deciding
 pub mod Progressing
 pub mod Standing
@@ -11,10 +12,9 @@ pub mod EachOnce
 pub mod Reasons
 pub mod Closing
 pub mod Answers
-pub mod Probing
+pub mod Quiet
 pub mod Ends
 pub mod Chains
-pub mod Quiet
 pub mod Silences
 pub mod Tries
 pub mod Given
@@ -22,6 +22,7 @@ pub mod Beginnings
 pub mod Stations
 pub mod Pace
 pub mod Parts
+pub mod Begun
 pub mod Links
 pub mod Codes
 pub mod Counting

@@ -1,18 +1,15 @@
 -- How long a read waits, and which overrun is told: this project's own.
-use Rattle.std.specs.Prelude.{ℕ, ◌-◌, ◌&&◌, Bool, true, false, not, if◌then◌else◌, nat_lt, min, max, Option, Some, None}
+use Rattle.std.specs.Prelude.{ℕ, ◌-◌, ◌&&◌, Bool, not, if◌then◌else◌, nat_lt, min, max, Option, Some, None}
 use Rattle.gc_station.specs.declared.plan.Plan.{Plan}
 use Rattle.gc_station.specs.declared.progress.Phase.{Phase}
 use Rattle.gc_station.specs.declared.progress.Phase.TheVariants as phase
 use Rattle.gc_station.specs.declared.progress.Progress.{Progress}
 use Rattle.gc_station.specs.declared.progress.Until.{Until}
 use Rattle.gc_station.specs.declared.progress.Until.TheVariants.{Limit, Due}
-use Rattle.gc_station.specs.Deciding.{later, drain_of, patience_of, is_due}
+use Rattle.gc_station.specs.Deciding.{later, has_begun, patience_of, is_due}
 use Rattle.gc_station.specs.Progressing.{is_idle}
 
--- the moment at which the line counts as quiet, at which it is dead, and at which the next cycle is due
-abbrev pub quiet_at : Plan → Progress → ℕ
-quiet_at plan p = later p.since plan.quiet
-
+-- the moment at which the line is dead, and at which the next cycle is due
 abbrev pub dead_at : Plan → Progress → ℕ
 dead_at plan p = later p.alive (patience_of plan)
 
@@ -24,22 +21,22 @@ due_at plan p = later p.began plan.every
 abbrev pub retry_at : Plan → Progress → ℕ
 retry_at plan p = if is_idle plan p then max (later p.since p.pause) (due_at plan p) else later p.since p.pause
 
--- the moment at which a read that brings nothing is over at the latest, whatever deadlines there are: at the end of a pause or a drain, or
--- where the line is dead, or quiet while all that wait are given up
-abbrev pub ends_in : Phase → Plan → Progress → Bool → ℕ
-ends_in phase.Pausing plan p hopeless = retry_at plan p
-ends_in phase.Draining plan p hopeless = later p.since (drain_of plan p)
-ends_in _ plan p hopeless = if hopeless then min (quiet_at plan p) (dead_at plan p) else dead_at plan p
+-- the moment at which a read that brings nothing is over at the latest, whatever deadlines there are: at the end of a pause or a drain, where
+-- the line is dead, or where the null procedure of a beginning goes out again
+abbrev pub ends_in : Phase → Plan → Progress → ℕ
+ends_in phase.Pausing plan p = retry_at plan p
+ends_in phase.Draining plan p = later p.since plan.quiet
+ends_in _ plan p = if has_begun p then dead_at plan p else min p.again (dead_at plan p)
 
 -- the due moment, where all that is left is to wait for it
-abbrev pub ends_without_deadline : Plan → Progress → Until → Bool → ℕ
-ends_without_deadline plan p Due hopeless = due_at plan p
-ends_without_deadline plan p Limit hopeless = ends_in p.phase plan p hopeless
+abbrev pub ends_without_deadline : Plan → Progress → Until → ℕ
+ends_without_deadline plan p Due = due_at plan p
+ends_without_deadline plan p Limit = ends_in p.phase plan p
 
 -- the moment at which it is over, where this is the next deadline, if a request still has one
 abbrev pub ends_at : Plan → Progress → Until → Option ℕ → ℕ
-ends_at plan p until (Some deadline) = min deadline (ends_without_deadline plan p until false)
-ends_at plan p until None = ends_without_deadline plan p until true
+ends_at plan p until (Some deadline) = min deadline (ends_without_deadline plan p until)
+ends_at plan p until None = ends_without_deadline plan p until
 
 -- how many milliseconds it waits: until that moment, at least one, and at most a minute
 abbrev pub patience : Plan → Progress → Until → Option ℕ → ℕ

@@ -1,6 +1,6 @@
--- What a run of a station is to its client, this project's own: the client's steps, apart at each beginning, and of each request that
--- goes out which command it is.
-use Rattle.std.specs.Prelude.{◌≡◌, ℕ, ◌&&◌, Bool, true, false, not, List, [], ◌∷◌, ◌++◌, drop, map, Option, Some, None, slice_get, unwrap_or}
+-- What a run of a station is to its client, this project's own: apart at each beginning, what happens while it begins, and then the client's
+-- steps, and of each request that goes out which command it is.
+use Rattle.std.specs.Prelude.{◌≡◌, ℕ, ◌&&◌, Bool, true, false, if◌then◌else◌, List, [], ◌∷◌, ◌++◌, drop, map, Option, Some, None, slice_get, unwrap_or}
 use Rattle.gc_catalogue.specs.declared.call.Call.{Call}
 use Rattle.gc_catalogue.specs.declared.call.Call.TheVariants.{NullProc}
 use Rattle.gc_client.specs.OneForOne.{Asked, Step, Send, Hear, Expire}
@@ -11,40 +11,48 @@ use Rattle.gc_station.specs.declared.mark.Mark.{Mark}
 use Rattle.gc_station.specs.declared.progress.Order.{Order}
 use Rattle.gc_station.specs.declared.progress.Order.TheVariants as order
 use Rattle.gc_links.specs.Acts.{Act, Told, Put, Cut, Gave, Silent}
-use Rattle.gc_station.specs.Deciding.{later}
+use Rattle.gc_station.specs.Deciding.{later, has_begun}
 use Rattle.gc_station.specs.EachOnce.{of_task}
 use Rattle.gc_station.specs.Progressing.{loses_all}
 use Rattle.gc_station.specs.Records.{Record}
 use Rattle.gc_station.specs.Standing.{Standing, order_at, place_next, mark_next, lines_behind, is_heard, after}
 
--- what happens from one beginning to the next: the client's steps, and of each request that goes out, in order, which command of which
--- cycle it is; a null procedure of the station's own is none
+-- what happens while it begins: the null procedure that is asked for goes out, whole or in part; or a line is heard
+pub data Turn : Type 0 where
+  Asks : Turn
+  Hears : (line : List ℕ) → Turn
+
+-- what happens from one beginning to the next: the turns of the beginning; then the client's steps, and of each request that goes out, in
+-- order, which command of which cycle it is; a null procedure of the station's own is none
 pub record Part : Type 0 where
+  pub turns : List Turn
   pub steps : List Step
   pub marks : List (Option Mark)
 
--- steps without a send; nothing; and one part and then another
+-- turns of a beginning; steps without a send; nothing; and one part and then another
+abbrev pub only_turns : List Turn → Part
+only_turns turns = record { turns = turns; steps = []; marks = [] }
+
 abbrev pub only : List Step → Part
-only steps = record { steps = steps; marks = [] }
+only steps = record { turns = []; steps = steps; marks = [] }
 
 abbrev pub nothing : Part
 nothing = only []
 
 abbrev pub joined : Part → Part → Part
-joined p q = record { steps = p.steps ++ q.steps; marks = p.marks ++ q.marks }
+joined p q = record { turns = p.turns ++ q.turns; steps = p.steps ++ q.steps; marks = p.marks ++ q.marks }
 
 -- a request goes out; and the first of these commands does
 abbrev pub asking : ℕ → Call → ℕ → Option Mark → Part
-asking target call deadline mark = record { steps = Send target call deadline ∷ []; marks = mark ∷ [] }
+asking target call deadline mark = record { turns = []; steps = Send target call deadline ∷ []; marks = mark ∷ [] }
 
 abbrev pub asking_first : ℕ → Mark → List Task → Part
 asking_first now mark [] = nothing
 asking_first now mark (task ∷ others) = asking task.command.target task.command.call (later now task.deadline) (Some mark)
 
--- bytes are put by this order, all of them or a part: the line of a request with which a station begins or settles others, or of the
+-- bytes are put by this order, all of them or a part: the line of a request with which a station settles others, or of the
 -- next command; a line feed is no request
 abbrev pub putting : Plan → List Task → Standing → Order → Part
-putting plan commands s order.Probe = asking 0 NullProc (later s.progress.moment.elapsed plan.deadline) None
 putting plan commands s order.Flush = asking 0 NullProc (later s.progress.moment.elapsed plan.deadline) None
 putting plan commands s order.Send =
     asking_first s.progress.moment.elapsed (mark_next plan commands s.progress) (drop (place_next commands s.progress) commands)
@@ -55,19 +63,29 @@ abbrev pub hearing : Bool → List ℕ → List ℕ → List Step
 hearing true rest piece = map Hear (lines_behind rest piece)
 hearing false rest piece = []
 
--- an act of this order. A moment gives up what has reached its deadline, before the piece that came with it is heard
-abbrev pub acting : Plan → List Task → Standing → Order → Act → Part
-acting plan commands s order (Told m) = only (Expire m.elapsed ∷ [])
-acting plan commands s order (Silent m) = only (Expire m.elapsed ∷ [])
-acting plan commands s order (Gave piece m) = only (Expire m.elapsed ∷ hearing (is_heard s.progress.phase) s.rest piece)
-acting plan commands s order (Put bytes) = putting plan commands s order
-acting plan commands s order (Cut bytes count) = putting plan commands s order
-acting plan commands s order _ = nothing
+-- an act of this order once it has begun. A moment gives up what has reached its deadline, before the piece that came with it is heard
+abbrev pub doing : Plan → List Task → Standing → Order → Act → Part
+doing plan commands s order (Told m) = only (Expire m.elapsed ∷ [])
+doing plan commands s order (Silent m) = only (Expire m.elapsed ∷ [])
+doing plan commands s order (Gave piece m) = only (Expire m.elapsed ∷ hearing (is_heard s.progress.phase) s.rest piece)
+doing plan commands s order (Put bytes) = putting plan commands s order
+doing plan commands s order (Cut bytes count) = putting plan commands s order
+doing plan commands s order _ = nothing
 
--- a part ends behind this act, where all that wait are lost: it is to begin anew, or no act follows. Until the null procedure went out
--- with which it begins, it is beginning still
+-- an act of this order while it begins: the null procedure that is asked for is put, all of it or a part; a piece is heard line by line
+abbrev pub beginning : Standing → Order → Act → Part
+beginning s order.Ask (Put bytes) = only_turns (Asks ∷ [])
+beginning s order.Ask (Cut bytes count) = only_turns (Asks ∷ [])
+beginning s (order.Read until) (Gave piece m) = only_turns (if is_heard s.progress.phase then map Hears (lines_behind s.rest piece) else [])
+beginning s order act = nothing
+
+-- an act of this order
+abbrev pub acting : Plan → List Task → Standing → Order → Act → Part
+acting plan commands s order act = if has_begun s.progress then doing plan commands s order act else beginning s order act
+
+-- a part ends behind this act, where all that wait are lost: it begins anew, or no act follows. While it begins, nothing waits
 abbrev pub ends_part : Plan → List Task → Standing → Act → Bool
-ends_part plan commands s act = not s.progress.anew && loses_all (after plan commands s act).progress
+ends_part plan commands s act = has_begun s.progress && loses_all (after plan commands s act).progress
 
 -- an act in front of the parts behind it
 abbrev pub in_front : Part → Bool → List Part → List Part

@@ -1,5 +1,7 @@
 -- What each act does to how far a station is, this project's own.
-use Rattle.std.specs.Prelude.{ℕ, ◌-◌, ◌&&◌, ◌||◌, Bool, true, false, not, if◌then◌else◌, nat_lt, nat_le, nat_eq, min, max}
+use Rattle.std.specs.Prelude.{ℕ, ◌-◌, ◌&&◌, ◌||◌, Bool, true, false, not, if◌then◌else◌, nat_lt, nat_le, nat_eq, min, max, List, [], ◌∷◌, Option}
+use Rattle.gc_client.specs.Beginning.{the_word, is_answered, left_by}
+use Rattle.gc_client.specs.Rule.{heard}
 use Rattle.gc_links.specs.declared.link.Moment.{Moment}
 use Rattle.gc_station.specs.declared.plan.Plan.{Plan}
 use Rattle.gc_station.specs.declared.cause.Cause.{Cause}
@@ -10,15 +12,16 @@ use Rattle.gc_station.specs.declared.progress.Progress.{Progress}
 use Rattle.gc_station.specs.declared.progress.Until.{Until}
 use Rattle.gc_station.specs.declared.progress.Until.TheVariants.{Limit, Due}
 use Rattle.gc_station.specs.declared.progress.Waiting.{Waiting}
-use Rattle.gc_station.specs.Deciding.{later, is_up, is_past, is_due, drain_of}
+use Rattle.gc_station.specs.Deciding.{later, is_up, is_past, is_quiet, is_due, has_begun}
+pub use Rattle.gc_station.specs.Deciding.{is_idle}
+use Rattle.gc_station.specs.Lines.{is_reply}
 
--- nothing was done, and the first connection begins anew
+-- nothing was done, and no null procedure of the beginning is answered
 abbrev pub at_start : Plan → ℕ → Progress
 at_start plan turns = record {
   phase = phase.Down;
-  anew = true;
-  alone = false;
-  drain = 1;
+  word = the_word;
+  again = 0;
   stale = false;
   moment = record { elapsed = 0; utc = 0 };
   since = 0;
@@ -94,10 +97,6 @@ opened p = record p { phase = phase.Clearing }
 abbrev pub is_finished : ℕ → Progress → Bool
 is_finished commands p = nat_eq p.left 0 && nat_eq p.unsent 0 && nat_eq commands 0
 
--- the cycle was done before the next was due, and that isn't due yet: no connection is wanted
-abbrev pub is_idle : Plan → Progress → Bool
-is_idle plan p = p.early && not (is_due plan p)
-
 -- whether the next connection takes no try: one was closed while none is wanted. That none could be made takes one
 abbrev pub is_spared : Plan → Cause → Progress → Bool
 is_spared plan cause.Open p = false
@@ -125,17 +124,21 @@ again plan commands why p = record p {
   whole = false;
 }
 
--- the line feed went out
+-- the line feed went out. A connection is drained, unless a beginning goes on with it
 abbrev pub cleared : Progress → Progress
-cleared p = record p { phase = phase.Draining; stale = true }
+cleared p = record p { phase = if has_begun p then phase.Draining else phase.Ready; again = 0; asked = false; stale = true }
 
 -- a request went out. Where none did since the last reply line, the time of a dead line begins
 abbrev pub asking : Progress → Progress
 asking p = record p { alive = if p.asked then p.alive else p.moment.elapsed; asked = true; stale = true }
 
--- the null procedure went out with which it begins anew
-abbrev pub probed : Progress → Progress
-probed p = let q = asking p in record q { phase = phase.Ready; anew = false; alone = true }
+-- the null procedure that is asked for went out: it goes out again at its deadline
+abbrev pub null_sent : Plan → Progress → Progress
+null_sent plan p = let q = asking p in record q { again = later p.moment.elapsed plan.deadline }
+
+-- it begins anew at this moment: no null procedure of the beginning is answered, and no chain goes on
+abbrev pub renewed : Moment → Progress → Progress
+renewed m p = let q = told m p in record q { word = the_word; again = 0; whole = false }
 
 -- the next command went out. `bound`: the one behind it goes out only once this one was answered well
 abbrev pub sent : Bool → Progress → Progress
@@ -144,6 +147,18 @@ sent bound p = let q = asking p in record q { unsent = p.unsent - 1; bound = bou
 -- a line was heard. A reply line shows that the line is alive
 abbrev pub noted : Bool → Progress → Progress
 noted is_reply p = record p { alive = if is_reply then p.moment.elapsed else p.alive; asked = if is_reply then false else p.asked }
+
+-- while it begins a line was heard with this id, or with none: where it answers, the next null procedure goes out at once
+abbrev pub answered : Option ℕ → Progress → Progress
+answered id p = record p { word = left_by p.word id; again = if is_answered p.word id then 0 else p.again }
+
+-- the lines of a piece were heard while it begins, in order
+abbrev pub line_asked : Progress → List ℕ → Progress
+line_asked p line = noted (is_reply line) (answered (heard line) p)
+
+abbrev pub lines_asked : Progress → List (List ℕ) → Progress
+lines_asked p [] = p
+lines_asked p (line ∷ others) = lines_asked (line_asked p line) others
 
 -- a read until the next cycle is due shows that this one was done before that
 abbrev pub early_behind : Until → Bool → Bool
@@ -154,7 +169,6 @@ early_behind Limit early = early
 -- left again, and the next pause is short
 abbrev pub gave : Plan → Until → ℕ → Waiting → Progress → Progress
 gave plan until before after p = record p {
-  alone = p.alone && not (nat_eq after.all 0);
   early = early_behind until p.early;
   tries = if nat_lt after.commands before then plan.retries else p.tries;
   pause = if nat_lt after.commands before then 0 else p.pause;
@@ -164,14 +178,14 @@ gave plan until before after p = record p {
 abbrev pub pause_ended : Plan → Progress → Progress
 pause_ended plan p = record p { phase = if is_past p.pause p && not (is_idle plan p) then phase.Down else p.phase }
 
--- the connection was drained until it was quiet. Where it begins anew, a null procedure is next; else requests go out at once
+-- the connection was drained until it was quiet: requests go out at once
 abbrev pub drained : Progress → Progress
-drained p = record p { phase = if p.anew then phase.Probing else phase.Ready; alive = p.moment.elapsed; asked = false }
+drained p = record p { phase = phase.Ready; alive = p.moment.elapsed; asked = false }
 
 -- nothing came until this moment: a pause, or a drain, that was long enough ends
 abbrev pub quieted : Plan → Phase → Progress → Progress
 quieted plan phase.Pausing p = pause_ended plan p
-quieted plan phase.Draining p = if is_past (drain_of plan p) p then drained p else p
+quieted plan phase.Draining p = if is_quiet plan p then drained p else p
 quieted plan _ p = p
 
 -- the moment was told behind a read that gave nothing: the quiet time goes on. Where the clock went back, the quiet time, and the cycle,
@@ -190,28 +204,9 @@ time_passed until m p = record p {
 abbrev pub silent : Plan → Until → Moment → Progress → Progress
 silent plan until m p = quieted plan p.phase (time_passed until m p)
 
--- a moment gave requests up, or didn't. Where it did, the quiet time begins anew, for replies that are a little late
-abbrev pub quiet_renewed : Bool → Moment → Progress → Progress
-quiet_renewed gave_up m p = record p { since = if gave_up then m.elapsed else p.since }
-
 -- so many commands wait. Where the cycle is done, and the next isn't due yet, it was done early
 abbrev pub reckoned_early : Plan → ℕ → Progress → Progress
 reckoned_early plan commands p = record p { early = p.early || (nat_eq commands 0 && nat_eq p.unsent 0 && not (is_due plan p)) }
-
--- whether the next connection begins anew, where this one is closed for a cause: for silence, and where this one hasn't begun
-abbrev pub begins_anew : Cause → Progress → Bool
-begins_anew cause.Silence p = true
-begins_anew _ p = p.alone || p.anew
-
--- the next connection begins anew, while so many requests wait. It is drained for one quiet time each; where this one began anew, too, and
--- its null procedure didn't go out, for as long as this one
-abbrev pub beginning_anew : ℕ → Progress → Progress
-beginning_anew waiting p = record p { anew = true; alone = false; drain = if p.anew then p.drain else waiting }
-
--- a connection that ended is to be made again, anew or not. All that wait are lost where it begins anew
-abbrev pub closed_again : Plan → Waiting → Cause → Bool → Progress → Progress
-closed_again plan w cause true p = again plan 0 cause (beginning_anew w.all p)
-closed_again plan w cause false p = again plan w.commands cause p
 
 -- no other connection is made
 abbrev pub ended_for : Cause → Progress → Progress
@@ -222,7 +217,7 @@ abbrev pub closed : Plan → Waiting → Cause → Progress → Progress
 closed plan w cause.Done p = ended_for cause.Done p
 closed plan w cause.Clock p = ended_for cause.Clock p
 closed plan w cause.Turns p = ended_for cause.Turns p
-closed plan w cause p = closed_again plan w cause (begins_anew cause p) p
+closed plan w why p = again plan w.commands why p
 
 -- the end is decided
 abbrev pub is_over_in : Phase → Bool
@@ -230,7 +225,6 @@ is_over_in phase.Down = false
 is_over_in phase.Pausing = false
 is_over_in phase.Clearing = false
 is_over_in phase.Draining = false
-is_over_in phase.Probing = false
 is_over_in phase.Ready = false
 is_over_in (phase.Closing cause) = false
 is_over_in (phase.Over cause) = true
@@ -241,4 +235,4 @@ is_over p = is_over_in p.phase || (not (is_up p.phase) && nat_eq p.turns 0)
 
 -- all that wait are lost: where it begins anew, and where no act follows
 abbrev pub loses_all : Progress → Bool
-loses_all p = p.anew || is_over p
+loses_all p = not (has_begun p) || is_over p

@@ -1,7 +1,9 @@
--- Before a request goes out its connection was cleared, and was quiet: this project's own, in terms of the acts alone.
+-- Which acts are requests, stay on a connection, or are quiet: this project's own, in terms of the acts alone.
 use Rattle.std.specs.Prelude.{◌≡◌, ◌≢◌, ℕ, ◌-◌, ◌≤◌, List, [], ◌∷◌, ◌++◌}
 use Rattle.std.specs.List.{AllByRecursion}
 use Rattle.gc_links.specs.declared.link.Moment.{Moment}
+use Rattle.gc_station.specs.declared.progress.Order.{Order}
+use Rattle.gc_station.specs.declared.progress.Order.TheVariants.{Send, Flush}
 use Rattle.gc_links.specs.Acts.{Act, Told, Put, Cut, Gave, Silent, Closed, Opened, Unopened}
 
 -- a request goes out, whole or in part: bytes that aren't the lone line feed
@@ -9,6 +11,12 @@ abbrev pub IsRequest : Act → Type 0
 IsRequest (Put bytes) = bytes ≢ 10 ∷ []
 IsRequest (Cut bytes count) = bytes ≢ 10 ∷ []
 IsRequest _ = ⊥
+
+-- the next command goes out, or a null procedure behind some that are all given up: a request of the client, and none of a beginning
+abbrev pub IsAsking : Order → Type 0
+IsAsking Send = Unit {0}
+IsAsking Flush = Unit {0}
+IsAsking _ = ⊥
 
 -- no request goes out
 abbrev pub AsksNothing : Act → Type 0
@@ -33,6 +41,11 @@ abbrev pub IsSilent : Act → Type 0
 IsSilent (Silent m) = Unit {0}
 IsSilent _ = ⊥
 
+-- an act doesn't close the connection
+abbrev pub KeepsOpen : Act → Type 0
+KeepsOpen Closed = ⊥
+KeepsOpen _ = Unit {0}
+
 -- an act neither makes a connection nor closes one
 abbrev pub StaysConnected : Act → Type 0
 StaysConnected Closed = ⊥
@@ -40,20 +53,18 @@ StaysConnected Opened = ⊥
 StaysConnected Unopened = ⊥
 StaysConnected _ = Unit {0}
 
--- behind these acts there is a connection that was cleared, and then was quiet, before anything else went out on it: as soon as it was
--- made, a lone line feed went out whole; bytes may have come then; and behind an act that told a moment, reads gave nothing, until one of
--- them told another, so much later. No time at all has always passed, also where the clock went back; any other passed by the clock
-pub record IsClearedAndQuiet (quiet : ℕ) (acts : List Act) : Type 0 where
-  pub before : List Act
+-- these acts begin with so long a quiet, before anything goes out: bytes may come first; and behind an act that told a moment, reads gave
+-- nothing, until one of them told another, so much later. No time at all has always passed, also where the clock went back; any other passed
+-- by the clock
+pub record IsQuietFirst (quiet : ℕ) (acts : List Act) : Type 0 where
   pub drain : List Act
   pub start : Act
   pub from : ℕ
   pub silence : List Act
   pub last : Moment
   pub behind : List Act
-  pub order : acts ≡ before ++ Opened ∷ Put (10 ∷ []) ∷ (drain ++ start ∷ (silence ++ Silent last ∷ behind))
+  pub order : acts ≡ drain ++ start ∷ (silence ++ Silent last ∷ behind)
   pub drains : AllByRecursion IsListening drain
   pub starts : TellsMoment from start
   pub silent : AllByRecursion IsSilent silence
   pub long : quiet ≤ last.elapsed - from
-  pub stays : AllByRecursion StaysConnected behind

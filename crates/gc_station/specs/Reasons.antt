@@ -3,13 +3,13 @@ use Rattle.std.specs.Prelude.{◌≡◌, ◌<◌, ◌≤◌, ◌⊎◌, true, fa
 use Rattle.gc_client.specs.declared.window.TheConstants.{WINDOW}
 use Rattle.gc_station.specs.declared.plan.Plan.{Plan}
 use Rattle.gc_station.specs.declared.cause.Cause.{Cause}
-use Rattle.gc_station.specs.declared.cause.Cause.TheVariants.{Done, Silence, Dead, Turns}
+use Rattle.gc_station.specs.declared.cause.Cause.TheVariants.{Done, Dead, Turns}
 use Rattle.gc_station.specs.declared.progress.Phase.TheVariants as phase
 use Rattle.gc_station.specs.declared.progress.Order.{Order}
 use Rattle.gc_station.specs.declared.progress.Order.TheVariants as order
 use Rattle.gc_station.specs.declared.progress.Progress.{Progress}
 use Rattle.gc_station.specs.declared.progress.Waiting.{Waiting}
-use Rattle.gc_station.specs.Deciding.{width_of, is_up, is_quiet, is_dead, may_go}
+use Rattle.gc_station.specs.Deciding.{width_of, has_begun, is_up, is_idle, is_dead, may_go}
 
 -- another request may go out
 abbrev pub HasRoom : Plan → Waiting → Type 0
@@ -19,22 +19,21 @@ HasRoom plan w = (w.current < width_of plan) × (w.all < WINDOW)
 abbrev pub IsHeld : Progress → Type 0
 IsHeld p = (p.unsent ≡ 0) ⊎ (p.bound ≡ true)
 
--- nothing may go out: the null procedure with which it began waits for its answer; there is no room; or each command of the cycle was
+-- no command may go out: it hasn't begun; there is no room; or each command of the cycle was
 -- sent, or the next one waits for the answer of the one before it in its chain, and some wait, not all of them given up
 abbrev pub NothingMayGo : Plan → Progress → Waiting → Type 0
 NothingMayGo plan p w =
-    (p.alone ≡ true) ⊎ ((width_of plan ≤ w.current) ⊎ ((WINDOW ≤ w.all) ⊎ (IsHeld p × (0 < w.commands) × (0 < w.current))))
+    (has_begun p ≡ false) ⊎ ((width_of plan ≤ w.current) ⊎ ((WINDOW ≤ w.all) ⊎ (IsHeld p × (0 < w.commands) × (0 < w.current))))
 
 -- the next command may go out: it is the first of its chain, or all that went out are settled, the one before it was answered well,
--- and no connection was closed since that went out
+-- and since that went out no connection was closed, and it didn't begin anew
 abbrev pub MayGo : Progress → Waiting → Type 0
 MayGo p w = (p.bound ≡ false) ⊎ ((w.commands ≡ 0) × (w.well ≡ true) × (p.whole ≡ true))
 
--- the connection is to be closed though no call of the link failed: all is done; all turns are used up; all that wait are given up,
--- nothing may go out, and the line is quiet; or nothing may go out, and the line is dead
+-- the connection is to be closed though no call of the link failed: all is done; all turns are used up; or no command
+-- may go out, and the line is dead
 abbrev pub IsAtItsEnd : Plan → Progress → Waiting → Cause → Type 0
 IsAtItsEnd plan p w Done = (p.left ≡ 0) × (p.unsent ≡ 0) × (w.commands ≡ 0)
-IsAtItsEnd plan p w Silence = (w.current ≡ 0) × NothingMayGo plan p w × (is_quiet plan p ≡ true)
 IsAtItsEnd plan p w Dead = NothingMayGo plan p w × (is_dead plan p w ≡ true)
 IsAtItsEnd plan p w Turns = p.turns ≡ 0
 IsAtItsEnd plan p w _ = ⊥
@@ -42,13 +41,16 @@ IsAtItsEnd plan p w _ = ⊥
 -- where an order is next, with so many requests waiting
 abbrev pub IsFor : Plan → Progress → Waiting → Order → Type 0
 IsFor plan p w order.ReadClock = Unit {0}
-IsFor plan p w order.Begin = (p.phase ≡ phase.Ready) × (p.alone ≡ false) × (p.unsent ≡ 0) × (w.commands ≡ 0) × (0 < p.left)
+-- it begins anew where seven wait, which are all given up
+IsFor plan p w order.Renew = (p.phase ≡ phase.Ready) × (has_begun p ≡ true) × (w.current ≡ 0) × (WINDOW ≤ w.all)
+IsFor plan p w order.Begin = (p.phase ≡ phase.Ready) × (has_begun p ≡ true) × (p.unsent ≡ 0) × (w.commands ≡ 0) × (0 < p.left)
 IsFor plan p w order.Open = p.phase ≡ phase.Down
 IsFor plan p w order.Clear = p.phase ≡ phase.Clearing
-IsFor plan p w order.Probe = (p.phase ≡ phase.Probing) × HasRoom plan w
-IsFor plan p w order.Send = (p.phase ≡ phase.Ready) × (p.alone ≡ false) × (0 < p.unsent) × HasRoom plan w × MayGo p w
-IsFor plan p w order.Skip = (p.phase ≡ phase.Ready) × (p.alone ≡ false) × (0 < p.unsent) × (w.commands ≡ 0) × (p.bound ≡ true) × (may_go p w ≡ false)
-IsFor plan p w order.Flush = (p.phase ≡ phase.Ready) × (p.alone ≡ false) × IsHeld p × (0 < w.commands) × (w.current ≡ 0) × HasRoom plan w
+-- the null procedure of a beginning goes out, and again at its deadline, unless the cycle is done and the next isn't due
+IsFor plan p w order.Ask = (p.phase ≡ phase.Ready) × (has_begun p ≡ false) × (p.again ≤ p.moment.elapsed) × (is_idle plan p ≡ false)
+IsFor plan p w order.Send = (p.phase ≡ phase.Ready) × (has_begun p ≡ true) × (0 < p.unsent) × HasRoom plan w × MayGo p w
+IsFor plan p w order.Skip = (p.phase ≡ phase.Ready) × (has_begun p ≡ true) × (0 < p.unsent) × (w.commands ≡ 0) × (p.bound ≡ true) × (may_go p w ≡ false)
+IsFor plan p w order.Flush = (p.phase ≡ phase.Ready) × (has_begun p ≡ true) × IsHeld p × (0 < w.commands) × (w.current ≡ 0) × HasRoom plan w
 IsFor plan p w (order.Read until) = Unit {0}
 IsFor plan p w (order.Close cause) = (is_up p.phase ≡ true) × ((p.phase ≡ phase.Closing cause) ⊎ IsAtItsEnd plan p w cause)
 IsFor plan p w (order.Stop cause) = (is_up p.phase ≡ false) × ((p.phase ≡ phase.Over cause) ⊎ ((cause ≡ Turns) × (p.turns ≡ 0)))

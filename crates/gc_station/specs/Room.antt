@@ -3,23 +3,15 @@ use Rattle.std.specs.Prelude.{◌≡◌, ◌⊎◌, ◌<◌, List, length}
 use Rattle.gc_client.specs.Rule.{deadlines}
 use Rattle.gc_texts.specs.declared.tasks.Task.{Task}
 use Rattle.gc_station.specs.declared.plan.Plan.{Plan}
-use Rattle.gc_station.specs.declared.progress.Order.{Order}
-use Rattle.gc_station.specs.declared.progress.Order.TheVariants.{Probe, Send, Flush}
 use Rattle.gc_links.specs.Acts.{Act}
+use Rattle.gc_station.specs.Quiet.{IsAsking}
 use Rattle.gc_station.specs.Runs.{stood}
 use Rattle.gc_station.specs.Scopes.{Scope}
 use Rattle.gc_station.specs.Standing.{order_at}
 
--- an order puts a request
-abbrev pub IsPutting : Order → Type 0
-IsPutting Probe = Unit {0}
-IsPutting Send = Unit {0}
-IsPutting Flush = Unit {0}
-IsPutting _ = ⊥
-
--- where a request goes out next, fewer are under way than the plan's width, or none is; and fewer than seven wait in all
+-- where a request goes out next that isn't a beginning's, fewer are under way than the plan's width, or none is; and fewer than seven wait in all
 abbrev pub RequestsHaveRoom : Type 0
 RequestsHaveRoom =
-    (plan : Plan) (commands : List Task) (scope : Scope) (acts : List Act) → IsPutting (order_at plan (stood plan commands scope acts))
+    (plan : Plan) (commands : List Task) (scope : Scope) (acts : List Act) → IsAsking (order_at plan (stood plan commands scope acts))
     → ((length (deadlines (stood plan commands scope acts).client.waiting) ≡ 0) ⊎ (length (deadlines (stood plan commands scope acts).client.waiting) < plan.width))
     × (length (stood plan commands scope acts).client.waiting < 7)

@@ -1,11 +1,10 @@
--- How long nothing came, or no reply line, where a connection is closed for it: this project's own.
+-- How long no reply line came, where a connection is closed for it: this project's own.
 use Rattle.std.specs.Prelude.{◌≡◌, ◌⊎◌, ℕ, ◌-◌, ◌<◌, ◌≤◌, false, List, [], ◌∷◌, ◌++◌}
 use Rattle.std.specs.List.{AllByRecursion}
-use Rattle.gc_client.specs.Rule.{deadlines}
 use Rattle.gc_texts.specs.declared.tasks.Task.{Task}
 use Rattle.gc_station.specs.declared.plan.Plan.{Plan}
 use Rattle.gc_links.specs.Acts.{Act, Told, Put, Gave, Silent}
-use Rattle.gc_station.specs.Quiet.{TellsMoment, IsListening, IsSilent, StaysConnected}
+use Rattle.gc_station.specs.Quiet.{TellsMoment, IsListening, StaysConnected}
 use Rattle.gc_station.specs.Runs.{stood}
 use Rattle.gc_station.specs.Standing.{Standing, is_reply, lines_behind, after}
 use Rattle.gc_station.specs.Scopes.{Scope}
@@ -17,19 +16,6 @@ latest now (Told m ∷ acts) = latest m.elapsed acts
 latest now (Gave bytes m ∷ acts) = latest m.elapsed acts
 latest now (Silent m ∷ acts) = latest m.elapsed acts
 latest now (act ∷ acts) = latest now acts
-
--- behind an act that told a moment, and behind which all that waited was given up, reads gave nothing, and nothing else was done, and the
--- moment that was told last is so much later
-pub record IsSilentFor (wait : ℕ) (plan : Plan) (commands : List Task) (scope : Scope) (acts : List Act) : Type 0 where
-  pub before : List Act
-  pub start : Act
-  pub from : ℕ
-  pub silence : List Act
-  pub order : acts ≡ before ++ start ∷ silence
-  pub starts : TellsMoment from start
-  pub given_up : deadlines (stood plan commands scope (before ++ start ∷ [])).client.waiting ≡ []
-  pub silent : AllByRecursion IsSilent silence
-  pub long : wait ≤ latest from silence - from
 
 -- a line doesn't read as a reply
 abbrev pub IsNoReply : List ℕ → Type 0

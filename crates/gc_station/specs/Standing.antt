@@ -1,17 +1,16 @@
 -- What a station is after the acts of its link, this project's own: the client's rule over what really happened, and how far
 -- the station is. Each act is the one that the station was to make next.
-use Rattle.std.specs.Prelude.{◌≡◌, ℕ, ◌+◌, ◌-◌, ◌<◌, ◌||◌, Bool, true, false, List, [], ◌∷◌, ◌++◌, length, drop, Option, Some, None, Result, Ok, Err, if◌then◌else◌, nat_eq, not}
+use Rattle.std.specs.Prelude.{◌≡◌, ℕ, ◌+◌, ◌-◌, ◌<◌, ◌||◌, Bool, true, false, List, [], ◌∷◌, ◌++◌, length, drop, Option, Some, None, if◌then◌else◌, nat_eq}
 use Rattle.std.specs.List.{filter_map}
 use Rattle.gc_lines.specs.Frames.{line_in, rest_behind}
 use Rattle.gc_lines.specs.Lines.{with_end}
 use Rattle.gc_lines.specs.Passing.{frames_behind}
-use Rattle.gc_lines.specs.Readers.{reply_at}
 use Rattle.gc_catalogue.specs.declared.answer.Reading.{Reading}
 use Rattle.gc_catalogue.specs.declared.call.Call.{Call}
 use Rattle.gc_catalogue.specs.declared.call.Call.TheVariants.{NullProc}
 use Rattle.gc_catalogue.specs.Texts.{request_line}
 use Rattle.gc_client.specs.declared.window.TheConstants.{WINDOW}
-use Rattle.gc_client.specs.Rule.{ById, Settlement, Settled, Sending, fresh, sends, hears, heard, expires, expiring, restarts, deadlines}
+use Rattle.gc_client.specs.Rule.{ById, Settlement, Settled, Sending, fresh, sends, hears, heard, expires, restarts, deadlines}
 use Rattle.gc_texts.specs.declared.tasks.Task.{Task}
 use Rattle.gc_links.specs.declared.link.Moment.{Moment}
 use Rattle.gc_station.specs.declared.plan.Plan.{Plan}
@@ -20,15 +19,16 @@ use Rattle.gc_station.specs.declared.cause.Cause.TheVariants as cause
 use Rattle.gc_station.specs.declared.progress.Phase.{Phase}
 use Rattle.gc_station.specs.declared.progress.Phase.TheVariants as phase
 use Rattle.gc_station.specs.declared.progress.Order.{Order}
-use Rattle.gc_station.specs.declared.progress.Order.TheVariants.{ReadClock, Begin, Open, Clear, Probe, Send, Skip, Flush, Read, Close, Stop}
+use Rattle.gc_station.specs.declared.progress.Order.TheVariants.{ReadClock, Renew, Begin, Open, Clear, Ask, Send, Skip, Flush, Read, Close, Stop}
 use Rattle.gc_station.specs.declared.progress.Progress.{Progress}
 use Rattle.gc_station.specs.declared.progress.Until.{Until}
 use Rattle.gc_station.specs.declared.progress.Waiting.{Waiting}
 use Rattle.gc_station.specs.declared.mark.Mark.{Mark}
 use Rattle.gc_links.specs.Acts.{Act, Told, Untold, Put, Cut, Gave, Silent, Ended, Broke, Closed, Opened, Unopened}
 use Rattle.gc_station.specs.Deciding.{later, order_of}
+pub use Rattle.gc_station.specs.Lines.{is_ok, is_reply}
 use Rattle.gc_station.specs.Marks.{commands_in, records_of, last_well}
-use Rattle.gc_station.specs.Progressing.{at_start, turned, told, begun, skipped, skipped_at, failing, opened, again, cleared, asking, probed, sent, noted, gave, silent, quiet_renewed, reckoned_early, closed, loses_all}
+use Rattle.gc_station.specs.Progressing.{at_start, turned, told, begun, skipped, skipped_at, failing, opened, again, cleared, asking, null_sent, renewed, sent, noted, lines_asked, gave, silent, reckoned_early, closed, loses_all}
 use Rattle.gc_station.specs.Records.{Record}
 use Rattle.gc_station.specs.Scopes.{Scope}
 use Rattle.gc_texts.specs.Endings.{Skipped, Missed}
@@ -46,11 +46,6 @@ pub record Standing : Type 0 where
 -- nothing was done
 abbrev pub opening : Plan → Scope → Standing
 opening plan scope = record { progress = at_start plan scope.turns; rest = []; client = fresh; marks = []; records = []; reads = scope.reads }
-
--- a list has no element
-abbrev pub is_nil : {A : Type 0} → List A → Bool
-is_nil [] = true
-is_nil (x ∷ xs) = false
 
 -- how many requests wait: in all, of those that aren't given up, and of commands; and whether the command that was written down last
 -- was answered well
@@ -85,6 +80,11 @@ requests_out plan commands p = if nat_eq p.left plan.cycles then 0 else place_ne
 -- a request line with its CR LF
 abbrev pub request_text : ById → Call → List ℕ
 request_text client call = with_end (request_line (Some client.next) call)
+
+-- the request line of a beginning's null procedure, of the first id that isn't answered
+abbrev pub null_text : List ℕ → List ℕ
+null_text [] = []
+null_text (asked ∷ others) = with_end (request_line (Some asked) NullProc)
 
 -- the request line of the first of these commands
 abbrev pub first_text : ById → List Task → List ℕ
@@ -127,10 +127,11 @@ IsReading _ = ⊥
 -- the act is that of this order
 abbrev pub Obeys : List Task → Standing → Order → Act → Type 0
 Obeys commands s ReadClock act = ReadsClock act
+Obeys commands s Renew act = ReadsClock act
 Obeys commands s Begin act = ReadsClock act
 Obeys commands s Open act = IsOpening act
 Obeys commands s Clear act = Puts (10 ∷ []) act
-Obeys commands s Probe act = Puts (request_text s.client NullProc) act
+Obeys commands s Ask act = Puts (null_text s.progress.word) act
 Obeys commands s Send act = Puts (first_text s.client (drop (place_next commands s.progress) commands)) act
 Obeys commands s Skip act = ReadsClock act
 Obeys commands s Flush act = Puts (request_text s.client NullProc) act
@@ -203,14 +204,6 @@ with_settled settlements s = record s {
 abbrev pub settles : Settled ById → Standing → Standing
 settles x s = with_client x.client (with_settled x.settlements s)
 
--- whether a line reads as a reply
-abbrev pub is_ok : {A E : Type 0} → Result A E → Bool
-is_ok (Ok _) = true
-is_ok (Err _) = false
-
-abbrev pub is_reply : List ℕ → Bool
-is_reply line = is_ok (reply_at line)
-
 -- a line came
 abbrev pub line_came : Standing → List ℕ → Standing
 line_came s line = with_progress (noted (is_reply line)) (settles (hears s.client line (heard line)) s)
@@ -230,20 +223,25 @@ with_rest rest s = record s { rest = rest }
 abbrev pub piece_came : List ℕ → Standing → Standing
 piece_came piece s = lines_came (with_rest (rest_behind s.rest piece) s) (lines_behind s.rest piece)
 
+-- the lines of a piece are heard while it begins, in order
+abbrev pub piece_asked : List ℕ → Standing → Standing
+piece_asked piece s = with_progress (λ p. lines_asked p (lines_behind s.rest piece)) (with_rest (rest_behind s.rest piece) s)
+
 -- what comes is heard where requests go out, and is dropped before that
 abbrev pub is_heard : Phase → Bool
 is_heard phase.Down = false
 is_heard phase.Pausing = false
 is_heard phase.Clearing = false
 is_heard phase.Draining = false
-is_heard phase.Probing = false
 is_heard phase.Ready = true
 is_heard (phase.Closing cause) = false
 is_heard (phase.Over cause) = false
 
-abbrev pub came : Bool → List ℕ → Standing → Standing
-came true piece s = piece_came piece s
-came false piece s = s
+-- whether a piece is heard, and what isn't answered of a beginning: what is behind the last answer in its piece is dropped
+abbrev pub came : Bool → List ℕ → List ℕ → Standing → Standing
+came true [] piece s = piece_came piece s
+came true (asked ∷ others) piece s = piece_asked piece s
+came false word piece s = s
 
 -- how far a station is once it heard a piece, before which so many commands waited
 abbrev pub reckoned : Plan → Until → ℕ → Standing → Standing
@@ -252,13 +250,12 @@ reckoned plan until before s = with_progress (λ p. reckoned_early plan (command
 -- a piece came, and then it was this moment: it gives up what has reached its deadline, and then hears
 abbrev pub piece_at : Plan → Until → List ℕ → Moment → Standing → Standing
 piece_at plan until piece m s =
-    reckoned plan until (commands_in s.marks) (came (is_heard s.progress.phase) piece (with_moment m (with_progress (told m) s)))
+    reckoned plan until (commands_in s.marks) (came (is_heard s.progress.phase) s.progress.word piece (with_moment m (with_progress (told m) s)))
 
 -- what was read
 abbrev pub after_read : Plan → Until → Standing → Act → Standing
 after_read plan until s (Gave bytes m) = piece_at plan until bytes m s
-after_read plan until s (Silent m) =
-    with_moment m (with_progress (λ p. quiet_renewed (not (is_nil (expiring m.elapsed s.client.waiting))) m (silent plan until m p)) s)
+after_read plan until s (Silent m) = with_moment m (with_progress (silent plan until m) s)
 after_read plan until s Ended = with_progress (failing cause.End) s
 after_read plan until s Broke = with_progress (failing cause.Read) s
 after_read plan until s _ = with_progress (failing cause.Clock) s
@@ -285,10 +282,11 @@ after_close plan cause s = with_progress (closed plan (waiting_of s) cause) (wit
 -- what an act of this order does, apart from the turn
 abbrev pub moved : Plan → List Task → Order → Standing → Act → Standing
 moved plan commands ReadClock s act = after_clock (λ m p. reckoned_early plan (commands_in s.marks) (told m p)) s act
+moved plan commands Renew s act = after_clock (λ m p. reckoned_early plan 0 (renewed m p)) s act
 moved plan commands Begin s act = after_clock (begun plan (length commands)) s act
 moved plan commands Open s act = after_open plan s act
 moved plan commands Clear s act = after_put (requests_out plan commands s.progress) (with_progress cleared) s act
-moved plan commands Probe s act = after_put (requests_out plan commands s.progress) (λ (s : Standing). with_progress probed (asks_null plan s)) s act
+moved plan commands Ask s act = after_put (requests_out plan commands s.progress) (with_progress (null_sent plan)) s act
 moved plan commands Send s act = after_put (requests_out plan commands s.progress) (λ (s : Standing). with_progress (sent (bound_next commands s.progress)) (asks_next plan commands s)) s act
 moved plan commands Skip s act =
     after_clock (λ m p. reckoned_early plan (commands_in s.marks) (skipped (bound_next commands s.progress) m p)) (with_records (skips plan commands s.progress act) s) act
@@ -302,7 +300,7 @@ abbrev pub losing : Bool → Standing → Standing
 losing true s = settles (restarts s.client) s
 losing false s = s
 
--- all that wait are lost where the next connection begins anew, and where no act follows
+-- all that wait are lost where the station begins anew, and where no act follows
 abbrev pub ended : Standing → Standing
 ended s = losing (loses_all s.progress) s
 

@@ -8,11 +8,12 @@ use Rattle.gc_texts.specs.declared.tasks.Task.{Task}
 use Rattle.gc_station.specs.declared.plan.Plan.{Plan}
 use Rattle.gc_station.specs.declared.cause.Cause.TheVariants as cause
 use Rattle.gc_station.specs.declared.progress.Order.{Order}
-use Rattle.gc_station.specs.declared.progress.Order.TheVariants.{Send, Skip, Probe, Flush, Stop}
+use Rattle.gc_station.specs.declared.progress.Order.TheVariants.{Send, Skip, Ask, Flush, Stop}
 use Rattle.gc_station.specs.declared.progress.Progress.{Progress}
 use Rattle.gc_station.specs.declared.progress.Waiting.{Waiting}
 use Rattle.gc_station.specs.declared.station.Station.{Station}
 use Rattle.gc_links.specs.Acts.{Act, Tells}
+use Rattle.gc_station.specs.Deciding.{has_begun}
 use Rattle.gc_station.specs.Marks.{commands_in, last_well}
 use Rattle.gc_station.specs.Scopes.{AreReadings}
 use Rattle.gc_station.specs.Progressing.{turned, failing}
@@ -95,11 +96,11 @@ abbrev pub cut_progress : Result (Unit {0}) ℕ → ℕ → Progress → Progres
 cut_progress (Ok _) requests p = p
 cut_progress (Err n) requests p = failing (cause.Write requests n) p
 
--- where a request is to be sent, the window has room, and where it is a command's, one is left
+-- where a request is to be sent, the window has room, and where it is a command's, one is left; and where it is a beginning's, that hasn't begun
 abbrev pub IsFitting : Progress → ℕ → Order → Type 0
 IsFitting p waiting Send = (0 < p.unsent) × (waiting < WINDOW)
 IsFitting p waiting Skip = 0 < p.unsent
-IsFitting p waiting Probe = waiting < WINDOW
+IsFitting p waiting Ask = has_begun p ≡ false
 IsFitting p waiting Flush = waiting < WINDOW
 IsFitting p waiting _ = Unit {0}
 

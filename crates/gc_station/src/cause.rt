@@ -10,11 +10,8 @@ use gc_texts::RunFault;
 pub enum Cause {
     /// Each command of each cycle is settled.
     Done,
-    /// All requests that wait are given up, no other may go out, and nothing came and nothing more was given up for the
-    /// quiet time. The next connection begins anew.
-    Silence,
-    /// Nothing may go out, and no reply line came for twice the deadline and the quiet time: since the last one, or since the
-    /// first request that was sent behind it.
+    /// No command may go out, and no reply line came for twice the longest deadline: since the last one, or since the first
+    /// request that was sent behind it.
     Dead,
     /// A read failed.
     Read,
@@ -37,7 +34,6 @@ impl Cause {
     {
         match self {
             Cause::Done => None,
-            Cause::Silence => Some(RunFault::Mute),
             Cause::Dead => Some(RunFault::Mute),
             Cause::Read => Some(RunFault::Read),
             Cause::End => Some(RunFault::LinkClosed),

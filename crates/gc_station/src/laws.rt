@@ -1,16 +1,16 @@
 //! Laws of a station's runs, whatever its link tells.
 
-ghost use Rattle.std.specs.Prelude.{◌≡◌, ◌⊎◌, ℕ, ◌≤◌, true, List, [], ◌∷◌, ◌++◌, length};
+ghost use Rattle.std.specs.Prelude.{◌≡◌, ◌⊎◌, ◌≤◌, List, [], ◌∷◌, ◌++◌, length};
 ghost use Rattle.std.specs.List.{AllByRecursion};
 ghost use Rattle.gc_lines.specs.Frames.{rest_of};
 ghost use Rattle.gc_texts.specs.declared.tasks.Task.{Task};
 ghost use Rattle.gc_station.specs.declared.cause.Cause.{Cause};
 ghost use Rattle.gc_station.specs.declared.cause.Cause.TheVariants as cause;
-ghost use Rattle.gc_station.specs.declared.progress.Order.TheVariants.{Probe, Send, Skip, Close, Stop};
+ghost use Rattle.gc_station.specs.declared.progress.Order.TheVariants.{Send, Skip, Close, Stop};
 ghost use Rattle.gc_station.specs.declared.plan.Plan.{Plan};
 ghost use Rattle.gc_links.specs.Acts.{Act, Closed};
 ghost use Rattle.gc_station.specs.Answers.{IsTrueRecord};
-ghost use Rattle.gc_station.specs.Beginnings.{IsFirst, IsAnsweredAmong, BeginsWith, quiet_times};
+ghost use Rattle.gc_station.specs.Beginnings.{NoneBeforeTheLastAnswer, BeginsSo, IsClearedAndQuiet};
 ghost use Rattle.gc_station.specs.Closing.{IsReasoned, ClosesForACause, StopsForACause};
 ghost use Rattle.gc_station.specs.Deciding.{patience_of};
 ghost use Rattle.gc_station.specs.Codes.{WellIsBothCodesZero};
@@ -23,11 +23,10 @@ ghost use Rattle.gc_station.specs.EachOnce.{EachOnce, IsFurther};
 ghost use Rattle.gc_station.specs.Links.{ChainsStay, MarksGoOn, RecordsStay};
 ghost use Rattle.gc_station.specs.Ends.{IsTrulyLate, IsTrulyLost};
 ghost use Rattle.gc_station.specs.Given.{given};
-ghost use Rattle.gc_station.specs.Probing.{KeepsOpen, IsAsking, IsAnsweredWithin};
-ghost use Rattle.gc_station.specs.Quiet.{IsRequest, AsksNothing, IsClearedAndQuiet};
+ghost use Rattle.gc_station.specs.Quiet.{IsRequest};
 ghost use Rattle.gc_station.specs.Runs.{stood};
 ghost use Rattle.gc_station.specs.Scopes.{Scope, OneReadingForALine};
-ghost use Rattle.gc_station.specs.Silences.{IsSilentFor, IsMuteFor};
+ghost use Rattle.gc_station.specs.Silences.{IsMuteFor};
 ghost use Rattle.gc_station.specs.Standing.{opening, order_at, Runs};
 ghost use Rattle.gc_station.specs.Tries.{IsTried, IsEnding, AllTried};
 
@@ -46,29 +45,22 @@ pub fn each_line_says_one_thing()
 
 /// Each act of a run is that of the order that was next, and what that order needs was so: where a command was sent, fewer
 /// were under way than the plan has it and fewer than seven waited, and its bytes are the line of the next command of the
-/// cycle; where the null procedure of a beginning went out, nothing waited, no bytes of a line were kept, and it had id 0.
+/// cycle; where the null procedure of a beginning went out, nothing waited, the client was new, and its bytes are the line of the
+/// null procedure with the first id that wasn't answered; where it began anew, seven waited that were all given up.
 pub fn each_act_is_due()
     ensures { (plan : Plan) (commands : List Task) (scope : Scope) (earlier later : List Act) (act : Act)
         → Runs plan commands (opening plan scope) (earlier ++ act ∷ later) → IsReasoned plan commands (stood plan commands scope earlier) act }
 {}
 
-/// A connection is closed only for a cause: nothing was left to be done; or nothing could go out, and all that waited was
-/// given up and the line was quiet, or it was dead; or all turns were used up; or the act before it shows that a call failed
-/// or that the other end closed.
+/// A connection is closed only for a cause: nothing was left to be done; or no command could go out, and the line was dead; or all
+/// turns were used up; or the act before it shows that a call failed or that the other end closed.
 pub fn closes_for_a_cause()
     ensures { (plan : Plan) (commands : List Task) (scope : Scope) (earlier later : List Act)
         → Runs plan commands (opening plan scope) (earlier ++ Closed ∷ later) → ClosesForACause plan commands scope earlier }
 {}
 
-/// Where a connection is closed for silence, reads gave nothing for the quiet time by the clock, and nothing else was done, since a
-/// moment behind which all that waited was given up.
-pub fn closes_for_silence_behind_silence()
-    ensures { (plan : Plan) (commands : List Task) (scope : Scope) (acts : List Act) → Runs plan commands (opening plan scope) acts
-        → order_at plan (stood plan commands scope acts) ≡ Close cause.Silence → IsSilentFor plan.quiet plan commands scope acts }
-{}
-
-/// Where a connection is closed for a dead line, no line that reads as a reply came on it for twice the deadline and the quiet time
-/// by the clock, behind a moment that was told on it.
+/// Where a connection is closed for a dead line, no line that reads as a reply came on it for twice the longest deadline by
+/// the clock, behind a moment that was told on it.
 pub fn closes_a_dead_line_behind_no_reply()
     ensures { (plan : Plan) (commands : List Task) (scope : Scope) (acts : List Act) → Runs plan commands (opening plan scope) acts
         → order_at plan (stood plan commands scope acts) ≡ Close cause.Dead → IsMuteFor (patience_of plan) plan commands scope acts }
@@ -107,22 +99,12 @@ pub fn late_ones_came_late()
 {}
 
 /// Each record of a request that is lost is so for a cause: its very request was put, of the same cycle and place; and the act at
-/// which the record was written brought a line with the id of another request, which was put behind it and waited; or it closed the
-/// connection since all that waited was given up, nothing could go out and the line was quiet, and the next one begins anew; or it
-/// is the last act of the run, which stops there.
+/// which the record was written brought a line with the id of another request, which was put behind it and waited; or it read the
+/// clock where seven waited, which were all given up, and the station begins anew there; or it is the last act of the run, which
+/// stops there.
 pub fn lost_ones_are_lost_for_a_cause()
     ensures { (plan : Plan) (commands : List Task) (scope : Scope) (acts : List Act)
         → Runs plan commands (opening plan scope) acts → AllByRecursion (IsTrulyLost plan commands scope acts) (stood plan commands scope acts).records }
-{}
-
-/// Where the null procedure of a beginning goes out, no other request follows on that connection before a line came with
-/// the null procedure's id.
-pub fn null_procedure_is_answered_first()
-    ensures { (plan : Plan) (commands : List Task) (scope : Scope) (earlier between : List Act) (act : Act)
-        → Runs plan commands (opening plan scope) ((earlier ++ act ∷ []) ++ between)
-        → order_at plan (stood plan commands scope earlier) ≡ Probe → AllByRecursion KeepsOpen between
-        → IsAsking (order_at plan (stood plan commands scope ((earlier ++ act ∷ []) ++ between)))
-        → IsAnsweredWithin plan commands scope (earlier ++ act ∷ []) between }
 {}
 
 /// A run stops without a connection, and only for a cause: all turns are used up, or what the last act shows. Either a call
@@ -150,11 +132,11 @@ pub fn ends_for_turns_behind_as_many_acts()
         → scope.turns ≤ length acts }
 {}
 
-/// Where a request goes out, its connection was cleared, and quiet: as soon as it was made a line feed went out, alone and whole,
-/// and before anything else went out on it nothing came for the quiet time, by the clock.
+/// Where a request goes out, its connection was cleared: as soon as it was made a line feed went out, alone and whole. Unless a
+/// beginning goes on with it, it was quiet, too: before anything else went out on it nothing came for the quiet time, by the clock.
 pub fn each_connection_is_cleared_and_quiet()
-    ensures { (plan : Plan) (commands : List Task) (scope : Scope) (earlier later : List Act) (act : Act) → plan.quiet ≤ 18446744073709551615
-        → Runs plan commands (opening plan scope) (earlier ++ act ∷ later) → IsRequest act → IsClearedAndQuiet plan.quiet earlier }
+    ensures { (plan : Plan) (commands : List Task) (scope : Scope) (earlier later : List Act) (act : Act)
+        → Runs plan commands (opening plan scope) (earlier ++ act ∷ later) → IsRequest act → IsClearedAndQuiet plan commands scope earlier }
 {}
 
 /// The bytes of a line that a station keeps are those that came on this connection while bytes were heard, behind the last line
@@ -164,22 +146,18 @@ pub fn rest_is_what_came()
         → (stood plan commands scope acts).rest ≡ rest_of (given plan commands scope acts) }
 {}
 
-/// Behind the start of a run, and behind each act at which the station begins anew, the null procedure with id 0 goes out first,
-/// on a connection that was cleared and quiet. Any other request goes out only once a line with that id came behind it, on its
-/// connection; where that was closed before, the null procedure goes out again, as the first request of another.
-pub fn each_beginning_is_answered_first()
-    ensures { (plan : Plan) (commands : List Task) (scope : Scope) (earlier between later : List Act) (act : Act) → plan.quiet ≤ 18446744073709551615
-        → Runs plan commands (opening plan scope) ((earlier ++ between) ++ act ∷ later) → (stood plan commands scope earlier).progress.anew ≡ true
-        → IsRequest act → IsFirst plan.quiet (earlier ++ between) act ⊎ IsAnsweredAmong between }
+/// No command goes out before the last answer of a beginning: behind any act of a run, replies came with the ids of all null procedures
+/// that weren't answered then, in their order, before a command goes out.
+pub fn no_command_goes_out_before_the_last_answer()
+    ensures { NoneBeforeTheLastAnswer }
 {}
 
-/// Where a station begins anew, the first request that goes out behind it is the null procedure with id 0, on a connection that was cleared
-/// and then silent for as many quiet times as requests waited at the close behind which it began, and for one at the start; however many
-/// connections ended on the way.
-pub fn each_beginning_is_drained_for_all_that_waited()
-    ensures { (plan : Plan) (commands : List Task) (scope : Scope) (earlier between later : List Act) (act : Act) (waiting : ℕ) → plan.quiet ≤ 18446744073709551615
-        → Runs plan commands (opening plan scope) ((earlier ++ between) ++ act ∷ later) → BeginsWith plan commands scope earlier waiting → AllByRecursion AsksNothing between
-        → IsRequest act → IsFirst (quiet_times plan waiting) (earlier ++ between) act }
+/// A run begins with eight null procedures, with ids 6, 5, 4, 3, 2, 1, 0 and 7. While it begins nothing waits, what goes out is the null
+/// procedure of the first of these ids that wasn't answered, and the next one is asked for where a reply with that id came, over closes
+/// too. It begins anew only where seven wait that are all given up.
+pub fn each_beginning_goes_on_by_its_answers()
+    ensures { (plan : Plan) (commands : List Task) (scope : Scope) (acts : List Act) (act : Act)
+        → Runs plan commands (opening plan scope) (acts ++ act ∷ []) → BeginsSo plan commands scope acts act }
 {}
 
 /// What is written down stays so.
@@ -226,7 +204,7 @@ pub fn missed_cycles_are_not_sent()
 
 /// Each record of a command that is missed is so: its cycle began when the next one was due, or later, and it has the moment at which
 /// its cycle was due. Each record of one that is skipped is so: its cycle wasn't missed; it is of a chain, and not its first; and the
-/// one before it wasn't answered well, or a connection was closed since that went out. Neither was sent.
+/// one before it wasn't answered well, or since that went out a connection was closed, or it began anew. Neither was sent.
 pub fn unsent_ones_are_so_for_a_cause()
     ensures { UnsentForACause }
 {}

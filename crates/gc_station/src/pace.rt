@@ -5,7 +5,7 @@ ghost use Rattle.std.specs.Prelude.{◌≡◌, ℕ, Option};
 ghost use Rattle.std.specs.Option.{option_to_list};
 ghost use Rattle.std.specs.Io.KnownBytes.{Appends};
 ghost use Rattle.gc_client.specs.Rule.{IsEarliest, deadlines};
-ghost use Rattle.gc_station.specs.Pace.{quiet_at, dead_at, due_at, retry_at, ends_in, ends_without_deadline, ends_at, patience, cycle_of, overrun, told_then};
+ghost use Rattle.gc_station.specs.Pace.{dead_at, due_at, retry_at, ends_in, ends_without_deadline, ends_at, patience, cycle_of, overrun, told_then};
 
 use crate::book::{Book, Sight};
 use crate::plan::Plan;
@@ -14,13 +14,6 @@ use crate::progressing::later;
 use crate::station::Station;
 
 impl Progress {
-    // When the line counts as quiet.
-    fn quiet_at(&self, plan: &Plan) -> u64
-        ensures { result ≡ quiet_at plan.now self.now }
-    {
-        later(self.since, plan.quiet)
-    }
-
     // When the line is dead.
     fn dead_at(&self, plan: &Plan) -> u64
         ensures { result ≡ dead_at plan.now self.now }
@@ -47,31 +40,30 @@ impl Progress {
         }
     }
 
-    // When a read that brings nothing is over at the latest, whatever deadlines there are; where all that wait are given up, or
-    // not.
-    fn ends(&self, plan: &Plan, hopeless: bool) -> u64
-        ensures { result ≡ ends_in self.now.phase plan.now self.now hopeless }
+    // When a read that brings nothing is over at the latest, whatever deadlines there are.
+    fn ends(&self, plan: &Plan) -> u64
+        ensures { result ≡ ends_in self.now.phase plan.now self.now }
     {
         match self.phase {
             Phase::Pausing => self.retry_at(plan),
-            Phase::Draining => later(self.since, self.drain(plan)),
+            Phase::Draining => later(self.since, plan.quiet),
             _ => {
-                if hopeless {
-                    self.quiet_at(plan).min(self.dead_at(plan))
-                } else {
+                if self.has_begun() {
                     self.dead_at(plan)
+                } else {
+                    self.again.min(self.dead_at(plan))
                 }
             }
         }
     }
 
     // The same, and where all that is left is to wait for the next cycle, when that is due.
-    fn ends_without_deadline(&self, plan: &Plan, until: Until, hopeless: bool) -> u64
-        ensures { result ≡ ends_without_deadline plan.now self.now until hopeless }
+    fn ends_without_deadline(&self, plan: &Plan, until: Until) -> u64
+        ensures { result ≡ ends_without_deadline plan.now self.now until }
     {
         match until {
             Until::Due => self.due_at(plan),
-            Until::Limit => self.ends(plan, hopeless),
+            Until::Limit => self.ends(plan),
         }
     }
 
@@ -80,8 +72,8 @@ impl Progress {
         ensures { result ≡ ends_at plan.now self.now until deadline }
     {
         match deadline {
-            Some(deadline) => deadline.min(self.ends_without_deadline(plan, until, false)),
-            None => self.ends_without_deadline(plan, until, true),
+            Some(deadline) => deadline.min(self.ends_without_deadline(plan, until)),
+            None => self.ends_without_deadline(plan, until),
         }
     }
 
@@ -128,9 +120,9 @@ impl Station {
         match self.progress.phase {
             Phase::Down | Phase::Pausing if self.progress.is_idle(plan) => Sight::Idle,
             Phase::Down | Phase::Pausing => Sight::Unconnected,
-            Phase::Clearing | Phase::Draining | Phase::Probing => Sight::Unquiet,
+            Phase::Clearing | Phase::Draining => Sight::Unquiet,
             _ if self.progress.asked => Sight::Unheard,
-            Phase::Ready if self.is_done() => Sight::Idle,
+            Phase::Ready if self.progress.has_begun() && self.is_done() => Sight::Idle,
             _ => Sight::Fine,
         }
     }

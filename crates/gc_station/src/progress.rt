@@ -8,12 +8,13 @@
 //! |---|---|---|---|---|
 //! | `Down` | | `Open` | makes a connection | `Clearing`; where none could be made, as behind `Close(Open)` |
 //! | `Pausing` | | `Read(Limit)` | waits | `Down`, once the pause is over and a connection is wanted |
-//! | `Clearing` | | `Clear` | sends a lone line feed | `Draining` |
-//! | `Draining` | | `Read(Limit)` | drops what comes | once nothing came for long enough: `Probing` where it begins anew, else `Ready` |
-//! | `Probing` | there is room | `Probe` | sends a null procedure | `Ready`, `alone` until it is answered |
-//! | | else | as where it waits | | |
-//! | `Ready` | it is `alone` | as where it waits | | |
-//! | | a command is unsent, and not `bound` | with room `Send`, else as where it waits | sends the next command | `Ready` |
+//! | `Clearing` | | `Clear` | sends a lone line feed | `Draining`; `Ready` where it begins |
+//! | `Draining` | | `Read(Limit)` | drops what comes | `Ready`, once nothing came for the quiet time |
+//! | `Ready`: it begins | the cycle is done, and the next isn't due | `Read(Due)` | hears what comes | `Ready` |
+//! | | the line is dead | `Close(Dead)` | closes the connection | as below |
+//! | | the null procedure of the first id that isn't answered is to go out, for the first time or since its deadline passed | `Ask` | sends it | `Ready` |
+//! | | else | `Read(Limit)` | hears what comes | `Ready`; it has begun once the eighth is answered |
+//! | `Ready`: it has begun | a command is unsent, and not `bound` | with room `Send`, else as where it waits | sends the next command | `Ready` |
 //! | | commands wait, and all that waits is given up | with room `Flush`, else as where it waits | sends a null procedure behind them | `Ready` |
 //! | | commands wait, and something isn't given up | as where it waits | | |
 //! | | no command waits, one is unsent, and may go | with room `Send`, else as where it waits | sends the next command | `Ready` |
@@ -21,8 +22,8 @@
 //! | | no command waits or is unsent, and no cycle is left | `Close(Done)` | closes the connection | `Over(Done)` |
 //! | | no command waits or is unsent, and the next cycle is due | `Begin` | reads the clock, and begins the cycle | `Ready` |
 //! | | no command waits or is unsent, and the next cycle isn't due | `Read(Due)` | hears what comes | `Ready` |
-//! | it waits | all that wait are given up, and the line is quiet | `Close(Silence)` | closes the connection | as below |
-//! | | the line is dead | `Close(Dead)` | closes the connection | as below |
+//! | it waits | the line is dead | `Close(Dead)` | closes the connection | as below |
+//! | | all that wait are given up | `Renew` | reads the clock, and begins anew: all that wait are lost | the same |
 //! | | else | `Read(Limit)` | hears what comes | the same |
 //! | `Closing` | | `Close` for its cause | closes the connection | for `Done`, `Clock` and `Turns`: `Over` for that cause. Else `Over(Done)` where nothing is left to be sent and no command waits, `Pausing` where a try is left or none is needed, and else `Over` for that cause |
 //! | `Over` | | `Stop` for its cause | does nothing: the run is over | |
@@ -30,14 +31,14 @@
 //! Where a call of the link fails, or a write is cut, `Closing` for that cause follows, and without a connection `Over`.
 
 ghost use Rattle.std.specs.Prelude.{◌≡◌};
-ghost use Rattle.gc_station.specs.Deciding.{width_of, is_up, is_past, is_quiet, drain_of, patience_of, is_dead, is_due, has_room, may_go, order_of, order_on, order_ready, order_room, order_sent, order_settled, order_done, order_waiting};
+ghost use Rattle.gc_station.specs.Deciding.{width_of, is_up, is_past, is_quiet, has_begun, patience_of, is_dead, is_due, has_room, may_go, order_of, order_on, order_ready, order_begun, order_beginning, order_room, order_sent, order_settled, order_done, order_waiting};
 ghost use Rattle.gc_station.specs.Progressing.{at_start};
 ghost use Rattle.gc_station.specs.Standing.{is_heard};
 
 use crate::cause::Cause;
 use crate::plan::Plan;
 use crate::progressing::later;
-use gc_client::WINDOW;
+use gc_client::{Beginning, WINDOW};
 use gc_links::Moment;
 
 /// Where a station is.
@@ -51,8 +52,6 @@ pub(crate) enum Phase {
     Clearing,
     /// What comes is dropped until the line is quiet.
     Draining,
-    /// The null procedure with which it begins anew is to go out.
-    Probing,
     /// Requests go out, and their replies are heard.
     Ready,
     /// The connection is to be closed.
@@ -66,14 +65,16 @@ pub(crate) enum Phase {
 pub(crate) enum Order {
     /// To read the clock.
     ReadClock,
+    /// To read the clock, and to begin anew: all that wait are lost.
+    Renew,
     /// To read the clock, and to begin a cycle.
     Begin,
     /// To make a connection.
     Open,
     /// To send a lone line feed.
     Clear,
-    /// To send the null procedure with which it begins anew.
-    Probe,
+    /// To send the null procedure of its beginning that is asked for, for the first time or again.
+    Ask,
     /// To send the next command.
     Send,
     /// To read the clock, and to write the next command down without sending it.
@@ -91,7 +92,8 @@ pub(crate) enum Order {
 /// How long a read lasts at most that brings nothing.
 #[derive(Clone, Copy)]
 pub(crate) enum Until {
-    /// Until something may have to be done: a deadline is reached, a pause or a drain is over, or the line is quiet or dead.
+    /// Until something may have to be done: a deadline is reached, a pause or a drain is over, the line is dead, or
+    /// a null procedure of a beginning goes out again.
     Limit,
     /// Until the next cycle is due: each command of this one is settled.
     Due,
@@ -111,16 +113,14 @@ pub(crate) struct Waiting {
 }
 
 /// How far a station is.
-#[derive(Clone, Copy)]
+#[derive(Drop)]
 pub(crate) struct Progress {
     /// Where it is.
     pub phase: Phase,
-    /// Whether the next connection, or this one, begins anew.
-    pub anew: bool,
-    /// Whether the null procedure with which it began isn't answered yet.
-    pub alone: bool,
-    /// How many quiet times a connection that begins anew is drained.
-    pub drain: usize,
+    /// Which null procedures of its beginning are answered. Once all are, it has begun.
+    pub word: Beginning,
+    /// The deadline of the null procedure that is asked for, where it went out on this connection: then it goes out again. Else 0.
+    pub again: u64,
     /// Whether something was done since the moment was told.
     pub stale: bool,
     /// The moment that was told last.
@@ -145,7 +145,7 @@ pub(crate) struct Progress {
     pub unsent: usize,
     /// Whether the next of them goes out only once the command before it was answered well.
     pub bound: bool,
-    /// Whether the command before it went out, and no connection was closed since.
+    /// Whether the command before it went out, and since then no connection was closed and it didn't begin anew.
     pub whole: bool,
     /// How many times more it may connect anew.
     pub tries: u32,
@@ -166,7 +166,7 @@ pub(crate) fn width(plan: &Plan) -> u8
 pub(crate) fn patience_of(plan: &Plan) -> u64
     ensures { result ≡ patience_of plan.now }
 {
-    later(later(plan.deadline, plan.deadline), plan.quiet)
+    later(plan.deadline, plan.deadline)
 }
 
 impl Phase {
@@ -179,7 +179,6 @@ impl Phase {
             Phase::Pausing => false,
             Phase::Clearing => true,
             Phase::Draining => true,
-            Phase::Probing => true,
             Phase::Ready => true,
             Phase::Closing(_) => true,
             Phase::Over(_) => false,
@@ -195,7 +194,6 @@ impl Phase {
             Phase::Pausing => false,
             Phase::Clearing => false,
             Phase::Draining => false,
-            Phase::Probing => false,
             Phase::Ready => true,
             Phase::Closing(_) => false,
             Phase::Over(_) => false,
@@ -204,15 +202,14 @@ impl Phase {
 }
 
 impl Progress {
-    // Nothing was done, and the first connection begins anew.
+    // Nothing was done, and no null procedure of the beginning is answered.
     pub(crate) fn at_start(plan: &Plan, max_turns: u64) -> Progress
         ensures { result ≡ at_start plan.now max_turns }
     {
         Progress {
             phase: Phase::Down,
-            anew: true,
-            alone: false,
-            drain: 1,
+            word: Beginning::new(),
+            again: 0,
             stale: false,
             moment: Moment { elapsed: 0, utc: 0 },
             since: 0,
@@ -246,22 +243,19 @@ impl Progress {
         self.is_past(plan.quiet)
     }
 
-    // How long a new connection is drained.
-    pub(crate) fn drain(&self, plan: &Plan) -> u64
-        ensures { result ≡ drain_of plan.now self.now }
+    // Whether it has begun: all null procedures of its beginning are answered.
+    pub(crate) fn has_begun(&self) -> bool
+        ensures { result ≡ has_begun self.now }
     {
-        if self.anew {
-            (self.drain as u64).saturating_mul(plan.quiet)
-        } else {
-            plan.quiet
-        }
+        self.word.has_begun()
     }
 
-    // Whether something waits, and no reply line came for too long.
+    // Whether something waits, or the null procedure that is asked for went out, and no reply line came for too long.
     fn is_dead(&self, plan: &Plan, waiting: Waiting) -> bool
         ensures { result ≡ is_dead plan.now self.now waiting }
     {
-        waiting.all > 0 && patience_of(plan) <= self.moment.elapsed.saturating_sub(self.alive)
+        (waiting.all > 0 || self.again > 0)
+            && patience_of(plan) <= self.moment.elapsed.saturating_sub(self.alive)
     }
 
     // Whether the next cycle may begin.
@@ -304,20 +298,43 @@ impl Progress {
             Phase::Pausing => Order::Read(Until::Limit),
             Phase::Clearing => Order::Clear,
             Phase::Draining => Order::Read(Until::Limit),
-            Phase::Probing => self.order_room(plan, waiting, Order::Probe),
             Phase::Ready => self.order_ready(plan, waiting),
             Phase::Closing(cause) => Order::Close(cause),
             Phase::Over(cause) => Order::Stop(cause),
         }
     }
 
-    // Requests go out, once the null procedure with which it began is answered.
+    // Commands go out, once the null procedures of its beginning are answered.
     fn order_ready(&self, plan: &Plan, waiting: Waiting) -> Order
         ensures { result ≡ order_ready plan.now self.now waiting }
     {
-        if self.alone {
-            self.order_waiting(plan, waiting)
-        } else if self.unsent > 0 && !self.bound {
+        if self.has_begun() {
+            self.order_begun(plan, waiting)
+        } else {
+            self.order_beginning(plan, waiting)
+        }
+    }
+
+    // It begins: the null procedure that is asked for goes out, and again at its deadline. Between cycles nothing goes out.
+    fn order_beginning(&self, plan: &Plan, waiting: Waiting) -> Order
+        ensures { result ≡ order_beginning plan.now self.now waiting }
+    {
+        if self.is_idle(plan) {
+            Order::Read(Until::Due)
+        } else if self.is_dead(plan, waiting) {
+            Order::Close(Cause::Dead)
+        } else if self.again <= self.moment.elapsed {
+            Order::Ask
+        } else {
+            Order::Read(Until::Limit)
+        }
+    }
+
+    // It has begun: commands go out.
+    fn order_begun(&self, plan: &Plan, waiting: Waiting) -> Order
+        ensures { result ≡ order_begun plan.now self.now waiting }
+    {
+        if self.unsent > 0 && !self.bound {
             self.order_room(plan, waiting, Order::Send)
         } else {
             self.order_sent(plan, waiting)
@@ -350,8 +367,8 @@ impl Progress {
         }
     }
 
-    // Whether the next command of a chain goes out: the one before it was answered well, and no connection was closed since it
-    // went out.
+    // Whether the next command of a chain goes out: the one before it was answered well, and since it went out no connection was
+    // closed, and it didn't begin anew.
     fn may_go(&self, waiting: Waiting) -> bool
         ensures { result ≡ may_go self.now waiting }
     {
@@ -386,10 +403,10 @@ impl Progress {
     fn order_waiting(&self, plan: &Plan, waiting: Waiting) -> Order
         ensures { result ≡ order_waiting plan.now self.now waiting }
     {
-        if waiting.current == 0 && self.is_quiet(plan) {
-            Order::Close(Cause::Silence)
-        } else if self.is_dead(plan, waiting) {
+        if self.is_dead(plan, waiting) {
             Order::Close(Cause::Dead)
+        } else if waiting.current == 0 {
+            Order::Renew
         } else {
             Order::Read(Until::Limit)
         }

@@ -1,17 +1,18 @@
 //! What each act does to how far a station is.
 
-ghost use Rattle.std.specs.Prelude.{◌≡◌, ℕ, List};
+ghost use Rattle.std.specs.Prelude.{◌≡◌, ◌≤◌, ℕ, List, length};
 ghost use Rattle.gc_client.specs.Hearing.{HearsInto};
 ghost use Rattle.gc_client.specs.Rule.{ById};
 ghost use Rattle.gc_client.specs.declared.settlement.Settlement.{Settlement};
 ghost use Rattle.gc_station.specs.Deciding.{later};
-ghost use Rattle.gc_station.specs.Progressing.{turned, told, beginning, is_missing, due_of, begun, skipped, skipped_at, failing, opened, is_finished, is_idle, is_spared, phase_again, pause_again, again, cleared, asking, probed, sent, noted, early_behind, gave, pause_ended, drained, quieted, time_passed, silent, quiet_renewed, reckoned_early, begins_anew, beginning_anew, closed_again, ended_for, closed, is_over, loses_all};
-ghost use Rattle.gc_station.specs.Standing.{is_reply};
+ghost use Rattle.gc_station.specs.Progressing.{turned, told, beginning, is_missing, due_of, begun, skipped, skipped_at, failing, opened, is_finished, is_idle, is_spared, phase_again, pause_again, again, cleared, asking, null_sent, renewed, line_asked, sent, noted, early_behind, gave, pause_ended, drained, quieted, time_passed, silent, reckoned_early, ended_for, closed, is_over, loses_all};
+ghost use Rattle.gc_station.specs.Lines.{is_reply};
 
 use crate::cause::Cause;
 use crate::plan::Plan;
 use crate::progress::{Phase, Progress, Until, Waiting};
-use gc_client::Hearing;
+use gc_client::{Beginning, Hearing};
+use gc_lines::read_reply;
 use gc_links::Moment;
 
 // So much later than a moment, or the last moment that there is.
@@ -28,6 +29,16 @@ fn early_behind(until: Until, early: bool) -> bool
     match until {
         Until::Due => true,
         Until::Limit => early,
+    }
+}
+
+// Whether a line reads as a reply.
+fn reads(line: &[u8]) -> bool
+    ensures { result ≡ is_reply line.now }
+{
+    match read_reply(line) {
+        Ok(_) => true,
+        Err(_) => false,
     }
 }
 
@@ -207,11 +218,17 @@ impl Progress {
         }
     }
 
-    // The line feed went out.
+    // The line feed went out. A connection is drained, unless a beginning goes on with it.
     pub(crate) fn clear(&mut self)
         ensures { self.new ≡ cleared self.old }
     {
-        self.phase = Phase::Draining;
+        self.phase = if self.has_begun() {
+            Phase::Draining
+        } else {
+            Phase::Ready
+        };
+        self.again = 0;
+        self.asked = false;
         self.stale = true;
     }
 
@@ -226,14 +243,33 @@ impl Progress {
         self.stale = true;
     }
 
-    // The null procedure went out with which it begins anew.
-    pub(crate) fn probe(&mut self)
-        ensures { self.new ≡ probed self.old }
+    // The null procedure that is asked for went out: it goes out again at its deadline.
+    pub(crate) fn ask_null(&mut self, plan: &Plan)
+        ensures { self.new ≡ null_sent plan.now self.old }
     {
         self.ask();
-        self.phase = Phase::Ready;
-        self.anew = false;
-        self.alone = true;
+        self.again = later(self.moment.elapsed, plan.deadline);
+    }
+
+    // It begins anew at this moment.
+    pub(crate) fn renew(&mut self, moment: Moment)
+        ensures { self.new ≡ renewed moment self.old }
+    {
+        self.tell(moment);
+        self.word = Beginning::new();
+        self.again = 0;
+        self.whole = false;
+    }
+
+    // While it begins a line came. Where it answers, the next null procedure goes out at once.
+    pub(crate) fn hear(&mut self, line: &[u8])
+        requires { length line.now ≤ 512 }
+        ensures { self.new ≡ line_asked self.old line.now }
+    {
+        if self.word.hear(line) {
+            self.again = 0;
+        }
+        self.note(reads(line));
     }
 
     // The next command went out. `bound`: the one behind it goes out only once this one was answered well.
@@ -265,7 +301,6 @@ impl Progress {
             self.tries = plan.retries;
             self.pause = 0;
         }
-        self.alone = self.alone && after.all != 0;
         self.early = early_behind(until, self.early);
     }
 
@@ -278,15 +313,11 @@ impl Progress {
         }
     }
 
-    // The connection was drained until it was quiet. Where it begins anew, a null procedure is next; else requests go out at once.
+    // The connection was drained until it was quiet: requests go out at once.
     fn end_drain(&mut self)
         ensures { self.new ≡ drained self.old }
     {
-        self.phase = if self.anew {
-            Phase::Probing
-        } else {
-            Phase::Ready
-        };
+        self.phase = Phase::Ready;
         self.alive = self.moment.elapsed;
         self.asked = false;
     }
@@ -298,7 +329,7 @@ impl Progress {
         match self.phase {
             Phase::Pausing => self.end_pause(plan),
             Phase::Draining => {
-                if self.is_past(self.drain(plan)) {
+                if self.is_quiet(plan) {
                     self.end_drain();
                 }
             }
@@ -327,54 +358,11 @@ impl Progress {
         self.quiet(plan);
     }
 
-    // A moment gave requests up, or didn't. Where it did, the quiet time begins anew, for replies that are a little late.
-    pub(crate) fn renew_quiet(&mut self, gave_up: bool, moment: Moment)
-        ensures { self.new ≡ quiet_renewed gave_up moment self.old }
-    {
-        if gave_up {
-            self.since = moment.elapsed;
-        }
-    }
-
     // So many commands wait. Where the cycle is done, and the next isn't due yet, it was done early.
     pub(crate) fn reckon_early(&mut self, plan: &Plan, commands: usize)
         ensures { self.new ≡ reckoned_early plan.now commands self.old }
     {
         self.early = self.early || (commands == 0 && self.unsent == 0 && !self.is_due(plan));
-    }
-
-    // Whether the next connection begins anew, where this one is closed for a cause: for silence, and where this one hasn't begun.
-    fn begins_anew(&self, cause: Cause) -> bool
-        ensures { result ≡ begins_anew cause self.now }
-    {
-        match cause {
-            Cause::Silence => true,
-            _ => self.alone || self.anew,
-        }
-    }
-
-    // The next connection begins anew, while so many requests wait. It is drained for one quiet time each; where this one began anew, too,
-    // and its null procedure didn't go out, for as long as this one.
-    fn begin_anew(&mut self, waiting: usize)
-        ensures { self.new ≡ beginning_anew waiting self.old }
-    {
-        if !self.anew {
-            self.drain = waiting;
-        }
-        self.anew = true;
-        self.alone = false;
-    }
-
-    // A connection that ended is to be made again, anew or not. All that wait are lost where it begins anew.
-    fn close_again(&mut self, plan: &Plan, waiting: Waiting, cause: Cause, anew: bool)
-        ensures { self.new ≡ closed_again plan.now waiting cause anew self.old }
-    {
-        if anew {
-            self.begin_anew(waiting.all);
-            self.try_again(plan, 0, cause);
-        } else {
-            self.try_again(plan, waiting.commands, cause);
-        }
     }
 
     // The connection was closed: for `Done`, `Clock` and `Turns` for good, and for any other cause to be made again.
@@ -383,7 +371,7 @@ impl Progress {
     {
         match cause {
             Cause::Done | Cause::Clock | Cause::Turns => self.end(cause),
-            _ => self.close_again(plan, waiting, cause, self.begins_anew(cause)),
+            _ => self.try_again(plan, waiting.commands, cause),
         }
     }
 
@@ -409,6 +397,6 @@ impl Progress {
     pub(crate) fn loses_all(&self) -> bool
         ensures { result ≡ loses_all self.now }
     {
-        self.anew || self.is_over()
+        !self.has_begun() || self.is_over()
     }
 }

@@ -56,9 +56,10 @@ pub(crate) fn run<L: Link, B: Book>(
 
 /// Sends the commands over a link, in cycles, as the plan has it, and writes into a book how each request ended.
 ///
-/// What it does next is a function of what the link told: `order_at`. It connects, sends a lone line feed, and drops what
-/// comes until nothing came for the quiet time. The first connection begins anew: a null procedure goes out alone, with id
-/// 0, and has to be answered first. Then the commands of a cycle go out, each once, while fewer are under way than the plan
+/// What it does next is a function of what the link told: `order_at`. It connects, sends a lone line feed, and begins: eight null
+/// procedures go out one after the other, with ids 6, 5, 4, 3, 2, 1, 0 and 7. One that isn't answered by its deadline goes out again
+/// with its id, also on the next connection; a reply with that id answers it, whatever it says, and all else is dropped. Behind the
+/// eighth answer the client is new, with next id 0, and the commands of a cycle go out, each once, while fewer are under way than the plan
 /// has it, and fewer than seven wait in all. A moment gives up what has reached its deadline before the bytes that came
 /// before that moment are heard. What is given up keeps its id and no longer holds up the others: its own reply settles it
 /// as late, and the reply to a later request as lost. Where all commands of the cycle were sent, and all that wait are given
@@ -67,13 +68,13 @@ pub(crate) fn run<L: Link, B: Book>(
 ///
 /// A connection that failed, ended or is dead is closed, and what waits goes on waiting on the next one, with ids that go on.
 /// Before that it pauses: for the quiet time, at each further failure twice as long, up to a minute. Once a cycle is done it
-/// connects again only when the next is due. It begins anew where nothing may go out, all that wait are given up, and the line is quiet:
-/// then all that wait are lost, and the next connection is drained for as many quiet times as waited. Where nothing is left
-/// to be sent then, the run is done in its place. A beginning that was cut begins again.
+/// connects again only when the next is due. Each connection is cleared by a line feed, and what comes on it is dropped until nothing
+/// came for the quiet time, unless a beginning goes on with it. It begins anew where seven wait that are all given up: then all that
+/// wait are lost, and the null procedures go out on the same connection. A beginning that was cut goes on with the next connection.
 ///
 /// `Ok`: each command of each cycle is settled, and the tally counts how. Where the clock can't be read it is over, and where
-/// no try is left: `Clock` comes where the clock can't be read, `Read` where a read failed, `Mute` where the line was quiet
-/// or dead, `Write` where a write was cut, with the cycle's requests that had gone out (0 before the first cycle),
+/// no try is left: `Clock` comes where the clock can't be read, `Read` where a read failed, `Mute` where the line was
+/// dead, `Write` where a write was cut, with the cycle's requests that had gone out (0 before the first cycle),
 /// `LinkClosed` where the other end closed the connection, and `Socket` where no connection could be made. `TooManyReads`
 /// comes where `max_turns` acts were made; a connection that stands then is closed by one more. In all of these the
 /// connection is closed, and what waited is written as lost. `Output` comes where the book failed at a record of the last

@@ -14,7 +14,7 @@ ghost use Rattle.gc_station.specs.Records.{Record, texts_of, WritesAll};
 ghost use Rattle.gc_station.specs.Standing.{Standing, opening, order_at, place_next, mark_next, requests_out, is_chained, bound_next, skips, moved, ended};
 ghost use Rattle.gc_station.specs.Stations.{waiting_in, IsPaired, Stands, Took, Does, Made, stepped, OnCall, Follows, IsFitting, seen};
 ghost use Rattle.gc_station.specs.Tallies.{tallied};
-ghost use Rattle.gc_station.specs.declared.progress.Order.TheVariants.{ReadClock, Begin, Open, Skip, Close};
+ghost use Rattle.gc_station.specs.declared.progress.Order.TheVariants.{ReadClock, Renew, Begin, Open, Skip, Close};
 ghost use Rattle.gc_texts.specs.declared.tasks.Task.{Task};
 
 mod hearing;
@@ -147,6 +147,21 @@ impl Station {
                 let commands = self.commands();
                 self.progress.tell(moment);
                 self.progress.reckon_early(plan, commands);
+                self.client.expire(moment.elapsed);
+            }
+            Err(_) => self.progress.fail(Cause::Clock),
+        }
+    }
+
+    // Reads the clock, and begins anew.
+    fn renew<L: Link>(&mut self, link: &mut L, plan: &Plan)
+        ensures { (commands : List Task) (text : Record → List ℕ) (known : Option (List ℕ))
+            → Does plan.now commands Renew (seen (L.acts link.old) text known self.old) (seen (L.acts link.new) text known self.new) }
+    {
+        match link.now() {
+            Ok(moment) => {
+                self.progress.renew(moment);
+                self.progress.reckon_early(plan, 0);
                 self.client.expire(moment.elapsed);
             }
             Err(_) => self.progress.fail(Cause::Clock),
@@ -314,6 +329,10 @@ impl Station {
                 self.read_clock(link, plan);
                 Ok(())
             }
+            Order::Renew => {
+                self.renew(link, plan);
+                Ok(())
+            }
             Order::Begin => {
                 self.begin(link, plan, commands);
                 Ok(())
@@ -326,8 +345,8 @@ impl Station {
                 self.clear(link, plan, commands);
                 Ok(())
             }
-            Order::Probe => {
-                self.probe(link, plan, commands);
+            Order::Ask => {
+                self.ask_null(link, plan, commands);
                 Ok(())
             }
             Order::Send => {
@@ -348,7 +367,7 @@ impl Station {
         }
     }
 
-    // Writes all that wait down as lost, where the next connection begins anew and where no act follows.
+    // Writes all that wait down as lost, where the station begins anew and where no act follows.
     fn end<B: Book>(&mut self, book: &mut B) -> Result<(), PortFailed>
         ensures ends { (s : Standing) (start : Option (List ℕ)) → Stands self.old s → Took (B.text book.old) start (B.taken book.old) s
             → Follows (B.text book.old) s.records self.new start (B.taken book.new) (ended s) result }

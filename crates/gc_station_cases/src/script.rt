@@ -37,6 +37,9 @@ pub enum Step<'a> {
 // When the clock of a link starts.
 const START: u64 = 1000;
 
+// The ids of a beginning's null procedures.
+const WORD: [u8; 8] = *b"65432107";
+
 /// A link that plays steps, and then is silent for as long as it is asked to wait. What is put is kept as text.
 #[derive(Drop)]
 pub struct Script<'a> {
@@ -62,6 +65,10 @@ pub struct Script<'a> {
     blind: bool,
     // Whether each call is kept with its time since the start, and of a request its id alone.
     timed: bool,
+    // The put before was of a beginning's null procedures so many in a row; where the text of the first is, and when it was put.
+    nulls: usize,
+    first: usize,
+    first_at: u64,
     /// How many bytes went out of the put that was cut.
     pub gone: usize,
     /// The calls.
@@ -87,6 +94,9 @@ impl<'a> Script<'a> {
             up: false,
             blind: setting.blind,
             timed: setting.timed,
+            nulls: 0,
+            first: 0,
+            first_at: 0,
             gone: 0,
             text: ArrayVec::new(),
         }
@@ -97,15 +107,21 @@ impl<'a> Script<'a> {
     }
 
     // Keeps a word, and when it was.
-    fn note_now(&mut self, word: &[u8]) {
+    fn note_at(&mut self, word: &[u8], clock: u64) {
         self.note(word);
         if self.timed {
             self.note(b"@");
             let mut digits = itoa::Buffer::new();
-            let since = self.clock.saturating_sub(START);
+            let since = clock.saturating_sub(START);
             self.note(digits.format(since).as_bytes());
         }
         self.note(b" ");
+    }
+
+    // Keeps a word, and that it is now.
+    fn note_now(&mut self, word: &[u8]) {
+        self.nulls = 0;
+        self.note_at(word, self.clock);
     }
 
     // Keeps what is put: a request without its line end.
@@ -115,11 +131,36 @@ impl<'a> Script<'a> {
             return;
         }
         let request = bytes.strip_suffix(b"\r\n").unwrap_or(bytes);
+        self.count_null(request);
+        let word = [b'#', id_of(request).unwrap_or(b'?')];
         if self.timed {
-            let id = [b'#', id_of(request).unwrap_or(b'?')];
-            self.note_now(&id);
+            self.note_at(&word, self.clock);
         } else {
-            self.note_now(request);
+            self.note_at(request, self.clock);
+        }
+        if self.nulls == WORD.len() {
+            self.text.truncate(self.first);
+            self.note_at(b"begin", self.first_at);
+            self.nulls = 0;
+        }
+    }
+
+    // Counts the null procedures of a beginning that are put one after the other.
+    fn count_null(&mut self, request: &[u8]) {
+        let id = if request.starts_with(b"%R1Q,0,") {
+            id_of(request)
+        } else {
+            None
+        };
+        if id != WORD.get(self.nulls).copied() {
+            self.nulls = 0;
+        }
+        if self.nulls == 0 {
+            self.first = self.text.len();
+            self.first_at = self.clock;
+        }
+        if id == WORD.get(self.nulls).copied() {
+            self.nulls = self.nulls.saturating_add(1);
         }
     }
 
@@ -240,8 +281,10 @@ impl<'a> Link for Script<'a> {
     fn put(&mut self, bytes: &[u8]) -> Result<(), usize> {
         self.puts = self.puts.saturating_add(1);
         if self.is_failing() || self.puts == self.cut {
+            self.nulls = 0;
             self.note(b"cut:");
             self.note_put(bytes);
+            self.nulls = 0;
             let n = self.kept.min(bytes.len().saturating_sub(1));
             self.gone = n;
             return Err(n);

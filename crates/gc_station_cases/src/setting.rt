@@ -33,7 +33,7 @@ pub struct Setting {
 }
 
 impl Setting {
-    /// One at a time, given up after 100 milliseconds, quiet after 10, and one new try, so that a line is dead after 210. Nothing fails.
+    /// One at a time, given up after 100 milliseconds, quiet after 10, and one new try, so that a line is dead after 200. Nothing fails.
     pub fn new() -> Setting {
         Setting {
             plan: Plan {

@@ -3,9 +3,9 @@
 //!
 //!     tasks 7 0;8 0               the station's text, with `;` for the ends of its lines; chained as it says
 //!     with width=2 timed          what is otherwise than a plan and a link that work have it
-//!     steps BEGUN #1 end QUIET    what the reads come to
+//!     steps BEGUN #0 end QUIET    what the reads come to
 //!     then dead answers           the steps behind these, where `with` or a row says `first`
-//!     put open lf %R1Q,0,0: ..    what is put
+//!     put open lf begin %R1Q,0,0: ..    what is put; `begin` are the eight null procedures of a beginning, one after the other, each once
 //!     ends 10a 11x 2!             cycle, place and a letter for each record: answered (its values behind it), unreadable (likewise),
 //!                                 late, lost (x), skipped or missed; and `!` behind a cycle that overran
 //!     end fault 46                the fault, if there is one

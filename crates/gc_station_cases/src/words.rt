@@ -1,6 +1,6 @@
 //! The words of steps. Milliseconds stand behind `@`, and are 5 where none do.
 //!
-//!     BEGUN              the beginning is answered: the line is quiet, and the null procedure's reply comes
+//!     BEGUN              the beginning is answered: the replies of its eight null procedures come, the last one 15 behind the others
 //!     QUIET              nothing comes for the quiet time
 //!     GIVEN_UP           nothing comes until a deadline
 //!     #3@30              the reply of a null procedure with this id comes
@@ -20,7 +20,7 @@ use std::alloc::AllocError;
 // What a named step stands for, in the words of others.
 fn meaning_of(word: &str) -> Option<&'static str> {
     match word {
-        "BEGUN" => Some("silence@10 #0"),
+        "BEGUN" => Some("#6@0 #5@0 #4@0 #3@0 #2@0 #1@0 #0@0 #7@15"),
         "QUIET" => Some("silence@10"),
         "GIVEN_UP" => Some("silence@100"),
         _ => None,

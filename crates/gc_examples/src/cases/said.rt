@@ -25,7 +25,7 @@ pub struct Said {
 }
 
 // How the line ends that says at the start of a station what it waits for.
-const WAITS: &str = " ms and a null procedure is answered";
+const WAITS: &str = ": waits until eight null procedures are answered, one after the other";
 
 impl Said {
     /// What came over the system: nothing at a far end.

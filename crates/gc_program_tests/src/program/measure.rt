@@ -13,22 +13,30 @@ use std::process::Abort;
 
 const COMMANDS: &[u8] = b"7 5003\n8 0\n";
 
-// What the null procedure and the two requests are answered.
-type Replies = [&'static [u8]; 3];
-
-const REPLIES: Replies = [
-    b"%R1P,0,0:0\r\n",
-    b"%R1P,0,1:0,123456\r\n",
+// What the null procedures of a beginning are answered.
+const BEGIN: [&[u8]; 8] = [
+    b"%R1P,0,6:0\r\n",
+    b"%R1P,0,5:0\r\n",
+    b"%R1P,0,4:0\r\n",
+    b"%R1P,0,3:0\r\n",
     b"%R1P,0,2:0\r\n",
+    b"%R1P,0,1:0\r\n",
+    b"%R1P,0,0:0\r\n",
+    b"%R1P,0,7:0\r\n",
 ];
 
+// What the two requests behind them are answered.
+type Replies = [&'static [u8]; 2];
+
+const REPLIES: Replies = [b"%R1P,0,0:0,123456\r\n", b"%R1P,0,1:0\r\n"];
+
 const LINES: &[u8] =
-    b"2026-11-22T23:08:27.123Z 0 7 answered %R1P,0,1:0,123456\n2026-11-22T23:08:27.123Z 1 8 answered %R1P,0,2:0\n";
+    b"2026-11-22T23:08:27.123Z 0 7 answered %R1P,0,0:0,123456\n2026-11-22T23:08:27.123Z 1 8 answered %R1P,0,1:0\n";
 
 const ROWS: &[u8] =
     b"run,sent,time,cycle,place,target,name,procedure,outcome,fault,rc_com,rc,values\n2026-11-22T23:08:00.000Z,2026-11-22T23:08:27.123Z,2026-11-22T23:08:27.123Z,1,0,7,,5003,answered,,0,0,123456\n2026-11-22T23:08:00.000Z,2026-11-22T23:08:27.123Z,2026-11-22T23:08:27.123Z,1,1,8,,0,answered,,0,0,\n";
 
-// A link at whose other end the null procedure and the two requests are answered at once. By its second clock it is always the same moment.
+// A link at whose other end the null procedures and the two requests are answered at once. By its second clock it is always the same moment.
 #[derive(Drop)]
 struct Answering {
     replies: Replies,
@@ -49,8 +57,11 @@ impl Answering {
     fn reply(&self) -> Option<&'static [u8]> {
         if self.answered == self.sent {
             None
+        } else if let Some(reply) = BEGIN.get(self.answered) {
+            Some(*reply)
         } else {
-            self.replies.get(self.answered).copied()
+            let place = self.answered.saturating_sub(BEGIN.len());
+            self.replies.get(place).copied()
         }
     }
 }
@@ -102,7 +113,7 @@ const CHOICE: Choice = Choice {
     chained: true,
     every: 0,
     cycles: 1,
-    quiet: None,
+    quiet: 100,
     retries: 0,
     watch: Watch::Nobody,
 };
@@ -183,8 +194,8 @@ fn both_forms(rt: HostRuntime) {
         missed: 0,
     });
     let all = u64::MAX;
-    expect_measured(&rt, rt.alloc(), Form::Lines, all, all, done, 3, LINES);
-    expect_measured(&rt, rt.alloc(), Form::Csv, all, all, done, 3, ROWS);
+    expect_measured(&rt, rt.alloc(), Form::Lines, all, all, done, 10, LINES);
+    expect_measured(&rt, rt.alloc(), Form::Csv, all, all, done, 10, ROWS);
 }
 
 #[test]
@@ -203,9 +214,9 @@ fn each_write_of_a_record_fails(rt: HostRuntime) {
         let sent = if k < 79 {
             0
         } else if k < 79 + 108 {
-            2
+            9
         } else {
-            3
+            10
         };
         expect_measured(
             &rt,
@@ -254,9 +265,9 @@ fn a_refused_positioning(rt: HostRuntime) {
         &rt,
         rt.alloc(),
         b"name 7 pier\n7 9027 1.5,1.6,0,0,0\n7 2108 5000,1\n",
-        [b"%R1P,0,0:0\r\n", b"%R1P,0,1:8704\r\n", b""],
-        2,
-        b"2026-11-22T23:08:27.123Z 0 7 answered %R1P,0,1:8704\n2026-11-22T23:08:27.123Z 1 7 skipped\n",
+        [b"%R1P,0,0:8704\r\n", b""],
+        9,
+        b"2026-11-22T23:08:27.123Z 0 7 answered %R1P,0,0:8704\n2026-11-22T23:08:27.123Z 1 7 skipped\n",
         b"run,sent,time,cycle,place,target,name,procedure,outcome,fault,rc_com,rc,values\n2026-11-22T23:08:00.000Z,2026-11-22T23:08:27.123Z,2026-11-22T23:08:27.123Z,1,0,7,pier,9027,answered,,0,8704,\n2026-11-22T23:08:00.000Z,,2026-11-22T23:08:27.123Z,1,1,7,pier,2108,skipped,,,,\n",
     );
 }
@@ -268,13 +279,9 @@ fn an_unreadable_answer(rt: HostRuntime) {
         &rt,
         rt.alloc(),
         COMMANDS,
-        [
-            b"%R1P,0,0:0\r\n",
-            b"%R1P,0,1:0,123456789012\r\n",
-            b"%R1P,0,2:0\r\n",
-        ],
-        3,
-        b"2026-11-22T23:08:27.123Z 0 7 unreadable 12 %R1P,0,1:0,123456789012\n2026-11-22T23:08:27.123Z 1 8 answered %R1P,0,2:0\n",
+        [b"%R1P,0,0:0,123456789012\r\n", b"%R1P,0,1:0\r\n"],
+        10,
+        b"2026-11-22T23:08:27.123Z 0 7 unreadable 12 %R1P,0,0:0,123456789012\n2026-11-22T23:08:27.123Z 1 8 answered %R1P,0,1:0\n",
         b"run,sent,time,cycle,place,target,name,procedure,outcome,fault,rc_com,rc,values\n2026-11-22T23:08:00.000Z,2026-11-22T23:08:27.123Z,2026-11-22T23:08:27.123Z,1,0,7,,5003,unreadable,12,0,0,123456789012\n2026-11-22T23:08:00.000Z,2026-11-22T23:08:27.123Z,2026-11-22T23:08:27.123Z,1,1,8,,0,answered,,0,0,\n",
     );
 }
@@ -371,7 +378,7 @@ fn each_keep_fails(rt: HostRuntime) {
             return;
         }
         assert_eq!(rt; end, Err(Stop::Run(RunFault::Output)), "{keeps} keeps");
-        if link.sent == 3 {
+        if link.sent == 10 {
             assert!(rt; rows.starts_with(first), "{keeps} keeps");
         } else {
             assert!(rt; rows.is_empty() || rows == first, "{keeps} keeps");

@@ -5,7 +5,8 @@ ghost use Rattle.std.specs.Option.{option_to_list};
 ghost use Rattle.gc_lines.specs.Frames.{line_in};
 ghost use Rattle.gc_lines.specs.Lent.{lent_seen, IsLineWithin};
 ghost use Rattle.gc_lines.specs.Ports.{FailsWith};
-ghost use Rattle.gc_station.specs.Standing.{Standing, is_heard, lines_came, piece_came, came, piece_at, moved};
+ghost use Rattle.gc_station.specs.Standing.{Standing, is_heard, with_progress, lines_came, piece_came, piece_asked, came, piece_at, moved};
+ghost use Rattle.gc_station.specs.Progressing.{lines_asked};
 ghost use Rattle.gc_station.specs.Stations.{Stands, Took, Made, Follows, seen};
 ghost use Rattle.gc_station.specs.declared.progress.Order.TheVariants.{Read};
 ghost use Rattle.gc_texts.specs.declared.tasks.Task.{Task};
@@ -58,14 +59,41 @@ impl Station {
         Ok(())
     }
 
+    // While it begins, takes the line of a frame, if it is one.
+    fn hear_null(&mut self, frame: Lent<'_>)
+        requires { IsLineWithin frame }
+        ensures { self.new ≡ record self.old { progress = lines_asked self.old.progress (option_to_list (line_in (lent_seen frame.entry))) } }
+    {
+        if let Lent::Line(line) = frame {
+            self.progress.hear(line);
+        }
+    }
+
+    // While it begins, takes the lines of a piece.
+    fn listen_null(&mut self, piece: &[u8])
+        ensures { (s : Standing) → Stands self.old s → Stands self.new (piece_asked piece.now s) }
+    {
+        let mut cut = Line::new();
+        let mut at = 0;
+        while at < piece.len() {
+            let (used, frame) = self.assembler.next(&piece[at..], &mut cut);
+            at += used;
+            self.hear_null(frame);
+        }
+    }
+
     // Takes the lines of a piece where they are heard.
     fn take_lines<B: Book>(&mut self, book: &mut B, piece: &[u8]) -> Result<(), PortFailed>
         ensures takes { (s : Standing) (start : Option (List ℕ)) → Stands self.old s → Took (B.text book.old) start (B.taken book.old) s
-            → Follows (B.text book.old) s.records self.new start (B.taken book.new) (came (is_heard s.progress.phase) piece.now s) result }
+            → Follows (B.text book.old) s.records self.new start (B.taken book.new) (came (is_heard s.progress.phase) s.progress.word piece.now s) result }
         ensures fails { FailsWith result (B.failed book.old) (B.failed book.new) }
         ensures form { B.text book.new ≡ B.text book.old }
     {
         if !self.progress.phase.is_heard() {
+            return Ok(());
+        }
+        if !self.progress.has_begun() {
+            self.listen_null(piece);
             return Ok(());
         }
         self.listen(book, piece)
@@ -115,9 +143,8 @@ impl Station {
         match link.read(&mut buf, millis) {
             Came::Bytes(n, moment) => self.take_piece(book, plan, until, &buf[..n], moment),
             Came::Silence(moment) => {
-                let given_up = self.client.expire(moment.elapsed);
+                self.client.expire(moment.elapsed);
                 self.progress.be_silent(plan, until, moment);
-                self.progress.renew_quiet(!given_up.is_empty(), moment);
                 Ok(())
             }
             Came::End => {

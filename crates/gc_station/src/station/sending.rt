@@ -1,15 +1,15 @@
 //! What a station sends: the line feed that clears half a request, and requests.
 
-ghost use Rattle.std.specs.Prelude.{◌≡◌, ℕ, ◌<◌, ◌≤◌, ◌++◌, List, [], ◌∷◌, length, Option};
+ghost use Rattle.std.specs.Prelude.{◌≡◌, ℕ, ◌<◌, ◌≤◌, ◌++◌, List, [], ◌∷◌, false, length, Option};
 ghost use Rattle.gc_client.specs.Rule.{sends};
 ghost use Rattle.gc_client.specs.declared.window.TheConstants.{WINDOW};
 ghost use Rattle.gc_catalogue.specs.declared.call.Call.TheVariants.{NullProc};
 ghost use Rattle.gc_links.specs.Acts.{Tells, put_as, IsPart};
-ghost use Rattle.gc_station.specs.Deciding.{later};
+ghost use Rattle.gc_station.specs.Deciding.{later, has_begun};
 ghost use Rattle.gc_station.specs.Records.{Record};
-ghost use Rattle.gc_station.specs.Standing.{request_text, client_sent};
+ghost use Rattle.gc_station.specs.Standing.{request_text, null_text, client_sent};
 ghost use Rattle.gc_station.specs.Stations.{IsPaired, Does, cut_progress, seen};
-ghost use Rattle.gc_station.specs.declared.progress.Order.TheVariants.{Clear, Probe, Send, Flush};
+ghost use Rattle.gc_station.specs.declared.progress.Order.TheVariants.{Clear, Ask, Send, Flush};
 
 use super::Station;
 use crate::cause::Cause;
@@ -89,17 +89,30 @@ impl Station {
         link.put(text.as_slice())
     }
 
-    // Sends the null procedure with which it begins anew.
-    pub(super) fn probe<L: Link>(&mut self, link: &mut L, plan: &Plan, commands: &[Task])
-        requires width { self.old.client.width ≡ WINDOW }
-        requires room { length self.old.client.ids.waiting < WINDOW }
-        requires paired { IsPaired self.old }
+    // Sends the line of the null procedure that is asked for.
+    fn put_null<L: Link>(&self, link: &mut L) -> Result<(), usize>
+        requires { has_begun self.now.progress ≡ false }
+        ensures tells { Tells (L.acts link.old) (L.acts link.new) (put_as result (null_text self.now.progress.word) ∷ []) }
+        ensures part { IsPart result (null_text self.now.progress.word) }
+    {
+        let Some(line) = self.progress.word.ask() else {
+            unreachable!()
+        };
+        let mut text = ArrayVec::<u8, 514>::new();
+        append(&mut text, &line);
+        append(&mut text, b"\r\n");
+        link.put(text.as_slice())
+    }
+
+    // Sends the null procedure of its beginning that is asked for.
+    pub(super) fn ask_null<L: Link>(&mut self, link: &mut L, plan: &Plan, commands: &[Task])
+        requires { has_begun self.old.progress ≡ false }
         ensures { (text : Record → List ℕ) (known : Option (List ℕ))
-            → Does plan.now commands.now Probe (seen (L.acts link.old) text known self.old) (seen (L.acts link.new) text known self.new) }
+            → Does plan.now commands.now Ask (seen (L.acts link.old) text known self.old) (seen (L.acts link.new) text known self.new) }
     {
         let requests = self.requests_out(plan, commands);
-        let put = self.ask(link, &null_command(), plan.deadline, None);
-        self.progress.probe();
+        let put = self.put_null(link);
+        self.progress.ask_null(plan);
         self.cut(put, requests);
     }
 

@@ -1,10 +1,7 @@
-use Rattle.std.proofs.Common.{arith}
 use Rattle.gc_station.proofs.Linking.{chains_stay, marks_go_on, records_stay}
 use Rattle.gc_field.specs.Instrument.{AnyState}
 use Rattle.gc_field.proofs.Chained.{chains_executed}
-use Rattle.gc_field.proofs.Faithful.{faithful}
 use Rattle.gc_field.proofs.laws.chains_are_executed.Goals as goal
 
 pub returns : goal.returns
-returns g c = λ ends kept is plan commands scope.
-    chains_executed ends AnyState kept is (λ state good ms field. faithful ends is.hears AnyState kept is 7 (omega arith) state good ms field.possible field.alone) chains_stay marks_go_on records_stay plan commands scope
+returns g c = λ ends kept is plan commands scope. chains_executed ends AnyState kept is chains_stay marks_go_on records_stay plan commands scope

@@ -1,11 +1,9 @@
-use Rattle.std.proofs.Common.{refl, arith}
 use Rattle.gc_instrument.specs.State.{IsFittingState}
 use Rattle.gc_world.specs.Clients.{ends}
 use Rattle.gc_field.specs.Laws.{kept_of}
-use Rattle.gc_field.proofs.Faithful.{faithful}
 use Rattle.gc_field.proofs.Instruments.{simulator}
 use Rattle.gc_field.proofs.Joining.{run_faithful}
 use Rattle.gc_field.proofs.laws.simulators_runs_are_faithful.Goals as goal
 
 pub returns : goal.returns
-returns c = run_faithful ends IsFittingState kept_of simulator.is (λ state good ms field. faithful ends (λ line. refl) IsFittingState kept_of simulator.is 7 (omega arith) state good ms field.possible field.alone)
+returns c = λ plan commands scope acts u rs field. run_faithful ends IsFittingState kept_of simulator.is plan commands scope acts u rs field

@@ -3,6 +3,9 @@ use Rattle.gc_station.proofs.station.Station.obey.Goals as goal
 pub returns-in-ReadClock-clause-does : goal.returns-in-ReadClock-clause-does
 returns-in-ReadClock-clause-does g c = rw c.in-ReadClock.is (c.read_clock.ensures c.args.commands.now (g.B.Book.text c.args.book.now) (g.B.Book.taken c.args.book.now))
 
+pub returns-in-Renew-clause-does : goal.returns-in-Renew-clause-does
+returns-in-Renew-clause-does g c = rw c.in-Renew.is (c.renew.ensures c.args.commands.now (g.B.Book.text c.args.book.now) (g.B.Book.taken c.args.book.now))
+
 pub returns-in-Begin-clause-does : goal.returns-in-Begin-clause-does
 returns-in-Begin-clause-does g c = rw c.in-Begin.is (c.begin.ensures (g.B.Book.text c.args.book.now) (g.B.Book.taken c.args.book.now))
 
@@ -12,8 +15,8 @@ returns-in-Open-clause-does g c = rw c.in-Open.is (c.open.ensures c.args.command
 pub returns-in-Clear-clause-does : goal.returns-in-Clear-clause-does
 returns-in-Clear-clause-does g c = rw c.in-Clear.is (c.clear.ensures (g.B.Book.text c.args.book.now) (g.B.Book.taken c.args.book.now))
 
-pub returns-in-Probe-clause-does : goal.returns-in-Probe-clause-does
-returns-in-Probe-clause-does g c = rw c.in-Probe.is (c.probe.ensures (g.B.Book.text c.args.book.now) (g.B.Book.taken c.args.book.now))
+pub returns-in-Ask-clause-does : goal.returns-in-Ask-clause-does
+returns-in-Ask-clause-does g c = rw c.in-Ask.is (c.ask_null.ensures (g.B.Book.text c.args.book.now) (g.B.Book.taken c.args.book.now))
 
 pub returns-in-Send-clause-does : goal.returns-in-Send-clause-does
 returns-in-Send-clause-does g c = rw c.in-Send.is (c.send.ensures (g.B.Book.text c.args.book.now) (g.B.Book.taken c.args.book.now))

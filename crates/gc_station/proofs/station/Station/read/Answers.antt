@@ -1,11 +1,9 @@
-use Rattle.std.proofs.Common.{ℕ, List, length, nat_eq, take, not, ap, ◌∙◌}
-use Rattle.gc_client.specs.Rule.{ById, expiring}
+use Rattle.std.proofs.Common.{take, ap, ◌∙◌}
 use Rattle.gc_station.specs.declared.cause.Cause.TheVariants.{Clock, End, Read}
 use Rattle.gc_links.specs.Acts.{Gave, Silent, Ended, Broke, Untold}
-use Rattle.gc_station.specs.Progressing.{failing, silent, quiet_renewed}
-use Rattle.gc_station.specs.Standing.{is_nil}
+use Rattle.gc_station.specs.Progressing.{failing, silent}
 use Rattle.gc_station.proofs.Hearing.{stands_expired}
-use Rattle.gc_station.proofs.Making.{stands_with, makes_read, made_read, nil_count}
+use Rattle.gc_station.proofs.Making.{stands_with, makes_read, made_read}
 use Rattle.gc_station.proofs.station.Station.read.Goals as goal
 
 pub returns-in-End-clause-does : goal.returns-in-End-clause-does
@@ -35,9 +33,4 @@ returns-in-Silence-clause-does g c commands =
     let until = c.args.until in
     let m = c.in-Silence.moment in
     makes_read plan commands until (g.B.Book.text c.args.book.now) (g.L.Link.acts c.args.link.now) (g.L.Link.acts c.read.new.self) (g.B.Book.taken c.args.book.now) (g.B.Book.taken c.args.book.now) old _ (Silent m) c.in-Silence.ensures.tells tt
-    (λ s start stands so.
-    let none = c.is_empty.ensures ∙ ap (λ (xs : List ℕ). nat_eq (length xs) 0) (c.expire-given_up.ensures.targets ∙ ap (λ (ids : ById). expiring m.elapsed ids.waiting) stands.ids) ∙ nil_count (expiring m.elapsed s.client.waiting) in
-    let progress =
-    c.renew_quiet.ensures ∙ ap (λ b. quiet_renewed (not b) m c.be_silent.new.self) none
-    ∙ ap (quiet_renewed (not (is_nil (expiring m.elapsed s.client.waiting))) m) (c.be_silent.ensures ∙ ap (silent plan until m) stands.progress) in
-    (stands_expired old c.renew_quiet.new.self (quiet_renewed (not (is_nil (expiring m.elapsed s.client.waiting))) m (silent plan until m s.progress)) c.expire-given_up.new.self m s stands progress c.expire-given_up.ensures.client, so))
+    (λ s start stands so. (stands_expired old c.be_silent.new.self (silent plan until m s.progress) c.expire.new.self m s stands (c.be_silent.ensures ∙ ap (silent plan until m) stands.progress) c.expire.ensures.client, so))

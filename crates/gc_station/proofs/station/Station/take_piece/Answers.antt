@@ -20,7 +20,7 @@ returns-clause-takes g c s start stands so =
     let t =
     c.in_default.ensures.takes (with_moment m (with_progress (told m) s)) start
     (stands_expired c.args.self.now c.tell.new.self (told m s.progress) c.expire.new.self m s stands (c.tell.ensures ∙ ap (told m) stands.progress) c.expire.ensures.client) so in
-    let heard : Standing = came (is_heard s.progress.phase) c.args.piece.now (with_moment m (with_progress (told m) s)) in
+    let heard : Standing = came (is_heard s.progress.phase) s.progress.word c.args.piece.now (with_moment m (with_progress (told m) s)) in
     let before = c.commands-before.ensures ∙ ap commands_in stands.marks in
     let all = ap (λ (w : Waiting). w.all) c.waiting-after.ensures ∙ all_same c.take_lines.new.self heard t.0 in
     let commands = ap (λ (w : Waiting). w.commands) c.waiting-after.ensures ∙ commands_same c.take_lines.new.self heard t.0 in (

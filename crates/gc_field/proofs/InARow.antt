@@ -1,0 +1,58 @@
+-- Stations one after the other: each beginning finds no word under way.
+use Rattle.std.proofs.Common.{◌≡◌, ℕ, ◌≤◌, true, List, [], ◌∷◌, ◌++◌, map, Option, refl, ap, ap₂, subst, arith}
+use Rattle.std.specs.List.{filter_map}
+use Rattle.gc_client.specs.Beginning.{IsSubsequence}
+use Rattle.gc_client.specs.Rule.{heard}
+use Rattle.gc_instrument.specs.State.{KeptReply}
+use Rattle.gc_world.specs.World.{Ends, Request}
+use Rattle.gc_field.specs.Begin.{Aged, AreLines, AreTurns, Turn, UnderWay, begins, ids_under_way, leaves}
+use Rattle.gc_field.specs.Beginnings.{ArePossibleIf, AreRuns, IsRow, Run, left_by_run, stood}
+use Rattle.gc_field.specs.Field.{Move}
+use Rattle.gc_field.specs.InARow.{AreFaithful, AreFew, AreInARow, Program, killed_by, killed_over, left_over}
+use Rattle.gc_field.specs.Instrument.{IsAnInstrument}
+use Rattle.gc_field.proofs.BeginJoin.{left_lines}
+use Rattle.gc_field.proofs.BegunRuns.{IsShort, goes, short_row, short_word}
+use Rattle.gc_field.proofs.Joining.{run_faithful}
+
+same_lines : {Line : Type 0} (xs : List Line) → map (λ (x : Aged Line). x.line) (map (λ x. record { old = true; line = x }) xs) ≡ xs
+same_lines [] = refl
+same_lines (x ∷ xs) = ap (λ l. x ∷ l) (same_lines xs)
+
+same_ids : {State : Type 0} (u : UnderWay State) → ids_under_way (leaves (begins u)) ≡ ids_under_way u
+same_ids u = ap₂ (λ (d : List (List ℕ)) (q : List Request). filter_map heard d ++ map (λ x. x.id) q) (same_lines u.down) (same_lines u.up)
+
+module _ {State : Type 0} (ends : Ends State) (Good : State → Type 0) (kept : State → Option KeptReply) (is : IsAnInstrument ends Good kept) where
+  abbrev run : List (Turn State) → List (Move State) → Run State
+  run ts ms = record { turns = ts; moves = ms }
+
+  -- one run
+  step : (ts : List (Turn State)) (ms : List (Move State)) (n : ℕ) (u : UnderWay State) → AreLines Good u → IsShort n u → AreTurns ends Good kept ts (begins u)
+      → ArePossibleIf 7 ends Good kept (stood 7 ends u (run ts ms)).left (stood 7 ends u (run ts ms)) ms → killed_by ends n u (run ts ms) ts ≤ 5
+      → AreLines Good (left_by_run 7 ends u (run ts ms)) × IsShort (killed_by ends n u (run ts ms) ts) (left_by_run 7 ends u (run ts ms))
+  step [] ms n u lines short turns p few = (
+    left_lines ends Good kept is u [] lines tt,
+    record { more = short.more; tail = short.tail; split = short.split; few = short.few; none = λ s. short.none (subst (λ ids. IsSubsequence (6 ∷ 5 ∷ short.more) ids) (same_ids u) s) },
+  )
+  step (t ∷ ts) ms n u lines short turns p few =
+      let r = run (t ∷ ts) ms in
+      let one = goes ends Good kept is 7 (omega arith) n u r (stood 7 ends u r).left refl lines short turns p few in
+      (one.lines, one.short)
+
+  -- those of a station
+  steps : (rs : List (Run State)) (n : ℕ) (u : UnderWay State) → AreLines Good u → IsShort n u → AreRuns 7 ends Good kept u rs → AreFew ends n u rs
+      → AreLines Good (left_over ends u rs) × IsShort (killed_over ends n u rs) (left_over ends u rs)
+  steps [] n u lines short runs few = (lines, short)
+  steps (r ∷ rs) n u lines short runs few =
+      let one = step r.turns r.moves n u lines short runs.0.0 runs.0.1 few.0 in
+      steps rs (killed_by ends n u r r.turns) (left_by_run 7 ends u r) one.0 one.1 runs.1 few.1
+
+  all : (xs : List (Program State)) (n : ℕ) (u : UnderWay State) → AreLines Good u → IsShort n u → AreInARow ends Good kept n u xs → AreFaithful ends Good kept u xs
+  all [] n u lines short h = tt
+  all (x ∷ xs) n u lines short h =
+      let next = steps x.runs n u lines short h.0.possible h.0.few in (
+        run_faithful ends Good kept is x.plan x.commands x.scope x.acts u x.runs (record { runs = h.0.runs; lines = lines; none = short_word n u short; shown = h.0.shown; possible = h.0.possible }),
+        all xs (killed_over ends n u x.runs) (left_over ends u x.runs) next.0 next.1 h.1,
+      )
+
+  pub in_a_row : (u : UnderWay State) → AreLines Good u → IsRow u → (xs : List (Program State)) → AreInARow ends Good kept 0 u xs → AreFaithful ends Good kept u xs
+  in_a_row u lines row xs h = all xs 0 u lines (short_row u row) h

@@ -1,0 +1,42 @@
+-- What a beginning's turns show, and what they leave of the word: the lines that are heard leave the same.
+use Rattle.std.proofs.Common.{◌≡◌, ℕ, List, [], ◌∷◌, refl, sym, ◌∙◌, ap}
+use Rattle.gc_station.specs.Beginnings.{left_behind}
+use Rattle.gc_station.specs.Begun.{heard_in}
+use Rattle.gc_station.proofs.Asked.{heard_append, left_append}
+use Rattle.gc_world.specs.World.{Ends}
+use Rattle.gc_field.specs.Begin.{Aged, Standing, Turn, Asks, Comes, Foreign, Reaches, Up_lose, Up_repeat, Down_lose, Down_repeat, Anew, Changes, comes, reaches, asks, turned, turns}
+use Rattle.gc_field.specs.Shown.{first_heard, shown, shows}
+
+-- turns leave of the word what the lines leave that they show
+module _ {State : Type 0} (ends : Ends State) where
+  left_asks : (s : Standing State) (word : List ℕ) → s.left ≡ word → (asks s word).left ≡ s.left
+  left_asks s [] e = refl
+  left_asks s (asked ∷ rest) e = refl
+
+  left_comes : (s : Standing State) (q : List (Aged (List ℕ))) → (comes s q).left ≡ left_behind s.left (heard_in (first_heard q))
+  left_comes s [] = refl
+  left_comes s (x ∷ rest) = refl
+
+  left_reaches : (s : Standing State) (q : List _) → (reaches ends s q).left ≡ s.left
+  left_reaches s [] = refl
+  left_reaches s (x ∷ rest) = refl
+
+  left_turn : (s : Standing State) (t : Turn State) → (turns ends s t).left ≡ left_behind s.left (heard_in (shows s t))
+  left_turn s Asks = left_asks s s.left refl
+  left_turn s Comes = left_comes s s.down
+  left_turn s (Foreign line) = refl
+  left_turn s Reaches = left_reaches s s.up
+  left_turn s (Up_lose k) = refl
+  left_turn s (Up_repeat k) = refl
+  left_turn s (Down_lose k) = refl
+  left_turn s (Down_repeat k) = refl
+  left_turn s Anew = refl
+  left_turn s (Changes state) = refl
+
+  pub left_is : (ts : List (Turn State)) (s : Standing State) → (turned ends ts s).left ≡ left_behind s.left (heard_in (shown ends ts s))
+  left_is [] s = refl
+  left_is (t ∷ ts) s =
+      left_is ts (turns ends s t)
+      ∙ ap (λ w. left_behind w (heard_in (shown ends ts (turns ends s t)))) (left_turn s t)
+      ∙ sym (left_append s.left (heard_in (shows s t)) (heard_in (shown ends ts (turns ends s t))))
+      ∙ ap (λ l. left_behind s.left l) (sym (heard_append (shows s t) (shown ends ts (turns ends s t))))

@@ -1,0 +1,44 @@
+-- Where nothing happened yet all is so, whatever is under way.
+use Rattle.std.proofs.Common.{◌≡◌, ℕ, ◌<◌, ◌≤◌, List, [], ◌∷◌, Option, Some, refl, ap, arith}
+use Rattle.std.specs.Prelude.{slice_get}
+use Rattle.gc_client.specs.Rule.{Settlement}
+use Rattle.gc_instrument.specs.State.{KeptReply}
+use Rattle.gc_world.specs.World.{Ends, Numbered}
+use Rattle.gc_world.proofs.Places.{below}
+use Rattle.gc_world.proofs.Settled as settled
+use Rattle.gc_field.specs.Begin.{UnderWay}
+use Rattle.gc_field.specs.Begun.{IsFaithful, nulls, nulls_settled}
+use Rattle.gc_field.proofs.BegunFaithful.{of_last}
+
+-- no settlement is the client's
+none_own : (m : ℕ) (s : Settlement) → 8 ≤ m → slice_get nulls_settled m ≡ Some s → ⊥
+none_own m s ge e = let low : m < 8 = below nulls_settled m s e in omega (arith, low, ge)
+
+none_at : (j n : ℕ) → slice_get [] j ≡ Some n → ⊥
+none_at j n e = cc
+
+-- what is under way is of request 7
+of_seven : (xs : List (List ℕ)) (n : ℕ) (line : List ℕ) (rest : List (Numbered (List ℕ))) → of_last xs ≡ record { number = n; line = line } ∷ rest → 8 ≤ n → ⊥
+of_seven [] n line rest e ge = cc
+of_seven (x ∷ xs) n line rest e ge = let is : 7 ≡ n = first (record { number = 7; line = x }) (record { number = n; line = line }) (of_last xs) rest e in omega (arith, is, ge) where
+  first : (a b : Numbered (List ℕ)) (xs ys : List (Numbered (List ℕ))) → a ∷ xs ≡ b ∷ ys → a.number ≡ b.number
+  first a b xs ys e = ap (λ (x : Numbered (List ℕ)). x.number) (head a b xs ys e) where
+    head : (a b : Numbered (List ℕ)) (xs ys : List (Numbered (List ℕ))) → a ∷ xs ≡ b ∷ ys → a ≡ b
+    head a b xs ys e = cc
+
+pub faithful_none : {State : Type 0} (ends : Ends State) (Good : State → Type 0) (kept : State → Option KeptReply) (u : UnderWay State) → IsFaithful 7 ends u [] Good kept
+faithful_none ends Good kept u =
+    record {
+      settled = refl;
+      stands = refl;
+      accounted = refl;
+      one_for_one = settled.one_for_one nulls_settled [] nulls refl;
+      booked = λ m s ge e bytes answered. absurd (none_own m s ge e);
+      executed = λ m s line ge e answered. absurd (none_own m s ge e);
+      made_on = λ m s line ge e answered. absurd (none_own m s ge e);
+      in_order = λ j k m n lt a b. absurd (none_at j m a);
+      late = λ m s ge e late. absurd (none_own m s ge e);
+      once = λ keeps j k m n lt none a b. absurd (none_at j m a);
+      agrees = refl;
+      first_reply = λ n line rest e le. absurd (of_seven u.down n line rest e le);
+    }

@@ -1,0 +1,24 @@
+-- What the acts of a link are to a station that begins, this project's own: turns.
+use Rattle.std.specs.Prelude.{◌≡◌, ◌⊎◌, ℕ, List, [], ◌∷◌, map}
+use Rattle.gc_lines.specs.Frames.{rest_behind}
+use Rattle.gc_links.specs.Acts.{Act, Put, Cut, Gave, Closed}
+use Rattle.gc_station.specs.Parts.{Turn, Asks, Hears}
+use Rattle.gc_station.specs.Standing.{lines_behind, null_text}
+
+-- these bytes are a line feed, which clears the receiver; or the line of the null procedure that is asked for, that of the first id that
+-- isn't answered
+abbrev pub IsAskedFor : List ℕ → List ℕ → List Turn → Type 0
+IsAskedFor word bytes turns = ((bytes ≡ 10 ∷ []) × (turns ≡ [])) ⊎ ((bytes ≡ null_text word) × (turns ≡ Asks ∷ []))
+
+-- a piece is heard, line by line, or it is dropped: then the lines that came are lost by the line
+abbrev pub IsTaken : List ℕ → List ℕ → List Turn → List ℕ → Type 0
+IsTaken before piece turns behind = ((turns ≡ map Hears (lines_behind before piece)) × (behind ≡ rest_behind before piece)) ⊎ ((turns ≡ []) × (behind ≡ before))
+
+-- what an act is while these ids aren't answered: these turns, and the bytes since the last line feed before and behind it, which a close
+-- forgets
+abbrev pub MeansTurns : List ℕ → List ℕ → Act → List Turn → List ℕ → Type 0
+MeansTurns word before (Put bytes) turns behind = IsAskedFor word bytes turns × (behind ≡ before)
+MeansTurns word before (Cut bytes count) turns behind = IsAskedFor word bytes turns × (behind ≡ before)
+MeansTurns word before (Gave piece m) turns behind = IsTaken before piece turns behind
+MeansTurns word before Closed turns behind = (turns ≡ []) × (behind ≡ [])
+MeansTurns word before _ turns behind = (turns ≡ []) × (behind ≡ before)

@@ -1,0 +1,77 @@
+-- Stations one after the other over a line that outlives them, this project's own: each is a run of a station, with its own plan and commands,
+-- and is killed at any moment, also while it begins. No clock has a part in it.
+use Rattle.std.specs.Prelude.{ℕ, ◌≤◌, List, [], ◌∷◌, Option}
+use Rattle.gc_client.specs.declared.window.TheConstants.{WINDOW}
+use Rattle.gc_instrument.specs.State.{KeptReply, State, IsFittingState}
+use Rattle.gc_links.specs.Acts.{Act}
+use Rattle.gc_texts.specs.declared.tasks.Task.{Task}
+use Rattle.gc_station.specs.declared.plan.Plan.{Plan}
+use Rattle.gc_station.specs.Parts.{parts_of}
+use Rattle.gc_station.specs.Scopes.{Scope}
+use Rattle.gc_station.specs.Standing.{Runs, opening}
+use Rattle.gc_world.specs.Clients.{ends}
+use Rattle.gc_world.specs.World.{Ends}
+use Rattle.gc_field.specs.Begin.{AreLines, Turn, UnderWay}
+use Rattle.gc_field.specs.Beginnings.{AreRuns, IsRow, Run, killed_if, left_by_run, stood}
+use Rattle.gc_field.specs.Instrument.{AnyState, IsAnInstrument}
+use Rattle.gc_field.specs.Laws.{kept_of}
+use Rattle.gc_field.specs.Runs.{IsRunFaithful}
+use Rattle.gc_field.specs.Shown.{AreShownAs}
+
+-- a station and its run, with what happens on the line meanwhile, for each of its parts
+pub record Program (State : Type 0) : Type 0 where
+  pub plan : Plan
+  pub commands : List Task
+  pub scope : Scope
+  pub acts : List Act
+  pub runs : List (Run State)
+
+module _ {State : Type 0} (ends : Ends State) where
+  -- what is under way behind it
+  abbrev pub left_over : UnderWay State → List (Run State) → UnderWay State
+  left_over u [] = u
+  left_over u (r ∷ rs) = left_over (left_by_run WINDOW ends u r) rs
+
+  -- how many ended in a row while they began, up to this one, where so many did before; one in which nothing happened doesn't count
+  abbrev pub killed_by : ℕ → UnderWay State → Run State → List (Turn State) → ℕ
+  killed_by n u r [] = n
+  killed_by n u r (t ∷ ts) = killed_if WINDOW ends (stood WINDOW ends u r).left n
+
+  abbrev pub killed_over : ℕ → UnderWay State → List (Run State) → ℕ
+  killed_over n u [] = n
+  killed_over n u (r ∷ rs) = killed_over (killed_by n u r r.turns) (left_by_run WINDOW ends u r) rs
+
+  -- no more than five in a row
+  abbrev pub AreFew : ℕ → UnderWay State → List (Run State) → Type 0
+  AreFew n u [] = Unit {0}
+  AreFew n u (r ∷ rs) = (killed_by n u r r.turns ≤ 5) × AreFew (killed_by n u r r.turns) (left_by_run WINDOW ends u r) rs
+
+  module _ (Good : State → Type 0) (kept : State → Option KeptReply) where
+    -- each is a run of its station over what the one before it left, where so many were killed before while they began
+    pub record IsNext (n : ℕ) (u : UnderWay State) (x : Program State) : Type 0 where
+      pub runs : Runs x.plan x.commands (opening x.plan x.scope) x.acts
+      pub shown : AreShownAs ends u x.runs (parts_of x.plan x.commands (opening x.plan x.scope) x.acts)
+      pub possible : AreRuns WINDOW ends Good kept u x.runs
+      pub few : AreFew n u x.runs
+
+    abbrev pub AreInARow : ℕ → UnderWay State → List (Program State) → Type 0
+    AreInARow n u [] = Unit {0}
+    AreInARow n u (x ∷ xs) = IsNext n u x × AreInARow (killed_over n u x.runs) (left_over u x.runs) xs
+
+    abbrev pub AreFaithful : UnderWay State → List (Program State) → Type 0
+    AreFaithful u [] = Unit {0}
+    AreFaithful u (x ∷ xs) = IsRunFaithful ends Good kept x.plan x.commands x.scope x.acts u x.runs × AreFaithful (left_over u x.runs) xs
+
+-- for any instrument, behind a run that measured, or over a line with nothing under way: as long as fewer than six in a row end while they
+-- begin, each is faithful
+abbrev pub StationsInARowAreFaithful : Type 0 → Type 0
+StationsInARowAreFaithful State =
+    (ends : Ends State) (kept : State → Option KeptReply) → IsAnInstrument ends AnyState kept →
+    (u : UnderWay State) → AreLines AnyState u → IsRow u →
+    (xs : List (Program State)) → AreInARow ends AnyState kept 0 u xs → AreFaithful ends AnyState kept u xs
+
+-- the same over the simulated instrument, in any state that fits
+abbrev pub SimulatorsStationsInARowAreFaithful : Type 0
+SimulatorsStationsInARowAreFaithful =
+    (u : UnderWay State) → AreLines IsFittingState u → IsRow u →
+    (xs : List (Program State)) → AreInARow ends IsFittingState kept_of 0 u xs → AreFaithful ends IsFittingState kept_of u xs

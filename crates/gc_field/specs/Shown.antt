@@ -1,0 +1,51 @@
+-- What a line shows to a station, this project's own: the turns of its beginning; and a stretch, what happens once it has begun, over what
+-- the beginning left under way.
+use Rattle.std.specs.Prelude.{◌≡◌, ℕ, List, [], ◌∷◌, ◌++◌}
+use Rattle.gc_client.specs.declared.window.TheConstants.{WINDOW}
+use Rattle.gc_station.specs.Parts as part
+use Rattle.gc_station.specs.Parts.{Part}
+use Rattle.gc_world.specs.World.{Ends}
+use Rattle.gc_field.specs.Begin.{Aged, Standing, Turn, Asks, Comes, Foreign, Reaches, Up_lose, Up_repeat, Down_lose, Down_repeat, Anew, Changes, UnderWay, begins, leaves, turned, turns}
+use Rattle.gc_field.specs.Beginnings.{Run, left_by_run}
+use Rattle.gc_field.specs.Field.{Move, seen}
+
+-- the reply in front is heard
+abbrev pub first_heard : List (Aged (List ℕ)) → List part.Turn
+first_heard [] = []
+first_heard (x ∷ rest) = part.Hears x.line ∷ []
+
+module _ {State : Type 0} where
+  -- what a turn is to the station that begins: the null procedure that is asked for goes out, or a line is heard; what happens on the line
+  -- is nothing to it
+  abbrev pub shows : Standing State → Turn State → List part.Turn
+  shows s Asks = part.Asks ∷ []
+  shows s Comes = first_heard s.down
+  shows s (Foreign line) = part.Hears line ∷ []
+  shows s Reaches = []
+  shows s (Up_lose k) = []
+  shows s (Up_repeat k) = []
+  shows s (Down_lose k) = []
+  shows s (Down_repeat k) = []
+  shows s Anew = []
+  shows s (Changes state) = []
+
+  abbrev pub shown : Ends State → List (Turn State) → Standing State → List part.Turn
+  shown ends [] s = []
+  shown ends (t ∷ ts) s = shows s t ++ shown ends ts (turns ends s t)
+
+-- a run once it has begun: what is under way then, and what happens from there on
+pub record Stretch (State : Type 0) : Type 0 where
+  pub from : UnderWay State
+  pub moves : List (Move State)
+
+module _ {State : Type 0} (ends : Ends State) where
+  -- the stretches of runs, each over what the run before it left. That of a run that never began has no moves
+  abbrev pub stretches : UnderWay State → List (Run State) → List (Stretch State)
+  stretches u [] = []
+  stretches u (r ∷ rs) = record { from = leaves (turned ends r.turns (begins u)); moves = r.moves } ∷ stretches (left_by_run WINDOW ends u r) rs
+
+  -- what each run shows are the turns and the steps of its part
+  abbrev pub AreShownAs : UnderWay State → List (Run State) → List Part → Type 0
+  AreShownAs u [] [] = Unit {0}
+  AreShownAs u (r ∷ rs) (p ∷ ps) = (shown ends r.turns (begins u) ≡ p.turns) × (seen r.moves ≡ p.steps) × AreShownAs (left_by_run WINDOW ends u r) rs ps
+  AreShownAs u _ _ = ⊥

@@ -1,0 +1,236 @@
+-- The turns of a station's parts: what they leave unanswered, and that each part begins before its client takes a step.
+use Rattle.std.proofs.Common.{◌≡◌, ◌⊎◌, inl, inr, ℕ, ◌||◌, ◌&&◌, Bool, true, false, not, List, [], ◌∷◌, ◌++◌, drop, map, if◌then◌else◌, refl, sym, ◌∙◌, ap, subst}
+use Rattle.gc_client.specs.Beginning.{the_word, left_by}
+use Rattle.gc_client.specs.Rule.{heard}
+use Rattle.gc_links.specs.declared.link.Moment.{Moment}
+use Rattle.gc_links.specs.Acts.{Act, Told, Put, Cut, Gave}
+use Rattle.gc_texts.specs.declared.tasks.Task.{Task}
+use Rattle.gc_station.specs.declared.mark.Mark.{Mark}
+use Rattle.gc_station.specs.declared.plan.Plan.{Plan}
+use Rattle.gc_station.specs.declared.progress.Order.{Order}
+use Rattle.gc_station.specs.declared.progress.Order.TheVariants as order
+use Rattle.gc_station.specs.Beginnings.{heard_at, left_behind}
+use Rattle.gc_station.specs.Begun.{AreBegun, heard_in}
+use Rattle.gc_station.specs.Deciding.{has_begun, is_none_left}
+use Rattle.gc_station.specs.Parts as part
+use Rattle.gc_station.specs.Parts.{Part, acting, beginning, doing, ends_part, in_front, joined, nothing, parts_of}
+use Rattle.gc_station.specs.Progressing.{is_over, loses_all, turned}
+use Rattle.gc_station.specs.Reasons.{IsFor}
+use Rattle.gc_station.specs.Standing.{Obeys, Runs, Standing, after, is_heard, lines_behind, losing, mark_next, moved, order_at, place_next, waiting_of, with_progress}
+use Rattle.gc_station.proofs.EachRun.{fine_after}
+use Rattle.gc_station.proofs.Facts.{order_for}
+use Rattle.gc_station.proofs.Fine.{Fine}
+use Rattle.gc_station.proofs.Midway.{clash}
+use Rattle.gc_station.proofs.Turns.{over_stays}
+use Rattle.gc_station.proofs.Words.{left_none, renews_only, word_moved}
+
+-- What is heard among turns.
+
+pub heard_append : (xs ys : List part.Turn) → heard_in (xs ++ ys) ≡ heard_in xs ++ heard_in ys
+heard_append [] ys = refl
+heard_append (part.Asks ∷ xs) ys = heard_append xs ys
+heard_append (part.Hears line ∷ xs) ys = ap (λ l. line ∷ l) (heard_append xs ys)
+
+pub left_append : (word : List ℕ) (xs ys : List (List ℕ)) → left_behind word (xs ++ ys) ≡ left_behind (left_behind word xs) ys
+left_append word [] ys = refl
+left_append word (line ∷ xs) ys = left_append (left_by word (heard line)) xs ys
+
+heard_lines : (lines : List (List ℕ)) → heard_in (map part.Hears lines) ≡ lines
+heard_lines [] = refl
+heard_lines (line ∷ lines) = ap (λ l. line ∷ l) (heard_lines lines)
+
+-- What an act does while it begins.
+
+losing_progress : (b : Bool) (t : Standing) → (losing b t).progress ≡ t.progress
+losing_progress true t = refl
+losing_progress false t = refl
+
+pub word_of : (w : List ℕ) → is_none_left w ≡ true → w ≡ []
+word_of [] e = refl
+word_of (asked ∷ others) e = cc
+
+not_renew : (plan : Plan) (s : Standing) (o : Order) → IsFor plan s.progress (waiting_of s) o → has_begun s.progress ≡ false → o ≡ order.Renew → ⊥
+not_renew plan s o is begins e = let needs = subst (λ x. IsFor plan s.progress (waiting_of s) x) e is in clash (has_begun s.progress) needs.1 begins
+
+module _ (plan : Plan) (commands : List Task) where
+  word_kept : (s : Standing) (act : Act) → (after plan commands s act).progress.word ≡ (moved plan commands (order_at plan s) (with_progress turned s) act).progress.word
+  word_kept s act = let t = moved plan commands (order_at plan s) (with_progress turned s) act in ap (λ (p : _). p.word) (losing_progress (loses_all t.progress) t)
+
+  heard_piece : (h : Bool) (lines : List (List ℕ)) → heard_in (if h then map part.Hears lines else []) ≡ (if h then lines else [])
+  heard_piece true lines = heard_lines lines
+  heard_piece false lines = refl
+
+  heard_by : (s : Standing) (o : Order) (act : Act) → Obeys commands s o act → heard_in (beginning s o act).turns ≡ heard_at s act
+  heard_by s order.Ask (Put bytes) obeys = refl
+  heard_by s order.Ask (Cut bytes count) obeys = refl
+  heard_by s (order.Read until) (Gave piece m) obeys = heard_piece (is_heard s.progress.phase) (lines_behind s.rest piece)
+  heard_by s order.ReadClock (Gave piece m) obeys = absurd obeys
+  heard_by s order.Renew (Gave piece m) obeys = absurd obeys
+  heard_by s order.Begin (Gave piece m) obeys = absurd obeys
+  heard_by s order.Open (Gave piece m) obeys = absurd obeys
+  heard_by s order.Clear (Gave piece m) obeys = absurd obeys
+  heard_by s order.Ask (Gave piece m) obeys = absurd obeys
+  heard_by s order.Send (Gave piece m) obeys = absurd obeys
+  heard_by s order.Skip (Gave piece m) obeys = absurd obeys
+  heard_by s order.Flush (Gave piece m) obeys = absurd obeys
+  heard_by s (order.Close why) (Gave piece m) obeys = cc
+  heard_by s (order.Stop why) (Gave piece m) obeys = absurd obeys
+  heard_by s o act obeys = refl
+
+  pub turns_gave : (s : Standing) (o : Order) (piece : List ℕ) (m : Moment) → Obeys commands s o (Gave piece m) → (beginning s o (Gave piece m)).turns ≡ (if is_heard s.progress.phase then map part.Hears (lines_behind s.rest piece) else [])
+  turns_gave s (order.Read until) piece m obeys = refl
+  turns_gave s order.ReadClock piece m obeys = absurd obeys
+  turns_gave s order.Renew piece m obeys = absurd obeys
+  turns_gave s order.Begin piece m obeys = absurd obeys
+  turns_gave s order.Open piece m obeys = absurd obeys
+  turns_gave s order.Clear piece m obeys = absurd obeys
+  turns_gave s order.Ask piece m obeys = absurd obeys
+  turns_gave s order.Send piece m obeys = absurd obeys
+  turns_gave s order.Skip piece m obeys = absurd obeys
+  turns_gave s order.Flush piece m obeys = absurd obeys
+  turns_gave s (order.Close why) piece m obeys = cc
+  turns_gave s (order.Stop why) piece m obeys = absurd obeys
+
+  -- an act that puts no bytes, and brings none
+  abbrev pub IsPlain : Act → Type 0
+  IsPlain (Put bytes) = ⊥
+  IsPlain (Cut bytes count) = ⊥
+  IsPlain (Gave piece m) = ⊥
+  IsPlain act = Unit {0}
+
+  pub turns_plain : (s : Standing) (o : Order) (act : Act) → IsPlain act → (beginning s o act).turns ≡ []
+  turns_plain s order.Ask (Put bytes) h = absurd h
+  turns_plain s order.Ask (Cut bytes count) h = absurd h
+  turns_plain s (order.Read until) (Gave piece m) h = absurd h
+  turns_plain s o act h = refl
+
+  -- the next null procedure is asked for where the one before it is answered
+  pub word_after : (s : Standing) (act : Act) → Obeys commands s (order_at plan s) act → has_begun s.progress ≡ false
+      → (after plan commands s act).progress.word ≡ left_behind s.progress.word (heard_in (beginning s (order_at plan s) act).turns)
+  word_after s act obeys begins =
+      word_kept s act ∙ word_moved plan commands s (order_at plan s) act obeys (not_renew plan s (order_at plan s) (order_for plan s.progress (waiting_of s)) begins)
+      ∙ ap (λ l. left_behind s.progress.word l) (sym (heard_by s (order_at plan s) act obeys))
+
+  -- where it begins anew all eight are asked for
+  word_anew : (s : Standing) (act : Act) → Obeys commands s (order_at plan s) act → has_begun s.progress ≡ true → has_begun (after plan commands s act).progress ≡ false → (after plan commands s act).progress.word ≡ the_word
+  word_anew s act obeys begun begins =
+      let o = order_at plan s in
+      let only = renews_only plan commands s o act obeys begun (sym (ap is_none_left (word_kept s act)) ∙ begins) in
+      word_kept s act ∙ ap (λ x. (moved plan commands x (with_progress turned s) act).progress.word) only.0
+      ∙ ap (λ a. (moved plan commands order.Renew (with_progress turned s) a).progress.word) only.2
+
+  -- Each part begins first.
+
+  pub steps_none : (s : Standing) (o : Order) (act : Act) → (beginning s o act).steps ≡ []
+  steps_none s order.Ask (Put bytes) = refl
+  steps_none s order.Ask (Cut bytes count) = refl
+  steps_none s (order.Read until) (Gave piece m) = refl
+  steps_none s o act = refl
+
+  pub marks_none : (s : Standing) (o : Order) (act : Act) → (beginning s o act).marks ≡ []
+  marks_none s order.Ask (Put bytes) = refl
+  marks_none s order.Ask (Cut bytes count) = refl
+  marks_none s (order.Read until) (Gave piece m) = refl
+  marks_none s o act = refl
+
+pub nil_both : {A : Type 0} (xs ys : List A) → xs ≡ [] → ys ≡ [] → xs ++ ys ≡ []
+nil_both [] ys e f = f
+nil_both (x ∷ xs) ys e f = cc
+
+abbrev pub FirstHasNone : List Part → Type 0
+FirstHasNone [] = Unit {0}
+FirstHasNone (p ∷ ps) = p.turns ≡ []
+
+left_both : (word : List ℕ) (xs ys : List part.Turn) → left_behind word (heard_in (xs ++ ys)) ≡ left_behind (left_behind word (heard_in xs)) (heard_in ys)
+left_both word xs ys = ap (λ l. left_behind word l) (heard_append xs ys) ∙ left_append word (heard_in xs) (heard_in ys)
+
+-- a part goes on that begins
+begun_on : (word : List ℕ) (p : Part) (ps : List Part) → p.steps ≡ [] → AreBegun (left_behind word (heard_in p.turns)) ps → AreBegun word (in_front p false ps)
+begun_on word p [] e h = inl e
+begun_on word p (q ∷ []) e (inl f) = inl (nil_both p.steps q.steps e f)
+begun_on word p (q ∷ []) e (inr f) = inr (left_both word p.turns q.turns ∙ f)
+begun_on word p (q ∷ r ∷ ps) e h = (left_both word p.turns q.turns ∙ h.0, h.1)
+
+-- or that has begun
+begun_in : (p : Part) (ps : List Part) → AreBegun [] ps → AreBegun [] (in_front p false ps)
+begun_in p [] h = inr (left_none (heard_in p.turns))
+begun_in p (q ∷ []) h = inr (left_none (heard_in (p.turns ++ q.turns)))
+begun_in p (q ∷ r ∷ ps) h = (left_none (heard_in (p.turns ++ q.turns)), h.1)
+
+begun_out : (p : Part) (ps : List Part) → AreBegun the_word ps → AreBegun [] (p ∷ ps)
+begun_out p [] h = inr (left_none (heard_in p.turns))
+begun_out p (q ∷ ps) h = (left_none (heard_in p.turns), h)
+
+module _ (plan : Plan) (commands : List Task) where
+  pub goes_begun : (t : Standing) → loses_all t.progress ≡ false → has_begun t.progress ≡ true
+  goes_begun t e = still (has_begun t.progress) (is_over t.progress) e where
+    still : (b over : Bool) → (not b || over) ≡ false → b ≡ true
+    still true over e = refl
+    still false over e = cc
+
+  -- the next part begins with all eight, or there is none
+  next_begun : (t : Standing) (acts : List Act) → loses_all t.progress ≡ true → (has_begun t.progress ≡ false → t.progress.word ≡ the_word) → Runs plan commands t acts → AreBegun t.progress.word (parts_of plan commands t acts)
+      → AreBegun the_word (parts_of plan commands t acts)
+  next_begun t acts loses anew runs h = by_case (has_begun t.progress) refl loses where
+    none_over : (acts : List Act) → is_over t.progress ≡ true → Runs plan commands t acts → AreBegun the_word (parts_of plan commands t acts)
+    none_over [] over runs = inl refl
+    none_over (act ∷ acts) over runs = absurd (over_stays plan commands t act over runs.0)
+
+    by_case : (b : Bool) → has_begun t.progress ≡ b → (not b || is_over t.progress) ≡ true → AreBegun the_word (parts_of plan commands t acts)
+    by_case true e over = none_over acts over runs
+    by_case false e over = subst (λ w. AreBegun w (parts_of plan commands t acts)) (anew e) h
+
+  parts_begun_with : (s : Standing) (act : Act) (acts : List Act) (begun lost : Bool) → has_begun s.progress ≡ begun → loses_all (after plan commands s act).progress ≡ lost
+      → Obeys commands s (order_at plan s) act → Runs plan commands (after plan commands s act) acts → AreBegun (after plan commands s act).progress.word (parts_of plan commands (after plan commands s act) acts)
+      → AreBegun s.progress.word (in_front (if begun then doing plan commands s (order_at plan s) act else beginning s (order_at plan s) act) (begun && lost) (parts_of plan commands (after plan commands s act) acts))
+  parts_begun_with s act acts false lost e f obeys runs h =
+      let t = after plan commands s act in
+      begun_on s.progress.word (beginning s (order_at plan s) act) (parts_of plan commands t acts) (steps_none plan commands s (order_at plan s) act)
+      (subst (λ w. AreBegun w (parts_of plan commands t acts)) (word_after plan commands s act obeys e) h)
+  parts_begun_with s act acts true false e f obeys runs h =
+      let t = after plan commands s act in
+      let p = doing plan commands s (order_at plan s) act in
+      let goes : has_begun t.progress ≡ true = goes_begun t f in
+      subst (λ w. AreBegun w (in_front p false (parts_of plan commands t acts))) (sym (word_of s.progress.word e))
+      (begun_in p (parts_of plan commands t acts) (subst (λ w. AreBegun w (parts_of plan commands t acts)) (word_of t.progress.word goes) h))
+  parts_begun_with s act acts true true e f obeys runs h =
+      let t = after plan commands s act in
+      let p = doing plan commands s (order_at plan s) act in
+      subst (λ w. AreBegun w (p ∷ parts_of plan commands t acts)) (sym (word_of s.progress.word e))
+      (begun_out p (parts_of plan commands t acts) (next_begun t acts f (λ begins. word_anew plan commands s act obeys e begins) runs h))
+
+  pub parts_begun : (s : Standing) (acts : List Act) → Runs plan commands s acts → AreBegun s.progress.word (parts_of plan commands s acts)
+  parts_begun s [] runs = inl refl
+  parts_begun s (act ∷ acts) runs =
+      parts_begun_with s act acts (has_begun s.progress) (loses_all (after plan commands s act).progress) refl refl runs.0 runs.1 (parts_begun (after plan commands s act) acts runs.1)
+
+  -- Once it has begun there are no turns.
+
+  none_in_front : (p : Part) (b : Bool) (ps : List Part) → p.turns ≡ [] → (b ≡ false → FirstHasNone ps) → FirstHasNone (in_front p b ps)
+  none_in_front p true ps e h = e
+  none_in_front p false [] e h = e
+  none_in_front p false (q ∷ ps) e h = nil_both p.turns q.turns e (h refl)
+
+  none_asking : (now : ℕ) (mark : Mark) (tasks : List Task) → (part.asking_first now mark tasks).turns ≡ []
+  none_asking now mark [] = refl
+  none_asking now mark (task ∷ others) = refl
+
+  none_putting : (s : Standing) (o : Order) → (part.putting plan commands s o).turns ≡ []
+  none_putting s order.Flush = refl
+  none_putting s order.Send = none_asking s.progress.moment.elapsed (mark_next plan commands s.progress) (drop (place_next commands s.progress) commands)
+  none_putting s o = refl
+
+  pub none_doing : (s : Standing) (o : Order) (act : Act) → (doing plan commands s o act).turns ≡ []
+  none_doing s o (Put bytes) = none_putting s o
+  none_doing s o (Cut bytes count) = none_putting s o
+  none_doing s o (Told m) = refl
+  none_doing s o (Gave piece m) = refl
+  none_doing s o act = refl
+
+  pub no_turns : (s : Standing) (acts : List Act) → has_begun s.progress ≡ true → FirstHasNone (parts_of plan commands s acts)
+  no_turns s [] e = refl
+  no_turns s (act ∷ acts) e =
+      let t = after plan commands s act in
+      let o = order_at plan s in
+      subst (λ b. FirstHasNone (in_front (if b then doing plan commands s o act else beginning s o act) (b && loses_all t.progress) (parts_of plan commands t acts))) (sym e)
+      (none_in_front (doing plan commands s o act) (loses_all t.progress) (parts_of plan commands t acts) (none_doing s o act) (λ f. no_turns t acts (goes_begun t f)))

@@ -1,0 +1,14 @@
+use Rattle.std.proofs.Common.{◌≤◌, ◌-◌, length, drop}
+use Rattle.gc_station.specs.Standing.{Standing}
+use Rattle.gc_station.specs.Stations.{Stands}
+use Rattle.gc_station.proofs.Hearing.{Asking}
+use Rattle.gc_station.proofs.station.Station.listen_null.Given as goal
+
+abbrev pub invariant-loop-at : goal.invariant-loop-at
+invariant-loop-at l = record {
+  within : l.at ≤ length l.piece;
+  asking : (s : Standing) → Stands l.initial.self s → Asking l.self s l.piece (drop l.at l.piece);
+}
+
+abbrev pub decreases-loop-at : goal.decreases-loop-at
+decreases-loop-at l = length l.piece - l.at

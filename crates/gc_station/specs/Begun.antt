@@ -1,0 +1,18 @@
+-- When a part of a run has begun, this project's own: the lines that it heard answer all of its beginning.
+use Rattle.std.specs.Prelude.{◌≡◌, ◌⊎◌, ℕ, List, [], ◌∷◌}
+use Rattle.gc_client.specs.Beginning.{the_word}
+use Rattle.gc_station.specs.Beginnings.{left_behind}
+use Rattle.gc_station.specs.Parts.{Part, Turn, Asks, Hears}
+
+-- the lines that are heard among turns
+abbrev pub heard_in : List Turn → List (List ℕ)
+heard_in [] = []
+heard_in (Asks ∷ turns) = heard_in turns
+heard_in (Hears line ∷ turns) = line ∷ heard_in turns
+
+-- of parts, the first of which begins where these ids aren't answered, and each other with all eight null procedures: each but the last has
+-- begun, and in the last no client takes a step before that
+abbrev pub AreBegun : List ℕ → List Part → Type 0
+AreBegun word [] = Unit {0}
+AreBegun word (p ∷ []) = (p.steps ≡ []) ⊎ (left_behind word (heard_in p.turns) ≡ [])
+AreBegun word (p ∷ q ∷ ps) = (left_behind word (heard_in p.turns) ≡ []) × AreBegun the_word (q ∷ ps)
