@@ -211,7 +211,7 @@ moved_honest : (plan : Plan) (commands : List Task) (scope : Scope) (acts : List
     → IsHonest plan commands scope (acts ++ act ∷ []) (acts ++ act ∷ []) (moved plan commands order (with_progress turned (stood plan commands scope acts)) act)
 moved_honest plan commands scope acts orders.ReadClock act tail fine h is needs o ends =
     let s = stood plan commands scope acts in clock_honest plan commands scope acts act (λ m p. reckoned_early plan (commands_in s.marks) (told m p)) s h o
-moved_honest plan commands scope acts orders.Renew act tail fine h is needs o ends = clock_honest plan commands scope acts act (λ m p. reckoned_early plan 0 (renewed m p)) (stood plan commands scope acts) h o
+moved_honest plan commands scope acts orders.Renew act tail fine h is needs o ends = clock_honest plan commands scope acts act (λ m p. reckoned_early plan 0 (renewed plan m p)) (stood plan commands scope acts) h o
 moved_honest plan commands scope acts orders.Begin act tail fine h is needs o ends = clock_honest plan commands scope acts act (begun plan (length commands)) (stood plan commands scope acts) h o
 moved_honest plan commands scope acts orders.Open act tail fine h is needs o ends = open_honest plan commands scope acts act (stood plan commands scope acts) h o
 moved_honest plan commands scope acts orders.Clear act tail fine h is needs o ends =

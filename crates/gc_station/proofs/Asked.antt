@@ -15,14 +15,10 @@ use Rattle.gc_station.specs.Deciding.{has_begun, is_none_left}
 use Rattle.gc_station.specs.Parts as part
 use Rattle.gc_station.specs.Parts.{Part, acting, beginning, doing, ends_part, in_front, joined, nothing, parts_of}
 use Rattle.gc_station.specs.Progressing.{is_over, loses_all, turned}
-use Rattle.gc_station.specs.Reasons.{IsFor}
 use Rattle.gc_station.specs.Standing.{Obeys, Runs, Standing, after, is_heard, lines_behind, losing, mark_next, moved, order_at, place_next, waiting_of, with_progress}
-use Rattle.gc_station.proofs.EachRun.{fine_after}
-use Rattle.gc_station.proofs.Facts.{order_for}
-use Rattle.gc_station.proofs.Fine.{Fine}
-use Rattle.gc_station.proofs.Midway.{clash}
+use Rattle.gc_station.proofs.Beginnings.{word_after as word_left, word_anew}
 use Rattle.gc_station.proofs.Turns.{over_stays}
-use Rattle.gc_station.proofs.Words.{left_none, renews_only, word_moved}
+use Rattle.gc_station.proofs.Words.{left_none}
 
 -- What is heard among turns.
 
@@ -41,25 +37,16 @@ heard_lines (line ∷ lines) = ap (λ l. line ∷ l) (heard_lines lines)
 
 -- What an act does while it begins.
 
-losing_progress : (b : Bool) (t : Standing) → (losing b t).progress ≡ t.progress
-losing_progress true t = refl
-losing_progress false t = refl
-
 pub word_of : (w : List ℕ) → is_none_left w ≡ true → w ≡ []
 word_of [] e = refl
 word_of (asked ∷ others) e = cc
 
-not_renew : (plan : Plan) (s : Standing) (o : Order) → IsFor plan s.progress (waiting_of s) o → has_begun s.progress ≡ false → o ≡ order.Renew → ⊥
-not_renew plan s o is begins e = let needs = subst (λ x. IsFor plan s.progress (waiting_of s) x) e is in clash (has_begun s.progress) needs.1 begins
-
 module _ (plan : Plan) (commands : List Task) where
-  word_kept : (s : Standing) (act : Act) → (after plan commands s act).progress.word ≡ (moved plan commands (order_at plan s) (with_progress turned s) act).progress.word
-  word_kept s act = let t = moved plan commands (order_at plan s) (with_progress turned s) act in ap (λ (p : _). p.word) (losing_progress (loses_all t.progress) t)
-
   heard_piece : (h : Bool) (lines : List (List ℕ)) → heard_in (if h then map part.Hears lines else []) ≡ (if h then lines else [])
   heard_piece true lines = heard_lines lines
   heard_piece false lines = refl
 
+  -- what it hears are the lines that it brings
   heard_by : (s : Standing) (o : Order) (act : Act) → Obeys commands s o act → heard_in (beginning s o act).turns ≡ heard_at s act
   heard_by s order.Ask (Put bytes) obeys = refl
   heard_by s order.Ask (Cut bytes count) obeys = refl
@@ -107,17 +94,7 @@ module _ (plan : Plan) (commands : List Task) where
   -- the next null procedure is asked for where the one before it is answered
   pub word_after : (s : Standing) (act : Act) → Obeys commands s (order_at plan s) act → has_begun s.progress ≡ false
       → (after plan commands s act).progress.word ≡ left_behind s.progress.word (heard_in (beginning s (order_at plan s) act).turns)
-  word_after s act obeys begins =
-      word_kept s act ∙ word_moved plan commands s (order_at plan s) act obeys (not_renew plan s (order_at plan s) (order_for plan s.progress (waiting_of s)) begins)
-      ∙ ap (λ l. left_behind s.progress.word l) (sym (heard_by s (order_at plan s) act obeys))
-
-  -- where it begins anew all eight are asked for
-  word_anew : (s : Standing) (act : Act) → Obeys commands s (order_at plan s) act → has_begun s.progress ≡ true → has_begun (after plan commands s act).progress ≡ false → (after plan commands s act).progress.word ≡ the_word
-  word_anew s act obeys begun begins =
-      let o = order_at plan s in
-      let only = renews_only plan commands s o act obeys begun (sym (ap is_none_left (word_kept s act)) ∙ begins) in
-      word_kept s act ∙ ap (λ x. (moved plan commands x (with_progress turned s) act).progress.word) only.0
-      ∙ ap (λ a. (moved plan commands order.Renew (with_progress turned s) a).progress.word) only.2
+  word_after s act obeys begins = word_left plan commands s act obeys begins ∙ ap (λ l. left_behind s.progress.word l) (sym (heard_by s (order_at plan s) act obeys))
 
   -- Each part begins first.
 

@@ -99,11 +99,6 @@ moved_steps plan commands order s act =
     still s.progress _ (ap (λ (x : Standing). x.progress.left) is) (ap (λ (x : Standing). x.progress.unsent) is) (ap (λ (x : Standing). x.progress.missed) is) (ap (λ (x : Standing). x.progress.bound) is)
     (ap (λ (x : Standing). x.progress.whole) is)
 
--- only a close closes
-pub puts_open : (bytes : List ℕ) (act : Act) → Puts bytes act → KeepsOpen act
-puts_open bytes Closed o = absurd o
-puts_open bytes act o = tt
-
 stays_open : (plan : Plan) (commands : List Task) (next : Order) (s : Standing) (act : Act) → Obeys commands s next act → ((why : Cause) → next ≡ Close why → ⊥) → KeepsOpen act
 stays_open plan commands (Read until) s act o other = walk plan commands (λ a (t : Standing). KeepsOpen a) (Read until) s act o (λ bytes m. tt, λ m. tt, tt, tt, tt)
 stays_open plan commands (Close why) s act o other = absurd (other why refl)

@@ -52,7 +52,7 @@ Silenced plan F until m p acts =
 
 abbrev pub OnLine : Plan → List Task → (Progress → List Act → Type 0) → Order → Standing → List Act → Type 0
 OnLine plan commands F orders.ReadClock s acts = (m : Moment) → F (reckoned_early plan (commands_in s.marks) (told m s.progress)) (acts ++ Told m ∷ [])
-OnLine plan commands F orders.Renew s acts = (m : Moment) → F (reckoned_early plan 0 (renewed m s.progress)) (acts ++ Told m ∷ [])
+OnLine plan commands F orders.Renew s acts = (m : Moment) → F (reckoned_early plan 0 (renewed plan m s.progress)) (acts ++ Told m ∷ [])
 OnLine plan commands F orders.Begin s acts = (m : Moment) → F (begun plan (length commands) m s.progress) (acts ++ Told m ∷ [])
 OnLine plan commands F orders.Open s acts = (m : Moment) → F (opened s.progress) (acts ++ Opened ∷ [])
 OnLine plan commands F orders.Clear s acts = (m : Moment) → F (cleared s.progress) (acts ++ Put (10 ∷ []) ∷ [])

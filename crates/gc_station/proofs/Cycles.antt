@@ -14,7 +14,7 @@ use Rattle.gc_texts.specs.declared.tasks.Task.{Task}
 use Rattle.gc_links.specs.Acts.{Act, Told, Untold, Gave, Silent, Ended, Broke, Closed, Opened, Unopened}
 use Rattle.gc_links.specs.declared.link.Moment.{Moment}
 use Rattle.gc_station.specs.Cycles.{Rises, due_behind, BeginsAt, BeginsLate, LastBegan, CyclesBeginWhenDue, SentOnlyInTime, IsMissedIn, IsSkippedIn, IsTrulyUnsent, UnsentForACause}
-use Rattle.gc_station.specs.Deciding.{is_up, is_idle, has_begun, is_dead, is_due, has_room, order_of, order_in, order_on, order_told, may_go, order_ready, order_begun, order_beginning, order_sent, order_settled, order_done, order_room, order_waiting, order_up}
+use Rattle.gc_station.specs.Deciding.{is_up, is_idle, is_finished, has_begun, is_dead, is_due, has_room, order_of, order_in, order_on, order_told, may_go, order_ready, order_begun, order_beginning, order_sent, order_settled, order_done, order_room, order_waiting, order_up}
 use Rattle.gc_station.specs.Marks.{answer_as, end_of, records_of}
 use Rattle.gc_station.specs.Parts.{went_out}
 use Rattle.gc_station.specs.Progressing.{turned, told, begun, skipped_at, beginning, failing, time_passed, quieted, closed, loses_all}
@@ -82,8 +82,9 @@ module _ (plan : Plan) (p : Progress) (w : Waiting) where
 
   beginning_due : BeginsDue plan p (order_beginning plan p w)
   beginning_due =
-      either (BeginsDue plan p) (orders.Read Due) _ (is_idle plan p) (λ e b. cc)
-      (λ e. either (BeginsDue plan p) (orders.Close cause.Dead) _ (is_dead plan p w) (λ d b. cc) (λ d. asks_not))
+      either (BeginsDue plan p) (orders.Close cause.Done) _ (is_finished w.commands p) (λ e b. cc)
+      (λ more. either (BeginsDue plan p) (orders.Read Due) _ (is_idle plan p) (λ e b. cc)
+      (λ e. either (BeginsDue plan p) (orders.Close cause.Dead) _ (is_dead plan p w) (λ d b. cc) (λ d. asks_not)))
 
   ready_due : BeginsDue plan p (order_ready plan p w)
   ready_due = either (BeginsDue plan p) (order_begun plan p w) (order_beginning plan p w) (has_begun p) (λ e. begun_due) (λ e. beginning_due)
@@ -128,9 +129,6 @@ lt_of a b e = elim (leb_tells a b) as (λ _. b < a) [ inl is ↦ let bad : true 
 
 due_since : (first due : Bool) → first ≡ false → (if first then true else due) ≡ true → due ≡ true
 due_since first due e d = sym (ap (λ (b : Bool). if b then true else due) e) ∙ d
-
-later_than : (a b max : ℕ) → a + b ≤ max → min (a + b) max ≡ a + b
-later_than a b max few = omega (arith, few)
 
 picks : {A : Type 0} (b : Bool) (x y : A) → b ≡ true → (if b then x else y) ≡ x
 picks b x y e = ap (λ (c : Bool). if c then x else y) e

@@ -113,7 +113,7 @@ pub mid_moved : (plan : Plan) (commands : List Task) (s : Standing) (order : Ord
 mid_moved plan commands s order.ReadClock act fine is =
     let t = with_progress turned s in mid_clock plan commands (λ m p. reckoned_early plan (commands_in t.marks) (told m p)) t act (mid_of plan commands s fine) (λ m. mid_of plan commands s fine)
 mid_moved plan commands s order.Renew act fine is =
-    let t = with_progress turned s in mid_clock plan commands (λ m p. reckoned_early plan 0 (renewed m p)) t act (mid_of plan commands s fine) (λ m. mid_of plan commands s fine)
+    let t = with_progress turned s in mid_clock plan commands (λ m p. reckoned_early plan 0 (renewed plan m p)) t act (mid_of plan commands s fine) (λ m. mid_of plan commands s fine)
 mid_moved plan commands s order.Begin act fine is =
     let t = with_progress turned s in
     let mid = mid_of plan commands s fine in

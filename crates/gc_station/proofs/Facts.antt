@@ -14,7 +14,7 @@ use Rattle.gc_station.specs.declared.progress.Progress.{Progress}
 use Rattle.gc_station.specs.declared.progress.Until.TheVariants.{Limit, Due}
 use Rattle.gc_station.specs.declared.progress.Waiting.{Waiting}
 use Rattle.gc_station.specs.Reasons.{IsFor, IsHeld, HasRoom, NothingMayGo}
-use Rattle.gc_station.specs.Deciding.{width_of, has_begun, is_up, is_dead, is_due, is_idle, has_room, order_of, order_in, order_on, order_told, may_go, order_ready, order_begun, order_beginning, order_sent, order_settled, order_done, order_room, order_waiting, order_up}
+use Rattle.gc_station.specs.Deciding.{width_of, has_begun, is_up, is_dead, is_due, is_idle, is_finished, has_room, order_of, order_in, order_on, order_told, may_go, order_ready, order_begun, order_beginning, order_sent, order_settled, order_done, order_room, order_waiting, order_up}
 use Rattle.gc_station.specs.Stations.{IsFitting}
 
 -- what holds of both holds of the one that a test takes
@@ -159,12 +159,20 @@ begun_for plan p w awake begun =
     (λ some. let it = both_true (nat_lt 0 p.unsent) (not p.bound) some in room_for plan p w order.Send awake begun (λ room. ((awake.1, begun, ltb-true 0 p.unsent it.0, room, inl (free_so p.bound it.1)), tt, awake)))
     (λ none. sent_for plan p w awake begun (held_so p none))
 
+-- nothing is left to be sent, and none waits
+pub finished_so : (commands : ℕ) (p : Progress) → is_finished commands p ≡ true → (p.left ≡ 0) × (p.unsent ≡ 0) × (commands ≡ 0)
+finished_so commands p e =
+    let it = both_true (nat_eq p.left 0 && nat_eq p.unsent 0) (nat_eq commands 0) e in
+    let sent = both_true (nat_eq p.left 0) (nat_eq p.unsent 0) it.0 in
+    (eqb-true p.left 0 sent.0, eqb-true p.unsent 0 sent.1, eqb-true commands 0 it.1)
+
 beginning_for : (plan : Plan) (p : Progress) (w : Waiting) → Awake p → has_begun p ≡ false → Holds plan p w (order_beginning plan p w)
 beginning_for plan p w awake begun =
     let P = Holds plan p w in
-    either P (order.Read Due) _ (is_idle plan p) (λ idle. (tt, awake_reads p awake, tt))
+    either P (order.Close cause.Done) _ (is_finished w.commands p) (λ none. ((awake_up p awake, inr (finished_so w.commands p none)), tt, tt))
+    (λ more. either P (order.Read Due) _ (is_idle plan p) (λ idle. (tt, awake_reads p awake, tt))
     (λ busy. either P (order.Close cause.Dead) _ (is_dead plan p w) (λ d. ((awake_up p awake, inr (inl begun, d)), tt, inr awake))
-    (λ d. either P order.Ask (order.Read Limit) (nat_le p.again p.moment.elapsed) (λ e. ((awake.1, begun, leb-true p.again p.moment.elapsed e, busy), tt, awake)) (λ e. (tt, awake_reads p awake, tt))))
+    (λ d. either P order.Ask (order.Read Limit) (nat_le p.again p.moment.elapsed) (λ e. ((awake.1, begun, leb-true p.again p.moment.elapsed e, busy), tt, awake)) (λ e. (tt, awake_reads p awake, tt)))))
 
 ready : (plan : Plan) (p : Progress) (w : Waiting) → Awake p → Holds plan p w (order_ready plan p w)
 ready plan p w awake = either (Holds plan p w) _ _ (has_begun p) (λ begun. begun_for plan p w awake begun) (λ begun. beginning_for plan p w awake begun)

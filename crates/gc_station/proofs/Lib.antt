@@ -32,7 +32,6 @@ pub mod Readings
 mod Records
 mod Silences
 mod Since
-pub mod Starting
 mod Tries
 pub mod Turns
 mod Used

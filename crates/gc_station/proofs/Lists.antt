@@ -140,8 +140,3 @@ cut_at (a ∷ xs) (b ∷ front) behind last x e = on (cut_at xs front behind las
   on : Cut xs last front behind x → Cut (a ∷ xs) last (b ∷ front) behind x
   on (AtEnd same) = AtEnd (ap (λ z. z ∷ xs) head ∙ ap (λ zs. b ∷ zs) same)
   on (Before between at tail) = Before between (ap (λ z. z ∷ xs) head ∙ ap (λ zs. b ∷ zs) at) tail
-
-pub none_dropped : {A : Type 0} (n : ℕ) (xs : List A) → xs ≡ [] → drop n xs ≡ []
-none_dropped zero xs e = e
-none_dropped (suc n) [] e = refl
-none_dropped (suc n) (x ∷ xs) e = cc

@@ -1,5 +1,5 @@
 -- A connection is closed for a dead line only where no reply line came for so long.
-use Rattle.std.proofs.Common.{◌≡◌, ℕ, ◌-◌, ◌<◌, ◌≤◌, ◌⊎◌, inl, inr, ◌||◌, Bool, true, false, List, [], ◌∷◌, ◌++◌, length, drop, Option, None, Result, Ok, Err, if◌then◌else◌, nat_lt, nat_le, min, refl, sym, ap, ◌∙◌, subst, arith, append_assoc}
+use Rattle.std.proofs.Common.{◌≡◌, ℕ, ◌-◌, ◌<◌, ◌≤◌, ◌⊎◌, inl, inr, ◌&&◌, ◌||◌, Bool, true, false, List, [], ◌∷◌, ◌++◌, length, drop, Option, None, Result, Ok, Err, if◌then◌else◌, nat_lt, nat_le, min, refl, sym, ap, ◌∙◌, subst, arith, append_assoc}
 use Rattle.std.specs.List.{AllByRecursion}
 use Rattle.std.proofs.Math.Nat.{min-eq_left, min-eq_right}
 use Rattle.std.proofs.lemmas.Bool.{leb-true, leb-false, ltb-true}
@@ -20,7 +20,7 @@ use Rattle.gc_station.specs.declared.progress.Order.{Order}
 use Rattle.gc_station.specs.declared.progress.Order.TheVariants as orders
 use Rattle.gc_station.specs.declared.progress.Progress.{Progress}
 use Rattle.gc_links.specs.Acts.{Act, Told, Put, Gave, Silent}
-use Rattle.gc_station.specs.Deciding.{has_begun, is_none_left, later, patience_of}
+use Rattle.gc_station.specs.Deciding.{has_begun, is_none_left, goes_on, later, patience_of}
 use Rattle.gc_station.specs.Progressing.{turned, told, line_asked, lines_asked}
 use Rattle.gc_station.specs.Quiet.{TellsMoment, IsListening, StaysConnected}
 use Rattle.gc_station.specs.Reasons.{IsFor}
@@ -331,12 +331,21 @@ module _ (plan : Plan) (commands : List Task) (scope : Scope) where
   cleared_mute true p acts e = tt
   cleared_mute false p acts e = λ so. absurd (clash (is_sought p.word 0 false) so (ap (λ b. b || false) e))
 
+  -- it begins anew: the time of a dead line goes on, or begins with the next request
+  mute_where : (asked on : Bool) (alive now : ℕ) (at : Phase) (acts : List Act) → Mute (is_sought the_word 0 asked) asked alive now at acts → Mute (is_sought the_word 0 (asked && on)) (asked && on) alive now at acts
+  mute_where true true alive now at acts q = q
+  mute_where true false alive now phase.Ready acts q = λ so. cc
+  mute_where true false alive now at acts q = tt
+  mute_where false on alive now at acts q = q
+
   mute_line : (next : Order) (s : Standing) (acts : List Act) → IsFor plan s.progress (waiting_of s) next → Tells s.progress acts next → (stood plan commands scope acts).rest ≡ s.rest
       → MuteAt s.progress acts → OnLine plan commands MuteAt next (with_progress turned s) acts
   mute_line orders.Open s acts needs tells rest q = λ m. tt
   mute_line orders.Clear s acts needs tells rest q = λ m. cleared_mute (has_begun s.progress) s.progress (acts ++ Put (10 ∷ []) ∷ []) refl
   mute_line orders.Renew s acts needs tells rest q =
-      let p = s.progress in λ m. told_mute (is_sought the_word 0 p.asked) p m acts (λ ready so. sought_begun p.word p.again p.asked needs.1) q
+      let p = s.progress in
+      λ m. mute_where p.asked (goes_on plan (told m p)) (min p.alive m.elapsed) m.elapsed p.phase (acts ++ Told m ∷ [])
+      (told_mute (is_sought the_word 0 p.asked) p m acts (λ ready so. sought_begun p.word p.again p.asked needs.1) q)
   mute_line orders.Ask s acts needs tells rest q =
       let p = s.progress in λ m. asks_mute (is_sought p.word (later p.moment.elapsed plan.deadline) true) p acts (null_text p.word) needs.0 tells q
   mute_line orders.Send s acts needs tells rest q =

@@ -24,10 +24,6 @@ since_on P Q all more step s = record {
   holds = step s.before s.start s.behind s.order s.holds;
 }
 
--- it is said otherwise
-pub since_as : {A : Type 0} (P Q : List A → A → List A → Type 0) (all : List A) → ((before : List A) (start : A) (behind : List A) → all ≡ before ++ start ∷ behind → P before start behind → Q before start behind) → Since P all → Since Q all
-since_as P Q all step s = record { before = s.before; start = s.start; behind = s.behind; order = s.order; holds = step s.before s.start s.behind s.order s.holds }
-
 -- a front that is cut itself
 pub cut_on : {A : Type 0} (all front before rest tail : List A) → all ≡ front ++ tail → front ≡ before ++ rest → all ≡ before ++ (rest ++ tail)
 cut_on all front before rest tail order inner = order ∙ ap (λ xs. xs ++ tail) inner ∙ append_assoc before rest tail

@@ -82,9 +82,6 @@ less_stepped plan commands s w act obeys =
     let e : left_to_do (stepped plan commands order s act).progress ≡ left_to_do mid.progress = ap left_to_do same in
     omega (arith, e, fewer)
 
-pub less_to_do : (plan : Plan) (commands : List Task) (s : Standing) (act : Act) → Obeys commands s (order_at plan s) act → left_to_do (after plan commands s act).progress < left_to_do s.progress
-less_to_do plan commands s act obeys = less_stepped plan commands s (waiting_of s) act obeys
-
 -- Where it is over no act follows.
 
 module _ (plan : Plan) (commands : List Task) where

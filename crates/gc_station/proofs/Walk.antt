@@ -81,7 +81,7 @@ asking_of p q = record p { phase = q.phase; alive = q.alive; asked = q.asked; st
 -- how far a station is behind an act, and before it
 abbrev progress_of : Order → Progress → Progress → Progress
 progress_of ReadClock p q = told_of p q
-progress_of Renew p q = record (told_of p q) { word = q.word; again = q.again; whole = q.whole }
+progress_of Renew p q = record (told_of p q) { word = q.word; again = q.again; asked = q.asked; whole = q.whole }
 progress_of Begin p q = record (told_of p q) { due = q.due; missed = q.missed; left = q.left; unsent = q.unsent; bound = q.bound; whole = q.whole }
 progress_of Open p q = record p { phase = q.phase; stale = q.stale; tries = q.tries; pause = q.pause; whole = q.whole }
 progress_of Clear p q = record p { phase = q.phase; again = q.again; asked = q.asked; stale = q.stale }
@@ -177,7 +177,7 @@ Putting P requests bytes t = ((m : Moment) → P (Put bytes) t) × ((n : ℕ) �
 abbrev pub Behind : Plan → List Task → (Act → Standing → Type 0) → Order → Standing → Type 0
 Behind plan commands P ReadClock s =
     ((m : Moment) → P (Told m) (with_moment m (with_progress (λ p. reckoned_early plan (commands_in s.marks) (told m p)) s))) × ((n : ℕ) → P Untold (with_progress (failing cause.Clock) s))
-Behind plan commands P Renew s = ((m : Moment) → P (Told m) (with_moment m (with_progress (λ p. reckoned_early plan 0 (renewed m p)) s))) × ((n : ℕ) → P Untold (with_progress (failing cause.Clock) s))
+Behind plan commands P Renew s = ((m : Moment) → P (Told m) (with_moment m (with_progress (λ p. reckoned_early plan 0 (renewed plan m p)) s))) × ((n : ℕ) → P Untold (with_progress (failing cause.Clock) s))
 Behind plan commands P Begin s = ((m : Moment) → P (Told m) (with_moment m (with_progress (begun plan (length commands) m) s))) × ((n : ℕ) → P Untold (with_progress (failing cause.Clock) s))
 Behind plan commands P Open s = ((m : Moment) → P Opened (with_progress opened s)) × ((n : ℕ) → P Unopened (with_progress (again plan (commands_in s.marks) cause.Open) s))
 Behind plan commands P Clear s = Putting P (requests_out plan commands s.progress) (10 ∷ []) (with_progress cleared s)

@@ -30,7 +30,7 @@ is_up phase.Ready = true
 is_up (phase.Closing cause) = true
 is_up (phase.Over cause) = false
 
--- whether so long has passed since bytes came or went, or a request was given up
+-- whether so long has passed since bytes came or went, or a connection was closed or couldn't be made
 abbrev pub is_past : ℕ → Progress → Bool
 is_past wait p = nat_le wait (p.moment.elapsed - p.since)
 
@@ -67,10 +67,19 @@ is_due plan p = if nat_eq p.left plan.cycles then true else nat_le plan.every (p
 abbrev pub is_idle : Plan → Progress → Bool
 is_idle plan p = p.early && not (is_due plan p)
 
--- it begins: the null procedure that is asked for goes out, and again at its deadline
+-- whether more is asked at once: a command of the cycle is left to be sent, or the next cycle is due
+abbrev pub goes_on : Plan → Progress → Bool
+goes_on plan p = nat_lt 0 p.unsent || is_due plan p
+
+-- no command of any cycle is left to be sent, and none waits
+abbrev pub is_finished : ℕ → Progress → Bool
+is_finished commands p = nat_eq p.left 0 && nat_eq p.unsent 0 && nat_eq commands 0
+
+-- it begins: the null procedure that is asked for goes out, and again at its deadline, unless nothing is left to be asked behind it
 abbrev pub order_beginning : Plan → Progress → Waiting → Order
 order_beginning plan p w =
-    if is_idle plan p then Read Due
+    if is_finished w.commands p then Close Done
+    else if is_idle plan p then Read Due
     else if is_dead plan p w then Close Dead
     else if nat_le p.again p.moment.elapsed then Ask
     else Read Limit

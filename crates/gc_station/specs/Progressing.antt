@@ -12,8 +12,8 @@ use Rattle.gc_station.specs.declared.progress.Progress.{Progress}
 use Rattle.gc_station.specs.declared.progress.Until.{Until}
 use Rattle.gc_station.specs.declared.progress.Until.TheVariants.{Limit, Due}
 use Rattle.gc_station.specs.declared.progress.Waiting.{Waiting}
-use Rattle.gc_station.specs.Deciding.{later, is_up, is_past, is_quiet, is_due, has_begun}
-pub use Rattle.gc_station.specs.Deciding.{is_idle}
+use Rattle.gc_station.specs.Deciding.{later, is_up, is_past, is_quiet, is_due, goes_on, has_begun}
+pub use Rattle.gc_station.specs.Deciding.{is_idle, is_finished}
 use Rattle.gc_station.specs.Lines.{is_reply}
 
 -- nothing was done, and no null procedure of the beginning is answered
@@ -93,10 +93,6 @@ failing cause p = record p { phase = if is_up p.phase then phase.Closing cause e
 abbrev pub opened : Progress → Progress
 opened p = record p { phase = phase.Clearing }
 
--- no command of any cycle is left to be sent, and none waits
-abbrev pub is_finished : ℕ → Progress → Bool
-is_finished commands p = nat_eq p.left 0 && nat_eq p.unsent 0 && nat_eq commands 0
-
 -- whether the next connection takes no try: one was closed while none is wanted. That none could be made takes one
 abbrev pub is_spared : Plan → Cause → Progress → Bool
 is_spared plan cause.Open p = false
@@ -136,9 +132,10 @@ asking p = record p { alive = if p.asked then p.alive else p.moment.elapsed; ask
 abbrev pub null_sent : Plan → Progress → Progress
 null_sent plan p = let q = asking p in record q { again = later p.moment.elapsed plan.deadline }
 
--- it begins anew at this moment: no null procedure of the beginning is answered, and no chain goes on
-abbrev pub renewed : Moment → Progress → Progress
-renewed m p = let q = told m p in record q { word = the_word; again = 0; whole = false }
+-- it begins anew at this moment: no null procedure of the beginning is answered, and no chain goes on. Where nothing more is asked
+-- before the next cycle is due, the time of a dead line begins with the first null procedure
+abbrev pub renewed : Plan → Moment → Progress → Progress
+renewed plan m p = let q = told m p in record q { word = the_word; again = 0; asked = p.asked && goes_on plan q; whole = false }
 
 -- the next command went out. `bound`: the one behind it goes out only once this one was answered well
 abbrev pub sent : Bool → Progress → Progress

@@ -282,7 +282,7 @@ after_close plan cause s = with_progress (closed plan (waiting_of s) cause) (wit
 -- what an act of this order does, apart from the turn
 abbrev pub moved : Plan → List Task → Order → Standing → Act → Standing
 moved plan commands ReadClock s act = after_clock (λ m p. reckoned_early plan (commands_in s.marks) (told m p)) s act
-moved plan commands Renew s act = after_clock (λ m p. reckoned_early plan 0 (renewed m p)) s act
+moved plan commands Renew s act = after_clock (λ m p. reckoned_early plan 0 (renewed plan m p)) s act
 moved plan commands Begin s act = after_clock (begun plan (length commands)) s act
 moved plan commands Open s act = after_open plan s act
 moved plan commands Clear s act = after_put (requests_out plan commands s.progress) (with_progress cleared) s act

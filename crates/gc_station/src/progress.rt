@@ -10,7 +10,8 @@
 //! | `Pausing` | | `Read(Limit)` | waits | `Down`, once the pause is over and a connection is wanted |
 //! | `Clearing` | | `Clear` | sends a lone line feed | `Draining`; `Ready` where it begins |
 //! | `Draining` | | `Read(Limit)` | drops what comes | `Ready`, once nothing came for the quiet time |
-//! | `Ready`: it begins | the cycle is done, and the next isn't due | `Read(Due)` | hears what comes | `Ready` |
+//! | `Ready`: it begins | no command is unsent, and no cycle is left | `Close(Done)` | closes the connection | `Over(Done)` |
+//! | | the cycle is done, and the next isn't due | `Read(Due)` | hears what comes | `Ready` |
 //! | | the line is dead | `Close(Dead)` | closes the connection | as below |
 //! | | the null procedure of the first id that isn't answered is to go out, for the first time or since its deadline passed | `Ask` | sends it | `Ready` |
 //! | | else | `Read(Limit)` | hears what comes | `Ready`; it has begun once the eighth is answered |
@@ -31,7 +32,7 @@
 //! Where a call of the link fails, or a write is cut, `Closing` for that cause follows, and without a connection `Over`.
 
 ghost use Rattle.std.specs.Prelude.{◌≡◌};
-ghost use Rattle.gc_station.specs.Deciding.{width_of, is_up, is_past, is_quiet, has_begun, patience_of, is_dead, is_due, has_room, may_go, order_of, order_on, order_ready, order_begun, order_beginning, order_room, order_sent, order_settled, order_done, order_waiting};
+ghost use Rattle.gc_station.specs.Deciding.{width_of, is_up, is_past, is_quiet, has_begun, patience_of, is_dead, is_due, goes_on, is_finished, has_room, may_go, order_of, order_on, order_ready, order_begun, order_beginning, order_room, order_sent, order_settled, order_done, order_waiting};
 ghost use Rattle.gc_station.specs.Progressing.{at_start};
 ghost use Rattle.gc_station.specs.Standing.{is_heard};
 
@@ -125,7 +126,7 @@ pub(crate) struct Progress {
     pub stale: bool,
     /// The moment that was told last.
     pub moment: Moment,
-    /// The moment behind the last bytes that came or went, or at which a request was given up.
+    /// The moment behind the last bytes that came or went, or behind the last close or failed connect.
     pub since: u64,
     /// When the last reply line came, or the first request behind it went out, or else the connection was drained.
     pub alive: u64,
@@ -229,7 +230,7 @@ impl Progress {
         }
     }
 
-    // Whether so long has passed since bytes came or went, or a request was given up.
+    // Whether so long has passed since bytes came or went, or a connection was closed or couldn't be made.
     pub(crate) fn is_past(&self, wait: u64) -> bool
         ensures { result ≡ is_past wait self.now }
     {
@@ -266,6 +267,13 @@ impl Progress {
             return true;
         }
         plan.every <= self.moment.elapsed.saturating_sub(self.began)
+    }
+
+    // Whether more is asked at once: a command of the cycle is left to be sent, or the next cycle is due.
+    pub(crate) fn goes_on(&self, plan: &Plan) -> bool
+        ensures { result ≡ goes_on plan.now self.now }
+    {
+        self.unsent > 0 || self.is_due(plan)
     }
 
     // What is next, where so many requests wait.
@@ -315,11 +323,21 @@ impl Progress {
         }
     }
 
-    // It begins: the null procedure that is asked for goes out, and again at its deadline. Between cycles nothing goes out.
+    // Whether no command of any cycle is left to be sent, and none waits.
+    pub(crate) fn is_finished(&self, commands: usize) -> bool
+        ensures { result ≡ is_finished commands self.now }
+    {
+        self.left == 0 && self.unsent == 0 && commands == 0
+    }
+
+    // It begins: the null procedure that is asked for goes out, and again at its deadline. Between cycles nothing goes out, nor where
+    // nothing is left to be asked behind it.
     fn order_beginning(&self, plan: &Plan, waiting: Waiting) -> Order
         ensures { result ≡ order_beginning plan.now self.now waiting }
     {
-        if self.is_idle(plan) {
+        if self.is_finished(waiting.commands) {
+            Order::Close(Cause::Done)
+        } else if self.is_idle(plan) {
             Order::Read(Until::Due)
         } else if self.is_dead(plan, waiting) {
             Order::Close(Cause::Dead)

@@ -155,13 +155,6 @@ impl Progress {
         self.phase = Phase::Clearing;
     }
 
-    // Whether no command of any cycle is left to be sent, and none waits.
-    fn is_finished(&self, commands: usize) -> bool
-        ensures { result ≡ is_finished commands self.now }
-    {
-        self.left == 0 && self.unsent == 0 && commands == 0
-    }
-
     // Whether no connection is wanted: the cycle was done before the next was due, and that isn't due yet.
     pub(crate) fn is_idle(&self, plan: &Plan) -> bool
         ensures { result ≡ is_idle plan.now self.now }
@@ -251,13 +244,15 @@ impl Progress {
         self.again = later(self.moment.elapsed, plan.deadline);
     }
 
-    // It begins anew at this moment.
-    pub(crate) fn renew(&mut self, moment: Moment)
-        ensures { self.new ≡ renewed moment self.old }
+    // It begins anew at this moment. Where nothing more is asked before the next cycle is due, the time of a dead line begins with the
+    // first null procedure.
+    pub(crate) fn renew(&mut self, plan: &Plan, moment: Moment)
+        ensures { self.new ≡ renewed plan.now moment self.old }
     {
         self.tell(moment);
         self.word = Beginning::new();
         self.again = 0;
+        self.asked = self.asked && self.goes_on(plan);
         self.whole = false;
     }
 

@@ -160,7 +160,7 @@ impl Station {
     {
         match link.now() {
             Ok(moment) => {
-                self.progress.renew(moment);
+                self.progress.renew(plan, moment);
                 self.progress.reckon_early(plan, 0);
                 self.client.expire(moment.elapsed);
             }
