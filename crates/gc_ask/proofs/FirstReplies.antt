@@ -40,9 +40,6 @@ first_reply-at c front line later none fit = first_reply-none c front (line ∷ 
 
 -- Quiet pieces.
 
-pub quiet_start : (rest : List ℕ) (kept : Kept) (c : ById) → StandsFor kept rest → IsQuiet rest [] kept c c
-quiet_start rest kept c s = record { none = refl; stands = s; same = refl }
-
 pub quiet_then : (rest xs ys : List ℕ) (kept kept' : Kept) (a b c : ById) → IsQuiet rest xs kept a b → IsQuiet (rest_behind rest xs) ys kept' b c → IsQuiet rest (xs ++ ys) kept' a c
 quiet_then rest xs ys kept kept' a b c q r = record {
   none = ap (first_reply a) (lines_behind-append rest xs ys) ∙ first_reply-none a (lines_behind rest xs) (lines_behind (rest_behind rest xs) ys) q.none
@@ -78,9 +75,6 @@ pub record Passed (rest piece left : List ℕ) (kept : Kept) (from to : ById) : 
   pub rests : rest_behind rest piece ≡ rest_behind now left
   pub none : first_reply from front ≡ None
   pub same : to ≡ from
-
-pub passed_start : (rest piece : List ℕ) (kept : Kept) (c : ById) → StandsFor kept rest → Passed rest piece piece kept c c
-passed_start rest piece kept c s = record { now = rest; front = []; stands = s; seen = refl; rests = refl; none = refl; same = refl }
 
 pub passed_end : (rest piece : List ℕ) (kept : Kept) (a b : ById) → Passed rest piece [] kept a b → IsQuiet rest piece kept a b
 passed_end rest piece kept a b p = record {
@@ -180,9 +174,6 @@ pub record Reading (rest start given ahead : List ℕ) (kept : Kept) (from to : 
   pub heard_so : List ℕ
   pub order : start ++ given ≡ heard_so ++ ahead
   pub quiet : IsQuiet rest heard_so kept from to
-
-pub reading_start : (rest start : List ℕ) (kept : Kept) (c : ById) → StandsFor kept rest → Reading rest start [] start kept c c
-reading_start rest start kept c s = record { heard_so = []; order = append-nil start; quiet = quiet_start rest kept c s }
 
 -- all that was ahead is quiet, and a piece more was read
 pub reading_more : (rest start given ahead piece : List ℕ) (kept kept' : Kept) (a b c : ById) → (r : Reading rest start given ahead kept a b) → IsQuiet (rest_behind rest r.heard_so) ahead kept' b c

@@ -17,10 +17,6 @@ said_both [] ms (t ∷ ts) us h k = absurd h
 said_both (l ∷ ls) ms [] us h k = absurd h
 said_both (l ∷ ls) ms (t ∷ ts) us h k = (h.0, said_both ls ms ts us h.1 k)
 
--- nothing is said of no bytes
-pub says_none : (rest : List ℕ) (a : Option (List ℕ)) (n m : ℕ) → m ≡ n → SaysAll rest [] a a n m
-says_none rest a n m same = record { texts = []; are = tt; took = Appends-nil a; counts = omega (arith, same) }
-
 -- some bytes, and more behind them
 pub says_then : (rest p q : List ℕ) (a b c : Option (List ℕ)) (n m k : ℕ) → SaysAll rest p a b n m → SaysAll (rest_behind rest p) q b c m k → SaysAll rest (p ++ q) a c n k
 says_then rest p q a b c n m k one next = record {
@@ -57,11 +53,6 @@ part_before rest p q a b n k bytes one = record {
   not_all = one.not_all;
   took = one.took;
 }
-
--- a byte that ends no line
-pieces_none : (rest : List ℕ) (b : ℕ) (feed : Bool) → feed ≡ false → (cond feed (rest ∷ []) [] ≡ []) × (cond feed [] (rest ++ b ∷ []) ≡ rest ++ b ∷ [])
-pieces_none rest b true goes = let bad : true ≡ false = goes in cc
-pieces_none rest b false goes = (refl, refl)
 
 pieces_one : (rest : List ℕ) (b : ℕ) (feed : Bool) → feed ≡ true → (cond feed (rest ∷ []) [] ≡ rest ∷ []) × (cond feed [] (rest ++ b ∷ []) ≡ [])
 pieces_one rest b true feeds = (refl, refl)
@@ -146,7 +137,3 @@ module _ (a a' a'' b b' b'' : Option (List ℕ)) (kept next : Underway) (reads n
         omega (arith, so.few, short, length-append so.given piece),
         part_then [] so.given piece b b' b'' 0 n m bytes so.said it,
       )
-
-pub so_far_end : (a a' a'' b b' : Option (List ℕ)) (kept : Underway) (reads n : ℕ) → SaidSoFar a a' b b' kept reads n → Consumes a' a'' []
-    → (given : List ℕ) × Consumes a a'' given × (length given ≤ 256 * reads) × SaysAll [] given b b' 0 n
-so_far_end a a' a'' b b' kept reads n so gave = (so.given, subst (λ xs. Consumes a a'' xs) (append-nil so.given) (Consumes-append a a' a'' so.given [] so.gave gave), so.few, so.said)

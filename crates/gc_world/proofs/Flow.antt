@@ -29,10 +29,6 @@ module _ {Client State : Type 0} (ends : Ends State) (rule : Rule Client) where
   flow_append [] ys v = refl
   flow_append (x ∷ xs) ys v = flow_append xs ys (flows ends rule v x)
 
-  -- any fact that every run keeps
-  pub flow_keeps : (P : World Client State → Type 0) → ((es : List Step) (w : World Client State) → P w → P (run ends rule es w)) → (es : List Event) (v : Streams Client State) → P v.world → P (flow ends rule es v).world
-  flow_keeps P k es v h = subst P (sym (flow_run es v)) (k (taken es v) v.world h)
-
 -- Both runs take the same steps.
 
 module _ {State : Type 0} (width : ℕ) (narrow : width ≤ 7) (ends : Ends State) (Good : State → Type 0) (ex : IsExchange ends Good) (state : State) (good : Good state) where

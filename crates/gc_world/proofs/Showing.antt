@@ -211,13 +211,6 @@ module _ (width : ℕ) (r : Report) (up down : List ℕ) (c : Windowed) (w : Wor
       front [] g = cc
       front (y ∷ ys) g = let one : y.number ≡ n = cc in let others : numbers ys ≡ rest = cc in (y, ys, refl, one, sym others)
 
-  -- which was sent
-  pub in_sent : (n : ℕ) (rest : List ℕ) → up ≡ n ∷ rest → n < length r.sent
-  in_sent n rest e =
-      let f = up_front n rest e in
-      let s = (subst (λ q. Each (IsSentIn r.sent) q) f.2 h.requests).0 in
-      subst (λ m. m < length r.sent) f.3 (below r.sent f.0.number s.request s.found)
-
   -- the reply in front is the one at that place
   pub down_front : (p : ℕ) (rest : List ℕ) → down ≡ p ∷ rest → (x : Numbered (List ℕ)) × (xs : List (Numbered (List ℕ))) × (w.wire.down ≡ x ∷ xs) × (slice_get (map made_seen r.made) p ≡ Some x) × (named r.made rest ≡ map Some xs)
   down_front p rest e = front w.wire.down (ap (named r.made) (sym e) ∙ h.down_is)
@@ -225,10 +218,6 @@ module _ (width : ℕ) (r : Report) (up down : List ℕ) (c : Windowed) (w : Wor
       front : (ds : List (Numbered (List ℕ))) → named r.made (p ∷ rest) ≡ map Some ds → (x : Numbered (List ℕ)) × (xs : List (Numbered (List ℕ))) × (ds ≡ x ∷ xs) × (slice_get (map made_seen r.made) p ≡ Some x) × (named r.made rest ≡ map Some xs)
       front [] g = cc
       front (x ∷ xs) g = let one : slice_get (map made_seen r.made) p ≡ Some x = cc in let others : named r.made rest ≡ map Some xs = cc in (x, xs, refl, one, others)
-
-  -- which was made
-  pub in_made : (p : ℕ) (rest : List ℕ) → down ≡ p ∷ rest → p < length r.made
-  in_made p rest e = let f = down_front p rest e in subst (λ n. p < n) (length-map r.made made_seen) (below (map made_seen r.made) p f.0 f.3)
 
   -- its line
   pub down_line : (p : ℕ) (rest : List ℕ) (m : Made) (e : down ≡ p ∷ rest) → slice_get r.made p ≡ Some m → made_seen m ≡ (down_front p rest e).0
@@ -403,10 +392,3 @@ module _ (width : ℕ) (r : Report) (up down : List ℕ) (c : Windowed) (w : Wor
       by_queues [] [] eu ed = absurd (b (h.up_is ∙ ap numbers eu, map_none (slice_get (map made_seen r.made)) down (h.down_is ∙ ap (map Some) ed)))
       by_queues [] (y ∷ ds) eu ed = shows_idle
       by_queues (x ∷ us) ds eu ed = shows_idle
-
-  -- no line is under way in this direction
-  pub idle_up : up ≡ [] → AreOf width (counted false r) up down c (does width w Up_deliver)
-  idle_up e = subst (λ q. AreOf width (counted false r) up down c (on_wire w (up_delivered ends w.wire q))) (sym (no_up e)) shows_idle
-
-  pub idle_down : down ≡ [] → AreOf width (counted false r) up down c (does width w Down_deliver)
-  idle_down e = subst (λ q. AreOf width (counted false r) up down c (down_delivered (by_ids width ends) w q)) (sym (no_down e)) shows_idle

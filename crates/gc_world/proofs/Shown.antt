@@ -255,11 +255,6 @@ module _ (width : ℕ) (s : Seen) (v : Streams ById State) (h : AreStreamsOf wid
       kept (record s.report { settled = settled; starts = starts; instrument = state }) client (does width v.world Restart_client) (shows_restart_client width s.report s.up.queue s.down.queue s.client v.world h.lines more settled client starts state eu ed more_are client_is settled_is starts_is state_is)
       (of_restart width v.world v.world.wire.up v.world.wire.down)
 
-  pub streams_restart_instrument : (starts : List ℕ) (state : State) → s.up.queue ≡ [] → s.down.queue ≡ [] → starts ≡ s.report.starts ++ length s.report.executed ∷ [] → state ≡ restarted s.report.instrument → AreStreamsOf width (record s { report = record s.report { starts = starts; instrument = state } }) (goes_on width v event.RestartInstrument)
-  streams_restart_instrument starts state eu ed starts_is state_is =
-      kept (record s.report { starts = starts; instrument = state }) s.client (does width v.world Restart_instrument) (shows_restart_instrument width s.report s.up.queue s.down.queue s.client v.world h.lines starts state eu ed starts_is state_is)
-      (of_start v.world.wire v.world.wire.up v.world.wire.down)
-
   pub streams_busy_client : IsBusy s.up.queue s.down.queue → AreStreamsOf width (record s { report = counted false s.report }) (goes_on width v event.RestartClient)
   streams_busy_client b =
       kept (counted false s.report) s.client (does width v.world Restart_client) (busy_client width s.report s.up.queue s.down.queue s.client v.world h.lines b)
@@ -271,25 +266,6 @@ module _ (width : ℕ) (s : Seen) (v : Streams ById State) (h : AreStreamsOf wid
       (of_start v.world.wire v.world.wire.up v.world.wire.down)
 
   -- Deliveries.
-
-  -- no line is under way in this direction
-  idle_delivery : (d : Direction) → texts d v.world.wire ≡ [] → does width v.world (deliver d) ≡ on_wire v.world (idle v.world.wire) → AreStreamsOf width (record s { report = counted false s.report }) (goes_on width v (delivery d))
-  idle_delivery d none same =
-      let side = pick d s.up s.down in
-      let gone : gone d v ≡ 0 = sym (gone_is d) ∙ (subst (λ q. IsFlow side.assembler side.gone q) none (carries d).flow).part in
-      let now : goes_on width v (delivery d) ≡ record { world = on_wire v.world (idle v.world.wire); up_gone = v.up_gone; down_gone = v.down_gone } =
-      delivered ends (by_ids width ends) d v ∙ ap₂ (reaches d v) same (sym gone) ∙ unmoved d v (on_wire v.world (idle v.world.wire)) in
-      subst (λ x. AreStreamsOf width (record s { report = counted false s.report }) x) (sym now) nothing
-
-  pub streams_idle_up : s.up.queue ≡ [] → AreStreamsOf width (record s { report = counted false s.report }) (goes_on width v event.UpDeliver)
-  streams_idle_up e =
-      let none = no_up width s.report s.up.queue s.down.queue s.client v.world h.lines e in
-      idle_delivery Up (ap (map (λ x. bytes_of x.line)) none) (ap (λ q. on_wire v.world (up_delivered ends v.world.wire q)) none)
-
-  pub streams_idle_down : s.down.queue ≡ [] → AreStreamsOf width (record s { report = counted false s.report }) (goes_on width v event.DownDeliver)
-  streams_idle_down e =
-      let none = no_down width s.report s.up.queue s.down.queue s.client v.world h.lines e in
-      idle_delivery Down (ap (map (λ x. x.line)) none) (ap (λ q. down_delivered (by_ids width ends) v.world q) none)
 
   -- the line in front of the upward queue went over
   pub streams_up_deliver : (n : ℕ) (side : Side) (queue : List ℕ) (request : Sent) (entry : Made) (executed : List ℕ) (made : List Made) (state : State) (o : Option (List ℕ)) → s.up.queue ≡ n ∷ side.queue → slice_get s.report.sent n ≡ Some request → ExchangesAny s.report.instrument request.line.items state o → o ≡ Some entry.line.items → entry.number ≡ n → Notes s.report.instrument state n s.report.executed executed → made ≡ s.report.made ++ entry ∷ [] → queue ≡ s.down.queue ++ length s.report.made ∷ [] → StandsFor side.assembler [] → side.gone ≡ 0 → AreStreamsOf width (record s { report = record s.report { executed = executed; made = made; instrument = state }; up = side; down = record s.down { queue = queue } }) (goes_on width v event.UpDeliver)
