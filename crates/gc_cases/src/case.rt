@@ -27,6 +27,11 @@ impl<'a> Case<'a> {
         }
         None
     }
+
+    /// The number under a key, and this one where there is none.
+    pub fn number(&self, key: &str, or: u64) -> u64 {
+        self.value(key).parse::<u64>().unwrap_or(or)
+    }
 }
 
 // The value of a line that has this key.

@@ -6,10 +6,12 @@
 
 mod case;
 mod escapes;
+mod input;
 mod playing;
 mod rows;
 
 pub use case::{Case, cut_case};
 pub use escapes::{bytes_of, text_of};
+pub use input::input_of;
 pub use playing::{Player, play_folder};
 pub use rows::{Rows, cut_word, play_rows, push_bytes};

@@ -2,12 +2,8 @@
 
 mod engines;
 mod failing;
-mod far_end;
-mod far_files;
 mod outcome;
-mod program;
 mod records;
-mod said;
 mod setup;
 mod single_bytes;
 mod sink;
@@ -17,7 +13,6 @@ mod world;
 use engines::Engines;
 use failing::Failing;
 use gc_cases::play_folder;
-use program::Program;
 use records::Records;
 use std::io;
 use texts::Texts;
@@ -27,7 +22,6 @@ use world::World;
 pub fn play_cases(rt: &HostRuntime, folder: &str) -> io::Result<bool> {
     let mut are_right = play_folder(rt, folder, &Engines)?;
     are_right &= play_folder(rt, folder, &Failing)?;
-    are_right &= play_folder(rt, folder, &Program)?;
     are_right &= play_folder(rt, folder, &Texts)?;
     are_right &= play_folder(rt, folder, &Records)?;
     are_right &= play_folder(rt, folder, &World)?;

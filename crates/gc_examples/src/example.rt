@@ -1,6 +1,6 @@
 //! One example: what goes in, and what must come out.
 
-use gc_console::{run_check, run_drill, run_exec};
+use gc_engines::{run_check, run_drill, run_exec};
 use gc_probes::{PieceSink, PieceSource};
 use std::alloc::{AllocError, Global};
 use std::{fmt, fs, io};

@@ -1,9 +1,10 @@
 //! Commands asked over a link of the tests, once.
 
 use crate::outcome::Outcome;
-use gc_console::{RunFault, run_ask, run_loop};
+use gc_ask::{run_ask, run_loop};
 use gc_lines::{Sink, Source};
 use gc_probes::{PieceSink, PieceSource, Pipe};
+use gc_texts::RunFault;
 use std::alloc::Global;
 
 /// A stray, then two answers, asked for.

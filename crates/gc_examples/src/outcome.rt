@@ -1,7 +1,7 @@
 //! What became of an example that was played once, perhaps with too little memory.
 
-use gc_console::RunFault;
 use gc_probes::PieceSink;
+use gc_texts::RunFault;
 use std::fmt;
 
 /// What an example gave.

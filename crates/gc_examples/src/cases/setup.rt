@@ -3,7 +3,7 @@
 use crate::cases::outcome::{Came, End, ran, served};
 use crate::cases::sink::Taking;
 use gc_ask::{Duplex, run_ask, run_loop_on};
-use gc_cases::{Case, bytes_of};
+use gc_cases::{Case, bytes_of, input_of};
 use gc_engines::{read_scene, run_check, run_check_log, run_drill_on, run_exec};
 use gc_instrument::{Instrument, serve};
 use gc_lines::Source;
@@ -80,11 +80,6 @@ fn engine_of(case: &Case<'_>) -> Engine {
     }
 }
 
-/// The number that a case has under a key, and this one where it has none.
-pub fn number(case: &Case<'_>, key: &str, or: u64) -> u64 {
-    case.value(key).parse::<u64>().unwrap_or(or)
-}
-
 fn small_number(case: &Case<'_>, key: &str, or: u32) -> u32 {
     case.value(key).parse::<u32>().unwrap_or(or)
 }
@@ -111,17 +106,6 @@ pub fn sizes_of(alloc: Global, text: &str) -> io::Result<Vec<usize>> {
     Ok(sizes)
 }
 
-/// The bytes that go in: those under `front`, those under `input` so many times, and those under `behind`.
-pub fn input_of(alloc: Global, case: &Case<'_>) -> io::Result<Vec<u8>> {
-    let mut input = bytes_of(alloc, case.value("front"))?;
-    let repeated = bytes_of(alloc, case.value("input"))?;
-    for _ in 0..number(case, "times", 1) {
-        input.extend_from_slice(repeated.as_slice())?;
-    }
-    input.extend_from_slice(bytes_of(alloc, case.value("behind"))?.as_slice())?;
-    Ok(input)
-}
-
 impl Setup {
     /// The set-up that a case says.
     pub fn of(alloc: Global, case: &Case<'_>) -> io::Result<Setup> {
@@ -133,10 +117,10 @@ impl Setup {
             scene: bytes_of(alloc, case.value("scene"))?,
             allowed: small_number(case, "allowed", u32::MAX),
             answers: Answers {
-                input: number(case, "reads", u64::MAX),
-                output: number(case, "taken", u64::MAX),
-                link_in: number(case, "link-reads", u64::MAX),
-                link_out: number(case, "link-taken", u64::MAX),
+                input: case.number("reads", u64::MAX),
+                output: case.number("taken", u64::MAX),
+                link_in: case.number("link-reads", u64::MAX),
+                link_out: case.number("link-taken", u64::MAX),
                 instrument_in: u64::MAX,
                 instrument_out: u64::MAX,
             },

@@ -1,6 +1,6 @@
 //! The files of the far end: none is there, and which were to be opened is noted down.
 
-use crate::cases::far_end::{FarEnd, in_use};
+use crate::far_end::{FarEnd, in_use};
 use std::alloc::Allocator;
 use std::fs::{File, Files, Metadata, OpenOptions};
 use std::io::{self, ErrorKind};

@@ -1,10 +1,9 @@
 //! The program, as its words and its standard streams make it: over the system, or at a far end where a case has one. It expects a
 //! status, the output and the messages; of a far end also what came there, and how long it took by its clock.
 
-use crate::cases::far_end::{FarEnd, Seen, both_ends};
-use crate::cases::said::{self, Said};
-use crate::cases::setup::{input_of, number};
-use gc_cases::{Case, Player};
+use crate::far_end::{FarEnd, Seen, both_ends};
+use crate::said::{self, Said};
+use gc_cases::{Case, Player, input_of};
 use gc_console::{Oddities, Standard, Streams, run_program};
 use std::alloc::{AllocError, Global};
 use std::cell::RefCell;
@@ -65,9 +64,9 @@ fn run_far(rt: &HostRuntime, case: &Case<'_>, port: &str, answer: Option<u64>) -
         ends: &ends,
         seen: &seen,
         answer,
-        until: number(case, "until", 3_600_000),
-        refused: number(case, "refused", 0),
-        silent: number(case, "silent", u64::MAX),
+        until: case.number("until", 3_600_000),
+        refused: case.number("refused", 0),
+        silent: case.number("silent", u64::MAX),
         odd: oddities_of(case),
     };
     let mut said = run(&far_end, alloc, case, port)?;
@@ -88,7 +87,7 @@ fn run<R: Net<Listener = TcpListener, Stream = TcpStream> + Clock + Files<File =
     port: &str,
 ) -> io::Result<Said> {
     let input = input_of(alloc, case)?;
-    let mut output = Room::new(alloc, number(case, "room", u64::MAX));
+    let mut output = Room::new(alloc, case.number("room", u64::MAX));
     let mut messages = Vec::new(alloc);
     let streams = Streams {
         input: Input {

@@ -1,0 +1,18 @@
+//! Cases of the program, played: tests that are data, and no part of the product. The files of the folder it runs in are played, which
+//! has the scenes that their words name, too.
+#![tactic(auto)]
+
+mod far_end;
+mod far_files;
+mod program;
+mod said;
+
+use gc_cases::play_folder;
+use program::Program;
+use std::io;
+use std::process::ExitCode;
+
+fn main(rt: HostRuntime) -> io::Result<ExitCode> {
+    let are_right = play_folder(&rt, ".", &Program)?;
+    Ok(ExitCode::from(u8::from(!are_right)))
+}
