@@ -1,6 +1,6 @@
 -- A beginning over a line of ids alone: the line, its two ends, what may happen, and a run.
 use Rattle.std.specs.Prelude.{◌≡◌, ℕ, zero, suc, ◌+◌, ◌%◌, nat_eq, Bool, true, false, List, [], ◌∷◌, ◌++◌, map, Option, Some, None}
-use Rattle.gc_client.specs.Beginning.{IsSubsequence, next_if, the_word}
+use Rattle.gc_client.specs.Beginning.{IsSubsequence, next_if}
 use Rattle.gc_world.specs.Order.{Each}
 use Rattle.gc_world.specs.World.{without, doubled}
 
@@ -117,8 +117,3 @@ aged xs = map (λ x. record { id = x.id; old = true }) xs
 
 abbrev pub begun_anew : List ℕ → Standing → Standing
 begun_anew word s = record { up = aged s.up; down = aged s.down; kept = s.kept; left = word }
-
--- one beginning after the other; each is killed behind its moves, wherever it stands
-abbrev pub tried : List (List Move) → Standing → Standing
-tried [] s = s
-tried (ms ∷ mss) s = tried mss (moved ms (begun_anew the_word s))

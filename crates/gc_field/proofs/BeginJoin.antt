@@ -34,10 +34,6 @@ map_doubled f k [] = refl
 map_doubled f zero (x ∷ xs) = refl
 map_doubled f (suc k) (x ∷ xs) = ap (λ l. f x ∷ l) (map_doubled f k xs)
 
-each_of_map : {A B : Type 0} (P : B → Type 0) (f : A → B) (xs : List A) → Each P (map f xs) → Each (λ x. P (f x)) xs
-each_of_map P f [] h = tt
-each_of_map P f (x ∷ xs) h = (h.0, each_of_map P f xs h.1)
-
 each_to_map : {A B : Type 0} (P : B → Type 0) (f : A → B) (xs : List A) → Each (λ x. P (f x)) xs → Each P (map f xs)
 each_to_map P f [] h = tt
 each_to_map P f (x ∷ xs) h = (h.0, each_to_map P f xs h.1)

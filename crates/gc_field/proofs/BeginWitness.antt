@@ -1,5 +1,5 @@
 -- Runs by computation.
-use Rattle.std.proofs.Common.{◌≤◌, [], ◌∷◌, refl, arith, lit<}
+use Rattle.std.proofs.Common.{◌≤◌, ℕ, List, [], ◌∷◌, refl, arith, lit<}
 use Rattle.std.specs.Prelude.{codes, take, drop}
 use Rattle.std.specs.Fmt.{digits}
 use Rattle.gc_lines.specs.Readers.{header_at, reply_at}
@@ -8,13 +8,31 @@ use Rattle.gc_client.specs.declared.window.TheConstants.{WINDOW}
 use Rattle.gc_instrument.specs.Execution.{exec}
 use Rattle.gc_instrument.specs.Replying.{handed}
 use Rattle.gc_world.specs.Clients.{ends}
+use Rattle.gc_world.specs.World.{Numbered}
 use Rattle.gc_field.specs.Begun.{WasMadeOn}
 use Rattle.gc_field.specs.BeginWitness.{AreSomeRuns, IsBookedFromBefore, clean, next}
-use Rattle.gc_field.proofs.Witness.{fits}
+use Rattle.gc_field.proofs.Witness.{fits, units}
+
+-- the replies to both commands
+abbrev one_reply : Numbered (List ℕ)
+one_reply = record { number = 8; line = codes "%R1P,0,0:0,123456" }
+
+abbrev other_reply : Numbered (List ℕ)
+other_reply = record { number = 9; line = codes "%R1P,0,1:0,123456" }
 
 was_made : WasMadeOn WINDOW ends clean next.moves 8 InstrumentNo (codes "%R1P,0,0:0,123456")
 unfolding header_at reply_at handed exec digits
-was_made = record { front = take 3 next.moves; later = drop 4 next.moves; split = refl; id = 0; rest = record { number = 9; line = record { id = 1; call = InstrumentNo } } ∷ []; reaches = refl; executed = refl; reply = refl }
+was_made =
+    record {
+      front = take 3 next.moves;
+      later = drop 4 next.moves;
+      split = refl;
+      id = 0;
+      rest = record { number = 9; line = record { id = 1; call = InstrumentNo } } ∷ [];
+      reaches = refl;
+      executed = refl;
+      reply = refl;
+    }
 
 pub some_runs : AreSomeRuns
 unfolding header_at reply_at handed exec digits
@@ -23,31 +41,21 @@ some_runs =
     let none : 0 ≤ 5 = omega arith in
     record {
       lines = record { ids = (lit< tt, (lit< tt, tt)); good = fits };
-      row = record { low = 7; numbers = 6 ∷ 7 ∷ 8 ∷ []; some = omega arith; rising = (omega arith, (omega arith, (omega arith, tt))); few = (omega arith, (omega arith, (omega arith, tt))); ids = refl };
+      row =
+          record {
+            low = 7;
+            numbers = 6 ∷ 7 ∷ 8 ∷ [];
+            some = omega arith;
+            rising = (omega arith, (omega arith, (omega arith, tt)));
+            few = (omega arith, (omega arith, (omega arith, tt)));
+            ids = refl;
+          };
       runs = (
         ((tt, (tt, (tt, tt))), refl),
         (
           (
-            (tt, (tt, (tt, (tt, (tt, (tt, (tt, (tt, (tt, (tt, (tt, (tt, (tt, (tt, (tt, (tt, (tt, (tt, (tt, (tt, (tt, (tt, (tt, (tt, (tt, (tt, (tt, (tt, (tt, (tt, (tt, (tt, (tt, (tt, (tt, (tt, tt)))))))))))))))))))))))))))))))))))),
-            (
-              tt,
-              (
-                tt,
-                (
-                  tt,
-                  (
-                    tt,
-                    (
-                      tt,
-                      (
-                        (7, record { number = 8; line = codes "%R1P,0,0:0,123456" } ∷ record { number = 9; line = codes "%R1P,0,1:0,123456" } ∷ [], refl),
-                        ((8, record { number = 9; line = codes "%R1P,0,1:0,123456" } ∷ [], refl), ((9, [], refl), tt)),
-                      ),
-                    ),
-                  ),
-                ),
-              ),
-            ),
+            units 36,
+            (tt, (tt, (tt, (tt, (tt, ((7, one_reply ∷ other_reply ∷ [], refl), ((8, other_reply ∷ [], refl), ((9, [], refl), tt)))))))),
           ),
           tt,
         ),

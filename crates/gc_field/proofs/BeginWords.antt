@@ -115,10 +115,6 @@ three_upward (suc (suc (suc (suc (suc (suc zero)))))) low h = not_over _ _ (come
 three_upward (suc (suc (suc (suc (suc (suc (suc zero))))))) low h = not_over _ _ (comes_to_end (upward 7 8) (6 ∷ 5 ∷ 4 ∷ []) h)
 three_upward (suc (suc (suc (suc (suc (suc (suc (suc i)))))))) low h = absurd (omega (arith, low))
 
--- nor the word, which begins so
-pub none_upward : (i : ℕ) → i < 8 → IsSubsequence the_word (upward i 8) → ⊥
-none_upward i low h = three_upward i low (stands_front (6 ∷ 5 ∷ 4 ∷ []) (3 ∷ 2 ∷ 1 ∷ 0 ∷ 7 ∷ []) (upward i 8) h)
-
 -- A line of numbers that never fall has no more than the row from the least one up.
 
 abbrev ids_at : List ℕ → List ℕ

@@ -1,11 +1,11 @@
 -- Behind a beginning that has begun cleanly: the eight null procedures are requests that were settled, and what is under way is of the last.
-use Rattle.std.proofs.Common.{◌≡◌, ℕ, ◌+◌, ◌<◌, ◌≤◌, inl, inr, List, [], ◌∷◌, ◌++◌, map, Option, Some, None, refl, sym, ◌∙◌, ap, subst, arith, append_assoc}
+use Rattle.std.proofs.Common.{◌≡◌, ℕ, ◌+◌, ◌<◌, ◌≤◌, inl, List, [], ◌∷◌, ◌++◌, map, Option, Some, None, refl, sym, ◌∙◌, ap, subst, arith, append_assoc}
 use Rattle.std.specs.Prelude.{slice_get}
 use Rattle.gc_catalogue.specs.declared.call.Call.{Call}
 use Rattle.gc_catalogue.specs.declared.call.Call.TheVariants.{NullProc}
 use Rattle.gc_catalogue.specs.Texts.{request_line}
 use Rattle.gc_client.specs.OneForOne.{Asked, Course, Step, Send, Hear, Expire, Restart, begun, course, goes, of_settled, of_pending, sent_on, settled_on}
-use Rattle.gc_client.specs.Rule.{ById, Answered, Late, Sending, Settled, Settlement, expires, fresh, heard, hears, restarts, sends}
+use Rattle.gc_client.specs.Rule.{ById, Sending, Settled, Settlement, expires, fresh, heard, hears, restarts, sends}
 use Rattle.gc_client.proofs.OneForOne.{one_for_one}
 use Rattle.gc_instrument.specs.State.{KeptReply}
 use Rattle.gc_world.specs.Clients.{by_ids, by_numbers}
@@ -22,12 +22,11 @@ use Rattle.gc_field.specs.Begin.{UnderWay}
 use Rattle.gc_field.specs.Begun.{IsClean, IsFaithful, WasMadeOn, behind, eighth, ids_begun, numbers_begun, nulls, nulls_settled}
 use Rattle.gc_field.specs.Field.{Move, OnLine, ArePossible, moved, seen}
 use Rattle.gc_field.specs.Instrument.{IsAnInstrument}
-use Rattle.gc_field.proofs.Answered.{AllSo, IsSo, all_so_get}
 use Rattle.gc_field.proofs.Instruments.{exchange_of}
-use Rattle.gc_field.proofs.Moving.{Both, both_all, first_reply, Vouches, IsVouchedFor, AreOn, whole_all}
+use Rattle.gc_field.proofs.Moving.{Both, both_all, first_reply, IsVouchedFor, AreOn, late_of, vouched_of, whole_all}
 use Rattle.gc_field.proofs.Possible.{possible_front}
 use Rattle.gc_field.proofs.Seen.{same_all}
-use Rattle.gc_field.proofs.Vouched.{IsVouched, KeptIs, True, Vouched}
+use Rattle.gc_field.proofs.Vouched.{KeptIs, True, Vouched}
 
 -- The course of a client, behind what was sent and settled before.
 
@@ -36,7 +35,8 @@ record Behind (before : List Asked) (old : List Settlement) (x y : Course) : Typ
   settled : x.settlements ≡ old ++ y.settlements
   client : x.client ≡ y.client
 
-behind_send : (before : List Asked) (old : List Settlement) (x y : Course) (target : ℕ) (call : Call) (o : Option (Sending ById)) → Behind before old x y → Behind before old (sent_on x target call o) (sent_on y target call o)
+behind_send : (before : List Asked) (old : List Settlement) (x y : Course) (target : ℕ) (call : Call) (o : Option (Sending ById)) → Behind before old x y
+    → Behind before old (sent_on x target call o) (sent_on y target call o)
 behind_send before old x y target call None h = h
 behind_send before old x y target call (Some s) h =
     record { sent = ap (λ l. l ++ record { target = target; call = call } ∷ []) h.sent ∙ append_assoc before y.sent (record { target = target; call = call } ∷ []); settled = h.settled; client = refl }
@@ -89,7 +89,8 @@ module _ {State : Type 0} (ends : Ends State) (Good : State → Type 0) (kept : 
   ex = exchange_of ends Good kept keeper
 
   -- what was sent: the null procedures, and then what the client sent
-  pub sent_is : (u : UnderWay State) (ms : List (Move State)) → ArePossible ends Good kept (by_ids width ends) ms (ids_begun u) → map of_sent (behind width ends u ms).wire.sent ≡ map of_sent nulls ++ (course width begun (seen ms)).sent
+  pub sent_is : (u : UnderWay State) (ms : List (Move State)) → ArePossible ends Good kept (by_ids width ends) ms (ids_begun u)
+      → map of_sent (behind width ends u ms).wire.sent ≡ map of_sent nulls ++ (course width begun (seen ms)).sent
   sent_is u ms p =
       let one = same_all width ends keeper.hears Good kept ms begun_course (ids_begun u) p (record { sent = refl; settled = refl; client = refl }) in
       sym one.sent ∙ (behind_all width (map of_sent nulls) nulls_settled (seen ms) begun_course begun begun_behind).sent
@@ -150,7 +151,8 @@ module _ {State : Type 0} (ends : Ends State) (Good : State → Type 0) (kept : 
           }
 
     -- the line of a request that is executed was made on executing it: with the numbers the wire is the same
-    made_here : (ms : List (Move State)) → ArePossible ends Good kept (by_ids width ends) ms (ids_begun u) → AreOn width narrow ends Good ex kept keeper 8 (omega arith) (λ n call line. WasMadeOn width ends u ms n call line) ms (numbers_begun u)
+    made_here : (ms : List (Move State)) → ArePossible ends Good kept (by_ids width ends) ms (ids_begun u)
+        → AreOn width narrow ends Good ex kept keeper 8 (omega arith) (λ n call line. WasMadeOn width ends u ms n call line) ms (numbers_begun u)
     made_here ms p front later e x rest q exe =
         let p' = possible_front width ends Good kept front (OnLine Up_deliver ∷ later) (ids_begun u) (subst (λ l. ArePossible ends Good kept (by_ids width ends) l (ids_begun u)) e p) in
         let same : (behind width ends u front).wire ≡ (moved ends (by_numbers width) front (numbers_begun u)).wire =
@@ -166,29 +168,6 @@ module _ {State : Type 0} (ends : Ends State) (Good : State → Type 0) (kept : 
           executed = ap (λ t. (ends.handed t x.line.id x.line.call).executed) stands ∙ exe;
           reply = ap (λ t. (ends.handed t x.line.id x.line.call).reply) (sym stands);
         }
-
-    -- what is vouched for, of a request of the client
-    vouched_of : (M : ℕ → Call → List ℕ → Type 0) (w : Wire State) (m : ℕ) (s : Settlement) (line : List ℕ) → 8 ≤ m → AllSo (Vouches width narrow ends Good ex kept keeper 8 (omega arith) M w) 0 w.settled → slice_get w.settled m ≡ Some s → s.outcome ≡ Answered line
-        → IsVouched width narrow ends Good ex kept keeper 8 M w.sent w.executed w.made m line
-    vouched_of M w m s line ge all e answered =
-        let P = Vouches width narrow ends Good ex kept keeper 8 (omega arith) M w in
-        let i : 0 + m ≡ m = omega arith in
-        let so : P m line = subst (λ o. IsSo P m o) answered (subst (λ k. IsSo P k s.outcome) i (all_so_get P 0 w.settled m s all e)) in
-        elim so [
-          | inl l ↦ absurd (omega (arith, l, ge))
-          | inr v ↦ v
-        ]
-
-    late_of : (M : ℕ → Call → List ℕ → Type 0) (w : Wire State) (m : ℕ) (s : Settlement) → 8 ≤ m → AllSo (Vouches width narrow ends Good ex kept keeper 8 (omega arith) M w) 0 w.settled → slice_get w.settled m ≡ Some s → s.outcome ≡ Late
-        → (line : List ℕ) × IsVouched width narrow ends Good ex kept keeper 8 M w.sent w.executed w.made m line
-    late_of M w m s ge all e late =
-        let P = Vouches width narrow ends Good ex kept keeper 8 (omega arith) M w in
-        let i : 0 + m ≡ m = omega arith in
-        let so : (line : List ℕ) × P m line = subst (λ o. IsSo P m o) late (subst (λ k. IsSo P k s.outcome) i (all_so_get P 0 w.settled m s all e)) in
-        elim so.1 [
-          | inl l ↦ absurd (omega (arith, l, ge))
-          | inr v ↦ (so.0, v)
-        ]
 
     pub faithful : (ms : List (Move State)) → ArePossible ends Good kept (by_ids width ends) ms (ids_begun u) → IsFaithful width ends u ms Good kept
     faithful ms p =
@@ -210,22 +189,24 @@ module _ {State : Type 0} (ends : Ends State) (Good : State → Type 0) (kept : 
         let M : ℕ → Call → List ℕ → Type 0 = λ n call line. WasMadeOn width ends u ms n call line in
         let all = subst (λ (w : Wire State). IsVouchedFor width narrow ends Good ex kept keeper 8 (omega arith) M w) (sym same)
         (whole_all width narrow ends Good ex kept keeper 8 (omega arith) M ms (ids_begun u) (numbers_begun u) both_begun p (made_here ms p) (true_begun M)) in
+        let vouched = vouched_of width narrow ends Good ex kept keeper 8 (omega arith) M a.wire in
+        let vouched_late = late_of width narrow ends Good ex kept keeper 8 (omega arith) M a.wire in
         record {
           settled = settlements;
           stands = stands;
           accounted = parts;
           one_for_one = pairs;
           booked = λ m s ge e bytes answered.
-              let v = vouched_of M a.wire m s bytes ge all.answers e answered in
+              let v = vouched m s bytes ge all.answers e answered in
               let right = (pairs.same m s v.answer.request e v.answer.found).1 in
               (has_at _ a.wire.made v.among, subst (λ call. IsReplyTo ends Good call bytes) (sym right) v.answer.reply);
-          executed = λ m s bytes ge e answered. let v = vouched_of M a.wire m s bytes ge all.answers e answered in has_at m a.wire.executed v.acted;
+          executed = λ m s bytes ge e answered. let v = vouched m s bytes ge all.answers e answered in has_at m a.wire.executed v.acted;
           made_on = λ m s bytes ge e answered.
-              let v = vouched_of M a.wire m s bytes ge all.answers e answered in
+              let v = vouched m s bytes ge all.answers e answered in
               subst (λ call. M m call bytes) (sym (pairs.same m s v.answer.request e v.answer.found).1) v.on;
           in_order = all.order;
           late = λ m s ge e late.
-              let v = late_of M a.wire m s ge all.answers e late in
+              let v = vouched_late m s ge all.answers e late in
               (v.0, subst (λ call. M m call v.0) (sym (pairs.same m s v.1.answer.request e v.1.answer.found).1) v.1.on);
           once = all.once;
           agrees = same;

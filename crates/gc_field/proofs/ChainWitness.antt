@@ -1,5 +1,6 @@
 -- A run of a chain that points the telescope, in the field, computed.
-use Rattle.std.proofs.Common.{◌≡◌, zero, suc, true, [], ◌∷◌, Some, refl, sym, ap, subst, arith}
+use Rattle.std.proofs.Common.{◌≡◌, zero, suc, true, [], ◌∷◌, refl, sym, ap, subst, arith}
+use Rattle.std.specs.Prelude.{take, drop}
 use Rattle.std.specs.Fmt.{digits}
 use Rattle.gc_lines.specs.Readers.{header_at, reply_at}
 use Rattle.gc_values.specs.Decimals.{rounded}
@@ -10,8 +11,8 @@ use Rattle.gc_station.specs.Links.{AreChained}
 use Rattle.gc_world.proofs.Options.{some_is}
 use Rattle.gc_field.specs.ChainWitness.{IsPointedInField, acts, before, commands, measures, moves, runs, scope}
 use Rattle.gc_field.specs.Pointing.{AreStill, turns}
-use Rattle.gc_field.proofs.Witness.{asked_each, fits}
-use Rattle.gc_station.specs.Parts.{nothing, parts_of}
+use Rattle.gc_field.proofs.Witness.{asked_each, fits, one_part, opens, run_on, units}
+use Rattle.gc_station.specs.Parts.{parts_of}
 use Rattle.gc_station.specs.Standing.{opening}
 use Rattle.gc_field.specs.Field.{seen}
 use Rattle.gc_field.specs.Shown.{AreShownAs, shown}
@@ -31,7 +32,7 @@ none_turns (suc zero) task above under e =
     let one : Task = record { command = record { target = 7; call = measures }; deadline = 100; chained = true } in ap (λ (t : Task). turns t.command.call) (sym (some_is one task e))
 none_turns (suc (suc p)) task above under e = absurd (omega (arith, under))
 
-parts_are : parts_of plan commands (opening plan scope) acts ≡ record { turns = asked_each replies; steps = seen moves; marks = Some (record { cycle = 1; place = 0; sent = 15 }) ∷ Some (record { cycle = 1; place = 1; sent = 20 }) ∷ Some (record { cycle = 1; place = 2; sent = 25 }) ∷ [] } ∷ nothing ∷ []
+parts_are : parts_of plan commands (opening plan scope) acts ≡ one_part (asked_each replies) (seen moves) ((0, 15) ∷ (1, 20) ∷ (2, 25) ∷ [])
 unfolding header_at reply_at digits rounded
 parts_are = refl
 
@@ -45,11 +46,13 @@ chain =
     record {
       field =
           record {
-            runs = (tt, (refl, (tt, (refl, (tt, (tt, (refl, (tt, (tt, (refl, (tt, (tt, (refl, (tt, (tt, (refl, (tt, (tt, (refl, (tt, (tt, (refl, (tt, (tt, (refl, (tt, (tt, (tt, (refl, (tt, (tt, (refl, (tt, (tt, (refl, (tt, (tt, (refl, tt))))))))))))))))))))))))))))))))))))));
+            runs =
+                run_on plan commands (opening plan scope) (take 27 acts) (drop 27 acts) (opens 1 commands scope.reads)
+                (tt, (refl, (tt, (tt, (refl, (tt, (tt, (refl, (tt, (tt, (refl, tt)))))))))));
             lines = record { ids = tt; good = fits };
             none = λ h. h;
             shown = subst (AreShownAs ends before runs) (sym parts_are) (shown_are, refl, (refl, refl, tt));
-            possible = (((tt, (tt, (tt, (tt, (tt, (tt, (tt, (tt, (tt, (tt, (tt, (tt, (tt, (tt, (tt, (tt, (tt, (tt, (tt, (tt, (tt, (tt, (tt, (tt, tt)))))))))))))))))))))))), (tt, (tt, (tt, (tt, (tt, ((8, [], refl), (tt, (tt, (tt, (tt, ((9, [], refl), (tt, (tt, (tt, (tt, ((10, [], refl), tt))))))))))))))))), ((tt, refl), tt));
+            possible = ((units 24, (tt, (tt, (tt, (tt, (tt, ((8, [], refl), (tt, (tt, (tt, (tt, ((9, [], refl), (tt, (tt, (tt, (tt, ((10, [], refl), tt))))))))))))))))), ((tt, refl), tt));
           };
       records = refl;
       chained = all_chained;

@@ -4,10 +4,12 @@ use Rattle.std.proofs.lemmas.Bool.{eq-eqb}
 use Rattle.std.specs.Prelude.{take, drop}
 use Rattle.std.specs.Fmt.{digits}
 use Rattle.gc_lines.specs.Readers.{header_at, reply_at}
+use Rattle.gc_catalogue.specs.declared.answer.Reading.{Reading}
 use Rattle.gc_catalogue.specs.declared.call.Call.{Call}
 use Rattle.gc_client.specs.declared.window.TheConstants.{WINDOW}
 use Rattle.gc_client.specs.Rule.{heard}
 use Rattle.gc_instrument.specs.State.{KeptReply}
+use Rattle.gc_texts.specs.declared.tasks.Task.{Task}
 use Rattle.gc_world.proofs.Options.{some_is}
 use Rattle.gc_field.specs.ChainWitness.{commands, points, reads_all, scope}
 use Rattle.gc_field.specs.Chains.{HasEffect}
@@ -17,13 +19,13 @@ use Rattle.gc_field.specs.Begun.{WasMadeOn}
 use Rattle.gc_field.specs.Needed.{Keeper, held, kept, value}
 use Rattle.gc_field.proofs.ChainWitness.{all_chained}
 use Rattle.gc_field.proofs.Needed.{kept_own, reads_value}
-use Rattle.gc_station.specs.Parts.{nothing, parts_of}
-use Rattle.gc_station.specs.Standing.{opening}
+use Rattle.gc_station.specs.Parts.{parts_of}
+use Rattle.gc_station.specs.Standing.{Runs, opening}
 use Rattle.gc_field.specs.Field.{seen}
 use Rattle.gc_field.specs.Shown.{AreShownAs, shown}
 use Rattle.gc_field.specs.Begin.{begins}
-use Rattle.gc_field.specs.Witness.{eight, plan}
-use Rattle.gc_field.proofs.Witness.{asked_each}
+use Rattle.gc_field.specs.Witness.{begun_with, eight, plan, plan_of}
+use Rattle.gc_field.proofs.Witness.{asked_each, one_part, run_on, units}
 
 true_is_not : true ≡ false → ⊥
 true_is_not e = cc
@@ -84,6 +86,14 @@ effect =
       alike = λ s t call e. ap (λ (c : Counter). record { count = suc c.count; keeps = None }) e;
     }
 
+-- a connection is made and cleared, and all eight null procedures are answered by the counting instrument, whatever is to be asked
+pub opens_counting :
+    (width : ℕ) (tasks : List Task) (reads : Call → List ℕ → Reading)
+    → Runs (plan_of width) tasks (opening (plan_of width) (record { turns = 100; reads = reads })) (begun_with begun [])
+unfolding header_at reply_at digits
+opens_counting width tasks reads =
+    (tt, (refl, (tt, (refl, (tt, (tt, (refl, (tt, (tt, (refl, (tt, (tt, (refl, (tt, (tt, (refl, (tt, (tt, (refl, (tt, (tt, (refl, (tt, (tt, (refl, (tt, (tt, tt)))))))))))))))))))))))))))
+
 first_made : WasMadeOn WINDOW counting stretch.from moves 8 points first
 unfolding header_at reply_at digits
 first_made = record { front = take 3 moves; later = drop 4 moves; split = refl; id = 0; rest = []; reaches = refl; executed = refl; reply = refl }
@@ -92,7 +102,7 @@ third_made : WasMadeOn WINDOW counting stretch.from moves 10 reads_all third
 unfolding header_at reply_at digits
 third_made = record { front = take 13 moves; later = drop 14 moves; split = refl; id = 2; rest = []; reaches = refl; executed = refl; reply = refl }
 
-parts_are : parts_of plan commands (opening plan scope) acts ≡ record { turns = asked_each begun; steps = seen moves; marks = Some (record { cycle = 1; place = 0; sent = 15 }) ∷ Some (record { cycle = 1; place = 1; sent = 20 }) ∷ Some (record { cycle = 1; place = 2; sent = 25 }) ∷ [] } ∷ nothing ∷ []
+parts_are : parts_of plan commands (opening plan scope) acts ≡ one_part (asked_each begun) (seen moves) ((0, 15) ∷ (1, 20) ∷ (2, 25) ∷ [])
 unfolding header_at reply_at digits
 parts_are = refl
 
@@ -109,11 +119,13 @@ counted =
       effect = effect;
       field =
           record {
-            runs = (tt, (refl, (tt, (refl, (tt, (tt, (refl, (tt, (tt, (refl, (tt, (tt, (refl, (tt, (tt, (refl, (tt, (tt, (refl, (tt, (tt, (refl, (tt, (tt, (refl, (tt, (tt, (tt, (refl, (tt, (tt, (refl, (tt, (tt, (refl, (tt, (tt, (refl, tt))))))))))))))))))))))))))))))))))))));
+            runs =
+                run_on plan commands (opening plan scope) (take 27 acts) (drop 27 acts) (opens_counting 1 commands scope.reads)
+                (tt, (refl, (tt, (tt, (refl, (tt, (tt, (refl, (tt, (tt, (refl, tt)))))))))));
             lines = record { ids = tt; good = tt };
             none = λ h. h;
             shown = subst (AreShownAs counting before runs) (sym parts_are) (shown_are, refl, (refl, refl, tt));
-            possible = (((tt, (tt, (tt, (tt, (tt, (tt, (tt, (tt, (tt, (tt, (tt, (tt, (tt, (tt, (tt, (tt, (tt, (tt, (tt, (tt, (tt, (tt, (tt, (tt, tt)))))))))))))))))))))))), (tt, (tt, (tt, (tt, (tt, ((8, [], refl), (tt, (tt, (tt, (tt, ((9, [], refl), (tt, (tt, (tt, (tt, ((10, [], refl), tt))))))))))))))))), ((tt, refl), tt));
+            possible = ((units 24, (tt, (tt, (tt, (tt, (tt, ((8, [], refl), (tt, (tt, (tt, (tt, ((9, [], refl), (tt, (tt, (tt, (tt, ((10, [], refl), tt))))))))))))))))), ((tt, refl), tt));
           };
       records = refl;
       chained = all_chained;

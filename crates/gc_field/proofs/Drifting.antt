@@ -12,11 +12,11 @@ use Rattle.gc_field.specs.Begin.{begins, leaves, none_under_way, turned}
 use Rattle.gc_field.specs.Begun.{WasMadeOn}
 use Rattle.gc_field.specs.Drifting.{IsAnsweredByDrifting, acts, answer, begun, commands, drifting, moves, plan, runs, scope, turns}
 use Rattle.gc_station.specs.Parts.{parts_of}
-use Rattle.gc_station.specs.Standing.{opening}
+use Rattle.gc_station.specs.Standing.{after_all, opening}
 use Rattle.gc_field.specs.Field.{seen}
 use Rattle.gc_field.specs.Shown.{AreShownAs, shown}
 use Rattle.gc_station.specs.Parts as part
-use Rattle.gc_field.proofs.Witness.{asked_each}
+use Rattle.gc_field.proofs.Witness.{asked_each, one_part, run_on, units}
 
 true_is_not : true ≡ false → ⊥
 true_is_not e = cc
@@ -37,7 +37,7 @@ was_made : WasMadeOn WINDOW drifting (leaves (turned drifting turns (begins (non
 unfolding header_at reply_at digits
 was_made = record { front = take 11 moves; later = drop 12 moves; split = refl; id = 1; rest = []; reaches = refl; executed = refl; reply = refl }
 
-parts_are : parts_of plan commands (opening plan scope) acts ≡ record { turns = part.Asks ∷ part.Asks ∷ asked_each begun; steps = seen moves; marks = Some (record { cycle = 1; place = 0; sent = 220 }) ∷ Some (record { cycle = 1; place = 1; sent = 320 }) ∷ [] } ∷ part.nothing ∷ []
+parts_are : parts_of plan commands (opening plan scope) acts ≡ one_part (part.Asks ∷ part.Asks ∷ asked_each begun) (seen moves) ((0, 220) ∷ (1, 320) ∷ [])
 unfolding header_at reply_at digits
 parts_are = refl
 
@@ -52,11 +52,22 @@ answered =
       is = is;
       field =
           record {
-            runs = (tt, (refl, (tt, (refl, (tt, (tt, (refl, (tt, (tt, (refl, (tt, (tt, (tt, (refl, (tt, (refl, (tt, (tt, (refl, (tt, (tt, (refl, (tt, (tt, (refl, (tt, (tt, (refl, (tt, (tt, (refl, (tt, (tt, (refl, (tt, (tt, (refl, (tt, (tt, (tt, (refl, (tt, (tt, (refl, (tt, (tt, (refl, (tt, (tt, (tt, (refl, (tt, (tt, (tt, (refl, tt)))))))))))))))))))))))))))))))))))))))))))))))))))))));
+            runs =
+                run_on plan commands (opening plan scope) (take 15 acts) (drop 15 acts)
+                (tt, (refl, (tt, (refl, (tt, (tt, (refl, (tt, (tt, (refl, (tt, (tt, (tt, (refl, (tt, tt)))))))))))))))
+                (run_on plan commands (after_all plan commands (opening plan scope) (take 15 acts)) (take 24 (drop 15 acts)) (drop 39 acts)
+                (refl, (tt, (tt, (refl, (tt, (tt, (refl, (tt, (tt, (refl, (tt, (tt, (refl, (tt, (tt, (refl, (tt, (tt, (refl, (tt, (tt, (refl, (tt, (tt, tt))))))))))))))))))))))))
+                (tt, (refl, (tt, (tt, (refl, (tt, (tt, (refl, (tt, (tt, (tt, (refl, (tt, (tt, (tt, (refl, tt)))))))))))))))));
             lines = record { ids = tt; good = tt };
             none = λ h. h;
             shown = subst (AreShownAs drifting (none_under_way 5) runs) (sym parts_are) (shown_are, refl, (refl, refl, tt));
-            possible = (((tt, (tt, (tt, (tt, (tt, ((tt, refl), (tt, (tt, (tt, (tt, (tt, (tt, (tt, (tt, (tt, (tt, (tt, (tt, (tt, (tt, (tt, (tt, (tt, (tt, (tt, (tt, (tt, (tt, (tt, (tt, tt)))))))))))))))))))))))))))))), (tt, (tt, (tt, (tt, (tt, (tt, ((tt, refl), (tt, (tt, (tt, ((tt, refl), (tt, (tt, (tt, (tt, (tt, (tt, ((9, [], refl), tt))))))))))))))))))), ((tt, refl), tt));
+            possible = (
+              (
+                (tt, (tt, (tt, (tt, (tt, ((tt, refl), units 24)))))),
+                (tt, (tt, (tt, (tt, (tt, (tt, ((tt, refl), (tt, (tt, (tt, ((tt, refl), (tt, (tt, (tt, (tt, (tt, (tt, ((9, [], refl), tt)))))))))))))))))),
+              ),
+              ((tt, refl), tt),
+            );
           };
       over = refl;
       records = refl;

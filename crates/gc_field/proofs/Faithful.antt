@@ -1,9 +1,8 @@
 -- The law, from its parts.
-use Rattle.std.proofs.Common.{◌≡◌, ℕ, ◌+◌, ◌<◌, ◌≤◌, inl, inr, false, List, ◌∷◌, Option, Some, sym, ◌∙◌, ap, subst, arith, map, ◌++◌}
-use Rattle.std.specs.Prelude.{slice_get}
+use Rattle.std.proofs.Common.{◌≡◌, ℕ, ◌≤◌, false, List, ◌∷◌, Option, sym, ◌∙◌, ap, subst, arith, map, ◌++◌}
 use Rattle.gc_catalogue.specs.declared.call.Call.{Call}
 use Rattle.gc_client.specs.OneForOne.{begun, course, of_settled, of_pending}
-use Rattle.gc_client.specs.Rule.{Settlement, Answered, Late, heard}
+use Rattle.gc_client.specs.Rule.{heard}
 use Rattle.gc_client.proofs.OneForOne.{one_for_one}
 use Rattle.gc_world.specs.Clients.{by_ids, by_numbers, ids_open, numbers_open}
 use Rattle.gc_instrument.specs.State.{KeptReply}
@@ -17,42 +16,18 @@ use Rattle.gc_field.specs.Field.{Move, OnLine, moved, ArePossible, IsFirstAlone,
 use Rattle.gc_field.specs.Laws.{IsFaithful}
 use Rattle.gc_field.specs.Made.{WasMadeOn}
 use Rattle.gc_field.specs.Instrument.{IsAnInstrument}
-use Rattle.gc_field.proofs.Answered.{AllSo, IsSo, all_so_get}
-use Rattle.gc_field.proofs.Moving.{both_all, both_open, first_reply, Vouches, IsVouchedFor, AreOn, vouched_at}
+use Rattle.gc_field.proofs.Moving.{both_all, both_open, first_reply, IsVouchedFor, AreOn, vouched_at, vouched_of, late_of}
 use Rattle.gc_field.proofs.Instruments.{exchange_of}
 use Rattle.gc_field.proofs.Possible.{possible_front}
 use Rattle.gc_field.proofs.Seen.{same_all, same_open}
-use Rattle.gc_field.proofs.Vouched.{IsVouched}
 
 module _ {State : Type 0} (ends : Ends State) (same_heard : (line : List ℕ) → ends.heard line ≡ heard line) (Good : State → Type 0) (kept : State → Option KeptReply) (keeper : IsAnInstrument ends Good kept) (width : ℕ) (narrow : width ≤ 7) where
   abbrev ex : IsExchange ends Good
   ex = exchange_of ends Good kept keeper
 
-  -- what is vouched for at a place beyond the first
-  vouched_of : (M : ℕ → Call → List ℕ → Type 0) (w : Wire State) (m : ℕ) (s : Settlement) (line : List ℕ) → 0 < m → AllSo (Vouches width narrow ends Good ex kept keeper 1 (omega arith) M w) 0 w.settled → slice_get w.settled m ≡ Some s → s.outcome ≡ Answered line
-      → IsVouched width narrow ends Good ex kept keeper 1 M w.sent w.executed w.made m line
-  vouched_of M w m s line gt all e answered =
-      let P = Vouches width narrow ends Good ex kept keeper 1 (omega arith) M w in
-      let i : 0 + m ≡ m = omega arith in
-      let so : P m line = subst (λ o. IsSo P m o) answered (subst (λ k. IsSo P k s.outcome) i (all_so_get P 0 w.settled m s all e)) in
-      elim so [
-        | inl l ↦ absurd (omega (arith, l, gt))
-        | inr v ↦ v
-      ]
-
-  late_of : (M : ℕ → Call → List ℕ → Type 0) (w : Wire State) (m : ℕ) (s : Settlement) → 0 < m → AllSo (Vouches width narrow ends Good ex kept keeper 1 (omega arith) M w) 0 w.settled → slice_get w.settled m ≡ Some s → s.outcome ≡ Late
-      → (line : List ℕ) × IsVouched width narrow ends Good ex kept keeper 1 M w.sent w.executed w.made m line
-  late_of M w m s gt all e late =
-      let P = Vouches width narrow ends Good ex kept keeper 1 (omega arith) M w in
-      let i : 0 + m ≡ m = omega arith in
-      let so : (line : List ℕ) × P m line = subst (λ o. IsSo P m o) late (subst (λ k. IsSo P k s.outcome) i (all_so_get P 0 w.settled m s all e)) in
-      elim so.1 [
-        | inl l ↦ absurd (omega (arith, l, gt))
-        | inr v ↦ (so.0, v)
-      ]
-
   -- the line of a request that is executed was made on executing it: with the numbers the wire is the same
-  made_here : (state : State) → Good state → (ms : List (Move State)) → ArePossible ends Good kept (by_ids width ends) ms (ids_open state) → AreOn width narrow ends Good ex kept keeper 1 (omega arith) (λ n call line. WasMadeOn width ends state ms n call line) ms (numbers_open state)
+  made_here : (state : State) → Good state → (ms : List (Move State)) → ArePossible ends Good kept (by_ids width ends) ms (ids_open state)
+      → AreOn width narrow ends Good ex kept keeper 1 (omega arith) (λ n call line. WasMadeOn width ends state ms n call line) ms (numbers_open state)
   made_here state good ms p front later e x rest q exe =
       let p' = possible_front width ends Good kept front (OnLine Up_deliver ∷ later) (ids_open state) (subst (λ l. ArePossible ends Good kept (by_ids width ends) l (ids_open state)) e p) in
       let same : (moved ends (by_ids width ends) front (ids_open state)).wire ≡ (moved ends (by_numbers width) front (numbers_open state)).wire =
@@ -69,7 +44,8 @@ module _ {State : Type 0} (ends : Ends State) (same_heard : (line : List ℕ) �
         reply = ap (λ t. (ends.handed t x.line.id x.line.call).reply) (sym stands);
       }
 
-  pub faithful : (state : State) → Good state → (ms : List (Move State)) → ArePossible ends Good kept (by_ids width ends) ms (ids_open state) → IsFirstAlone false ms → IsFaithful width ends state ms Good kept
+  pub faithful : (state : State) → Good state → (ms : List (Move State)) → ArePossible ends Good kept (by_ids width ends) ms (ids_open state) → IsFirstAlone false ms
+      → IsFaithful width ends state ms Good kept
   faithful state good ms p l =
       let a = moved ends (by_ids width ends) ms (ids_open state) in
       let b = moved ends (by_numbers width) ms (numbers_open state) in
@@ -78,26 +54,31 @@ module _ {State : Type 0} (ends : Ends State) (same_heard : (line : List ℕ) �
       let one = same_all width ends same_heard Good kept ms begun (ids_open state) p (same_open width ends same_heard Good kept state) in
       let x = course width begun (seen ms) in
       let parts : map of_settled a.wire.settled ++ map of_pending a.client.waiting ≡ map of_sent a.wire.sent =
-      ap (λ l. map of_settled l ++ map of_pending a.client.waiting) (sym one.settled) ∙ ap (λ (c : _). map of_settled x.settlements ++ map of_pending c.waiting) (sym one.client) ∙ one_for_one width (seen ms) ∙ one.sent in
+      ap (λ l. map of_settled l ++ map of_pending a.client.waiting) (sym one.settled)
+      ∙ ap (λ (c : _). map of_settled x.settlements ++ map of_pending c.waiting) (sym one.client)
+      ∙ one_for_one width (seen ms)
+      ∙ one.sent in
       let pairs = settled.one_for_one a.wire.settled a.client.waiting a.wire.sent parts in
       let M : ℕ → Call → List ℕ → Type 0 = λ n call line. WasMadeOn width ends state ms n call line in
       let all = subst (λ (w : Wire State). IsVouchedFor width narrow ends Good ex kept keeper 1 (omega arith) M w) (sym same)
       (vouched_at width narrow ends Good ex kept keeper 1 (omega arith) M ms state good p l (made_here state good ms p)) in
+      let vouched = vouched_of width narrow ends Good ex kept keeper 1 (omega arith) M a.wire in
+      let vouched_late = late_of width narrow ends Good ex kept keeper 1 (omega arith) M a.wire in
       record {
         settled = one.settled;
         stands = one.client;
         accounted = parts;
         one_for_one = pairs;
         booked = λ m s gt e bytes answered.
-            let v = vouched_of M a.wire m s bytes gt all.answers e answered in
+            let v = vouched m s bytes (omega (arith, gt)) all.answers e answered in
             let right = (pairs.same m s v.answer.request e v.answer.found).1 in
             (has_at _ a.wire.made v.among, subst (λ call. IsReplyTo ends Good call bytes) (sym right) v.answer.reply);
-        executed = λ m s bytes gt e answered. let v = vouched_of M a.wire m s bytes gt all.answers e answered in has_at m a.wire.executed v.acted;
+        executed = λ m s bytes gt e answered. let v = vouched m s bytes (omega (arith, gt)) all.answers e answered in has_at m a.wire.executed v.acted;
         made_on = λ m s bytes gt e answered.
-            let v = vouched_of M a.wire m s bytes gt all.answers e answered in
+            let v = vouched m s bytes (omega (arith, gt)) all.answers e answered in
             subst (λ call. M m call bytes) (sym (pairs.same m s v.answer.request e v.answer.found).1) v.on;
         late = λ m s gt e late.
-            let v = late_of M a.wire m s gt all.answers e late in
+            let v = vouched_late m s (omega (arith, gt)) all.answers e late in
             (v.0, subst (λ call. M m call v.0) (sym (pairs.same m s v.1.answer.request e v.1.answer.found).1) v.1.on);
         in_order = all.order;
         once = all.once;

@@ -135,9 +135,6 @@ above_id (Some i) = (lit< tt, (omega arith, tt))
 abbrev pub body : ℕ → Call → List ℕ
 body id call = 82 ∷ 49 ∷ 81 ∷ 44 ∷ (decimal (call_fields call).number ++ (id_text (Some id) ++ 58 ∷ params_of (call_fields call).values))
 
-line_is : (id : ℕ) (call : Call) → request_line (Some id) call ≡ 37 ∷ body id call
-line_is id call = refl
-
 pub above_body : (id : ℕ) (call : Call) → IsFitting call → AreAbove (body id call)
 above_body id call h =
     let n = (call_fields call).number in (

@@ -1,5 +1,5 @@
 -- A run with a late record, in the field, computed.
-use Rattle.std.proofs.Common.{◌≡◌, [], ◌∷◌, Some, refl, sym, subst}
+use Rattle.std.proofs.Common.{◌≡◌, [], ◌∷◌, refl, sym, subst}
 use Rattle.std.specs.Prelude.{take, drop}
 use Rattle.std.specs.Fmt.{digits}
 use Rattle.gc_lines.specs.Readers.{header_at, reply_at}
@@ -10,8 +10,8 @@ use Rattle.gc_instrument.specs.Replying.{handed}
 use Rattle.gc_world.specs.Clients.{ends}
 use Rattle.gc_field.specs.LateAnswer.{IsLateInField, acts, answer, before, commands, from, late, moves, runs}
 use Rattle.gc_field.specs.Begun.{WasMadeOn}
-use Rattle.gc_field.proofs.Witness.{asked_each, fits}
-use Rattle.gc_station.specs.Parts.{nothing, parts_of}
+use Rattle.gc_field.proofs.Witness.{asked_each, fits, one_part, opens, run_on, units}
+use Rattle.gc_station.specs.Parts.{parts_of}
 use Rattle.gc_station.specs.Standing.{opening}
 use Rattle.gc_field.specs.Field.{seen}
 use Rattle.gc_field.specs.Shown.{AreShownAs, shown}
@@ -26,7 +26,7 @@ answer_made : WasMadeOn WINDOW ends from moves 9 InstrumentNo answer
 unfolding header_at reply_at handed exec digits
 answer_made = record { front = take 9 moves; later = drop 10 moves; split = refl; id = 1; rest = []; reaches = refl; executed = refl; reply = refl }
 
-parts_are : parts_of plan commands (opening plan scope) acts ≡ record { turns = asked_each replies; steps = seen moves; marks = Some (record { cycle = 1; place = 0; sent = 15 }) ∷ Some (record { cycle = 1; place = 1; sent = 115 }) ∷ [] } ∷ nothing ∷ []
+parts_are : parts_of plan commands (opening plan scope) acts ≡ one_part (asked_each replies) (seen moves) ((0, 15) ∷ (1, 115) ∷ [])
 unfolding header_at reply_at digits
 parts_are = refl
 
@@ -40,11 +40,13 @@ come_late =
     record {
       field =
           record {
-            runs = (tt, (refl, (tt, (refl, (tt, (tt, (refl, (tt, (tt, (refl, (tt, (tt, (refl, (tt, (tt, (refl, (tt, (tt, (refl, (tt, (tt, (refl, (tt, (tt, (refl, (tt, (tt, (tt, (refl, (tt, (tt, (refl, (tt, (tt, (tt, (refl, tt))))))))))))))))))))))))))))))))))));
+            runs =
+                run_on plan commands (opening plan scope) (take 27 acts) (drop 27 acts) (opens 1 commands scope.reads)
+                (tt, (refl, (tt, (tt, (refl, (tt, (tt, (tt, (refl, tt)))))))));
             lines = record { ids = tt; good = fits };
             none = λ h. h;
             shown = subst (AreShownAs ends before runs) (sym parts_are) (shown_are, refl, (refl, refl, tt));
-            possible = (((tt, (tt, (tt, (tt, (tt, (tt, (tt, (tt, (tt, (tt, (tt, (tt, (tt, (tt, (tt, (tt, (tt, (tt, (tt, (tt, (tt, (tt, (tt, (tt, tt)))))))))))))))))))))))), (tt, (tt, (tt, (tt, (tt, (tt, (tt, (tt, ((8, [], refl), (tt, (tt, ((9, [], refl), tt))))))))))))), ((tt, refl), tt));
+            possible = ((units 24, (tt, (tt, (tt, (tt, (tt, (tt, (tt, (tt, ((8, [], refl), (tt, (tt, ((9, [], refl), tt))))))))))))), ((tt, refl), tt));
           };
       over = refl;
       records = refl;

@@ -8,7 +8,6 @@ pub mod Possible
 pub mod Seen
 pub mod Moving
 pub mod Faithful
-pub mod Stretches
 pub mod Alone
 pub mod Meaning
 pub mod Waits
@@ -42,3 +41,4 @@ pub mod Needed
 pub mod Drifting
 pub mod CountingChain
 pub mod LateAnswer
+pub mod BeginsAnew

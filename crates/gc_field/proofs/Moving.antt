@@ -1,10 +1,11 @@
 -- Over any moves the run by ids is the run by numbers, and each reply is its own request's.
 use Rattle.std.proofs.Common.{◌≡◌, ℕ, ◌+◌, ◌-◌, ◌%◌, ◌<◌, ◌≤◌, ◌⊎◌, inl, inr, Bool, true, false, List, [], ◌∷◌, ◌++◌, length, drop, Option, Some, refl, sym, ◌∙◌, ap, subst, arith, ltb, eqb}
+use Rattle.std.specs.Prelude.{slice_get}
 use Rattle.std.proofs.lemmas.List.{length_push}
 use Rattle.std.proofs.lemmas.Bool.{le-ltb}
 use Rattle.gc_catalogue.specs.declared.call.Call.{Call}
 use Rattle.gc_catalogue.specs.Texts.{request_line}
-use Rattle.gc_client.specs.Rule.{ById, settle}
+use Rattle.gc_client.specs.Rule.{ById, Settlement, Answered, Late, settle}
 use Rattle.gc_instrument.specs.State.{KeptReply}
 use Rattle.gc_world.specs.Clients.{ByNumber, by_ids, by_numbers, ids_open, numbers_open, number_send, number_reply}
 use Rattle.gc_world.specs.Exchange.{IsExchange}
@@ -17,10 +18,10 @@ use Rattle.gc_world.proofs.Rows.{each_append, each_more, each_without, each_doub
 use Rattle.gc_world.proofs.Sound.{IsGoing, Sound, sound_step, sound_open}
 use Rattle.gc_field.specs.Field.{Move, Sends, Tells, Comes, Foreign, OnLine, Anew, Changes, Joins, IsOfLine, moves, moved, IsPossible, ArePossible, IsFirstAlone}
 use Rattle.gc_field.specs.Instrument.{IsAnInstrument, KeepsItsReply}
-use Rattle.gc_field.proofs.Answered.{AllSo}
+use Rattle.gc_field.proofs.Answered.{AllSo, IsSo, all_so_get}
 use Rattle.gc_field.specs.Once.{ActsOnce, IsInOrder}
 use Rattle.gc_field.proofs.Once.{IsClimbing, once_few, climbing_first, order_few, ordered_first}
-use Rattle.gc_field.proofs.Vouched.{Vouched, kept_one, True, IsOn, true_requested, true_down, true_line, true_started, true_changed}
+use Rattle.gc_field.proofs.Vouched.{IsVouched, Vouched, kept_one, True, IsOn, true_requested, true_down, true_line, true_started, true_changed}
 
 module _ {State : Type 0} (width : ℕ) (narrow : width ≤ 7) (ends : Ends State) (Good : State → Type 0) (ex : IsExchange ends Good) (kept : State → Option KeptReply) where
   -- the two worlds agree, and the line is as it has to be
@@ -29,7 +30,18 @@ module _ {State : Type 0} (width : ℕ) (narrow : width ≤ 7) (ends : Ends Stat
     pub sound : Sound width ends Good b
 
   pub sound_anew : (b : World ByNumber State) → Sound width ends Good b → Sound width ends Good (on_wire b (started ends b.wire true))
-  sound_anew b h = record { good = ex.restart_good b.wire.state h.good; counted = h.counted; booked = h.booked; begun = h.begun; within = h.within; few = h.few; order = h.order; going = h.going; coming = h.coming }
+  sound_anew b h =
+      record {
+        good = ex.restart_good b.wire.state h.good;
+        counted = h.counted;
+        booked = h.booked;
+        begun = h.begun;
+        within = h.within;
+        few = h.few;
+        order = h.order;
+        going = h.going;
+        coming = h.coming;
+      }
 
   both_step : (a : World ById State) (b : World ByNumber State) (step : Step) → Both a b → Both (happens ends (by_ids width ends) a step) (happens ends (by_numbers width) b step)
   both_step a b step h = record { agree = agrees width narrow ends Good a b step h.sound h.agree; sound = sound_step width ends Good ex b step h.sound }
@@ -37,7 +49,8 @@ module _ {State : Type 0} (width : ℕ) (narrow : width ≤ 7) (ends : Ends Stat
   pub sound_changed : (b : World ByNumber State) (state : State) → Good state → Sound width ends Good b → Sound width ends Good (on_wire b (record b.wire { state = state }))
   sound_changed b state good h = record { good = good; counted = h.counted; booked = h.booked; begun = h.begun; within = h.within; few = h.few; order = h.order; going = h.going; coming = h.coming }
 
-  pub both_move : (a : World ById State) (b : World ByNumber State) (m : Move State) → IsPossible Good kept a m → Both a b → Both (moves ends (by_ids width ends) a m) (moves ends (by_numbers width) b m)
+  pub both_move : (a : World ById State) (b : World ByNumber State) (m : Move State) → IsPossible Good kept a m → Both a b
+      → Both (moves ends (by_ids width ends) a m) (moves ends (by_numbers width) b m)
   both_move a b (Sends target call deadline) p h = both_step a b (Send target call deadline) h
   both_move a b (Tells now) p h = both_step a b (Expire now) h
   both_move a b (Comes line) p h = both_step a b Down_deliver h
@@ -49,7 +62,8 @@ module _ {State : Type 0} (width : ℕ) (narrow : width ≤ 7) (ends : Ends Stat
       record { agree = record { wire = ap (λ (w : Wire State). record w { state = state }) h.agree.wire; client = h.agree.client }; sound = sound_changed b state p.0 h.sound }
   both_move a b (Joins line) p h = absurd p
 
-  pub both_all : (ms : List (Move State)) (a : World ById State) (b : World ByNumber State) → ArePossible ends Good kept (by_ids width ends) ms a → Both a b → Both (moved ends (by_ids width ends) ms a) (moved ends (by_numbers width) ms b)
+  pub both_all : (ms : List (Move State)) (a : World ById State) (b : World ByNumber State) → ArePossible ends Good kept (by_ids width ends) ms a → Both a b
+      → Both (moved ends (by_ids width ends) ms a) (moved ends (by_numbers width) ms b)
   both_all [] a b p h = h
   both_all (m ∷ ms) a b p h = both_all ms _ _ p.1 (both_move a b m p.0 h)
 
@@ -64,7 +78,8 @@ module _ {State : Type 0} (width : ℕ) (narrow : width ≤ 7) (ends : Ends Stat
       ap (λ q. (down_delivered (by_numbers width) b q).wire.settled) e
       ∙ ap (λ t. b.wire.settled ++ (number_reply b.client (record { number = n; line = line }) t).settlements) (le-ltb n b.client.count le)
 
-  pub first_reply : (a : World ById State) (b : World ByNumber State) (n : ℕ) (line : List ℕ) (rest : List (Numbered (List ℕ))) → Both a b → a.wire.down ≡ record { number = n; line = line } ∷ rest → length a.wire.settled ≤ n →
+  pub first_reply : (a : World ById State) (b : World ByNumber State) (n : ℕ) (line : List ℕ) (rest : List (Numbered (List ℕ))) → Both a b
+      → a.wire.down ≡ record { number = n; line = line } ∷ rest → length a.wire.settled ≤ n →
       (moves ends (by_ids width ends) a (Comes line)).wire.settled ≡ a.wire.settled ++ settle (n - length a.wire.settled) line a.client.waiting
   first_reply a b n line rest h e le =
       let same : a.wire ≡ b.wire = h.agree.wire in
@@ -89,17 +104,42 @@ module _ {State : Type 0} (width : ℕ) (narrow : width ≤ 7) (ends : Ends Stat
     pub order : IsInOrder w.executed
     pub once : KeepsItsReply ends Good kept → ActsOnce w.executed w.starts
 
+  -- what is vouched for of an answer, and of a late reply, from request low on
+  pub vouched_of :
+      (w : Wire State) (m : ℕ) (s : Settlement) (line : List ℕ) → low ≤ m → AllSo (Vouches w) 0 w.settled → slice_get w.settled m ≡ Some s → s.outcome ≡ Answered line
+      → IsVouched width narrow ends Good ex kept keeper low M w.sent w.executed w.made m line
+  vouched_of w m s line ge all e answered =
+      let i : 0 + m ≡ m = omega arith in
+      let so : Vouches w m line = subst (λ o. IsSo (Vouches w) m o) answered (subst (λ k. IsSo (Vouches w) k s.outcome) i (all_so_get (Vouches w) 0 w.settled m s all e)) in
+      elim so [
+        | inl l ↦ absurd (omega (arith, l, ge))
+        | inr v ↦ v
+      ]
+
+  pub late_of :
+      (w : Wire State) (m : ℕ) (s : Settlement) → low ≤ m → AllSo (Vouches w) 0 w.settled → slice_get w.settled m ≡ Some s → s.outcome ≡ Late
+      → (line : List ℕ) × IsVouched width narrow ends Good ex kept keeper low M w.sent w.executed w.made m line
+  late_of w m s ge all e late =
+      let i : 0 + m ≡ m = omega arith in
+      let so : (line : List ℕ) × Vouches w m line = subst (λ o. IsSo (Vouches w) m o) late (subst (λ k. IsSo (Vouches w) k s.outcome) i (all_so_get (Vouches w) 0 w.settled m s all e)) in
+      elim so.1 [
+        | inl l ↦ absurd (omega (arith, l, ge))
+        | inr v ↦ (so.0, v)
+      ]
+
   -- where a request reaches the instrument at one of these moves, and is executed, M is so of its reply
   abbrev pub AreOn : List (Move State) → World ByNumber State → Type 0
   AreOn ms b =
-      (front later : List (Move State)) → ms ≡ front ++ OnLine Up_deliver ∷ later → (x : Numbered Request) (rest : List (Numbered Request)) → (moved ends (by_numbers width) front b).wire.up ≡ x ∷ rest →
+      (front later : List (Move State)) → ms ≡ front ++ OnLine Up_deliver ∷ later → (x : Numbered Request) (rest : List (Numbered Request)) →
+      (moved ends (by_numbers width) front b).wire.up ≡ x ∷ rest →
       IsOn width narrow ends Good ex kept keeper low M (moved ends (by_numbers width) front b) x
 
   -- the same of the moves behind the first
   are_on_behind : (m : Move State) (ms : List (Move State)) (b : World ByNumber State) → AreOn (m ∷ ms) b → AreOn ms (moves ends (by_numbers width) b m)
   are_on_behind m ms b on = λ front later e. on (m ∷ front) later (ap (λ l. m ∷ l) e)
 
-  trusted_move : (m : Move State) (ms : List (Move State)) (a : World ById State) (b : World ByNumber State) → Both width narrow ends Good ex kept a b → IsPossible Good kept a m → AreOn (m ∷ ms) b → Sound width ends Good b → Trusted b → Trusted (moves ends (by_numbers width) b m)
+  trusted_move : (m : Move State) (ms : List (Move State)) (a : World ById State) (b : World ByNumber State) → Both width narrow ends Good ex kept a b → IsPossible Good kept a m
+      → AreOn (m ∷ ms) b → Sound width ends Good b → Trusted b → Trusted (moves ends (by_numbers width) b m)
   trusted_move (Sends target call deadline) ms a b both p on s t =
       true_requested width narrow ends Good ex kept keeper low M b target call deadline ((by_numbers width).send b.client target call deadline) refl t
   trusted_move (Tells now) ms a b both p on s t = t
@@ -112,7 +152,8 @@ module _ {State : Type 0} (width : ℕ) (narrow : width ≤ 7) (ends : Ends Stat
       true_changed width narrow ends Good ex kept keeper low M b state (p.1 ∙ ap (λ (w : Wire State). kept w.state) both.agree.wire) t
   trusted_move (Joins line) ms a b both p on s t = absurd p
 
-  pub whole_all : (ms : List (Move State)) (a : World ById State) (b : World ByNumber State) → Both width narrow ends Good ex kept a b → ArePossible ends Good kept (by_ids width ends) ms a → AreOn ms b → Trusted b → IsVouchedFor (moved ends (by_numbers width) ms b).wire
+  pub whole_all : (ms : List (Move State)) (a : World ById State) (b : World ByNumber State) → Both width narrow ends Good ex kept a b
+      → ArePossible ends Good kept (by_ids width ends) ms a → AreOn ms b → Trusted b → IsVouchedFor (moved ends (by_numbers width) ms b).wire
   whole_all [] a b h p on t = record { answers = t.answers; order = t.order.order; once = λ keeps. (t.once keeps).once }
   whole_all (m ∷ ms) a b h p on t =
       whole_all ms _ _ (both_move width narrow ends Good ex kept a b m p.0 h) p.1 (are_on_behind m ms b on) (trusted_move m ms a b h p.0 on h.sound t)
@@ -156,7 +197,9 @@ module _ {State : Type 0} (width : ℕ) (narrow : width ≤ 7) (ends : Ends Stat
           within = omega (arith, g.0.sent, s.counted);
           above = each_all (λ (y : Numbered Request). 1 ≤ y.number + 1) (λ y. omega arith) rest;
           below = subst (λ l. Each (λ (y : Numbered (List ℕ)). y.number < 1) (l ++ m ∷ [])) (sym f.down) (omega (arith, nought), tt);
-          holds = kept_one width narrow ends Good ex kept keeper low M P b.client.since 1 x.line.id hd.reply (kept hd.state) (omega (arith, f.since)) id (inl beyond) (keeper.keeps v.state x.line.id x.line.call s.good o.0.small);
+          holds =
+              kept_one width narrow ends Good ex kept keeper low M P b.client.since 1 x.line.id hd.reply (kept hd.state) (omega (arith, f.since)) id (inl beyond)
+              (keeper.keeps v.state x.line.id x.line.call s.good o.0.small);
           lines = o.1;
           coming = subst (λ l. Each (λ (y : Numbered (List ℕ)). P y.number y.line) (l ++ m ∷ [])) (sym f.down) (inl early, tt);
           answers = subst (λ l. AllSo P 0 l) (sym f.settled) tt;
@@ -196,7 +239,8 @@ module _ {State : Type 0} (width : ℕ) (narrow : width ≤ 7) (ends : Ends Stat
     fresh_line Nothing p = inl (record { since = f.since; count = f.count; down = f.down; executed = f.executed; settled = f.settled; sent = f.sent; lines = f.lines })
 
   -- the first request goes out, or is refused
-  fresh_sent : (b : World ByNumber State) (target : ℕ) (call : Call) (deadline : ℕ) (full : Bool) → IsFresh b false → IsFresh (requested b target call (number_send b.client target call deadline full)) true
+  fresh_sent : (b : World ByNumber State) (target : ℕ) (call : Call) (deadline : ℕ) (full : Bool) → IsFresh b false
+      → IsFresh (requested b target call (number_send b.client target call deadline full)) true
   fresh_sent b target call deadline true f = record { since = f.since; count = f.count; down = f.down; executed = f.executed; settled = f.settled; sent = omega (arith, f.sent); lines = f.lines }
   fresh_sent b target call deadline false f =
       let c = b.client in
@@ -209,16 +253,20 @@ module _ {State : Type 0} (width : ℕ) (narrow : width ≤ 7) (ends : Ends Stat
         executed = f.executed;
         settled = f.settled;
         sent = omega (arith, f.sent, length_push b.wire.sent r);
-        lines = each_append _ b.wire.up _ (each_more _ _ (of_more b.wire.sent (r ∷ [])) b.wire.up f.lines) (record { request = r; found = get_push b.wire.sent r; small = omega arith; call = refl; text = refl }, tt);
+        lines =
+            each_append _ b.wire.up _ (each_more _ _ (of_more b.wire.sent (r ∷ [])) b.wire.up f.lines)
+            (record { request = r; found = get_push b.wire.sent r; small = omega arith; call = refl; text = refl }, tt);
       }
 
-  nothing_down : (a : World ById State) (b : World ByNumber State) (out : Bool) (x : Numbered (List ℕ)) (rest : List (Numbered (List ℕ))) → Both width narrow ends Good ex kept a b → IsFresh b out → a.wire.down ≡ x ∷ rest → ⊥
+  nothing_down : (a : World ById State) (b : World ByNumber State) (out : Bool) (x : Numbered (List ℕ)) (rest : List (Numbered (List ℕ))) → Both width narrow ends Good ex kept a b
+      → IsFresh b out → a.wire.down ≡ x ∷ rest → ⊥
   nothing_down a b out x rest h f e =
       let none : [] ≡ x ∷ rest = sym f.down ∙ sym (ap (λ (w : Wire State). w.down) h.agree.wire) ∙ e in
       cc
 
   -- whatever it kept when the first request went out
-  pub early_all : (ms : List (Move State)) (out : Bool) (a : World ById State) (b : World ByNumber State) → Both width narrow ends Good ex kept a b → ArePossible ends Good kept (by_ids width ends) ms a → IsFirstAlone out ms → AreOn ms b → IsFresh b out → IsVouchedFor (moved ends (by_numbers width) ms b).wire
+  pub early_all : (ms : List (Move State)) (out : Bool) (a : World ById State) (b : World ByNumber State) → Both width narrow ends Good ex kept a b
+      → ArePossible ends Good kept (by_ids width ends) ms a → IsFirstAlone out ms → AreOn ms b → IsFresh b out → IsVouchedFor (moved ends (by_numbers width) ms b).wire
   early_all [] out a b h p l on f =
       record {
         answers = subst (λ s. AllSo (Vouches b.wire) 0 s) (sym f.settled) tt;
@@ -267,7 +315,8 @@ module _ {State : Type 0} (width : ℕ) (narrow : width ≤ 7) (ends : Ends Stat
       alone_changes false l = l
   early_all (Joins line ∷ ms) out a b h p l on f = absurd p.0
 
-  pub vouched_at : (ms : List (Move State)) (state : State) → Good state → ArePossible ends Good kept (by_ids width ends) ms (ids_open state) → IsFirstAlone false ms → AreOn ms (numbers_open state) → IsVouchedFor (moved ends (by_numbers width) ms (numbers_open state)).wire
+  pub vouched_at : (ms : List (Move State)) (state : State) → Good state → ArePossible ends Good kept (by_ids width ends) ms (ids_open state) → IsFirstAlone false ms
+      → AreOn ms (numbers_open state) → IsVouchedFor (moved ends (by_numbers width) ms (numbers_open state)).wire
   vouched_at ms state good p l on =
       early_all ms false (ids_open state) (numbers_open state) (both_open width narrow ends Good ex kept state good) p l on
       (record { since = refl; count = refl; down = refl; executed = refl; settled = refl; sent = omega arith; lines = tt })

@@ -1,25 +1,66 @@
 -- A run of one command, in the field.
-use Rattle.std.proofs.Common.{◌≡◌, inl, inr, ℕ, ◌<◌, List, [], ◌∷◌, Some, refl, sym, subst, arith, lit<}
+use Rattle.std.proofs.Common.{◌≡◌, inl, inr, ℕ, zero, suc, ◌<◌, List, [], ◌∷◌, ◌++◌, Some, refl, sym, subst, arith, lit<}
 use Rattle.std.proofs.lemmas.Int.{ints}
-use Rattle.std.specs.Prelude.{codes, take, drop}
+use Rattle.std.specs.Prelude.{codes, map, take, drop}
 use Rattle.std.specs.Fmt.{digits}
 use Rattle.gc_lines.specs.Readers.{header_at, reply_at}
 use Rattle.gc_values.specs.Text.{IsStringByte, IsText}
+use Rattle.gc_catalogue.specs.declared.answer.Reading.{Reading}
+use Rattle.gc_catalogue.specs.declared.call.Call.{Call}
 use Rattle.gc_catalogue.specs.declared.call.Call.TheVariants.{InstrumentNo}
 use Rattle.gc_client.specs.Beginning.{IsSubsequence, the_word}
 use Rattle.gc_client.specs.declared.window.TheConstants.{WINDOW}
+use Rattle.gc_client.specs.OneForOne.{Step}
 use Rattle.gc_instrument.specs.Execution.{exec}
 use Rattle.gc_instrument.specs.Replying.{handed}
 use Rattle.gc_instrument.specs.State.{IsFittingState, simulator_opening}
+use Rattle.gc_links.specs.Acts.{Act}
+use Rattle.gc_texts.specs.declared.tasks.Task.{Task}
+use Rattle.gc_station.specs.declared.plan.Plan.{Plan}
 use Rattle.gc_station.specs.Parts as part
-use Rattle.gc_station.specs.Parts.{nothing, parts_of}
-use Rattle.gc_station.specs.Standing.{opening}
+use Rattle.gc_station.specs.Parts.{Part, nothing, parts_of}
+use Rattle.gc_station.specs.Standing.{Runs, Standing, after, after_all, opening}
 use Rattle.gc_world.specs.Clients.{ends}
 use Rattle.gc_field.specs.Begin.{begins, leaves, turned}
 use Rattle.gc_field.specs.Begun.{WasMadeOn}
 use Rattle.gc_field.specs.Field.{seen}
 use Rattle.gc_field.specs.Shown.{AreShownAs, shown}
-use Rattle.gc_field.specs.Witness.{IsAnsweredInField, acts, answer, before, commands, moves, plan, replies, runs, scope, turns}
+use Rattle.gc_field.specs.Witness.{IsAnsweredInField, acts, answer, before, begun_with, commands, moves, plan, plan_of, replies, runs, scope, turns}
+
+-- What the runs share.
+
+-- facts that say nothing, so many and one more
+abbrev pub Units : ℕ → Type 0
+Units zero = Unit {0}
+Units (suc n) = Unit {0} × Units n
+
+pub units : (n : ℕ) → Units n
+units zero = tt
+units (suc n) = (tt, units n)
+
+-- acts go on
+pub run_on :
+    (p : Plan) (tasks : List Task) (s : Standing) (front later : List Act) → Runs p tasks s front → Runs p tasks (after_all p tasks s front) later
+    → Runs p tasks s (front ++ later)
+run_on p tasks s [] later h g = g
+run_on p tasks s (act ∷ front) later h g = (h.0, run_on p tasks (after p tasks s act) front later h.1 g)
+
+-- a connection is made and cleared, and all eight null procedures are answered by the simulator, whatever is to be asked
+pub opens :
+    (width : ℕ) (tasks : List Task) (reads : Call → List ℕ → Reading)
+    → Runs (plan_of width) tasks (opening (plan_of width) (record { turns = 100; reads = reads })) (begun_with replies [])
+unfolding header_at reply_at digits
+opens width tasks reads =
+    (tt, (refl, (tt, (refl, (tt, (tt, (refl, (tt, (tt, (refl, (tt, (tt, (refl, (tt, (tt, (refl, (tt, (tt, (refl, (tt, (tt, (refl, (tt, (tt, (refl, (tt, (tt, tt)))))))))))))))))))))))))))
+
+-- a part with requests of the first cycle, each by its place and by when it went out; and a run in one part, behind which nothing happens
+abbrev pub part_of : List part.Turn → List Step → List (ℕ × ℕ) → Part
+part_of turns steps sent = record { turns = turns; steps = steps; marks = map (λ x. Some (record { cycle = 1; place = x.0; sent = x.1 })) sent }
+
+abbrev pub one_part : List part.Turn → List Step → List (ℕ × ℕ) → List Part
+one_part turns steps sent = part_of turns steps sent ∷ nothing ∷ []
+
+-- The run of one command.
 
 -- bytes of a name
 above : (b : ℕ) → 34 < b → IsStringByte b
@@ -68,7 +109,7 @@ asked_each (line ∷ lines) = part.Asks ∷ part.Hears line ∷ asked_each lines
 abbrev all_turns : List part.Turn
 all_turns = part.Asks ∷ part.Hears (codes "%R1P,0,0:0,654321") ∷ part.Hears answer ∷ part.Hears (codes "%R1P,0,6:0") ∷ asked_each (drop 1 replies)
 
-parts_are : parts_of plan commands (opening plan scope) acts ≡ record { turns = all_turns; steps = seen moves; marks = Some (record { cycle = 1; place = 0; sent = 15 }) ∷ [] } ∷ nothing ∷ []
+parts_are : parts_of plan commands (opening plan scope) acts ≡ one_part all_turns (seen moves) ((0, 15) ∷ [])
 unfolding header_at reply_at digits
 parts_are = refl
 
@@ -82,11 +123,14 @@ answered =
     record {
       field =
           record {
-            runs = (tt, (refl, (tt, (refl, (tt, (tt, (tt, (tt, (refl, (tt, (tt, (refl, (tt, (tt, (refl, (tt, (tt, (refl, (tt, (tt, (refl, (tt, (tt, (refl, (tt, (tt, (refl, (tt, (tt, (tt, (refl, (tt, (tt, (refl, tt))))))))))))))))))))))))))))))))));
+            runs =
+                run_on plan commands (opening plan scope) (take 20 acts) (drop 20 acts)
+                (tt, (refl, (tt, (refl, (tt, (tt, (tt, (tt, (refl, (tt, (tt, (refl, (tt, (tt, (refl, (tt, (tt, (refl, (tt, (tt, tt))))))))))))))))))))
+                (refl, (tt, (tt, (refl, (tt, (tt, (refl, (tt, (tt, (tt, (refl, (tt, (tt, (refl, tt))))))))))))));
             lines = record { ids = (lit< tt, tt); good = fits };
             none = none_here;
             shown = subst (AreShownAs ends before runs) (sym parts_are) (shown_are, refl, (refl, refl, tt));
-            possible = (((tt, (tt, (tt, (tt, (tt, (tt, (tt, (tt, (tt, (tt, (tt, (tt, (tt, (tt, (tt, (tt, (tt, (tt, (tt, (tt, (tt, (tt, (tt, (tt, (tt, (tt, (tt, tt))))))))))))))))))))))))))), (tt, (tt, (tt, (tt, (tt, ((8, [], refl), tt))))))), ((tt, refl), tt));
+            possible = ((units 27, (tt, (tt, (tt, (tt, (tt, ((8, [], refl), tt))))))), ((tt, refl), tt));
           };
       over = refl;
       records = refl;

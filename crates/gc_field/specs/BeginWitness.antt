@@ -12,6 +12,7 @@ use Rattle.gc_field.specs.Begun.{WasMadeOn, behind, ids_begun, nulls_settled}
 use Rattle.gc_field.specs.Field as field
 use Rattle.gc_field.specs.Field.{Move, Sends, OnLine, ArePossible}
 use Rattle.gc_field.specs.Laws.{kept_of}
+use Rattle.gc_field.specs.Witness.{replies}
 
 -- Some runs.
 
@@ -73,9 +74,7 @@ abbrev pub with_the_word : UnderWay State
 with_the_word =
     record {
       up = [];
-      down =
-          codes "%R1P,0,6:0" ∷ codes "%R1P,0,5:0" ∷ codes "%R1P,0,4:0" ∷ codes "%R1P,0,3:0" ∷ codes "%R1P,0,2:0" ∷ codes "%R1P,0,1:0" ∷ codes "%R1P,0,0:0"
-          ∷ codes "%R1P,0,7:0" ∷ codes "%R1P,0,0:0,654321" ∷ [];
+      down = replies ++ codes "%R1P,0,0:0,654321" ∷ [];
       state = simulator_opening;
     }
 

@@ -53,9 +53,9 @@ commands =
     ∷ record { command = record { target = 7; call = reads_all }; deadline = 100; chained = true }
     ∷ []
 
--- at most fifty acts; what a reply says isn't looked at, but that it is a value
+-- at most a hundred acts; what a reply says isn't looked at, but that it is a value
 abbrev pub scope : Scope
-scope = record { turns = 50; reads = λ call line. Value (Long (pos 0)) }
+scope = record { turns = 100; reads = λ call line. Value (Long (pos 0)) }
 
 -- the simulator's replies to the three commands
 abbrev pub first : List ℕ

@@ -12,7 +12,6 @@ use Rattle.gc_client.specs.declared.window.TheConstants.{WINDOW}
 use Rattle.gc_client.specs.Rule.{heard}
 use Rattle.gc_texts.specs.declared.tasks.Task.{Task}
 use Rattle.gc_texts.specs.Endings as end
-use Rattle.gc_links.specs.declared.link.Moment.{Moment}
 use Rattle.gc_station.specs.declared.plan.Plan.{Plan}
 use Rattle.gc_links.specs.Acts.{Act, Told, Put, Gave, Silent, Broke, Closed, Opened}
 use Rattle.gc_station.specs.Progressing.{is_over}
@@ -26,7 +25,7 @@ use Rattle.gc_field.specs.Begun.{WasMadeOn}
 use Rattle.gc_field.specs.Field.{Move, Sends, Tells, Comes, OnLine, Anew, Changes}
 use Rattle.gc_field.specs.Instrument.{IsAnInstrument, AnyState, nothing}
 use Rattle.gc_field.specs.Runs.{IsInField}
-use Rattle.gc_field.specs.Witness.{asked, eight, exchanged}
+use Rattle.gc_field.specs.Witness.{asked, at, eight, exchanged}
 
 -- its state is what it measures, which it answers to whatever it is asked; behind a start that is 0
 abbrev pub drifting : Ends ℕ
@@ -49,13 +48,9 @@ commands =
     ∷ record { command = record { target = 8; call = InstrumentNo }; deadline = 100; chained = false }
     ∷ []
 
--- at most eighty acts; what a reply says is this, as that to the second command does
+-- at most a hundred acts; what a reply says is this, as that to the second command does
 abbrev pub scope : Scope
-scope = record { turns = 80; reads = λ call line. Value (Long (pos 31)) }
-
--- a moment, by either clock
-abbrev pub at : ℕ → Moment
-at now = record { elapsed = now; utc = now }
+scope = record { turns = 100; reads = λ call line. Value (Long (pos 31)) }
 
 -- the replies to the null procedures, and to the second command
 abbrev pub begun : List (List ℕ)

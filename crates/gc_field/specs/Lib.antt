@@ -5,7 +5,6 @@ pub mod Meaning
 pub mod Fronts
 pub mod Made
 pub mod Laws
-pub mod Stretches
 pub mod Alone
 pub mod Begin
 pub mod Begun
@@ -26,3 +25,4 @@ pub mod Needed
 pub mod Drifting
 pub mod CountingChain
 pub mod LateAnswer
+pub mod BeginsAnew

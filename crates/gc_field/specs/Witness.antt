@@ -25,17 +25,21 @@ use Rattle.gc_field.specs.Field.{Move, Sends, Tells, Comes, OnLine}
 use Rattle.gc_field.specs.Laws.{kept_of}
 use Rattle.gc_field.specs.Runs.{IsInField}
 
--- one at a time, given up after 100 ms, one cycle, quiet after 10, and one new try
+-- so many at a time, given up after 100 ms, one cycle, quiet after 10, and one new try
+abbrev pub plan_of : ℕ → Plan
+plan_of width = record { width = width; deadline = 100; every = 0; cycles = 1; quiet = 10; retries = 1 }
+
+-- one at a time
 abbrev pub plan : Plan
-plan = record { width = 1; deadline = 100; every = 0; cycles = 1; quiet = 10; retries = 1 }
+plan = plan_of 1
 
 -- a request for the instrument's number
 abbrev pub commands : List Task
 commands = record { command = record { target = 7; call = InstrumentNo }; deadline = 100; chained = false } ∷ []
 
--- at most fifty acts; what a reply says is this, as that to the command does
+-- at most a hundred acts; what a reply says is this, as that to the command does
 abbrev pub scope : Scope
-scope = record { turns = 50; reads = λ call line. Value (Long (pos 123456)) }
+scope = record { turns = 100; reads = λ call line. Value (Long (pos 123456)) }
 
 abbrev pub at : ℕ → Moment
 at now = record { elapsed = now; utc = now }

@@ -1,6 +1,7 @@
 //! What is proved of the field. Each function does nothing: its contract is the law.
 
 ghost use Rattle.gc_field.specs.Alone.{TwoAtOnceAreBookedWrong};
+ghost use Rattle.gc_field.specs.BeginsAnew.{IsAnsweredAnew};
 ghost use Rattle.gc_field.specs.Carried.{SimulatorsStationsAnswersAreTheirOwn, StationsAnswersAreTheirOwn};
 ghost use Rattle.gc_field.specs.ChainWitness.{IsPointedInField};
 ghost use Rattle.gc_field.specs.Chains.{ChainsAreExecuted};
@@ -16,12 +17,12 @@ ghost use Rattle.gc_field.specs.Needed.{IsAllNeeded};
 ghost use Rattle.gc_field.specs.Pointing.{ChainsAreMeasuredWhereTheyPointed, SimulatorHasItsEffect};
 ghost use Rattle.gc_field.specs.Runs.{RunsAreFaithful, SimulatorsRunsAreFaithful};
 ghost use Rattle.gc_field.specs.SecondExecution.{IsExecutedAgain};
-ghost use Rattle.gc_field.specs.Stretches.{StretchesAreFaithful, SimulatorsStretchesAreFaithful};
 ghost use Rattle.gc_field.specs.Witness.{SomeRunIsInField};
 
-/// For any instrument, and a client without a beginning, with nothing under way: over any number of connections, whenever it sends, each
-/// answer that it settles was made on executing that very request, but for the first one, which goes out alone; the instrument dealt with each that is late; executions keep the order of
-/// sending; and where the instrument keeps its reply, between two of its starts it executes each request at most once.
+/// For any instrument, and a client without a beginning, as that of `geocom ask`, with nothing under way: over any number of connections,
+/// whenever it sends, each answer that it settles was made on executing that very request, but for the first one, which goes out alone; the
+/// instrument dealt with each that is late; executions keep the order of sending; and where the instrument keeps its reply, between two of its
+/// starts it executes each request at most once.
 pub fn answers_are_their_own<State>()
     ensures { AnswersAreTheirOwn State }
 {}
@@ -29,12 +30,6 @@ pub fn answers_are_their_own<State>()
 /// For any instrument: of a station's acts once it has begun cleanly, whenever it sends, each answer is its own, from its first request on.
 pub fn stations_answers_are_their_own<State>()
     ensures { StationsAnswersAreTheirOwn State }
-{}
-
-/// `answers_are_their_own` of any sequence of steps of a client, with restarts among them: of each stretch between two restarts, and what is
-/// settled over all of them is what each settled, with what waited at each restart as lost.
-pub fn stretches_are_faithful<State>()
-    ensures { StretchesAreFaithful State }
 {}
 
 /// Of every run of a station, for any instrument, over any number of connections, with whatever the line does, and with an instrument
@@ -92,11 +87,6 @@ pub fn simulators_stations_answers_are_their_own()
     ensures { SimulatorsStationsAnswersAreTheirOwn }
 {}
 
-/// `stretches_are_faithful` of the simulator, in any state that fits.
-pub fn simulators_stretches_are_faithful()
-    ensures { SimulatorsStretchesAreFaithful }
-{}
-
 /// `runs_are_faithful` of the simulator, in any state that fits.
 pub fn simulators_runs_are_faithful()
     ensures { SimulatorsRunsAreFaithful }
@@ -129,8 +119,8 @@ pub fn a_lost_line_feed_is_booked_wrong()
     ensures { IsBookedJoined }
 {}
 
-/// Why a client without a beginning sends its first request alone: an instrument that keeps a reply with the id of the second one gives that, and it would
-/// be booked, with nothing executed: a line that was not made on executing its request.
+/// Why a client without a beginning sends its first request alone: an instrument that keeps a reply with the id of the second one gives that,
+/// and it would be booked, with nothing executed: a line that was not made on executing its request.
 pub fn two_at_once_are_booked_wrong()
     ensures { TwoAtOnceAreBookedWrong }
 {}
@@ -150,6 +140,12 @@ pub fn some_run_is_over_a_drifting_instrument()
 /// Some run has a late record: its command's reply comes behind the deadline, and was made on executing its request all the same.
 pub fn some_late_record_is_in_the_field()
     ensures { IsLateInField }
+{}
+
+/// Some run begins anew, on the same connection, where seven requests are given up: a request and a reply of these are under way then, each
+/// with an id that goes out again, and the command behind that has the answer that was made on executing its own request.
+pub fn some_run_begins_anew()
+    ensures { IsAnsweredAnew }
 {}
 
 /// Some run of a chain is such a run: it points the telescope, measures, and reads the angles and the distance there.

@@ -9,12 +9,14 @@ use Rattle.gc_instrument.specs.Execution.{exec}
 use Rattle.gc_instrument.specs.Replying.{handed}
 use Rattle.gc_instrument.specs.State.{IsFittingState, simulator_opening}
 use Rattle.gc_world.specs.Clients.{ends}
+use Rattle.gc_field.specs.CountingChain as chain
 use Rattle.gc_field.specs.CountingChain.{counting, kept_by}
 use Rattle.gc_field.specs.Instrument.{AnyState}
 use Rattle.gc_field.specs.Laws.{kept_of}
+use Rattle.gc_field.specs.Witness.{replies}
 use Rattle.gc_field.proofs.CountingChain.{counted}
 use Rattle.gc_field.proofs.Instruments.{simulator}
-use Rattle.gc_field.proofs.Witness.{fits}
+use Rattle.gc_field.proofs.Witness.{fits, units}
 use Rattle.geocom_c.specs.FieldWitness.{AreInField, SomeCallsAreInField, moves}
 
 number : IsCall 5003 [] InstrumentNo
@@ -25,10 +27,7 @@ not_alone : {A : Type 0} → (◌≡◌ {A = ℕ} 6 0 × A) ⊎ ⊥ → ⊥
 not_alone (inl f) = absurd (omega (arith, f.0))
 not_alone (inr f) = f
 
-any :
-    AreInField counting AnyState kept_by (record { count = 27; keeps = None })
-    (codes "%R1P,0,6:0,28" ∷ codes "%R1P,0,5:0,29" ∷ codes "%R1P,0,4:0,30" ∷ codes "%R1P,0,3:0,31" ∷ codes "%R1P,0,2:0,32" ∷ codes "%R1P,0,1:0,33" ∷ codes "%R1P,0,0:0,34" ∷ codes "%R1P,0,7:0,35" ∷ [])
-    (codes "%R1P,0,0:0,36") (codes "%R1P,0,1:0,37")
+any : AreInField counting AnyState kept_by (record { count = 27; keeps = None }) chain.begun chain.first chain.second
 unfolding header_at reply_at digits
 any =
     record {
@@ -40,7 +39,7 @@ any =
       are = (_, refl, (_, refl, (_, refl, (_, refl, (_, refl, (_, refl, (_, refl, (_, refl, (_, refl, (_, refl, inl (InstrumentNo, _, refl, number, refl, inl (InstrumentNo, _, refl, number, refl, (_, refl, (_, refl, (_, refl, (_, refl, refl))))))))))))))));
       possible = (
         (
-          (tt, (tt, (tt, (tt, (tt, (tt, (tt, (tt, (tt, (tt, (tt, (tt, (tt, (tt, (tt, (tt, (tt, (tt, (tt, (tt, (tt, (tt, (tt, (tt, (tt, tt))))))))))))))))))))))))),
+          units 25,
           (tt, (tt, (tt, (tt, (tt, ((8, record { number = 9; line = codes "%R1P,0,1:0,37" } ∷ [], refl), ((9, [], refl), tt))))))),
         ),
         (((tt, tt), tt), tt),
@@ -59,9 +58,7 @@ any =
     }
 
 over_simulator :
-    AreInField ends IsFittingState kept_of simulator_opening
-    (codes "%R1P,0,6:0" ∷ codes "%R1P,0,5:0" ∷ codes "%R1P,0,4:0" ∷ codes "%R1P,0,3:0" ∷ codes "%R1P,0,2:0" ∷ codes "%R1P,0,1:0" ∷ codes "%R1P,0,0:0" ∷ codes "%R1P,0,7:0" ∷ [])
-    (codes "%R1P,0,0:0,123456") (codes "%R1P,0,1:0,123456")
+    AreInField ends IsFittingState kept_of simulator_opening replies (codes "%R1P,0,0:0,123456") (codes "%R1P,0,1:0,123456")
 unfolding header_at reply_at handed exec digits
 over_simulator =
     record {
@@ -73,7 +70,7 @@ over_simulator =
       are = (_, refl, (_, refl, (_, refl, (_, refl, (_, refl, (_, refl, (_, refl, (_, refl, (_, refl, (_, refl, inl (InstrumentNo, _, refl, number, refl, inl (InstrumentNo, _, refl, number, refl, (_, refl, (_, refl, (_, refl, (_, refl, refl))))))))))))))));
       possible = (
         (
-          (tt, (tt, (tt, (tt, (tt, (tt, (tt, (tt, (tt, (tt, (tt, (tt, (tt, (tt, (tt, (tt, (tt, (tt, (tt, (tt, (tt, (tt, (tt, (tt, (tt, tt))))))))))))))))))))))))),
+          units 25,
           (tt, (tt, (tt, (tt, (tt, ((8, record { number = 9; line = codes "%R1P,0,1:0,123456" } ∷ [], refl), ((9, [], refl), tt))))))),
         ),
         (((tt, tt), tt), tt),

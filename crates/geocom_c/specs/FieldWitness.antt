@@ -1,7 +1,7 @@
 -- Some calls are such that the laws speak of them, this project's own. An old reply is under way, with the id that the first command has. It is
 -- dropped, the eight null procedures are answered, two commands go out at once, and a moment is told; both are answered. Then the client
 -- restarts, and begins anew.
-use Rattle.std.specs.Prelude.{◌≡◌, ℕ, List, [], ◌∷◌, ◌++◌, codes, Option, None}
+use Rattle.std.specs.Prelude.{◌≡◌, ℕ, List, [], ◌∷◌, ◌++◌, codes, drop, Option, None}
 use Rattle.gc_lines.specs.Lines.{with_end}
 use Rattle.gc_catalogue.specs.declared.call.Call.TheVariants.{InstrumentNo}
 use Rattle.gc_client.specs.Beginning.{the_word}
@@ -11,14 +11,16 @@ use Rattle.gc_client.specs.Rule.{IsWidth, Answered}
 use Rattle.gc_instrument.specs.State.{KeptReply, IsFittingState, simulator_opening}
 use Rattle.gc_world.specs.Clients.{ends}
 use Rattle.gc_world.specs.World.{Ends, Up_deliver}
-use Rattle.gc_field.specs.Begin.{AreLines, Turn, Asks, Comes, Reaches, UnderWay, begins, leaves, turned}
+use Rattle.gc_field.specs.Begin.{AreLines, Turn, Asks, Comes, UnderWay, begins, leaves, turned}
 use Rattle.gc_field.specs.Beginnings.{Run}
 use Rattle.gc_field.specs.Begun.{WasMadeOn}
+use Rattle.gc_field.specs.CountingChain as chain
 use Rattle.gc_field.specs.CountingChain.{counting, kept_by}
 use Rattle.gc_field.specs.Field.{Move, Sends, Tells, OnLine}
 use Rattle.gc_field.specs.Field as field
 use Rattle.gc_field.specs.Instrument.{IsAnInstrument, AnyState}
 use Rattle.gc_field.specs.Laws.{kept_of}
+use Rattle.gc_field.specs.Witness.{eight, replies}
 use Rattle.geocom_c.specs.Following.{Follows, Stage, opened}
 use Rattle.geocom_c.specs.Laws.{MayBegin}
 use Rattle.geocom_c.specs.Runs.{ArePossibleRuns, events_over}
@@ -51,11 +53,9 @@ calls replies one other =
     ∷ Begin (record { ref_ptr = (0, 0); now = [] })
     ∷ [])
 
--- each null procedure reaches the instrument, and its reply comes
+-- the old reply comes; each null procedure reaches the instrument, and its reply comes
 abbrev pub beginning : {State : Type 0} → List (Turn State)
-beginning =
-    Asks ∷ Comes ∷ Reaches ∷ Comes ∷ Asks ∷ Reaches ∷ Comes ∷ Asks ∷ Reaches ∷ Comes ∷ Asks ∷ Reaches ∷ Comes ∷ Asks ∷ Reaches ∷ Comes
-    ∷ Asks ∷ Reaches ∷ Comes ∷ Asks ∷ Reaches ∷ Comes ∷ Asks ∷ Reaches ∷ Comes ∷ []
+beginning = Asks ∷ Comes ∷ drop 1 eight
 
 -- each command does, and these come
 abbrev pub moves : {State : Type 0} → List ℕ → List ℕ → List (Move State)
@@ -85,10 +85,6 @@ pub record AreInField {State : Type 0} (ends : Ends State) (Good : State → Typ
 -- there are such calls over an instrument that counts, each state of which is a good one, and over the simulator as it is at the start
 pub record SomeCallsAreInField : Type 0 where
   pub any :
-      AreInField counting AnyState kept_by (record { count = 27; keeps = None })
-      (codes "%R1P,0,6:0,28" ∷ codes "%R1P,0,5:0,29" ∷ codes "%R1P,0,4:0,30" ∷ codes "%R1P,0,3:0,31" ∷ codes "%R1P,0,2:0,32" ∷ codes "%R1P,0,1:0,33" ∷ codes "%R1P,0,0:0,34" ∷ codes "%R1P,0,7:0,35" ∷ [])
-      (codes "%R1P,0,0:0,36") (codes "%R1P,0,1:0,37")
+      AreInField counting AnyState kept_by (record { count = 27; keeps = None }) chain.begun chain.first chain.second
   pub simulator :
-      AreInField ends IsFittingState kept_of simulator_opening
-      (codes "%R1P,0,6:0" ∷ codes "%R1P,0,5:0" ∷ codes "%R1P,0,4:0" ∷ codes "%R1P,0,3:0" ∷ codes "%R1P,0,2:0" ∷ codes "%R1P,0,1:0" ∷ codes "%R1P,0,0:0" ∷ codes "%R1P,0,7:0" ∷ [])
-      (codes "%R1P,0,0:0,123456") (codes "%R1P,0,1:0,123456")
+      AreInField ends IsFittingState kept_of simulator_opening replies (codes "%R1P,0,0:0,123456") (codes "%R1P,0,1:0,123456")

@@ -179,7 +179,8 @@ fn answered_anew(answered: u8) -> u8
     ensures left { drop result the_word ≡ anew (drop answered the_word) }
     ensures within { result ≤ 8 }
 {
-    if answered >= 8 {
+    let has_begun = answered >= 8;
+    if has_begun {
         return 0;
     }
     answered

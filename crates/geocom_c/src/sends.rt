@@ -92,7 +92,8 @@ pub extern "C" fn geocom_client_send(
     let Some(client) = load(state) else {
         return refused(NO_CLIENT);
     };
-    if state.answered < 8 {
+    let has_begun = state.answered >= 8;
+    if !has_begun {
         return refused(NOT_BEGUN);
     }
     let request = Request {

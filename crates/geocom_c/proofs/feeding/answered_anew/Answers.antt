@@ -3,8 +3,8 @@ use Rattle.geocom_c.specs.Beginning.{anew}
 use Rattle.geocom_c.proofs.Answering.{goes_on, is_begun, not_begun}
 use Rattle.geocom_c.proofs.feeding.answered_anew.Goals as goal
 
-pub returns-then-answered-ge8-clause-left : goal.returns-then-answered-ge8-clause-left
-returns-then-answered-ge8-clause-left c = ap anew (sym (is_begun c.args.answered c.if-answered-ge8.true))
+pub returns-then-has_begun-clause-left : goal.returns-then-has_begun-clause-left
+returns-then-has_begun-clause-left c = ap anew (sym (is_begun c.args.answered c.if-has_begun.true))
 
 pub returns-clause-left : goal.returns-clause-left
-returns-clause-left c = goes_on _ (not_begun c.args.answered c.if-answered-ge8.false)
+returns-clause-left c = goes_on _ (not_begun c.args.answered c.if-has_begun.false)

@@ -33,14 +33,14 @@ returns-in-Err-clause-astray c = (λ e. absurd (no_refusal_astray c.in-Err.fault
 pub returns-in_default-clause-begins : goal.returns-in_default-clause-begins
 returns-in_default-clause-begins c = λ room c' rest s unbegun. absurd (c.in_default.not-Some c' (c.load.ensures.only c' rest s))
 
-pub returns-then-state-lt8-clause-sent : goal.returns-then-state-lt8-clause-sent
-returns-then-state-lt8-clause-sent c = λ room c' rest call s begun is. absurd (not_begun c.args.state.now.answered c.if-state-lt8.true begun)
+pub returns-then-not-has_begun-clause-sent : goal.returns-then-not-has_begun-clause-sent
+returns-then-not-has_begun-clause-sent c = λ room c' rest call s begun is. absurd (not_begun c.args.state.now.answered c.if-not-has_begun.true begun)
 
-pub returns-then-state-lt8-clause-call : goal.returns-then-state-lt8-clause-call
-returns-then-state-lt8-clause-call c = λ room c' rest e s begun is. absurd (not_begun c.args.state.now.answered c.if-state-lt8.true begun)
+pub returns-then-not-has_begun-clause-call : goal.returns-then-not-has_begun-clause-call
+returns-then-not-has_begun-clause-call c = λ room c' rest e s begun is. absurd (not_begun c.args.state.now.answered c.if-not-has_begun.true begun)
 
-pub returns-then-state-lt8-clause-begun : goal.returns-then-state-lt8-clause-begun
-returns-then-state-lt8-clause-begun c = λ e. not_begun c.args.state.now.answered c.if-state-lt8.true
+pub returns-then-not-has_begun-clause-begun : goal.returns-then-not-has_begun-clause-begun
+returns-then-not-has_begun-clause-begun c = λ e. not_begun c.args.state.now.answered c.if-not-has_begun.true
 
-pub returns-then-state-lt8-clause-astray : goal.returns-then-state-lt8-clause-astray
-returns-then-state-lt8-clause-astray c = (λ e. absurd (other (sym c.refused-then-state-lt8.ensures.fault ∙ e)), λ both. absurd (both.1 _ _ c.in-Some.ensures.found))
+pub returns-then-not-has_begun-clause-astray : goal.returns-then-not-has_begun-clause-astray
+returns-then-not-has_begun-clause-astray c = (λ e. absurd (other (sym c.refused-then-not-has_begun.ensures.fault ∙ e)), λ both. absurd (both.1 _ _ c.in-Some.ensures.found))

@@ -1,0 +1,87 @@
+-- A run that begins anew, in the field, computed.
+use Rattle.std.proofs.Common.{◌≡◌, List, [], ◌∷◌, refl, sym, subst}
+use Rattle.std.specs.Prelude.{codes, map, take, drop}
+use Rattle.std.specs.Fmt.{digits}
+use Rattle.gc_lines.specs.Readers.{header_at, reply_at}
+use Rattle.gc_catalogue.specs.declared.call.Call.TheVariants.{InstrumentNo}
+use Rattle.gc_client.specs.declared.window.TheConstants.{WINDOW}
+use Rattle.gc_station.specs.Beginnings.{IsAnew}
+use Rattle.gc_station.specs.Parts as part
+use Rattle.gc_station.specs.Parts.{Part, parts_of}
+use Rattle.gc_station.specs.Standing.{Runs, after_all, opening}
+use Rattle.gc_links.specs.Acts.{Told}
+use Rattle.gc_field.specs.Begin.{begins}
+use Rattle.gc_field.specs.BeginsAnew.{IsAnsweredAnew, acts, anew, answer, commands, first, from, given_up, left, moves, moves_anew, plan, replies, runs, scope, seventh, turns}
+use Rattle.gc_field.specs.Begun.{WasMadeOn}
+use Rattle.gc_field.specs.CountingChain.{before, begun, counting}
+use Rattle.gc_field.specs.Field.{seen}
+use Rattle.gc_field.specs.Shown.{AreShownAs, shown}
+use Rattle.gc_field.specs.Witness.{at, begun_with, eight}
+use Rattle.gc_field.proofs.CountingChain.{counted, opens_counting}
+use Rattle.gc_field.proofs.Witness.{asked_each, one_part, part_of, run_on, units}
+
+-- its two parts
+abbrev all_turns : List part.Turn
+all_turns =
+    part.Asks ∷ part.Hears first ∷ part.Hears seventh ∷ part.Asks ∷ part.Hears seventh ∷ part.Hears (codes "%R1P,0,5:0,38") ∷ asked_each (drop 1 replies)
+
+abbrev parts : List Part
+parts =
+    part_of (asked_each begun) (seen moves) (map (λ place. (place, 15)) (0 ∷ 1 ∷ 2 ∷ 3 ∷ 4 ∷ 5 ∷ 6 ∷ []))
+    ∷ one_part all_turns (seen moves_anew) ((7, 120) ∷ [])
+
+parts_are : parts_of plan commands (opening plan scope) acts ≡ parts
+unfolding header_at reply_at digits
+parts_are = refl
+
+shown_are : shown counting eight (begins before) ≡ asked_each begun
+unfolding header_at reply_at digits
+shown_are = refl
+
+shown_anew : shown counting turns (begins left) ≡ all_turns
+unfolding header_at reply_at digits
+shown_anew = refl
+
+-- each act is the one that was to be made next
+given_up_runs : Runs plan commands (opening plan scope) given_up
+unfolding header_at reply_at digits
+given_up_runs =
+    run_on plan commands (opening plan scope) (begun_with begun []) (drop 27 given_up) (opens_counting 7 commands scope.reads)
+    (tt, (refl, (tt, (refl, (tt, (refl, (tt, (refl, (tt, (refl, (tt, (refl, (tt, (refl, (tt, (tt, tt))))))))))))))))
+
+anew_runs : Runs plan commands (after_all plan commands (opening plan scope) given_up) anew
+unfolding header_at reply_at digits
+anew_runs =
+    run_on plan commands (after_all plan commands (opening plan scope) given_up) (take 9 anew) (drop 9 anew)
+    (tt, (refl, (tt, (tt, (tt, (refl, (tt, (tt, (tt, tt)))))))))
+    (refl, (tt, (tt, (refl, (tt, (tt, (refl, (tt, (tt, (refl, (tt, (tt, (refl, (tt, (tt, (refl, (tt, (tt, (refl, (tt, (tt, (refl, tt))))))))))))))))))))))
+
+begins_anew : IsAnew plan commands scope given_up (Told (at 115))
+unfolding header_at reply_at digits
+begins_anew = record { renews = refl; moment = at 115; told = refl; seven = refl; given_up = refl; word = refl; client = refl }
+
+-- the last command's request is the client's first one behind the new beginning, and reaches the instrument at the third move
+was_made : WasMadeOn WINDOW counting from moves_anew 8 InstrumentNo answer
+unfolding header_at reply_at digits
+was_made = record { front = take 2 moves_anew; later = drop 3 moves_anew; split = refl; id = 0; rest = []; reaches = refl; executed = refl; reply = refl }
+
+pub answered_anew : IsAnsweredAnew
+unfolding header_at reply_at digits
+answered_anew =
+    record {
+      is = counted.is;
+      field =
+          record {
+            runs = run_on plan commands (opening plan scope) given_up anew given_up_runs anew_runs;
+            lines = record { ids = tt; good = tt };
+            none = λ h. h;
+            shown = subst (AreShownAs counting before runs) (sym parts_are) (shown_are, refl, (shown_anew, refl, (refl, refl, tt)));
+            possible = ((units 24, units 23), ((units 27, (tt, (tt, (tt, (tt, ((8, [], refl), tt)))))), ((tt, refl), tt)));
+          };
+      over = refl;
+      begins_anew = begins_anew;
+      up = refl;
+      down = refl;
+      written = refl;
+      made_on = was_made;
+    }

@@ -1,0 +1,169 @@
+-- Some run begins anew within itself, this project's own. Seven requests go out at once, and are given up. The reply to the first is under
+-- way then, and the seventh request: both come while the station begins again, on the same connection. The eighth command goes out behind
+-- that, with the first one's id, and has the answer that was made for it.
+use Rattle.std.specs.Prelude.{◌≡◌, ℕ, true, false, List, [], ◌∷◌, ◌++◌, codes, drop, map, pos, Some}
+use Rattle.gc_lines.specs.Lines.{with_end}
+use Rattle.gc_catalogue.specs.declared.answer.Answer.TheVariants.{Long}
+use Rattle.gc_catalogue.specs.declared.answer.Reading.TheVariants.{Value}
+use Rattle.gc_catalogue.specs.declared.call.Call.TheVariants.{InstrumentNo}
+use Rattle.gc_client.specs.declared.window.TheConstants.{WINDOW}
+use Rattle.gc_texts.specs.declared.commands.Command.{Command}
+use Rattle.gc_texts.specs.declared.tasks.Task.{Task}
+use Rattle.gc_texts.specs.Endings as end
+use Rattle.gc_station.specs.declared.plan.Plan.{Plan}
+use Rattle.gc_links.specs.Acts.{Act, Told, Put, Gave, Silent, Closed}
+use Rattle.gc_station.specs.Beginnings.{IsAnew}
+use Rattle.gc_station.specs.Progressing.{is_over}
+use Rattle.gc_station.specs.Records.{Record}
+use Rattle.gc_station.specs.Runs.{stood}
+use Rattle.gc_station.specs.Scopes.{Scope}
+use Rattle.gc_world.specs.World.{Up_deliver, Up_lose}
+use Rattle.gc_field.specs.Begin as turn
+use Rattle.gc_field.specs.Begin.{Turn, Asks, Reaches, UnderWay, begins, leaves, turned}
+use Rattle.gc_field.specs.Beginnings.{Run, left_by_run}
+use Rattle.gc_field.specs.Begun.{WasMadeOn}
+use Rattle.gc_field.specs.CountingChain.{Counter, before, begun, counting, kept_by}
+use Rattle.gc_field.specs.Field.{Move, Sends, Tells, Comes, OnLine}
+use Rattle.gc_field.specs.Instrument.{IsAnInstrument, AnyState}
+use Rattle.gc_field.specs.Runs.{IsInField}
+use Rattle.gc_field.specs.Witness.{asked, at, begun_with, eight, exchanged, plan_of}
+
+-- seven at a time
+abbrev pub plan : Plan
+plan = plan_of 7
+
+-- a request for the instrument's number, for each of eight targets
+abbrev pub command : ℕ → Command
+command target = record { target = target; call = InstrumentNo }
+
+abbrev pub commands : List Task
+commands = map (λ target. record { command = command target; deadline = 100; chained = false }) (1 ∷ 2 ∷ 3 ∷ 4 ∷ 5 ∷ 6 ∷ 7 ∷ 8 ∷ [])
+
+-- at most a hundred acts; what a reply says is this, as that to the last command does
+abbrev pub scope : Scope
+scope = record { turns = 100; reads = λ call line. Value (Long (pos 45)) }
+
+-- the requests that go out at once, and the replies to the first and the seventh of them: the instrument counts what it executes
+abbrev pub seven : List (List ℕ)
+seven =
+    codes "%R1Q,5003,0:" ∷ codes "%R1Q,5003,1:" ∷ codes "%R1Q,5003,2:" ∷ codes "%R1Q,5003,3:" ∷ codes "%R1Q,5003,4:" ∷ codes "%R1Q,5003,5:"
+    ∷ codes "%R1Q,5003,6:" ∷ []
+
+abbrev pub first : List ℕ
+first = codes "%R1P,0,0:0,36"
+
+abbrev pub seventh : List ℕ
+seventh = codes "%R1P,0,6:0,37"
+
+-- the replies to the null procedures behind the first, and to the last command. The first null procedure has the seventh request's id, so the
+-- reply to that answers it, and is all that the instrument has for it
+abbrev pub replies : List (List ℕ)
+replies =
+    codes "%R1P,0,5:0,38" ∷ codes "%R1P,0,4:0,39" ∷ codes "%R1P,0,3:0,40" ∷ codes "%R1P,0,2:0,41" ∷ codes "%R1P,0,1:0,42" ∷ codes "%R1P,0,0:0,43"
+    ∷ codes "%R1P,0,7:0,44" ∷ []
+
+abbrev pub answer : List ℕ
+answer = codes "%R1P,0,0:0,45"
+
+-- at this moment each of these goes out
+abbrev pub put_all : ℕ → List (List ℕ) → List Act → List Act
+put_all now [] acts = acts
+put_all now (line ∷ others) acts = Put (with_end line) ∷ Told (at now) ∷ put_all now others acts
+
+-- it begins; seven commands go out, and nothing comes until they are given up
+abbrev pub given_up : List Act
+given_up = begun_with begun (Told (at 15) ∷ put_all 15 seven (Silent (at 115) ∷ []))
+
+-- then it begins anew: the first null procedure goes out, and the reply to the first command comes, which is dropped; that to the seventh
+-- comes, and once more, which is dropped too; the others are answered. Then the eighth command goes out and is answered, and it is closed
+abbrev pub anew : List Act
+anew =
+    Told (at 115)
+    ∷ Put (with_end (codes "%R1Q,0,6:"))
+    ∷ Told (at 115)
+    ∷ Gave (with_end first) (at 118)
+    ∷ Gave (with_end seventh) (at 118)
+    ∷ Put (with_end (codes "%R1Q,0,5:"))
+    ∷ Told (at 118)
+    ∷ Gave (with_end seventh) (at 120)
+    ∷ Gave (with_end (codes "%R1P,0,5:0,38")) (at 120)
+    ∷ exchanged 120 (drop 2 asked) (drop 1 replies) (
+    Put (with_end (codes "%R1Q,5003,0:"))
+    ∷ Told (at 120)
+    ∷ Gave (with_end answer) (at 125)
+    ∷ Closed
+    ∷ []
+    )
+
+abbrev pub acts : List Act
+acts = given_up ++ anew
+
+-- at this moment a request goes out for each of these targets
+abbrev pub send_all : ℕ → List ℕ → List (Move Counter) → List (Move Counter)
+send_all now [] ms = ms
+send_all now (target ∷ others) ms = Sends target InstrumentNo 115 ∷ Tells now ∷ send_all now others ms
+
+-- of the seven the first reaches the instrument, the five behind it are lost, and the last stays under way
+abbrev pub moves : List (Move Counter)
+moves =
+    Tells 15
+    ∷ send_all 15 (1 ∷ 2 ∷ 3 ∷ 4 ∷ 5 ∷ 6 ∷ 7 ∷ []) (
+    OnLine Up_deliver
+    ∷ OnLine (Up_lose 0)
+    ∷ OnLine (Up_lose 0)
+    ∷ OnLine (Up_lose 0)
+    ∷ OnLine (Up_lose 0)
+    ∷ OnLine (Up_lose 0)
+    ∷ Tells 115
+    ∷ Tells 115
+    ∷ []
+    )
+
+-- the reply to the first comes, and the last reaches the instrument, whose reply is sent again for the first null procedure, which has its id
+abbrev pub turns : List (Turn Counter)
+turns = Asks ∷ turn.Comes ∷ Reaches ∷ turn.Comes ∷ Asks ∷ Reaches ∷ turn.Comes ∷ Reaches ∷ turn.Comes ∷ drop 6 eight
+
+abbrev pub moves_anew : List (Move Counter)
+moves_anew = Sends 8 InstrumentNo 220 ∷ Tells 120 ∷ OnLine Up_deliver ∷ Tells 125 ∷ Comes answer ∷ []
+
+-- what it was until it began anew, and from there on; behind the end nothing happens
+abbrev pub run : Run Counter
+run = record { turns = eight; moves = moves }
+
+abbrev pub runs : List (Run Counter)
+runs = run ∷ record { turns = turns; moves = moves_anew } ∷ record { turns = []; moves = [] } ∷ []
+
+-- what is under way where it begins anew, and where it has begun again
+abbrev pub left : UnderWay Counter
+left = left_by_run WINDOW counting before run
+
+abbrev pub from : UnderWay Counter
+from = leaves (turned counting turns (begins left))
+
+-- the first seven are lost, and the eighth has its answer
+abbrev pub lost : ℕ → ℕ → Record
+lost place target = record { sent = Some 15; utc = 115; cycle = 1; place = place; command = command target; end = end.Lost }
+
+abbrev pub records : List Record
+records =
+    lost 0 1
+    ∷ lost 1 2
+    ∷ lost 2 3
+    ∷ lost 3 4
+    ∷ lost 4 5
+    ∷ lost 5 6
+    ∷ lost 6 7
+    ∷ record { sent = Some 120; utc = 125; cycle = 1; place = 7; command = command 8; end = end.Answered (Some (Long (pos 45))) answer }
+    ∷ []
+
+-- it is a run in the field, over an instrument, behind which no act follows. Where seven are given up it begins anew. Two lines of before are
+-- under way then, of which the reply has the last command's id; and that command's answer was made on executing its request
+pub record IsAnsweredAnew : Type 0 where
+  pub is : IsAnInstrument counting AnyState kept_by
+  pub field : IsInField counting AnyState kept_by plan commands scope acts before runs
+  pub over : is_over (stood plan commands scope acts).progress ≡ true
+  pub begins_anew : IsAnew plan commands scope given_up (Told (at 115))
+  pub up : left.up ≡ record { id = 6; call = InstrumentNo } ∷ []
+  pub down : left.down ≡ first ∷ []
+  pub written : (stood plan commands scope acts).records ≡ records
+  pub made_on : WasMadeOn WINDOW counting from moves_anew 8 InstrumentNo answer
