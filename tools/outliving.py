@@ -19,11 +19,12 @@ Sent = collections.namedtuple("Sent", "run id place number", defaults=[None])
 
 
 class Way:
-    """One direction: what is under way, when the next goes at the earliest, and behind how many requests of a run it goes and stops."""
+    """One direction: what is under way, when the next goes at the earliest, and behind how many requests of a run it goes, is held, and
+    goes again."""
 
     def __init__(self):
         self.sent = collections.deque()
-        self.ready, self.opens, self.stops = 0.0, 0, 0
+        self.ready, self.opens, self.stops, self.resumes = 0.0, 0, 0, 0
 
 
 class Line:
@@ -52,6 +53,7 @@ class Line:
         for way in (self.up, self.down):
             way.opens = draw.randrange(1, 4) if not old_alone and self.chance(0.5) else 0
             way.stops = way.opens + draw.randrange(1, 60) if not old_alone and self.chance(0.6) else 1e9
+            way.resumes = way.stops + draw.randrange(1, 12) if self.chance(0.5) else 1e9
 
     def ids(self):
         """The ids under way, replies in order and then requests."""
@@ -77,7 +79,7 @@ class Line:
             return False
         if self.old_alone:
             return way is self.up or way.sent[0].run < self.run
-        return way.opens <= self.asked < way.stops
+        return way.opens <= self.asked < way.stops or way.resumes <= self.asked
 
     def execute(self, request):
         """A request reaches the instrument, which sends its kept reply again where that has the request's id."""
