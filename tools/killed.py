@@ -51,7 +51,7 @@ class Lane:
         line.begin(self.streak > 0)
         # When it is killed: so long behind its start, or so long behind its first connection and a while behind so many requests.
         end = time.monotonic() + (draw.uniform(0, 0.02) if draw.random() < 0.1 else 5)
-        lasts = 2 if line.old_alone else draw.choice([0.03, 0.9, 0.9]) * draw.random()
+        lasts = 2 if line.old_alone else draw.choice([0.03, 0.9, 1.8]) * draw.random()
         behind = draw.choice([1e9, 1e9, draw.randrange(1, 12), draw.randrange(8, 80)])
         given = os.path.join(self.folder, str(draw.choice([3, 3000, 3000, 3000])))
         with open(os.path.join(self.folder, "rows"), "w+b") as rows, open(given) as text:
