@@ -141,19 +141,13 @@ each at most once a minute, since when there is no connection, no answer, or no 
 (once something was answered), how many commands were skipped, and that a cycle is late. Where that is a terminal, and the
 output none, a line with the counts is written over, too. With --silent it tells nothing of that.
 
-Each answer is the reply to its own request, also by an instrument that keeps its last reply, where
-  - the instrument answers in turn, one request at a time, each with its request's id, and what it sends again is its reply
-    to the request directly before;
-  - the station is alone on the line: no other client sends on it;
-  - the line keeps order, over connections too, loses requests and replies whole, and repeats one only directly behind it;
-  - fewer than six runs in a row before this one ended while they began, with what they sent still under way;
-  - what else comes doesn't look like a numbered reply;
-  - the line feed behind half a request arrives, and clears it at the instrument.
+Each answer is the reply to its own request, also by an instrument that keeps its last reply, on premises about the instrument,
+the line and other clients, which no program can check: docs/PROMISE.md, with the package in /usr/share/doc/geocom.
 
 Example, beside `geocom serve 4001`:
   printf '7 5003\\n8 2026\\n' | geocom station 4001
 writes two lines as
-  2026-11-22T23:08:27.123Z 0 7 answered %R1P,0,1:0,123456
-  2026-11-22T23:08:27.124Z 1 8 answered %R1P,0,2:0,0
+  2026-11-22T23:08:27.123Z 0 7 answered %R1P,0,0:0,123456
+  2026-11-22T23:08:27.124Z 1 8 answered %R1P,0,1:0,0
 and on standard error, at its end,
   answered 2 late 0 lost 0 skipped 0 unreadable 0 missed 0";
