@@ -14,12 +14,12 @@ import resource
 import sys
 
 sys.dont_write_bytecode = True
+TOOLS = os.path.join(os.path.dirname(os.path.realpath(__file__)), "../tools")
 # In place of this folder, whose `random.py` is another than python's.
-sys.path[0] = os.path.join(os.path.dirname(os.path.realpath(__file__)), "../tools")
+sys.path[:1] = [TOOLS, f"{TOOLS}/trials"]
 
 import csv
 import random
-import socket
 import sqlite3
 import subprocess
 import tempfile
@@ -28,18 +28,12 @@ from contextlib import closing
 from pathlib import Path
 
 import growing
-
-TOOLS = Path(sys.path[0])
+from programs import free_ports, processor_seconds
+from records import HEAD
 
 COMMANDS = b"7 5003\n8 2011\n9 2107 0\n"
 EVERY = 2
 FILES_EVERY = 10
-
-
-def seconds_of(pid):
-    """How long a process has kept a processor busy."""
-    fields = Path(f"/proc/{pid}/stat").read_text(encoding="ascii").rsplit(")", 1)[1].split()
-    return (int(fields[11]) + int(fields[12])) / os.sysconf("SC_CLK_TCK")
 
 
 def ended_seconds():
@@ -56,15 +50,6 @@ def memory_of(pid):
 
 def of_all(runs, count):
     return sum(count(run.pid) for run in runs)
-
-
-def free_ports(count):
-    """Ports that nothing listens on, each another."""
-    probes = [socket.create_server(("127.0.0.1", 0)) for _ in range(count)]
-    ports = [probe.getsockname()[1] for probe in probes]
-    for probe in probes:
-        probe.close()
-    return ports
 
 
 def stations(program, pairs, seconds):
@@ -121,11 +106,11 @@ def files(count, seconds, where):
         rows.mkdir()
         paths = [rows / f"s{number:04}.csv" for number in range(count)]
         for path in paths:
-            path.write_bytes(growing.HEAD)
+            path.write_bytes(HEAD)
         runs = {"to-sqlite": [Path(folder, "values.db")], **({"to-postgres": [where, "--as", f"many {time.time()}"]} if where else {})}
-        followers = {name: subprocess.Popen(list(map(str, [TOOLS / name, rows, *words]))) for name, words in runs.items()}
+        followers = {name: subprocess.Popen(list(map(str, [Path(TOOLS, name), rows, *words]))) for name, words in runs.items()}
         time.sleep(5)
-        before = {name: seconds_of(run.pid) for name, run in followers.items()}
+        before = {name: processor_seconds(run.pid) for name, run in followers.items()}
         begin, added = time.monotonic(), 0
         while time.monotonic() - begin < seconds:
             # A tenth of the files each second, as stations that began at different moments.
@@ -137,11 +122,11 @@ def files(count, seconds, where):
             time.sleep(max(0, begin + turn + 1 - time.monotonic()))
         wall = time.monotonic() - begin
         for name, run in followers.items():
-            took, memory = seconds_of(run.pid) - before[name], memory_of(run.pid)
+            took, memory = processor_seconds(run.pid) - before[name], memory_of(run.pid)
             told = run.poll()
             run.kill()
             run.wait()
-            left = subprocess.run(list(map(str, [TOOLS / name, rows, *runs[name], "--once"])), check=False).returncode
+            left = subprocess.run(list(map(str, [Path(TOOLS, name), rows, *runs[name], "--once"])), check=False).returncode
             rows_taken = f"{taken(name, runs[name])} of {added} rows in {wall:.0f} s"
             print(f"{name}, {count} files, {rows_taken}: {100 * took / wall:.1f} % of a processor, {memory / 1000:.0f} MB"
                   + (f"; it ended with {told}" if told is not None else "") + (f"; at the end {left}" if left else ""))

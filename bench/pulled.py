@@ -9,15 +9,17 @@ begins 31 seconds behind the first request. Each is measured with the defaults, 
 
 import csv
 import os
-import subprocess
 import sys
 import threading
 import time
 
 sys.dont_write_bytecode = True
-sys.path.insert(0, os.path.join(os.path.dirname(os.path.abspath(__file__)), "../tools"))
+TOOLS = os.path.join(os.path.dirname(os.path.abspath(__file__)), "../tools")
+# In place of this folder, whose `random.py` is another than python's.
+sys.path[:1] = [TOOLS, f"{TOOLS}/trials"]
 
 from far_end import LOSES, good, standing
+from measuring import measuring
 
 CYCLES, EVERY, BEHIND, AWAY = 24, 5, 31, 60
 COMMANDS = b"7 5003\n8 5004\n9 2026\n"
@@ -42,18 +44,21 @@ def cost(kind, words):
 
     began = []
     with standing(answers) as far:
-        station = subprocess.run(
-            [sys.argv[1], "station", str(far.port), "--csv", "--every", str(EVERY), "--cycles", str(CYCLES), *words.split()],
-            input=COMMANDS, stdout=subprocess.PIPE, stderr=subprocess.DEVNULL)
-    rows = list(csv.DictReader(station.stdout.decode().splitlines()))
+        with measuring(sys.argv[1], far.port, f"--every {EVERY} --cycles {CYCLES} {words}", COMMANDS) as station:
+            status = station.status(10 * EVERY * CYCLES)
+            rows = list(csv.DictReader(station.output().decode().splitlines()))
     costs = {row["cycle"] for row in rows if row["outcome"] != "answered"}
     missed = {row["cycle"] for row in rows if row["outcome"] == "missed"}
-    print(f"{kind}, {words or 'with the defaults'}: {len(costs)} of {CYCLES} cycles, {len(missed)} of them missed; status {station.returncode}")
+    print(f"{kind}, {words or 'with the defaults'}: {len(costs)} of {CYCLES} cycles, {len(missed)} of them missed; status {status}")
 
 
-measures = [threading.Thread(target=cost, args=both)
-            for both in (("pulled", ""), ("pulled", "--deadline 2000 --retries 0"), ("mute", ""), ("mute", "--deadline 2000 --retries 0"))]
-for measure in measures:
-    measure.start()
-for measure in measures:
-    measure.join()
+def main():
+    cases = [(kind, words) for kind in ("pulled", "mute") for words in ("", "--deadline 2000 --retries 0")]
+    measures = [threading.Thread(target=cost, args=case) for case in cases]
+    for measure in measures:
+        measure.start()
+    for measure in measures:
+        measure.join()
+
+
+main()

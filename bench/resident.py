@@ -6,11 +6,17 @@ resident.py GEOCOM serve             answers a million requests on one connectio
                                      each, without growing
 """
 
-import socket
-import subprocess
+import os
 import sys
+
+sys.dont_write_bytecode = True
+# In place of this folder, whose `random.py` is another than python's.
+sys.path[0] = os.path.join(os.path.dirname(os.path.realpath(__file__)), "../tools")
+
+import subprocess
 import threading
-import time
+
+from programs import connect, free_port
 
 GIGABYTE = 1_000_000_000
 LIMIT = 4096
@@ -40,23 +46,6 @@ def reads(geocom, word, name):
         sys.exit(f"{word}: it should stay under {LIMIT} kB, and end with status 0")
 
 
-def free_port():
-    """A port that nothing listens on."""
-    with socket.socket() as probe:
-        probe.bind(("127.0.0.1", 0))
-        return probe.getsockname()[1]
-
-
-def connection(port):
-    """A connection to a server that may only be starting."""
-    for _ in range(100):
-        try:
-            return socket.create_connection(("127.0.0.1", port))
-        except ConnectionRefusedError:
-            time.sleep(0.05)
-    sys.exit("nothing listens")
-
-
 def ask(link, count):
     """Sends so many requests, and takes their replies."""
     sender = threading.Thread(target=link.sendall, args=(REQUEST * count,))
@@ -79,7 +68,7 @@ def serves(geocom, connections, rounds, count):
     with subprocess.Popen(words) as process:
         first = None
         for _ in range(connections):
-            with connection(port) as link:
+            with connect(port) as link:
                 for _ in range(rounds):
                     ask(link, count)
                     first = first or highest(process)

@@ -7,13 +7,20 @@ Lines take a constant time each way. The runs, twenty of the first kind with see
 all that they do is wait.
 """
 
+import os
+import sys
+
+sys.dont_write_bytecode = True
+# In place of this folder, whose `random.py` is another than python's.
+sys.path[0] = os.path.join(os.path.dirname(os.path.realpath(__file__)), "../tools")
+
 import asyncio
 import csv
-import datetime
 import random
-import socket
-import sys
 import time
+
+from programs import free_port
+from records import moment
 
 COMMAND = b"%R1Q,5003,"
 
@@ -72,15 +79,13 @@ async def run(instrument, commands, words, delay, per_cent, seed):
         stdin=asyncio.subprocess.PIPE, stdout=asyncio.subprocess.PIPE, stderr=asyncio.subprocess.DEVNULL)
     written, _ = await station.communicate("".join(f"{target} 5003\n" for target in range(commands)).encode())
     server.close()
-    last = list(csv.DictReader(written.decode().splitlines()))[-1]["time"].replace("Z", "+00:00")
-    return datetime.datetime.fromisoformat(last).timestamp() - first[0], len(count)
+    last = list(csv.DictReader(written.decode().splitlines()))[-1]["time"]
+    return moment(last).timestamp() - first[0], len(count)
 
 
 async def served(*given):
     """A run against an instrument of its own."""
-    with socket.socket() as free:
-        free.bind(("127.0.0.1", 0))
-        port = free.getsockname()[1]
+    port = free_port()
     serve = await asyncio.create_subprocess_exec(
         sys.argv[1], "serve", str(port), "--connections", "1000", stderr=asyncio.subprocess.DEVNULL)
     try:

@@ -5,6 +5,8 @@ They are there where a row was answered with both codes 0 and its values read, a
 
 import re
 
+from records import COLUMNS
+
 # How a number is spelt, for python and for PostgreSQL. What isn't spelt so is no quantity.
 NUMBER = r"^[-+]?(?:[0-9]+\.?[0-9]*|\.[0-9]+)(?:[eE][-+]?[0-9]{1,3})?$"
 POINT = ["hz_rad", "v_rad", "distance_m"]
@@ -35,8 +37,9 @@ def quantities(fields):
 
 
 def view(item, cast):
-    """The columns of a view, a column a quantity. `item` gives the SQL of the value at a place, and `cast` that of its number."""
-    columns = []
+    """The columns of a view: what tells a row from others, and a column a quantity. `item` gives the SQL of the value at a place, and
+    `cast` that of its number."""
+    columns = [", ".join(["source", "line", *COLUMNS[: COLUMNS.index("outcome")]])]
     for name in NAMES:
         cases = {}
         for procedure, names in QUANTITIES.items():

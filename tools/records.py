@@ -1,5 +1,5 @@
-"""What a station's rows are, as `docs/PROTOCOL.md`, "Rows", has them: their columns, their moments, and how the lines of both forms
-are read: those of a table, with or without `--columns`, and the objects of `--json`.
+"""What a station's rows are, as `docs/PROTOCOL.md`, "Rows", has them: their columns, how moments are read and written, and how the
+lines of both forms are read: those of a table, with or without `--columns`, and the objects of `--json`.
 """
 
 import csv
@@ -10,11 +10,22 @@ import re
 # The columns of a station's rows. Further ones are handed on under their names.
 COLUMNS = ["run", "sent", "time", "cycle", "place", "target", "name", "procedure", "outcome", "fault", "rc_com", "rc", "values"]
 HEAD = ",".join(COLUMNS).encode() + b"\n"
+# What `--columns` and `--json` add: the items of an answer.
+ANSWER_COLUMNS = [
+    "hz_rad", "v_rad", "distance_m", "mode", "easting_m", "northing_m", "height_m", "instrument_height_m", "reflector_height_m", "face",
+    "prism_type", "temperature_c", "places", "release", "version", "subversion", "serial", "instrument", "year", "month", "day", "hour",
+    "minute", "second",
+]
+COLUMNS_HEAD = ",".join([*COLUMNS, *ANSWER_COLUMNS]).encode() + b"\n"
+# In the order of the counts; those of a reply that came in time, and those of a command that wasn't sent.
 OUTCOMES = ["answered", "late", "lost", "skipped", "unreadable", "missed"]
+REPLIED = ["answered", "unreadable"]
+UNSENT = ["skipped", "missed"]
 MOMENTS = ["run", "sent", "time"]
 NUMBERS = ["cycle", "place", "target", "procedure", "fault", "rc_com", "rc"]
-# What every reader of a table needs. A table of an earlier version has no other columns.
-NEEDED = [column for column in COLUMNS if column not in ("run", "sent")]
+# The columns that a table of an earlier version may not have, and what every reader needs: the others.
+LATER = ["run", "sent"]
+NEEDED = [column for column in COLUMNS if column not in LATER]
 # What no row has empty.
 FILLED = ["run", "time", "cycle", "place", "target", "procedure", "outcome"]
 MOMENT = re.compile(r"[0-9]{4}-[0-9]{2}-[0-9]{2}T[0-9]{2}:[0-9]{2}:[0-9]{2}\.[0-9]{3}Z")
@@ -35,6 +46,11 @@ def moment(text):
     if not MOMENT.fullmatch(text):
         raise ValueError(text)
     return datetime.datetime.fromisoformat(text.replace("Z", "+00:00"))
+
+
+def moment_text(moment):
+    """A moment as a station writes it: in UTC, with milliseconds."""
+    return moment.astimezone(datetime.timezone.utc).strftime("%Y-%m-%dT%H:%M:%S.") + f"{moment.microsecond // 1000:03}Z"
 
 
 def fields_of(line):

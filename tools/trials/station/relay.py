@@ -24,37 +24,27 @@ import select
 import signal
 import socket
 import struct
-import subprocess
 import sys
 import time
+from pathlib import Path
 
+# It is a program by itself, which `lines.py` begins.
+sys.path[1:1] = map(str, Path(__file__).resolve().parents[1:3])
+
+from instrument import Instrument
 from tagging import tagged
+from way import Line, Way
 
 REQUEST = re.compile(rb"%R1Q,(\d+),(\d):")
 REPLY = re.compile(rb"%R1P,0,(\d):0,([^\r]*)\r\n$")
 
 
-class Line:
-    """A line on its way, in pieces: what it is of, and whether the connection ends before or behind it."""
-
-    def __init__(self, at, pieces, of=None, kill=None):
-        self.at, self.pieces, self.of, self.kill = at, collections.deque(pieces), of, kill
-        self.begun = self.old = False
-
-
-class Way:
-    """One direction: lines that wait for their moment, in order, and what went over of a line."""
-
-    def __init__(self):
-        self.rest = b""
-        self.queue = collections.deque()
-        self.gone = b""
-
-    def lines(self, data):
-        """The lines that this data ends, each with its line feed."""
-        self.rest += data
-        *whole, self.rest = self.rest.split(b"\n")
-        return [line + b"\n" for line in whole]
+def receive(link):
+    """What comes over a connection; nothing where it ended."""
+    try:
+        return link.recv(65536)
+    except OSError:
+        return b""
 
 
 class Relay:
@@ -66,7 +56,7 @@ class Relay:
         self.number, self.cycle, self.place = 0, 1, -1
         self.told = collections.Counter()
         self.up, self.down = Way(), Way()
-        self.far = self.serve = None
+        self.instrument = Instrument(options.geocom)
         # Whether a request came behind the station's line feed, until when what was held back waits, and until when nothing goes.
         self.asked, self.held, self.dead = False, 0.0, 0.0
 
@@ -76,44 +66,10 @@ class Relay:
     def chance(self, per_mille):
         return self.random.random() * 1000 < per_mille * self.options.bad
 
-    # The instrument.
-
-    def begin_serving(self):
-        with socket.socket() as free:
-            free.bind(("127.0.0.1", 0))
-            self.at = free.getsockname()
-        words = [self.options.geocom, "serve", str(self.at[1]), "--connections", "1000"]
-        self.serve = subprocess.Popen(words, stderr=subprocess.DEVNULL)
-
-    def reach(self):
-        """A connection to the instrument, once it listens."""
-        while self.serve.poll() is None:
-            try:
-                return socket.create_connection(self.at, 5)
-            except ConnectionRefusedError:
-                time.sleep(0.01)
-        sys.exit("geocom serve ended")
-
     def start_anew(self):
-        """The instrument starts anew: it forgets the reply that it keeps, and what had come of a line."""
-        if self.far:
-            self.far.shutdown(socket.SHUT_WR)
-            while self.far.recv(65536):
-                pass
-            self.far.close()
-        if self.told["starts"] % 1000 == 0:
-            self.begin_serving()
-        self.told["starts"] += 1
-        self.far = self.reach()
-        self.far.setsockopt(socket.IPPROTO_TCP, socket.TCP_NODELAY, 1)
-        self.kept, self.owed = None, collections.deque()
+        """The instrument starts anew, and what had gone of a line to it or from it is forgotten."""
+        self.instrument.start_anew()
         self.up.gone = self.down.rest = b""
-
-    def owe(self, of):
-        """A request reached the instrument: where it keeps a reply with that id, it sends that one."""
-        if not self.kept or self.kept[0] != of[0]:
-            self.kept = of
-        self.owed.append(self.kept[1])
 
     # What comes.
 
@@ -166,7 +122,7 @@ class Relay:
 
     def from_instrument(self, data):
         for line in self.down.lines(data):
-            number = self.owed.popleft()
+            number = self.instrument.owed.popleft()
             found = REPLY.match(line)
             if self.options.tag and number and found:
                 line = b"%%R1P,0,%s:0,%s\r\n" % (found[1], tagged(found[2].decode(), number).encode())
@@ -232,7 +188,7 @@ class Relay:
         if way is self.down and way.of and way.of[1]:
             self.note("came", way.of[1])
         if way is self.up and way.of and REQUEST.match(way.gone) and way.gone.endswith(b"\r\n"):
-            self.owe(way.of)
+            self.instrument.owe(way.of)
         way.gone = b""
 
     # One connection.
@@ -243,20 +199,15 @@ class Relay:
         heard = time.monotonic()
         while True:
             now = time.monotonic()
-            if self.dead <= now and not (self.deliver(self.up, self.far) and self.deliver(self.down, near)):
+            if self.dead <= now and not (self.deliver(self.up, self.instrument.link) and self.deliver(self.down, near)):
                 break
             if self.options.idle and now - heard > self.options.idle / 1000:
                 self.told["idle"] += 1
                 break
             soonest = min([way.queue[0].at for way in (self.up, self.down) if way.queue], default=now + 1)
             wait = max(0.0, min(max(soonest, self.dead) - now, 1))
-            for end in select.select([near, self.far], [], [], wait)[0]:
-                try:
-                    data = end.recv(65536)
-                except OSError:
-                    data = b""
-                if not data and end is self.far:
-                    sys.exit("geocom serve ended")
+            for end in select.select([near, self.instrument.link], [], [], wait)[0]:
+                data = self.instrument.receive() if end is not near else receive(near)
                 if not data:
                     return self.end(near)
                 heard = time.monotonic()
@@ -321,15 +272,15 @@ def main():
     words.add_argument("--delay", type=int, default=8, help="milliseconds of a line, at most")
     words.add_argument("--bad", type=float, default=1, help="0: a good line")
     words.add_argument("--kill", action="store_true")
-    words.add_argument("--idle", type=int, default=0, help="milliseconds after which a connection that carries nothing is closed; 0: none is")
+    words.add_argument("--idle", type=int, default=0, help="milliseconds behind which a connection that carries nothing is closed; 0: none")
     words.add_argument("--tag", action="store_true")
     words.add_argument("--log", required=True)
     relay = Relay(words.parse_args())
 
     def stop(*_):
-        if relay.serve:
-            relay.serve.kill()
-        print(" ".join(f"{k} {v}" for k, v in sorted(relay.told.items())), file=sys.stderr)
+        relay.instrument.end()
+        counts = {**relay.told, "starts": relay.instrument.starts}
+        print(" ".join(f"{what} {count}" for what, count in sorted(counts.items())), file=sys.stderr)
         sys.exit(0)
 
     for end in (signal.SIGTERM, signal.SIGINT):

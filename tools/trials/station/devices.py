@@ -3,10 +3,8 @@ of a cycle has one, in order; each answer is that of its own request, for it say
 left open. Before that a far end is mute for a while, so that the station closes its connection and rests: all the time a second
 opener is refused the device's lock.
 
-    devices.py GEOCOM [CYCLES]
-
 The device is a symbolic link to a pseudo terminal. The line goes away, at each place of a cycle in turn, before an answer, behind
-one, within one, or before one and for a while. It ends with status 1 where anything is wrong.
+one, within one, or before one and for a while.
 """
 
 import collections
@@ -14,25 +12,21 @@ import csv
 import fcntl
 import itertools
 import os
-import subprocess
-import sys
 import tempfile
 import threading
 import time
 from pathlib import Path
 
-sys.dont_write_bytecode = True
-
 from far_end import CLOSES, GOOD, LOSES, good
+from measuring import counts_of, measuring
 from tagging import tagged
 from terminals import Terminal, lead, terminal
 
 PROCEDURES = [5003, 5004, 2011]
-COMMANDS = "".join(f"{target} {rpc}\n" for target, rpc in enumerate(PROCEDURES, 7))
+COMMANDS = "".join(f"{target} {rpc}\n" for target, rpc in enumerate(PROCEDURES, 7)).encode()
 # How many cycles there are from one time to the next at which the line goes away.
 CYCLES_BETWEEN = 10
 WAYS = ["before", "behind", "within", "for a while"]
-OUTCOMES = ["answered", "late", "lost", "skipped", "unreadable", "missed"]
 
 
 def values_of(rpc, number):
@@ -109,21 +103,17 @@ def faults_of(rows, came, cycles):
 
 
 def measured(program, cycles, folder):
-    """The rows, what was told, the status, and the device."""
+    """The rows, the messages, and the device."""
     device = Device(str(Path(folder, "device")))
-    Path(folder, "commands").write_text(COMMANDS)
-    words = "--every 0 --deadline 300 --quiet 100 --retries 1000 --csv --cycles".split()
-    with open(Path(folder, "commands")) as given, open(Path(folder, "rows"), "w+") as rows, open(Path(folder, "told"), "w+") as told:
-        device.station = subprocess.Popen(
-            [program, "station", device.link, *words, str(cycles)], stdin=given, stdout=rows, stderr=told)
-        try:
-            status = device.station.wait(60 + cycles)
-        except subprocess.TimeoutExpired:
-            device.station.kill()
-            device.station.wait()
-            status = "none: it didn't end"
+    words = f"--every 0 --deadline 300 --quiet 100 --retries 1000 --cycles {cycles}"
+    with measuring(program, device.link, words, COMMANDS) as device.station:
+        status = device.station.status(60 + cycles)
+        rows = list(csv.DictReader(device.station.output().decode().splitlines()))
+        messages = device.station.messages().splitlines()
+        device.station = None
     device.line.pull()
-    return list(csv.DictReader(open(Path(folder, "rows"), newline=""))), Path(folder, "told").read_text(), status, device
+    assert status == 0, messages
+    return rows, messages, device
 
 
 def is_held(path):
@@ -138,9 +128,9 @@ def is_held(path):
         os.close(opened)
 
 
-def faults_of_pauses(program, folder):
-    """What is wrong where a far end is mute from the second cycle on, for so many requests that the line is dead. From the first
-    request on to the end the device is to be held, over each close."""
+def hold(program, folder):
+    """Where a far end is mute from the second cycle on, for so many requests that the line is dead, the device is to be held from the
+    first request on to the end, over each close. At how many looks it was, and over how many closes."""
     # Behind eight null procedures and a cycle of three commands.
     mute = range(13, 23)
     came, looks = [], []
@@ -150,56 +140,39 @@ def faults_of_pauses(program, folder):
         came.append(request)
         return LOSES if len(came) in mute else good(request)
 
-    with terminal(answer) as line, open(Path(folder, "told"), "w+") as told:
-        words = "--every 0 --cycles 4 --deadline 200 --quiet 150 --retries 100 --csv --log".split()
-        station = subprocess.Popen([program, "station", line.path, *words, str(log)],
-                                   stdin=subprocess.PIPE, stdout=subprocess.DEVNULL, stderr=told)
-        station.stdin.write(COMMANDS.encode())
-        station.stdin.close()
-        until = time.monotonic() + 60
-        while station.poll() is None and time.monotonic() < until:
-            # A look counts where the station measured before it and goes on behind it.
-            is_up = bool(came)
-            held = is_held(line.path)
-            time.sleep(0.002 if held else 0.1)
-            if is_up and station.poll() is None:
-                looks.append(held)
-        if station.poll() is None:
-            station.kill()
-            yield "a station with a mute far end didn't end"
-        if station.wait() != 0:
-            yield f"a station with a mute far end ended with status {station.returncode}"
+    with terminal(answer) as line:
+        words = f"--every 0 --cycles 4 --deadline 200 --quiet 150 --retries 100 --log {log}"
+        with measuring(program, line.path, words, COMMANDS) as station:
+            end = time.monotonic() + 60
+            while station.is_running() and time.monotonic() < end:
+                # A look counts where the station measured before it and goes on behind it.
+                is_up = bool(came)
+                held = is_held(line.path)
+                time.sleep(0.002 if held else 0.1)
+                if is_up and station.is_running():
+                    looks.append(held)
+            assert station.status() == 0, "a station with a mute far end"
     closes = sum(entry.endswith("- closed") for entry in log.read_text().splitlines())
-    if closes < 3:
-        yield f"only {closes} connections were closed"
-    if not all(looks) or len(looks) < 100:
-        yield f"the device was held at {sum(looks)} of {len(looks)} looks, over {closes} closes"
-    print(f"a device was held at {sum(looks)} of {len(looks)} looks, over {closes} closes")
+    assert closes >= 3, "how many connections were closed"
+    assert all(looks) and len(looks) >= 100, f"the device was held at {sum(looks)} of {len(looks)} looks, over {closes} closes"
+    return len(looks), closes
 
 
-def main():
-    program, cycles = sys.argv[1], int(sys.argv[2]) if sys.argv[2:] else 1000
+def pull(program, cycles):
+    """Measures over the device."""
     began = time.monotonic()
     with tempfile.TemporaryDirectory() as folder:
-        unheld = list(faults_of_pauses(program, folder))
+        looks, closes = hold(program, folder)
     with tempfile.TemporaryDirectory() as folder:
-        rows, told, status, device = measured(program, cycles, folder)
-    count = collections.Counter(row["outcome"] for row in rows)
-    counts = " ".join(f"{outcome} {count[outcome]}" for outcome in OUTCOMES)
-    faults = unheld + list(faults_of(rows, device.came, cycles))
-    if status != 0 or told.splitlines()[-1:] != [counts]:
-        faults.append(f"status {status}, told {told.splitlines()[-1:]}, and the counts are {counts}")
+        rows, messages, device = measured(program, cycles, folder)
+    faults = list(faults_of(rows, device.came, cycles))
+    assert not faults, "\n".join(faults[:10])
+    assert messages[-1:] == [counts_of(rows)]
     # A pull costs the requests that it meets, and few besides.
-    if count["answered"] < len(rows) - 6 * device.pulled - len(rows) // 20:
-        faults.append(f"{count['answered']} answers of {len(rows)}, where the line went away {device.pulled} times")
-    first, most = device.descriptors[:1], device.descriptors and [max(device.descriptors)]
-    if not first or most > first:
-        faults.append(f"descriptors: first {first}, most {most}")
-    print(*faults[:10], sep="\n", end="\n" if faults else "")
-    print(f"{cycles} cycles over a device that went away {device.pulled} times: {counts}; {len(device.came)} requests came; "
-          f"{first} descriptors at first and {most} at most; {time.monotonic() - began:.0f} s")
-    print(f"devices: {len(faults)} faults")
-    sys.exit(1 if faults else 0)
-
-
-main()
+    answered = collections.Counter(row["outcome"] for row in rows)["answered"]
+    assert answered >= len(rows) - 6 * device.pulled - len(rows) // 20, f"of {len(rows)}, where the line went away {device.pulled} times"
+    first, most = device.descriptors[0], max(device.descriptors)
+    assert most <= first, "how many descriptors are open"
+    return (f"held at {looks} looks over {closes} closes; {cycles} cycles over a device that went away {device.pulled} times: "
+            f"{counts_of(rows)}; {len(device.came)} requests came; {first} descriptors at first and {most} at most; "
+            f"{time.monotonic() - began:.0f} s")

@@ -1,4 +1,4 @@
-"""Stations that begin in right and wrong ways, for `killed.py --self-test`: a judge that finds nothing has to find something here.
+"""Stations that begin in right and wrong ways: a judge that finds nothing in real ones has to find something here.
 
     pretending.py KIND station PORT --deadline MS .. < COMMANDS
 
@@ -96,8 +96,13 @@ class Station:
                 given_up, one = 0, 0
 
 
-kind, _, port, *words = sys.argv[1:]
-station = Station(kind, int(port), int(words[words.index("--deadline") + 1]) / 1000)
-station.connect()
-station.begin()
-station.measure([line.split() for line in sys.stdin])
+def main():
+    kind, _, port, *words = sys.argv[1:]
+    station = Station(kind, int(port), int(words[words.index("--deadline") + 1]) / 1000)
+    station.connect()
+    station.begin()
+    station.measure([line.split() for line in sys.stdin])
+
+
+if __name__ == "__main__":
+    main()

@@ -1,4 +1,4 @@
-"""A far end of a trial's own: it stands where the bridge and the instrument stand, and answers each request as the trial has it."""
+"""A far end of a trial's own: it stands in the place of the instrument, and answers each request as the trial has it."""
 
 import re
 import socket
@@ -7,7 +7,7 @@ import time
 from contextlib import contextmanager
 from dataclasses import dataclass
 
-from operating import free_port
+from programs import free_port
 
 REQUEST = re.compile(rb"%R1Q,(\d+),(\d):([^\r\n]*)\r$")
 # What a good instrument answers, behind the colon.
@@ -40,9 +40,19 @@ def good(request):
     return request.reply(GOOD[request.rpc])
 
 
+def loses(_):
+    """No request is answered."""
+    return LOSES
+
+
+def closes(_):
+    """Each request ends its connection."""
+    return CLOSES
+
+
 class FarEnd:
-    """A far end that listens on a port of an address. `answers` gives of each request the bytes of its reply, `LOSES` or `CLOSES`. `says` gives of
-    each connection what comes on it unasked: pairs of the seconds behind its begin, and of bytes."""
+    """A far end that listens on a port of an address. `answers` gives of each request the bytes of its reply, `LOSES` or `CLOSES`.
+    `says` gives of each connection what comes on it unasked: pairs of the seconds behind its begin, and of bytes."""
 
     def __init__(self, answers, says, address="127.0.0.1"):
         self.answers, self.says, self.address = answers, says, address

@@ -1,12 +1,12 @@
-"""Trials of chains: no target is measured where the telescope points at another one, and no value is booked that doesn't read."""
+"""Chains: no target is measured where the telescope points at another one, and no value is booked that doesn't read."""
 
 import re
 import time
-from functools import partial
 
-from far_end import CLOSES, LOSES, good, standing
-from measuring import STAMP, expect_ends, finished, measuring
-from operating import expect, expect_same
+import pytest
+
+from far_end import CLOSES, closes, good, loses, standing
+from measuring import STAMP, finished, measuring, outcomes_of
 
 PRISMS = b"7 9027 0.5,1.5,0,1,0\n7 17017 2\n8 9027 2.25,1.625,0,1,0\n8 17017 2\n"
 SHORT = "--deadline 300 --quiet 300"
@@ -25,14 +25,6 @@ def first(rpc, other):
     return answers
 
 
-def loses(_):
-    return LOSES
-
-
-def closes(_):
-    return CLOSES
-
-
 def refuses(request):
     return request.reply(b"8710")
 
@@ -46,17 +38,33 @@ def answers_late(request):
     return good(request)
 
 
-def leaves_the_wrong_prism(other, outcome, width, program):
+# How a positioning may go wrong: what comes in place of a good answer, and the outcome of its row.
+WAYS = {
+    "lost": (loses, "lost"),
+    "refused": (refuses, "answered"),
+    "not known": (does_not_know, "answered"),
+    "late": (answers_late, "late"),
+    "cut off by a close": (closes, "lost"),
+}
+
+
+@pytest.mark.title("the wrong prism, a positioning {what}, width {width}")
+@pytest.mark.parametrize("what", WAYS)
+@pytest.mark.parametrize("width", [1, 7])
+def test_wrong_prism(program, what, width):
     """Where the telescope wasn't turned to a target that isn't measured, its row says so, and the next target goes on."""
+    other, outcome = WAYS[what]
     with standing(first(9027, other)) as far, measuring(program, far.port, f"{SHORT} --width {width}", PRISMS) as run:
-        rows, told = finished(run)
-        expect_ends(rows, [(7, 9027, outcome), (7, 17017, "skipped"), (8, 9027, "answered"), (8, 17017, "answered")])
-        expect_same(far.asked(), [9027, 9027, 17017], "what was asked")
-        told = [line for line in told if "connect" not in line]
-        expect(len(told) == 1 and re.fullmatch(f"geocom: commands skipped since {STAMP}: 1", told[0]), f"{told} was told")
+        rows, messages = finished(run)
+        assert outcomes_of(rows) == [(7, 9027, outcome), (7, 17017, "skipped"), (8, 9027, "answered"), (8, 17017, "answered")]
+        assert far.asked() == [9027, 9027, 17017], "what was asked"
+        messages = [line for line in messages if "connect" not in line]
+        assert len(messages) == 1 and re.fullmatch(f"geocom: commands skipped since {STAMP}: 1", messages[0]), f"{messages} was told"
 
 
-def leaves_it_behind_a_close(width, program):
+@pytest.mark.title("the wrong prism, an answer behind a close, width {width}")
+@pytest.mark.parametrize("width", [1, 7])
+def test_answer_behind_a_close(program, width):
     """A good answer that comes over a later connection is booked, and the command behind it doesn't go out."""
     held = []
 
@@ -70,37 +78,50 @@ def leaves_it_behind_a_close(width, program):
     with standing(first(9027, keeps), says) as far:
         with measuring(program, far.port, f"--deadline 2000 --quiet 300 --width {width}", PRISMS) as run:
             rows, _ = finished(run)
-            expect_ends(rows, [(7, 9027, "answered"), (7, 17017, "skipped"), (8, 9027, "answered"), (8, 17017, "answered")])
-            expect_same(far.asked(), [9027, 9027, 17017], "what was asked")
+            assert outcomes_of(rows) == [(7, 9027, "answered"), (7, 17017, "skipped"), (8, 9027, "answered"), (8, 17017, "answered")]
+            assert far.asked() == [9027, 9027, 17017], "what was asked"
 
 
-def leaves_it_each_cycle_anew(program):
+@pytest.mark.title("the wrong prism, the next cycle")
+def test_next_cycle(program):
     """What was skipped in a cycle is asked in the next."""
     with standing(first(9027, loses)) as far, measuring(program, far.port, f"{SHORT} --cycles 2", PRISMS) as run:
         rows, _ = finished(run)
         ends = [row["outcome"] for row in rows]
-        expect_same(ends, ["lost", "skipped"] + 6 * ["answered"], "the outcomes")
-        expect_same(far.asked(), [9027, 9027, 17017] + 2 * [9027, 17017], "what was asked")
+        assert ends == ["lost", "skipped"] + 6 * ["answered"], "the outcomes"
+        assert far.asked() == [9027, 9027, 17017] + 2 * [9027, 17017], "what was asked"
 
 
-def measures_it_unchained(words, text, width, program):
+# How chains are taken away: the words of the station, and its text.
+UNCHAINED = {
+    "--unchained, width 1": ("--unchained --width 1", PRISMS),
+    "--unchained, width 7": ("--unchained --width 7", PRISMS),
+    "unchained by the text": ("--width 1", b"unchained\n" + PRISMS),
+}
+
+
+@pytest.mark.title("the wrong prism, {how}")
+@pytest.mark.parametrize("how", UNCHAINED)
+def test_unchained(program, how):
     """Where commands are not chained each goes out by itself."""
+    words, text = UNCHAINED[how]
     with standing(first(9027, loses)) as far:
-        with measuring(program, far.port, f"{SHORT} --width {width} {words}", text) as run:
+        with measuring(program, far.port, f"{SHORT} {words}", text) as run:
             rows, _ = finished(run)
-            expect_ends(rows, [(7, 9027, "lost"), (7, 17017, "answered"), (8, 9027, "answered"), (8, 17017, "answered")])
-            expect_same(far.asked(), [9027, 17017, 9027, 17017], "what was asked")
+            assert outcomes_of(rows) == [(7, 9027, "lost"), (7, 17017, "answered"), (8, 9027, "answered"), (8, 17017, "answered")]
+            assert far.asked() == [9027, 17017, 9027, 17017], "what was asked"
 
 
-def chains_rows_alone(program):
+@pytest.mark.title("chains, what a row is")
+def test_what_a_row_is(program):
     """A row is what stands for one target, one line behind the other, with no line of chains between."""
     text = b"7 2107 0\n8 2011\n7 2011\n\n# still its row\ndeadline 300\n7 2026\nchained\n7 2107 0\nunchained\n7 2011\n7 2026\n"
     with standing(lambda request: request.reply(b"1285" if request.rpc else b"0")) as far:
         with measuring(program, far.port, SHORT, text) as run:
             rows, _ = finished(run)
             ends = ["answered", "answered", "answered", "skipped", "answered", "answered", "answered"]
-            expect_same([row["outcome"] for row in rows], ends, "the outcomes")
-            expect_same([row["rc"] for row in rows], [end and "1285" * (end == "answered") for end in ends], "the codes")
+            assert [row["outcome"] for row in rows] == ends, "the outcomes"
+            assert [row["rc"] for row in rows] == [end and "1285" * (end == "answered") for end in ends], "the codes"
 
 
 # What comes in place of two angles, behind the colon, with the outcome, the fault and the values of its row.
@@ -118,7 +139,8 @@ ANGLES = [
 ]
 
 
-def books_no_value_that_does_not_read(program):
+@pytest.mark.title("values that don't read")
+def test_values_that_do_not_read(program):
     """An answer whose values don't read says so, with the fault; one that refuses is answered."""
     given = iter(ANGLES)
 
@@ -129,20 +151,23 @@ def books_no_value_that_does_not_read(program):
     with standing(answers) as far, measuring(program, far.port, SHORT, text) as run:
         rows, _ = finished(run)
         ends = [(row["outcome"], row["fault"], row["values"]) for row in rows]
-        expect_same(ends, [angle[1:] for angle in ANGLES], "the rows")
+        assert ends == [angle[1:] for angle in ANGLES], "the rows"
 
 
-def leaves_what_is_behind_unreadable_values(width, program):
+@pytest.mark.title("behind values that don't read, width {width}")
+@pytest.mark.parametrize("width", [1, 7])
+def test_behind_unreadable_values(program, width):
     """Behind an answer that doesn't read the next command of its row doesn't go out."""
     text = b"7 2107 0\n7 2011\n8 2107 0\n8 2011\n"
     with standing(first(2107, lambda request: request.reply(b"0,2.25,1.6?"))) as far:
         with measuring(program, far.port, f"{SHORT} --width {width}", text) as run:
             rows, _ = finished(run)
-            expect_ends(rows, [(7, 2107, "unreadable"), (7, 2011, "skipped"), (8, 2107, "answered"), (8, 2011, "answered")])
-            expect_same(far.asked(), [2107, 2107, 2011], "what was asked")
+            assert outcomes_of(rows) == [(7, 2107, "unreadable"), (7, 2011, "skipped"), (8, 2107, "answered"), (8, 2011, "answered")]
+            assert far.asked() == [2107, 2107, 2011], "what was asked"
 
 
-def counts_each_outcome(program):
+@pytest.mark.title("the counts, one of each outcome")
+def test_counts(program):
     """The last line counts the rows: one of each outcome but missed."""
     ends = {7: good, 8: answers_late, 9: loses, 10: refuses, 11: lambda request: request.reply(b"0,2.25")}
     text = b"".join(b"%d 2107 0\n" % target for target in ends) + b"11 2011\n"
@@ -151,22 +176,6 @@ def counts_each_outcome(program):
         with measuring(program, far.port, SHORT, text) as run:
             rows, _ = finished(run)
             ends = ["answered", "late", "lost", "answered", "unreadable", "skipped"]
-            expect_same([row["outcome"] for row in rows], ends, "the outcomes")
-            told = run.told().splitlines()[-1]
-            expect_same(told, "answered 2 late 1 lost 1 skipped 1 unreadable 1 missed 0", "the last line")
-
-
-def trials():
-    ways = [("lost", loses, "lost"), ("refused", refuses, "answered"), ("not known", does_not_know, "answered"),
-            ("late", answers_late, "late"), ("cut off by a close", closes, "lost")]
-    for width in (1, 7):
-        for name, other, outcome in ways:
-            yield f"the wrong prism, a positioning {name}, width {width}", partial(leaves_the_wrong_prism, other, outcome, width)
-        yield f"the wrong prism, an answer behind a close, width {width}", partial(leaves_it_behind_a_close, width)
-        yield f"the wrong prism, --unchained, width {width}", partial(measures_it_unchained, "--unchained", PRISMS, width)
-        yield f"behind values that don't read, width {width}", partial(leaves_what_is_behind_unreadable_values, width)
-    yield "the wrong prism, unchained by the text", partial(measures_it_unchained, "", b"unchained\n" + PRISMS, 1)
-    yield "the wrong prism, the next cycle", leaves_it_each_cycle_anew
-    yield "chains, what a row is", chains_rows_alone
-    yield "values that don't read", books_no_value_that_does_not_read
-    yield "the counts, one of each outcome", counts_each_outcome
+            assert [row["outcome"] for row in rows] == ends, "the outcomes"
+            messages = run.messages().splitlines()[-1]
+            assert messages == "answered 2 late 1 lost 1 skipped 1 unreadable 1 missed 0", "the last line"

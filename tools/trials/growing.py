@@ -10,24 +10,17 @@ import os
 import random
 import threading
 
-from records import HEAD, NUMBERS
+from records import ANSWER_COLUMNS, COLUMNS, HEAD, NUMBERS, UNSENT, moment_text
 
-# What `--columns` adds.
-QUANTITIES = [
-    "hz_rad", "v_rad", "distance_m", "mode", "easting_m", "northing_m", "height_m", "instrument_height_m", "reflector_height_m", "face",
-    "prism_type", "temperature_c", "places", "release", "version", "subversion", "serial", "instrument", "year", "month", "day", "hour",
-    "minute", "second",
-]
-COLUMNS_HEAD = HEAD[:-1] + ",".join(["", *QUANTITIES]).encode() + b"\n"
 TARGETS = [(7, b"pier 4", 2.25, 1.625, 110.0625), (8, b"", 0.5, 1.5, 25.125), (9, b"a/b+c #1", 4.0, 1.5, 48.5)]
 COMMANDS = [b"9027", b"2008", b"2108", b"2107", b"5004"]
 BEGIN = datetime.datetime(2026, 11, 24, 20, 0, tzinfo=datetime.timezone.utc)
 RUN = b"2026-11-24T19:59:50.000Z"
 
 
-def told(moment):
-    """A moment as a station writes it."""
-    return moment.strftime("%Y-%m-%dT%H:%M:%S.").encode() + b"%03dZ" % (moment.microsecond // 1000)
+def stamp(moment):
+    """A moment as it stands in a row."""
+    return moment_text(moment).encode()
 
 
 def row(chance, number):
@@ -51,16 +44,16 @@ def row(chance, number):
             values = b'"""SIM %d"""' % number
     elif outcome == b"unreadable":
         fault, codes, values = b"11", b"0,0", rb'"x,\xff\x00%d"' % number
-    sent = b"" if outcome in (b"skipped", b"missed") else told(moment - datetime.timedelta(milliseconds=1_234))
+    sent = b"" if outcome.decode() in UNSENT else stamp(moment - datetime.timedelta(milliseconds=1_234))
     cycle = number // (len(COMMANDS) * len(TARGETS)) + 1
-    fields = [RUN, sent, told(moment), b"%d" % cycle, b"%d" % place, b"%d" % target, name, procedure, outcome, fault, codes or b",", values]
-    return b",".join(fields) + b"\n"
+    numbers = b"%d,%d,%d" % (cycle, place, target)
+    return b",".join([RUN, sent, stamp(moment), numbers, name, procedure, outcome, fault, codes or b",", values]) + b"\n"
 
 
 def parted(line):
     """The fields of a row by the names of their columns, and the items of its answer by those of their quantities."""
-    fields = dict(zip(HEAD.decode().strip().split(","), next(csv.reader([line.decode("latin-1")[:-1]]))))
-    names = {"2107": QUANTITIES[:2], "2108": QUANTITIES[:3], "5004": ["instrument"]}.get(fields["procedure"], [])
+    fields = dict(zip(COLUMNS, next(csv.reader([line.decode("latin-1")[:-1]]))))
+    names = {"2107": ANSWER_COLUMNS[:2], "2108": ANSWER_COLUMNS[:3], "5004": ["instrument"]}.get(fields["procedure"], [])
     is_well = (fields["outcome"], fields["rc"]) == ("answered", "0")
     return fields, dict(zip(names, fields["values"].split(","))) if is_well else {}
 
@@ -74,7 +67,7 @@ def row_of_columns(chance, number):
     """The same row as `row` makes, as `--columns` writes it."""
     line = row(chance, number)
     items = parted(line)[1]
-    return line[:-1] + "".join("," + plain(name, items[name]) if name in items else "," for name in QUANTITIES).encode() + b"\n"
+    return line[:-1] + "".join("," + plain(name, items[name]) if name in items else "," for name in ANSWER_COLUMNS).encode() + b"\n"
 
 
 def row_of_json(chance, number):
@@ -84,7 +77,7 @@ def row_of_json(chance, number):
     for name, item in items.items():
         written += [(name, plain(name, item))] + [(f"{name}_text", item)] * (name != "instrument")
     return (b"{" + b",".join(
-        b'"%s":%s' % (name.encode(), (field if name in NUMBERS or name in QUANTITIES[:3] else json.dumps(field)).encode())
+        b'"%s":%s' % (name.encode(), (field if name in NUMBERS or name in ANSWER_COLUMNS[:3] else json.dumps(field)).encode())
         for name, field in written) + b"}\n")
 
 
@@ -129,3 +122,9 @@ class Growing:
     def end(self):
         self.ending.set()
         self.thread.join()
+
+
+def first_rows(count, seed=5):
+    """The first rows of a table that grows by this seed."""
+    chance = random.Random(seed)
+    return [row(chance, number) for number in range(count)]

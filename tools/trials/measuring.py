@@ -1,0 +1,87 @@
+"""Runs of `geocom station` against a far end of a trial's own, and what their rows have to be in any case."""
+
+import collections
+import csv
+import io
+import re
+from pathlib import Path
+
+from programs import PATIENCE, Run
+from records import HEAD, MOMENT, OUTCOMES, REPLIED, UNSENT, moment
+
+STAMP = MOMENT.pattern
+# The line that says at the start what a run has to do, where, and what it waits for.
+START = re.compile(r"geocom: \d+ commands? for .*: waits until eight null procedures are answered, one after the other")
+
+
+def measuring(program, place, words, commands, **options):
+    """A station under way, which writes rows to its standard output."""
+    return Run([program, "station", place, "--csv", *words.split()], commands, **options)
+
+
+def finished(run, status=0, patience=PATIENCE, counts=-1):
+    """Its rows, and its messages beside its counts and the line of its start, once it has ended with this status. The counts stand on
+    the last line, or on that of this index."""
+    assert run.status(patience) == status, f"its messages are {run.messages()!r}"
+    rows = rows_of(run.output())
+    messages = [line for line in run.messages().splitlines() if not START.fullmatch(line)]
+    if status == 0:
+        assert messages[counts:][:1] == [counts_of(rows)], "the line of the counts"
+        del messages[counts]
+    return rows, messages
+
+
+def rows_of(written):
+    """The rows that were written, each with the columns that its outcome has."""
+    assert written.startswith(HEAD), f"the head is {written.splitlines()[:1]}"
+    rows = list(csv.DictReader(io.StringIO(written.decode("latin-1"), newline="")))
+    for row in rows:
+        has_reply = row["outcome"] in REPLIED
+        assert row["outcome"] in OUTCOMES, row
+        assert None not in row and None not in row.values(), row
+        assert (row["fault"] != "") == (row["outcome"] == "unreadable"), row
+        assert all((row[name] != "") == has_reply for name in ("rc_com", "rc")), row
+        assert has_reply or row["values"] == "", row
+        assert (row["sent"] == "") == (row["outcome"] in UNSENT), row
+        assert row["run"] <= (row["sent"] or row["run"]) and row["sent"] <= row["time"], row
+    assert len({row["run"] for row in rows}) <= 1, f"one run began at {sorted({row['run'] for row in rows})}"
+    return rows
+
+
+def counts_of(rows):
+    """The last line of a run with these rows."""
+    count = collections.Counter(row["outcome"] for row in rows)
+    return " ".join(f"{outcome} {count[outcome]}" for outcome in OUTCOMES)
+
+
+def utc_of(row):
+    """The seconds since 1970 of a row."""
+    return moment(row["time"]).timestamp()
+
+
+def outcomes_of(rows):
+    """The target, the procedure and the outcome of each row."""
+    return [(int(row["target"]), int(row["procedure"]), row["outcome"]) for row in rows]
+
+
+def expect_each_once(rows, commands, cycles):
+    """There is a row for each command of each cycle, in order, and none besides."""
+    places = [(int(row["cycle"]), int(row["place"])) for row in rows]
+    assert places == [(cycle, place) for cycle in range(1, cycles + 1) for place in range(commands)], "cycles and places"
+
+
+class Processors:
+    """The processors of this machine since a moment: what share of them was busy."""
+
+    def __init__(self):
+        self.began = self.times()
+
+    @staticmethod
+    def times():
+        """How long all of them were busy, and how long they were there."""
+        times = [int(word) for word in Path("/proc/stat").read_text(encoding="ascii").splitlines()[0].split()[1:9]]
+        return sum(times) - times[3] - times[4], sum(times)
+
+    def share(self):
+        (busy, total), (busy_before, total_before) = self.times(), self.began
+        return (busy - busy_before) / max(1, total - total_before)

@@ -1,0 +1,205 @@
+"""The log of a station: what stands in it, and which files it may be."""
+
+import os
+import re
+
+import pytest
+
+from far_end import CLOSES, good, standing
+from measuring import expect_each_once, finished, measuring
+from programs import ended, until
+from records import HEAD, MOMENT
+
+LINE = re.compile(rb"(%s) (>|<|>\||<\||-) (.*)" % MOMENT.pattern.encode())
+ESCAPE = re.compile(rb"\\x([0-9a-f]{2})")
+TWO = b"7 5003\n8 5004\n"
+LOG_LINE = b"2026-11-24T20:00:40.000Z < %R1P,0,2:0,123456\n"
+
+
+def entries(log):
+    """The lines of a log, each with its mark and the bytes that it stands for, in order of time."""
+    found = [LINE.fullmatch(line) for line in log.splitlines()]
+    assert all(found) and log.endswith(b"\n"), f"a line of the log has no form: {log!r}"
+    times = [line[1] for line in found]
+    assert times == sorted(times), f"the log goes back: {times}"
+    ends = {b">": b"\r\n", b"<": b"\r\n"}
+    return [(line[2], ESCAPE.sub(lambda two: bytes([int(two[1], 16)]), line[3]) + ends.get(line[2], b"")) for line in found]
+
+
+def carried(log):
+    """What the log says came and went over each connection."""
+    went, came = [], []
+    for mark, data in entries(log):
+        if (mark, data) == (b"-", b"open"):
+            went.append(b"")
+            came.append(b"")
+        elif mark in (b">", b">|"):
+            went[-1] += data
+        elif mark in (b"<", b"<|"):
+            came[-1] += data
+    return went, came
+
+
+@pytest.mark.title("--log, each byte, width {width}")
+@pytest.mark.parametrize("width", [1, 7])
+def test_each_byte(program, folder, width):
+    """What stands in the log is what the far end saw, byte by byte, over each connection; and `check --log` reads it."""
+    asked = []
+    noise = [b"", b"no reply \x00\x7f\x80\xff\\x41\r\n", b"half a li\n", b"\r\r\n\n", b"%R1P,0," + 600 * b"9" + b"\r\n", b"\\"]
+
+    def answers(request):
+        asked.append(request)
+        # In the beginning, where one request is under way alone: the log has what was put, and the far end what came.
+        if len(asked) in (5, 6):
+            return CLOSES
+        return noise[len(asked) % len(noise)] + good(request)
+
+    with standing(answers) as far:
+        log = folder / "log"
+        words = f"--log {log} --quiet 200 --deadline 200 --cycles 6 --width {width}"
+        with measuring(program, far.port, words, TWO) as run:
+            rows, _ = finished(run, patience=12)
+        expect_each_once(rows, 2, 6)
+        assert len(far.came) > 2, f"{len(far.came)} connections"
+        assert carried(log.read_bytes()) == (far.came, far.went), "what the log says"
+        expect_read_by_check(program, log)
+        expect_appends(program, far, log)
+
+
+def expect_read_by_check(program, log):
+    """`check --log` says of each line what its bytes are."""
+    meanings = {
+        b"-": rb"(open|not open|ended|failed|closed|full: what went or came from here on is left out)",
+        b">": rb"request \d+ ok", b">|": rb"(cleared|part)",
+        b"<": rb"(reply 0 0|fault \d|overlong)", b"<|": rb"(cleared|part)",
+    }
+    status, output, messages = ended([program, "check", "--log"], log.read_bytes())
+    assert (status, messages) == (0, ""), "status and messages of check --log"
+    lines = output.splitlines()
+    marks = [mark for mark, _ in entries(log.read_bytes())]
+    assert len(lines) == len(marks), "how many lines check --log wrote"
+    for line, mark in zip(lines, marks):
+        assert re.fullmatch(rb"\S+ " + re.escape(mark) + b" " + meanings[mark], line), f"check --log said {line!r}"
+
+
+def expect_appends(program, far, log):
+    """A second run leaves what stands in the log."""
+    before = log.read_bytes()
+    with measuring(program, far.port, f"--log {log} --quiet 100 --deadline 100", TWO) as run:
+        finished(run)
+    assert log.read_bytes().startswith(before) and len(log.read_bytes()) > len(before), "the log was not appended to"
+
+
+def limited(program, port, log, words):
+    """A station whose files can't grow above 4096 bytes, with a log that has nearly as many."""
+    log.write_bytes(LOG_LINE * (4080 // len(LOG_LINE)))
+    return measuring(program, port, f"--log {log} --quiet 100 --deadline 100 {words}", TWO, shell="ulimit -f 4; trap '' XFSZ")
+
+
+@pytest.mark.title("--log, a full disk")
+def test_full_disk(program, folder):
+    """Where the log can't be written the rows are the same, and that is told in the end."""
+    with standing() as far:
+        with limited(program, far.port, folder / "log", "") as run:
+            assert run.status() == 0, "the status"
+            messages = run.messages().splitlines()
+            assert messages[-1:] == ["geocom: the log could not be written to its end"], "the last line"
+            assert messages[-2] == "answered 2 late 0 lost 0 skipped 0 unreadable 0 missed 0", "the counts"
+            assert run.output().count(b",answered,") == 2, "how many rows"
+
+
+@pytest.mark.title("--log, a full disk, told at once")
+def test_full_disk_told_at_once(program, folder):
+    """That the log can't be written is told while the station runs, once, also where it tells no signs of life."""
+    lost = "geocom: the log can't be written, and ends here: the station measures on\n"
+    for silent in "", "--silent":
+        with standing() as far:
+            with limited(program, far.port, folder / "log", f"--every 2 --cycles 3 {silent}") as run:
+                until(lambda: lost in run.messages(), "it isn't told")
+                assert run.is_running(), "it is told at the end alone"
+                assert run.status(9) == 0, "the status"
+                assert run.messages().count(lost) == 1, "how often it is told"
+
+
+@pytest.mark.title("--log, no such folder")
+def test_no_folder(program):
+    """Where the log can't be opened nothing is sent."""
+    with standing() as far:
+        expect_refused(program, far, "/nowhere/log", "No such file or directory")
+
+
+def expect_refused(program, far, log, why=""):
+    """A station with this log does nothing but tell that it is refused."""
+    with measuring(program, far.port, f"--log {log} --quiet 100", TWO) as run:
+        assert run.status() == 1, log
+        assert run.messages().startswith("geocom: fault 57\n"), log
+        assert why in run.messages(), log
+        assert run.output() == b""
+        assert far.came == [], "the connections"
+
+
+@pytest.mark.title("--log, what is no log")
+def test_no_log(program, folder):
+    """A pipe without a reader, a folder, and files that aren't logs are refused, and stay."""
+    with standing() as far:
+        pipe = folder / "pipe"
+        os.mkfifo(pipe)
+        expect_refused(program, far, pipe)
+        expect_refused(program, far, folder)
+        for held in HEAD, b"7 5003\n", b"x", b"\n", b"2026-11-24 something else\n", LOG_LINE[1:], b"\n" + LOG_LINE:
+            path = folder / "other"
+            path.write_bytes(held)
+            expect_refused(program, far, path)
+            assert path.read_bytes() == held, "what stands in the file"
+
+
+@pytest.mark.title("--log, held by another station")
+def test_held_log(program, folder):
+    """While a station has a log no second one writes into it, and the first goes on."""
+    with standing() as far, standing() as other:
+        log = folder / "log"
+        with measuring(program, far.port, f"--log {log} --quiet 100 --cycles 0 --every 1", TWO) as run:
+            until(lambda: log.exists() and log.read_bytes(), "the first one logs nothing")
+            expect_refused(program, other, log)
+            before = len(log.read_bytes())
+            until(lambda: len(log.read_bytes()) > before, "the first one logs no more")
+            assert run.is_running(), "the first one ended"
+
+
+@pytest.mark.title("--log, a torn line")
+def test_torn_line(program, folder):
+    """A torn last line of a log is cut off, and told: no log has a line that neither went nor came."""
+    for torn in LOG_LINE[:-3], LOG_LINE[:30], LOG_LINE[:9], b"":
+        for whole in LOG_LINE * 2, b"":
+            with standing() as far:
+                log = folder / "log"
+                log.write_bytes(whole + torn)
+                with measuring(program, far.port, f"--log {log} --quiet 100 --deadline 100", TWO) as run:
+                    _, messages = finished(run)
+                line = f"geocom: {len(torn)} bytes of a torn line of the log were cut off"
+                assert (line in messages) == (torn != b""), f"{messages} was told of {torn!r}"
+                assert log.read_bytes().startswith(whole + b"20"), f"{log.read_bytes()[:200]!r}"
+                fresh = log.read_bytes()[len(whole) :]
+                assert carried(fresh) == (far.came, far.went), "what the log says"
+                expect_read_by_check(program, log)
+
+
+@pytest.mark.title("--log-bytes")
+def test_bounded_log(program, folder):
+    """A log has no more bytes than it may have, over several runs; its last line says that the rest is left out, and that is told."""
+    full = "geocom: the log is full: what went or came from here on is left out of it"
+    with standing() as far:
+        log = folder / "log"
+        for number in range(4):
+            with measuring(program, far.port, f"--log {log} --log-bytes 2000 --quiet 100 --deadline 100 --cycles 20", TWO) as run:
+                rows, messages = finished(run, counts=-2)
+            expect_each_once(rows, 2, 20)
+            assert (messages.count(full), messages[-1]) == (1, "geocom: the log could not be written to its end"), f"what run {number} told"
+            assert len(log.read_bytes()) <= 2000, f"it has {len(log.read_bytes())} bytes"
+            if number == 0:
+                first = log.read_bytes()
+                assert len(first) > 1500, f"it has {len(first)} bytes alone"
+                assert first.endswith(b"Z - full: what went or came from here on is left out\n"), f"it ends with {first[-100:]!r}"
+            assert log.read_bytes().startswith(first), "a later run changed it"
+            expect_read_by_check(program, log)
+        assert ended([program, "station", "1", "--log-bytes", "2000"])[0] == 2, "the status without --log"

@@ -1,0 +1,108 @@
+"""Disks under a file of rows: what is synced before the next bytes go out, a full disk, and a limit of a file's size."""
+
+import re
+import shutil
+import subprocess
+from pathlib import Path
+
+import pytest
+
+from stations import appended, instrument, numbers, split
+
+needs_strace = pytest.mark.skipif(not shutil.which("strace"), reason="strace is missing")
+
+
+@needs_strace
+def test_syncs(program, folder):
+    """With `--sync` each row is synced before the next bytes go out, and without it nothing is."""
+    trace = folder / "trace"
+    shell = f'set -- strace -f -e trace=write,sendto,fdatasync,fsync -o {trace} "$@"'
+    for words in ["--sync"], []:
+        with instrument() as far:
+            found = appended(program, far, folder / "synced.csv", *words, cycles=3, shell=shell)
+        assert found[0] == 0, f"{words}: {found}"
+        open_rows = synced = 0
+        for line in trace.read_text().splitlines():
+            if re.search(r' write\(\d+, "2\d{3}-', line):
+                open_rows += 1
+            elif re.search(r" f(data)?sync\(\d+\) += 0", line):
+                synced, open_rows = synced + 1, 0
+            elif re.search(r'"(%R1Q|\\n)', line):
+                assert not (words and open_rows), f"bytes went out behind {open_rows} rows that weren't synced"
+        assert bool(synced) == bool(words), f"{words}: {synced} syncs"
+
+
+@needs_strace
+def test_syncs_its_folder(program, folder):
+    """With `--sync` the file's own folder is synced once the file is there, and before anything is written into it; also of a new file
+    at the path. Without `--sync` no folder is."""
+    place, trace = folder / "place", folder / "trace"
+    place.mkdir()
+    shell = f'cd {folder}; set -- strace -f -y -e trace=open,openat,write,fdatasync,fsync -o {trace} "$@"'
+    for words in ["--sync"], []:
+        for name, parent in [(place / "rows.csv", place), (Path("own.csv"), folder)]:
+            path = folder / name
+            path.unlink(missing_ok=True)
+            with instrument() as far:
+                found = appended(program, far, name, *words, cycles=1, shell=shell)
+            assert found[0] == 0, f"{words} {name}: {found}"
+            lines = trace.read_text().splitlines()
+            own, parent = re.escape(str(path.resolve())), re.escape(str(parent.resolve()))
+            made = [at for at, line in enumerate(lines) if re.search(rf" open(at)?\(.*O_CREAT.*= \d+<{own}>", line)]
+            wrote = [at for at, line in enumerate(lines) if re.search(rf" write\(\d+<{own}>", line)]
+            synced = [at for at, line in enumerate(lines) if re.search(rf" fsync\(\d+<{parent}>\) += 0", line)]
+            assert len(made) == 1 and wrote, f"{words} {name}: made at {made}, and written at {wrote}"
+            if words:
+                assert any(made[0] < at < wrote[0] for at in synced), f"{name}: made at {made}, written at {wrote[:1]}, synced at {synced}"
+            else:
+                assert not any(" fsync(" in line for line in lines), f"{name}: something is synced"
+
+
+@pytest.fixture
+def small_disk(folder):
+    """A disk of 16 kB."""
+    disk = folder / "small"
+    disk.mkdir()
+    mount = ["mount", "-t", "tmpfs", "-o", "size=16k", "none", disk]
+    if subprocess.run(mount, stderr=subprocess.DEVNULL, check=False).returncode:
+        pytest.skip("a full disk wants root")
+    yield disk
+    subprocess.run(["umount", disk], check=False)
+
+
+def test_is_full(program, small_disk):
+    """A disk that is full ends the run with fault 55: what is there stays, and with room again the table goes on."""
+    path = small_disk / "rows.csv"
+    for words in ["--sync"], []:
+        with instrument() as far:
+            status, output, messages = appended(program, far, path, *words)
+            assert (status, output) == (1, b""), messages
+            assert messages.endswith("geocom: fault 55\n")
+        rows, _ = split(path.read_bytes())
+        if words:
+            assert far.followed and far.followed <= set(numbers(rows)), "a row is missing"
+            before = rows
+    assert rows[: len(before)] == before, "a row of before is gone"
+    assert rows and len(path.read_bytes()) <= 16384, "it isn't full"
+    subprocess.run(["mount", "-o", "remount,size=64k", small_disk], check=True)
+    with instrument() as far:
+        found = appended(program, far, path, cycles=1)
+        assert found[0] == 0, f"with room again: {found}"
+    again = split(path.read_bytes())[0]
+    assert again[:-3] == rows and len(again) == len(rows) + 3, "the table doesn't go on"
+
+
+def test_is_limited(program, folder):
+    """Behind a limit of a file's size (`ulimit -f`) the system ends the program by a signal; where that is ignored it is fault 55."""
+    for shell, ends in [("ulimit -f 4; trap '' XFSZ", 1), ("ulimit -f 4", -25)]:
+        path = folder / f"limited{ends}.csv"
+        with instrument() as far:
+            status, output, messages = appended(program, far, path, "--sync", shell=shell)
+            assert (status, output) == (ends, b""), f"{shell}: {messages!r}"
+            assert status != 1 or messages.endswith("geocom: fault 55\n"), shell
+            rows, _ = split(path.read_bytes())
+            assert far.followed <= set(numbers(rows)), f"{shell}: a row is lost"
+        with instrument() as far:
+            found = appended(program, far, path, cycles=1)
+            assert found[0] == 0, f"{shell}, behind it: {found}"
+            assert len(split(path.read_bytes())[0]) == len(rows) + 3, f"{shell}, behind it"
